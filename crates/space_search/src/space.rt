@@ -1,0 +1,54 @@
+//! The interface of everything that is searched.
+
+ghost use Rattle.std.specs.Prelude.{◌≡◌, ◌<◌, IsTrue};
+ghost use Rattle.space_search.specs.Rules.{Rules, IsSpace};
+
+/// A space of states with starts, steps and goals, all by number. No call takes memory.
+///
+/// `rules` says in one record what all calls answer, and `keeps_laws` that the record keeps the laws of
+/// a space. A start or step that isn't permitted is `None`; else it gives the state that is reached and
+/// what reaching it costs.
+pub trait Space {
+    /// A state; it is small, since a search keeps many.
+    type State: Copy;
+
+    /// What the space answers.
+    ghost rules: { Self → Rules Self.State };
+
+    /// How many cells there are.
+    fn cells(&self) -> u32
+        ensures value { result ≡ (rules self.now).cells };
+
+    /// The cell in which a state lies.
+    fn cell(&self, state: &Self::State) -> u32
+        requires valid { IsTrue ((rules self.now).is_valid state.now) }
+        ensures value { result ≡ (rules self.now).cell state.now };
+
+    /// How many starts there are.
+    fn starts(&self) -> u32
+        ensures value { result ≡ (rules self.now).starts };
+
+    /// The start with this number, and what it costs; `None` where it isn't permitted.
+    fn start(&self, number: u32) -> Option<(Self::State, u128)>
+        requires within { number < (rules self.now).starts }
+        ensures value { result ≡ (rules self.now).start number };
+
+    /// How many steps a state has.
+    fn steps(&self, state: &Self::State) -> u32
+        requires valid { IsTrue ((rules self.now).is_valid state.now) }
+        ensures value { result ≡ (rules self.now).steps state.now };
+
+    /// The step with this number, and what it costs; `None` where it isn't permitted.
+    fn step(&self, state: &Self::State, number: u32) -> Option<(Self::State, u128)>
+        requires valid { IsTrue ((rules self.now).is_valid state.now) }
+        requires within { number < (rules self.now).steps state.now }
+        ensures value { result ≡ (rules self.now).step state.now number };
+
+    /// Whether a state is a goal.
+    fn goal(&self, state: &Self::State) -> bool
+        requires valid { IsTrue ((rules self.now).is_valid state.now) }
+        ensures value { result ≡ (rules self.now).is_goal state.now };
+
+    /// What the space answers keeps the laws of a space.
+    ghost keeps_laws: { (space : Self) → IsSpace (rules space) };
+}
