@@ -30,6 +30,13 @@ impl<T> Items<T> {
         }
     }
 
+    /// The list of a vector's items.
+    pub fn from_vec(items: Vec<T>) -> Self
+        ensures value { result ≡ items.items }
+    {
+        Items { items }
+    }
+
     /// How many items the list has.
     pub fn len(&self) -> usize
         ensures value { result ≡ length self.now }

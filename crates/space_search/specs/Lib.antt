@@ -1,3 +1,6 @@
+pub mod Books
+pub mod Outcome
 pub mod Rules
 pub mod Runs
-pub mod Outcome
+pub mod TestDiamond
+pub mod TestDiamondLaws

@@ -1,0 +1,52 @@
+-- What the front of the queue says of all that waits.
+use Rattle.std.proofs.Common.{◌≡◌, ℕ, ◌<◌, ◌≤◌, ◌⊎◌, inl, inr, List, [], ◌∷◌, length, get_or, Option, Some, Bool, true, false, refl, ap, arith, sym, ◌∙◌, subst}
+use Rattle.std.proofs.lemmas.Bool.Decides.{nat_tests}
+use Rattle.std.proofs.lemmas.Option.{slice_get_read, slice_get_within}
+use Rattle.std.specs.BinaryHeap.{IsUpperBound}
+use Rattle.std.specs.List.{slice_get, Contains}
+use Rattle.std.specs.Ordering.{nat_cmp, ordering_then, is_lt}
+use Rattle.std.specs.declared.cmp.Ordering.{Ordering}
+use Rattle.space_search.specs.Rules.{Rules}
+use Rattle.space_search.specs.Books.{Books, Entry, entry_cmp, IsLabel, IsSearch, IsNext}
+use Rattle.space_search.specs.declared.label.Label.{Label}
+use Rattle.space_search.proofs.ListLemmas.{Contains-cons_cases, Contains-none, slice_get-same}
+
+-- what isn't less by its first number has a first number that isn't less
+not_less : (a b : ℕ) (rest : Ordering) → is_lt (ordering_then (nat_cmp a b) rest) ≡ false → b ≤ a
+not_less a b rest h = grind (arith, nat_tests)
+
+-- nothing in the queue costs less than its greatest entry
+pub least-entry : (x : Entry) (xs : List Entry) → IsUpperBound entry_cmp x xs → (y : Entry) → Contains xs y → x.0.0 ≤ y.0.0
+least-entry x [] all y h = absurd (Contains-none y h)
+least-entry x (z ∷ zs) all y h =
+    elim (Contains-cons_cases z zs y h) [
+      | inl same ↦ subst (λ (e : Entry). x.0.0 ≤ e.0.0) same (not_less _ _ _ all.0)
+      | inr later ↦ least-entry x zs all.1 y later
+    ]
+
+module _ {S : Type 0} (rules : Rules S) (kept : Books S) (search : IsSearch rules kept) (entry : Entry)
+    (some : 0 < length kept.queue) (first : entry ≡ get_or kept.queue 0 entry) where
+  queued-first : Contains kept.queue entry
+  queued-first = (0, some, sym first)
+
+  -- the front of the queue has a label
+  pub within-first : entry.0.1 < length kept.labels
+  within-first = let l = search.queued entry queued-first in slice_get_within kept.labels entry.0.1 l.0 l.1
+
+  -- the label at the front of the queue is the next one
+  pub next-first :
+      (label : Label S) → label ≡ get_or kept.labels entry.0.1 label → IsUpperBound entry_cmp entry kept.queue →
+      IsNext kept entry.0.1 label
+  next-first label is above =
+      let there : slice_get kept.labels entry.0.1 ≡ Some label =
+      slice_get_read kept.labels (length kept.labels) entry.0.1 label refl within-first is in
+      let l = search.queued entry queued-first in
+      let same : l.0 ≡ label = slice_get-same kept.labels entry.0.1 l.0 label l.1 there in
+      let cost : entry.0.0 ≡ label.cost = sym l.2 ∙ ap (λ (k : Label S). k.cost) same in
+      record {
+        there = there;
+        first =
+            slice_get_read kept.queue (length kept.queue) 0 entry refl some first ∙
+            ap (λ (c : ℕ). let e : Entry = record { 0 = (c, entry.0.1) } in Some e) cost;
+        least = λ e h. omega (arith, least-entry entry kept.queue above e h, cost);
+      }
