@@ -37,17 +37,20 @@ Contains-first x xs = (0, omega arith, refl)
 pub Contains-rest : {X : Type 0} (x : X) (xs : List X) (y : X) → Contains xs y → Contains (x ∷ xs) y
 Contains-rest x xs y (k, h, e) = (suc k, omega arith, e)
 
--- an element after a write is an old one or the one that was written
+-- an element after a write is an old one at another place, or the one that was written
 pub slice_get-set_cases :
-    {X : Type 0} (xs : List X) (i : ℕ) (y : X) (n : ℕ) (x : X) →
-    slice_get (set xs i y) n ≡ Some x →
-    (slice_get xs n ≡ Some x) ⊎ ((n ≡ i) × (y ≡ x))
-slice_get-set_cases [] i y n x e = inl e
+  {X : Type 0} (xs : List X) (i : ℕ) (y : X) (n : ℕ) (x : X) →
+  slice_get (set xs i y) n ≡ Some x →
+  ((n ≢ i) × (slice_get xs n ≡ Some x)) ⊎ ((n ≡ i) × (y ≡ x))
+slice_get-set_cases [] i y n x e = cc
 slice_get-set_cases (z ∷ xs) zero y zero x e = inr (refl, cc)
-slice_get-set_cases (z ∷ xs) zero y (suc n) x e = inl e
-slice_get-set_cases (z ∷ xs) (suc i) y zero x e = inl e
+slice_get-set_cases (z ∷ xs) zero y (suc n) x e = inl (λ same. omega arith, e)
+slice_get-set_cases (z ∷ xs) (suc i) y zero x e = inl (λ same. omega arith, e)
 slice_get-set_cases (z ∷ xs) (suc i) y (suc n) x e =
-    elim (slice_get-set_cases xs i y n x e) [ inl h ↦ inl h | inr (p, q) ↦ inr (ap suc p, q) ]
+    elim (slice_get-set_cases xs i y n x e) [
+        inl (other, h) ↦ inl (λ same. other (omega arith), h)
+      | inr (p, q) ↦ inr (ap suc p, q)
+    ]
 
 -- two readings of one place are equal
 pub slice_get-same : {X : Type 0} (xs : List X) (n : ℕ) (x y : X) → slice_get xs n ≡ Some x → slice_get xs n ≡ Some y → x ≡ y
@@ -68,3 +71,10 @@ equal-or_not (suc n) (suc m) =
 -- a number below the next one is below this one or is it
 pub below-next : (n m : ℕ) → n < m + 1 → (n < m) ⊎ (n ≡ m)
 below-next n m h = elim (equal-or_not n m) [ inl e ↦ inr e | inr other ↦ inl (omega arith) ]
+
+-- a number is at most another, or the other is below it
+pub most-or_below : (a b : ℕ) → (a ≤ b) ⊎ (b < a)
+most-or_below zero b = inl (omega arith)
+most-or_below (suc a) zero = inr (omega arith)
+most-or_below (suc a) (suc b) =
+    elim (most-or_below a b) [ inl h ↦ inl (omega arith) | inr h ↦ inr (omega arith) ]

@@ -7,7 +7,9 @@ use Rattle.std.specs.List.{slice_get, Contains}
 use Rattle.std.specs.Ordering.{nat_cmp, ordering_then, is_lt}
 use Rattle.std.specs.declared.cmp.Ordering.{Ordering}
 use Rattle.space_search.specs.Rules.{Rules}
-use Rattle.space_search.specs.Books.{Books, Entry, entry_cmp, IsLabel, IsSearch, IsNext}
+use Rattle.space_search.specs.Books.{Books, Entry, entry_cmp, IsLabel, IsSearch}
+use Rattle.space_search.specs.Laws.{HasRank}
+use Rattle.space_search.specs.Moves.{IsNext}
 use Rattle.space_search.specs.declared.label.Label.{Label}
 use Rattle.space_search.proofs.ListLemmas.{Contains-cons_cases, Contains-none, slice_get-same}
 
@@ -15,7 +17,7 @@ use Rattle.space_search.proofs.ListLemmas.{Contains-cons_cases, Contains-none, s
 not_less : (a b : ℕ) (rest : Ordering) → is_lt (ordering_then (nat_cmp a b) rest) ≡ false → b ≤ a
 not_less a b rest h = grind (arith, nat_tests)
 
--- nothing in the queue costs less than its greatest entry
+-- nothing in the queue ranks below its greatest entry
 pub least-entry : (x : Entry) (xs : List Entry) → IsUpperBound entry_cmp x xs → (y : Entry) → Contains xs y → x.0.0 ≤ y.0.0
 least-entry x [] all y h = absurd (Contains-none y h)
 least-entry x (z ∷ zs) all y h =
@@ -36,17 +38,16 @@ module _ {S : Type 0} (rules : Rules S) (kept : Books S) (search : IsSearch rule
   -- the label at the front of the queue is the next one
   pub next-first :
       (label : Label S) → label ≡ get_or kept.labels entry.0.1 label → IsUpperBound entry_cmp entry kept.queue →
-      IsNext kept entry.0.1 label
+      IsNext rules kept entry.0.1 label
   next-first label is above =
       let there : slice_get kept.labels entry.0.1 ≡ Some label =
-      slice_get_read kept.labels (length kept.labels) entry.0.1 label refl within-first is in
+            slice_get_read kept.labels (length kept.labels) entry.0.1 label refl within-first is in
       let l = search.queued entry queued-first in
       let same : l.0 ≡ label = slice_get-same kept.labels entry.0.1 l.0 label l.1 there in
-      let cost : entry.0.0 ≡ label.cost = sym l.2 ∙ ap (λ (k : Label S). k.cost) same in
       record {
         there = there;
-        first =
-            slice_get_read kept.queue (length kept.queue) 0 entry refl some first ∙
-            ap (λ (c : ℕ). let e : Entry = record { 0 = (c, entry.0.1) } in Some e) cost;
-        least = λ e h. omega (arith, least-entry entry kept.queue above e h, cost);
+        rank = entry.0.0;
+        ranked = subst (λ (k : Label S). HasRank rules k.state k.cost entry.0.0) same l.2;
+        first = slice_get_read kept.queue (length kept.queue) 0 entry refl some first;
+        least = λ e h. least-entry entry kept.queue above e h;
       }

@@ -1,39 +1,36 @@
-//! A search before its first label is taken.
+//! A search offers all starts before it takes its first label.
 
-ghost use Rattle.std.specs.Prelude.{◌≡◌, IfOk};
-ghost use Rattle.space_search.specs.Books.{books, Begins};
+ghost use Rattle.std.specs.Prelude.{◌≡◌, OnOk};
+ghost use Rattle.space_search.specs.Books.{books, IsFresh, Leaves};
+ghost use Rattle.space_search.specs.Moves.{Begins};
 
-use crate::label::{Label, NO_LABEL};
+use crate::label::Label;
+use crate::lists::Lists;
 use crate::offer::offer;
-use crate::search::Search;
 use crate::space::Space;
-use std::alloc::{AllocError, Global};
-use std::collections::BinaryHeap;
+use std::alloc::AllocError;
 
-/// A search in which all starts wait and nothing is settled.
+/// Offers what the starts give.
 pub(crate) fn begin<T: Copy + Drop, S: Space<State = T>>(
-    alloc: Global,
     space: &S,
-) -> Result<Search<T>, AllocError>
-    ensures begins { IfOk result (λ search. Begins (S.rules space.now) (books search)) }
+    lists: &mut Lists<T>,
+) -> Result<(), AllocError>
+    requires fresh { IsFresh (books lists.old) }
+    ensures begins { OnOk result (Begins (S.rules space.now) (books lists.new)) }
+    ensures leaves { Leaves (S.rules space.now) (books lists.old) (books lists.new) }
 {
-    let mut search = Search {
-        labels: Vec::new(alloc),
-        queue: BinaryHeap::new(alloc),
-        settled: Vec::new(alloc),
-        newest: vec![in alloc; NO_LABEL; space.cells() as usize]?,
-    };
+    lists.newest.resize(space.cells() as usize, 0)?;
     'starts: for choice in 0..space.starts() {
         if let Some(found) = space.start(choice) {
             let (state, cost) = found;
             let reached = Label {
                 cost,
                 state,
-                parent: NO_LABEL,
+                parent: 0,
                 choice,
             };
-            offer(space, &mut search, reached)?;
+            offer(space, lists, reached)?;
         }
     }
-    Ok(search)
+    Ok(())
 }

@@ -2,20 +2,19 @@
 #![tactic(auto)]
 
 mod begin;
-mod choices;
-mod finding;
 mod label;
+mod lists;
 mod next;
 mod offer;
 mod outcome;
+mod phase;
 mod search;
 mod settle;
 mod space;
-#[cfg(test)]
-mod tests;
-#[cfg(test)]
-mod tests_diamond;
+mod turn;
 
-pub use finding::least;
 pub use outcome::Outcome;
+pub use phase::Phase;
+pub use search::Search;
 pub use space::Space;
+pub use turn::Turn;

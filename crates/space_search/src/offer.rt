@@ -1,53 +1,88 @@
-//! A new label is queued, unless a settled label makes it needless.
+//! A new label is queued, unless that is needless.
 
-ghost use Rattle.std.specs.Prelude.{◌≡◌, IsTrue, OnOk, length};
-ghost use Rattle.space_search.specs.Books.{books, IsSearch, Follows, IsCovered, Offers};
+ghost use Rattle.std.specs.Prelude.{◌≡◌, ◌<◌, IsTrue, OnOk, false, length};
+ghost use Rattle.space_search.specs.Books.{books, IsSearch, Follows, IsCovered, IsUncovered, Leaves};
+ghost use Rattle.space_search.specs.Moves.{Offers, RanksAbove};
+ghost use Rattle.space_search.specs.Laws.{HasRank};
+ghost use Rattle.space_search.specs.Rules.{LOW_BOUND};
 
-use crate::label::{Label, NO_LABEL};
-use crate::search::Search;
+use crate::label::{Label, MOST_LABELS};
+use crate::lists::Lists;
 use crate::space::Space;
 use std::alloc::AllocError;
 use std::cmp::Reverse;
 
-/// Whether a settled label is known that covers the state at this cost.
+/// Whether a settled label covers the state at this cost.
 pub(crate) fn is_covered<T: Copy + Drop, S: Space<State = T>>(
     space: &S,
-    search: &Search<T>,
+    lists: &Lists<T>,
     state: &T,
     cost: u128,
 ) -> bool
     requires valid { IsTrue ((S.rules space.now).is_valid state.now) }
-    requires kept { IsSearch (S.rules space.now) (books search.now) }
-    ensures covered { IsTrue result → IsCovered (S.rules space.now) (books search.now) state.now cost }
+    requires small { cost < LOW_BOUND }
+    requires kept { IsSearch (S.rules space.now) (books lists.now) }
+    ensures covered { IsTrue result → IsCovered (S.rules space.now) (books lists.now) state.now cost }
+    ensures uncovered { result ≡ false → IsUncovered (S.rules space.now) (books lists.now) state.now cost }
 {
     let cell = space.cell(state);
-    let number = search.newest[cell as usize];
-    number != NO_LABEL && search.labels[number as usize].cost <= cost
+    let mut cursor = lists.newest[cell as usize];
+    'chain: while cursor > 0 {
+        let place = (cursor - 1) as usize;
+        let label = lists.labels[lists.settled[place] as usize];
+        if space.covers(&label.state, label.cost, state, cost) {
+            return true;
+        }
+        cursor = lists.older[place];
+    }
+    false
 }
 
-/// Puts a new label into the queue, unless a settled one covers it.
+/// Puts a new label into the queue, unless no goal is reached from it or a settled label covers it.
 pub(crate) fn offer<T: Copy + Drop, S: Space<State = T>>(
     space: &S,
-    search: &mut Search<T>,
+    lists: &mut Lists<T>,
     label: Label<T>,
 ) -> Result<(), AllocError>
-    requires kept { IsSearch (S.rules space.now) (books search.old) }
-    requires follows { let kept = books search.old in Follows (S.rules space.now) kept (length kept.labels) label }
-    ensures offers { OnOk result (Offers (S.rules space.now) (books search.old) (books search.new) label) }
+    requires kept { IsSearch (S.rules space.now) (books lists.old) }
+    requires follows { let kept = books lists.old in Follows (S.rules space.now) kept (length kept.settled) label }
+    requires above { RanksAbove (S.rules space.now) (books lists.old) label.state label.cost }
+    ensures offers { OnOk result (Offers (S.rules space.now) (books lists.old) (books lists.new) label) }
+    ensures leaves { Leaves (S.rules space.now) (books lists.old) (books lists.new) }
 {
-    if is_covered(space, search, &label.state, label.cost) {
+    let Some(low) = space.low(&label.state) else {
+        return Ok(());
+    };
+    if is_covered(space, lists, &label.state, label.cost) {
         return Ok(());
     }
-    let number = search.labels.len();
-    if number >= NO_LABEL as usize {
+    enqueue(space, lists, label, label.cost + low)
+}
+
+/// Puts a new label into the queue at its rank.
+fn enqueue<T: Copy + Drop, S: Space<State = T>>(
+    _space: &S,
+    lists: &mut Lists<T>,
+    label: Label<T>,
+    rank: u128,
+) -> Result<(), AllocError>
+    requires kept { IsSearch (S.rules _space.now) (books lists.old) }
+    requires follows { let kept = books lists.old in Follows (S.rules _space.now) kept (length kept.settled) label }
+    requires above { RanksAbove (S.rules _space.now) (books lists.old) label.state label.cost }
+    requires ranked { HasRank (S.rules _space.now) label.state label.cost rank }
+    ensures offers { OnOk result (Offers (S.rules _space.now) (books lists.old) (books lists.new) label) }
+    ensures leaves { Leaves (S.rules _space.now) (books lists.old) (books lists.new) }
+{
+    let number = lists.labels.len();
+    if number >= MOST_LABELS as usize {
         return Err(AllocError);
     }
-    let entry = Reverse((label.cost, number as u32));
-    match search.labels.push(label) {
+    let entry = Reverse((rank, number as u32));
+    match lists.labels.push(label) {
         Ok(()) => {}
         Err(_) => return Err(AllocError),
     }
-    match search.queue.push(entry) {
+    match lists.queue.push(entry) {
         Ok(()) => Ok(()),
         Err(_) => Err(AllocError),
     }

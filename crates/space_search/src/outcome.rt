@@ -1,4 +1,4 @@
-//! What a search for a least run answers.
+//! What a whole search answers.
 
 use item_list::Items;
 
@@ -9,4 +9,6 @@ pub enum Outcome {
     Found { choices: Items<u32>, cost: u128 },
     /// No run reaches a goal.
     NoWay,
+    /// The limit of settled labels is spent.
+    Budget,
 }

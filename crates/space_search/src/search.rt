@@ -1,15 +1,13 @@
-//! What a search keeps while it runs.
+//! A search that is done in turns.
 
-use crate::label::Label;
-use std::cmp::Reverse;
-use std::collections::BinaryHeap;
+use crate::lists::Lists;
+use crate::phase::Phase;
 
-/// The labels made so far by number, the queue of those that wait (least cost first, then least
-/// number), the settled ones in order, and the newest settled one of each cell.
+/// A search for a goal of least cost, which borrows no space: each turn is given the space again.
 #[derive(Drop)]
-pub(crate) struct Search<T> {
-    pub(crate) labels: Vec<Label<T>>,
-    pub(crate) queue: BinaryHeap<Reverse<(u128, u32)>>,
-    pub(crate) settled: Vec<u32>,
-    pub(crate) newest: Vec<u32>,
+pub struct Search<T> {
+    pub(crate) lists: Lists<T>,
+    pub(crate) limit: u64,
+    pub(crate) found: u32,
+    pub(crate) phase: Phase,
 }

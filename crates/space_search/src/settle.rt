@@ -1,101 +1,86 @@
-//! The next label is taken from the queue and settled, and its steps are offered.
+//! The next label leaves the queue: it is dropped, or it is settled and its steps are offered.
 
-ghost use Rattle.std.specs.Prelude.{◌≡◌, false, OnOk};
-ghost use Rattle.std.specs.List.{Contains};
-ghost use Rattle.space_search.specs.Books.{books, IsSearch, IsClosed, IsCovered, IsLabel, IsNext, HasStarts, HasStepsBut, Takes, Settles, Advances};
+ghost use Rattle.std.specs.Prelude.{◌≡◌, ◌+◌, ◌-◌, ◌<◌, ◌^◌, false, OnOk, length};
+ghost use Rattle.space_search.specs.Books.{books, IsSearch, IsClosed, IsCovered, IsUncovered, IsSettled, HasStarts, HasStepsBelow, Leaves};
+ghost use Rattle.space_search.specs.Moves.{IsNext, Drops, Settles, Advances};
 
 use crate::label::Label;
-use crate::offer::{is_covered, offer};
-use crate::search::Search;
+use crate::lists::Lists;
+use crate::offer::offer;
 use crate::space::Space;
 use std::alloc::AllocError;
 
-/// Takes the next label, which is no goal, from the queue. It is settled, and what its steps give is
-/// offered, unless a settled label covers it.
-pub(crate) fn take<T: Copy + Drop, S: Space<State = T>>(
-    space: &S,
-    search: &mut Search<T>,
-    number: u32,
-    label: Label<T>,
-) -> Result<(), AllocError>
-    requires kept { IsSearch (S.rules space.now) (books search.old) }
-    requires closed { IsClosed (S.rules space.now) (books search.old) }
-    requires next { IsNext (books search.old) number label }
-    requires no_goal { (S.rules space.now).is_goal label.state ≡ false }
-    ensures takes { OnOk result (Takes (S.rules space.now) (books search.old) (books search.new)) }
-{
-    if is_covered(space, search, &label.state, label.cost) {
-        drop_next(space, search, number, label);
-        return Ok(());
-    }
-    settle_next(space, search, number, label)?;
-    advance(space, search, number, label)
-}
-
 /// Takes the next label from the queue, where a settled label covers it.
-fn drop_next<T: Copy + Drop, S: Space<State = T>>(
-    space: &S,
-    search: &mut Search<T>,
-    number: u32,
-    label: Label<T>,
+pub(crate) fn drop_next<T: Copy + Drop, S: Space<State = T>>(
+    _space: &S,
+    lists: &mut Lists<T>,
+    _number: u32,
+    _label: Label<T>,
 )
-    requires kept { IsSearch (S.rules space.now) (books search.old) }
-    requires closed { IsClosed (S.rules space.now) (books search.old) }
-    requires next { IsNext (books search.old) number label }
-    requires covered { IsCovered (S.rules space.now) (books search.old) label.state label.cost }
-    ensures takes { Takes (S.rules space.now) (books search.old) (books search.new) }
+    requires kept { IsSearch (S.rules _space.now) (books lists.old) }
+    requires closed { IsClosed (S.rules _space.now) (books lists.old) }
+    requires next { IsNext (S.rules _space.now) (books lists.old) _number _label }
+    requires covered { IsCovered (S.rules _space.now) (books lists.old) _label.state _label.cost }
+    ensures drops { Drops (S.rules _space.now) (books lists.old) (books lists.new) }
 {
-    let _taken = search.queue.pop();
+    let _taken = lists.queue.pop();
 }
 
-/// Takes the next label from the queue and settles it.
-fn settle_next<T: Copy + Drop, S: Space<State = T>>(
+/// Takes the next label, which is no goal and which no settled label covers, from the queue and settles it.
+pub(crate) fn settle_next<T: Copy + Drop, S: Space<State = T>>(
     space: &S,
-    search: &mut Search<T>,
+    lists: &mut Lists<T>,
     number: u32,
     label: Label<T>,
 ) -> Result<(), AllocError>
-    requires kept { IsSearch (S.rules space.now) (books search.old) }
-    requires closed { IsClosed (S.rules space.now) (books search.old) }
-    requires next { IsNext (books search.old) number label }
+    requires kept { IsSearch (S.rules space.now) (books lists.old) }
+    requires closed { IsClosed (S.rules space.now) (books lists.old) }
+    requires next { IsNext (S.rules space.now) (books lists.old) number label }
     requires no_goal { (S.rules space.now).is_goal label.state ≡ false }
-    ensures settles { OnOk result (Settles (S.rules space.now) (books search.old) (books search.new) number label) }
+    requires uncovered { IsUncovered (S.rules space.now) (books lists.old) label.state label.cost }
+    requires room { length (books lists.old).settled + 1 < 2 ^ 32 }
+    ensures settles { OnOk result (Settles (S.rules space.now) (books lists.old) (books lists.new) number label) }
+    ensures leaves { Leaves (S.rules space.now) (books lists.old) (books lists.new) }
 {
-    let cell = space.cell(&label.state);
-    match search.settled.push(number) {
+    let cell = space.cell(&label.state) as usize;
+    let before = lists.newest[cell];
+    match lists.older.push(before) {
         Ok(()) => {}
         Err(_) => return Err(AllocError),
     }
-    search.newest[cell as usize] = number;
-    let _taken = search.queue.pop();
+    match lists.settled.push(number) {
+        Ok(()) => {}
+        Err(_) => return Err(AllocError),
+    }
+    lists.newest[cell] = lists.settled.len() as u32;
+    let _taken = lists.queue.pop();
     Ok(())
 }
 
-/// Offers what the steps of a settled label give.
-fn advance<T: Copy + Drop, S: Space<State = T>>(
+/// Offers what the steps of the newest settled label give.
+pub(crate) fn advance<T: Copy + Drop, S: Space<State = T>>(
     space: &S,
-    search: &mut Search<T>,
-    number: u32,
+    lists: &mut Lists<T>,
     label: Label<T>,
 ) -> Result<(), AllocError>
-    requires kept { IsSearch (S.rules space.now) (books search.old) }
-    requires starts { HasStarts (S.rules space.now) (books search.old) (S.rules space.now).starts }
-    requires others { HasStepsBut (S.rules space.now) (books search.old) number }
-    requires there { IsLabel (books search.old) number label }
-    requires settled { Contains (books search.old).settled number }
-    ensures advances { OnOk result (Advances (S.rules space.now) (books search.old) (books search.new)) }
+    requires kept { IsSearch (S.rules space.now) (books lists.old) }
+    requires starts { HasStarts (S.rules space.now) (books lists.old) (S.rules space.now).starts }
+    requires steps { HasStepsBelow (S.rules space.now) (books lists.old) (length (books lists.old).settled - 1) }
+    requires now { IsSettled (books lists.old) (length (books lists.old).settled - 1) label }
+    ensures advances { OnOk result (Advances (S.rules space.now) (books lists.old) (books lists.new)) }
+    ensures leaves { Leaves (S.rules space.now) (books lists.old) (books lists.new) }
 {
+    let parent = lists.settled.len() as u32;
     'steps: for choice in 0..space.steps(&label.state) {
         if let Some(found) = space.step(&label.state, choice) {
             let (state, more) = found;
-            let cost = label.cost + more;
             let reached = Label {
-                cost,
+                cost: label.cost + more,
                 state,
-                parent: number,
+                parent,
                 choice,
             };
-            offer(space, search, reached)?;
+            offer(space, lists, reached)?;
         }
     }
     Ok(())

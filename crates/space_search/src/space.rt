@@ -1,7 +1,8 @@
 //! The interface of everything that is searched.
 
 ghost use Rattle.std.specs.Prelude.{◌≡◌, ◌<◌, IsTrue};
-ghost use Rattle.space_search.specs.Rules.{Rules, IsSpace};
+ghost use Rattle.space_search.specs.Rules.{Rules, LOW_BOUND};
+ghost use Rattle.space_search.specs.Laws.{IsSpace};
 
 /// A space of states with starts, steps and goals, all by number. No call takes memory.
 ///
@@ -48,6 +49,19 @@ pub trait Space {
     fn goal(&self, state: &Self::State) -> bool
         requires valid { IsTrue ((rules self.now).is_valid state.now) }
         ensures value { result ≡ (rules self.now).is_goal state.now };
+
+    /// Whether a state that was reached at a cost makes another at its cost needless.
+    fn covers(&self, a: &Self::State, ca: u128, b: &Self::State, cb: u128) -> bool
+        requires valid_a { IsTrue ((rules self.now).is_valid a.now) }
+        requires valid_b { IsTrue ((rules self.now).is_valid b.now) }
+        requires small_a { ca < LOW_BOUND }
+        requires small_b { cb < LOW_BOUND }
+        ensures value { result ≡ (rules self.now).covers a.now ca b.now cb };
+
+    /// A lower bound of what is still to pay from a state to a goal; `None` where none is reached.
+    fn low(&self, state: &Self::State) -> Option<u128>
+        requires valid { IsTrue ((rules self.now).is_valid state.now) }
+        ensures value { result ≡ (rules self.now).low state.now };
 
     /// What the space answers keeps the laws of a space.
     ghost keeps_laws: { (space : Self) → IsSpace (rules space) };

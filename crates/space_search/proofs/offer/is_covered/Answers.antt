@@ -1,14 +1,75 @@
-use Rattle.std.proofs.Common.{arith}
-use Rattle.std.proofs.lemmas.Bool.Decides.{nat_tests}
-use Rattle.space_search.proofs.OfferLemmas.{covered-by_newest}
+use Rattle.std.proofs.Common.{arith, sym, ◌∙◌}
+use Rattle.space_search.specs.Books.{books}
+use Rattle.space_search.proofs.ChainLemmas.{tested-first, uncovered-last, within-settled, within-older, within-labels, settled-here, settled-valid, settled-small, next-below, tested-next}
 use Rattle.space_search.proofs.offer.is_covered.Goals as goal
 
-pub returns-then-number : goal.returns-then-number
-returns-then-number g c =
+pub chain-init : goal.chain-init
+chain-init g c =
+    tested-first _ (g.met.S.Space.keeps_laws c.args.space.now) _ c.requires.kept c.args.state.now c.args.cost
+    c.requires.valid c.cell-cell.result c.index-cursor.result.now c.cell-cell.ensures.value c.index-cursor.ensures
+
+pub index-requires : goal.index-requires
+index-requires g c =
+    omega (
+      arith,
+      within-settled _ (g.met.S.Space.keeps_laws c.args.space.now) _ c.requires.kept c.args.state.now c.args.cost
+          c.requires.valid c.chain.cursor c.chain-test.true c.chain.invariant,
+      c.args.lists.now.settled.ok.0,
+    )
+
+pub index-requires-in-chain : goal.index-requires-in-chain
+index-requires-in-chain g c =
+    omega (
+      arith,
+      within-labels _ (g.met.S.Space.keeps_laws c.args.space.now) _ c.requires.kept c.args.state.now c.args.cost
+          c.requires.valid c.chain.cursor c.chain-test.true c.chain.invariant c.index.result.now c.index.ensures,
+      c.args.lists.now.labels.ok.0,
+    )
+
+pub covers-requires-clause-valid_a : goal.covers-requires-clause-valid_a
+covers-requires-clause-valid_a g c =
+    settled-valid _ (g.met.S.Space.keeps_laws c.args.space.now) _ c.requires.kept _ _
+    (settled-here _ (g.met.S.Space.keeps_laws c.args.space.now) _ c.requires.kept c.args.state.now c.args.cost
+    c.requires.valid c.chain.cursor c.chain-test.true c.chain.invariant c.index.result.now c.index.ensures
+    c.index-in-chain.result.now c.index-in-chain.ensures)
+
+pub covers-requires-clause-small_a : goal.covers-requires-clause-small_a
+covers-requires-clause-small_a g c =
+    settled-small _ (g.met.S.Space.keeps_laws c.args.space.now) _ c.requires.kept _ _
+    (settled-here _ (g.met.S.Space.keeps_laws c.args.space.now) _ c.requires.kept c.args.state.now c.args.cost
+    c.requires.valid c.chain.cursor c.chain-test.true c.chain.invariant c.index.result.now c.index.ensures
+    c.index-in-chain.result.now c.index-in-chain.ensures)
+
+pub returns-then-covers-clause-covered : goal.returns-then-covers-clause-covered
+returns-then-covers-clause-covered g c h =
     record {
-      covered = λ h.
-          covered-by_newest _ _ _ _ c.requires.kept c.cell-cell.result c.index-number.result.now c.index.result.now
-          c.cell-cell.ensures.value
-          ((g.met.S.Space.keeps_laws c.args.space.now).cell_below c.args.state.now c.requires.valid)
-          c.index-number.ensures c.if-number.true c.index.ensures (grind (arith, nat_tests));
+      place = _;
+      label = c.index-in-chain.result.now;
+      settled =
+          settled-here _ (g.met.S.Space.keeps_laws c.args.space.now) _ c.requires.kept c.args.state.now c.args.cost
+          c.requires.valid c.chain.cursor c.chain-test.true c.chain.invariant c.index.result.now c.index.ensures
+          c.index-in-chain.result.now c.index-in-chain.ensures;
+      covers = sym c.covers.ensures.value ∙ c.if-covers.true;
     }
+
+pub index-cursor-requires-in-chain : goal.index-cursor-requires-in-chain
+index-cursor-requires-in-chain g c =
+    omega (
+      arith,
+      within-older _ (g.met.S.Space.keeps_laws c.args.space.now) _ c.requires.kept c.args.state.now c.args.cost
+          c.requires.valid c.chain.cursor c.chain-test.true c.chain.invariant,
+      c.args.lists.now.older.ok.0,
+    )
+
+pub chain-smaller : goal.chain-smaller
+chain-smaller g c =
+    next-below _ (g.met.S.Space.keeps_laws c.args.space.now) _ c.requires.kept c.args.state.now c.args.cost
+    c.requires.valid c.chain.cursor c.chain-test.true c.chain.invariant c.index.result.now c.index.ensures
+    c.index-in-chain.result.now c.index-in-chain.ensures c.index-cursor-in-chain.result.now c.index-cursor-in-chain.ensures
+
+pub chain-preserved : goal.chain-preserved
+chain-preserved g c =
+    tested-next _ (g.met.S.Space.keeps_laws c.args.space.now) _ c.requires.kept c.args.state.now c.args.cost
+    c.requires.valid c.chain.cursor c.chain-test.true c.chain.invariant c.index.result.now c.index.ensures
+    c.index-in-chain.result.now c.index-in-chain.ensures c.index-cursor-in-chain.result.now c.index-cursor-in-chain.ensures
+    (sym c.covers.ensures.value ∙ c.if-covers.false)

@@ -1,0 +1,129 @@
+-- The covering test goes along the chain of a cell's settled labels.
+use Rattle.std.proofs.Common.{◌≡◌, ◌≢◌, ℕ, zero, suc, ◌<◌, ◌≤◌, ◌+◌, ◌-◌, ◌*◌, ◌^◌, ◌⊎◌, inl, inr, List, length, get_or, Option, Some, Bool, true, false, refl, ap, arith, sym, ◌∙◌, subst}
+use Rattle.std.proofs.lemmas.Option.{slice_get_read, slice_get_within}
+use Rattle.std.specs.Bool.{IsTrue}
+use Rattle.std.specs.List.{slice_get}
+use Rattle.space_search.specs.Books.{Books, IsLabel, IsSettled, IsCovered, IsUncovered, IsSearch, IsLatest}
+use Rattle.space_search.specs.Chains.{IsTested}
+use Rattle.space_search.specs.Laws.{IsSpace}
+use Rattle.space_search.specs.Rules.{Rules, LOW_BOUND}
+use Rattle.space_search.specs.declared.label.Label.{Label}
+use Rattle.space_search.proofs.ListLemmas.{slice_get-same, equal-or_not, most-or_below}
+use Rattle.space_search.proofs.SameLemmas.{settled-unique, settled-within}
+
+-- a test that isn't true is false
+pub false-from_not : (b : Bool) → (IsTrue b → ⊥) → b ≡ false
+false-from_not true h = absurd (h refl)
+false-from_not false h = refl
+
+module _ {S : Type 0} (rules : Rules S) (laws : IsSpace rules) (kept : Books S) (search : IsSearch rules kept) where
+  -- what a settled label costs is small enough to be compared
+  pub settled-small : (place : ℕ) (label : Label S) → IsSettled kept place label → label.cost < LOW_BOUND
+  settled-small place label s =
+      let f = search.reads.settled_follows place label s in
+      omega (arith, f.bounded, settled-within kept place label s, search.reads.few_settled)
+
+  pub settled-valid : (place : ℕ) (label : Label S) → IsSettled kept place label → IsTrue (rules.is_valid label.state)
+  settled-valid place label s = (search.reads.settled_follows place label s).valid
+
+  module _ (state : S) (cost : ℕ) (valid : IsTrue (rules.is_valid state)) where
+    -- the chain begins at the cell's newest label
+    pub tested-first :
+        (cell cursor : ℕ) → cell ≡ rules.cell state → cursor ≡ get_or kept.newest cell cursor →
+        IsTested rules kept state cost cursor
+    tested-first cell cursor at read =
+        let below : rules.cell state < rules.cells = laws.moves.cell state valid in
+        let there : slice_get kept.newest cell ≡ Some cursor =
+        slice_get_read kept.newest (length kept.newest) cell cursor refl (omega (arith, search.index.cells)) read in
+        let latest : IsLatest rules kept (rules.cell state) (length kept.settled) cursor =
+        subst (λ n. IsLatest rules kept n (length kept.settled) cursor) at (search.index.newest cell cursor there) in
+        record {
+          tested = λ place label s same later.
+              absurd (omega (arith, latest.last place label s same (settled-within kept place label s)));
+          here = λ place is. let h = latest.inside place is in (h.1.0, h.1.1, h.1.2);
+        }
+
+    -- where no label covers at the end of the chain, none does
+    pub uncovered-last : IsTested rules kept state cost 0 → IsUncovered rules kept state cost
+    uncovered-last t place label s =
+        false-from_not (rules.covers label.state label.cost state cost)
+        (λ covers.
+        let same : rules.cell label.state ≡ rules.cell state =
+        laws.covering.one_cell label.state state label.cost cost (settled-valid place label s) valid covers in
+        let no_cover : rules.covers label.state label.cost state cost ≡ false = t.tested place label s same (omega arith) in
+        let covered : rules.covers label.state label.cost state cost ≡ true = covers in
+        cc)
+
+    module _ (cursor : ℕ) (some : 0 < cursor) (t : IsTested rules kept state cost cursor) where
+      found : (label : Label S) × IsSettled kept (cursor - 1) label × (rules.cell label.state ≡ rules.cell state)
+      found = t.here (cursor - 1) (omega arith)
+
+      pub within-settled : cursor - 1 < length kept.settled
+      within-settled = settled-within kept (cursor - 1) found.0 found.1
+
+      pub within-older : cursor - 1 < length kept.older
+      within-older = omega (arith, within-settled, search.index.places)
+
+      module _ (number : ℕ) (read : number ≡ get_or kept.settled (cursor - 1) number) where
+        at : slice_get kept.settled (cursor - 1) ≡ Some number
+        at = slice_get_read kept.settled (length kept.settled) (cursor - 1) number refl within-settled read
+
+        same-number : found.1.number ≡ number
+        same-number = slice_get-same kept.settled (cursor - 1) found.1.number number found.1.at at
+
+        there : IsLabel kept number found.0
+        there = subst (λ n. IsLabel kept n found.0) same-number found.1.there
+
+        pub within-labels : number < length kept.labels
+        within-labels = slice_get_within kept.labels number found.0 there
+
+        module _ (label : Label S) (reads : label ≡ get_or kept.labels number label) where
+          -- the label before the cursor
+          pub settled-here : IsSettled kept (cursor - 1) label
+          settled-here =
+              record {
+                number = number;
+                at = at;
+                there = slice_get_read kept.labels (length kept.labels) number label refl within-labels reads;
+              }
+
+          same-cell : rules.cell label.state ≡ rules.cell state
+          same-cell =
+              let same : found.0 ≡ label = settled-unique kept (cursor - 1) found.0 label found.1 settled-here in
+              ap (λ (l : Label S). rules.cell l.state) (sym same) ∙ found.2
+
+          module _ (next : ℕ) (reads_next : next ≡ get_or kept.older (cursor - 1) next) where
+            latest : IsLatest rules kept (rules.cell label.state) (cursor - 1) next
+            latest =
+                search.index.older (cursor - 1) next label
+                (slice_get_read kept.older (length kept.older) (cursor - 1) next refl within-older reads_next) settled-here
+
+            -- the chain goes down
+            pub next-below : next < cursor
+            next-below = below next refl where
+              below : (n : ℕ) → next ≡ n → next < cursor
+              below zero e = omega arith
+              below (suc m) e = let h = latest.inside m (omega arith) in omega (arith, h.0)
+
+            -- and where this label doesn't cover, the test has gone one label further
+            pub tested-next : rules.covers label.state label.cost state cost ≡ false → IsTested rules kept state cost next
+            tested-next uncovers =
+                record {
+                  tested = λ place other s same later. go place other s same later (equal-or_not place (cursor - 1));
+                  here = λ place is. let h = latest.inside place is in (h.1.0, h.1.1, h.1.2 ∙ same-cell);
+                } where
+                  go :
+                      (place : ℕ) (other : Label S) → IsSettled kept place other → rules.cell other.state ≡ rules.cell state →
+                      next ≤ place → (place ≡ cursor - 1) ⊎ (place ≢ cursor - 1) →
+                      rules.covers other.state other.cost state cost ≡ false
+                  go place other s same later (inl is) =
+                      let one : label ≡ other =
+                      settled-unique kept place label other (subst (λ n. IsSettled kept n label) (sym is) settled-here) s in
+                      subst (λ (l : Label S). rules.covers l.state l.cost state cost ≡ false) one uncovers
+                  go place other s same later (inr elsewhere) =
+                      elim (most-or_below cursor place) [
+                        | inl h ↦ t.tested place other s same h
+                        | inr h ↦
+                            let early : place < cursor - 1 = omega arith in
+                            absurd (omega (arith, latest.last place other s (same ∙ sym same-cell) early))
+                      ]

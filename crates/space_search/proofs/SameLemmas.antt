@@ -1,0 +1,96 @@
+-- What a search's lists say stays true where no label is settled.
+use Rattle.std.proofs.Common.{◌≡◌, ◌≢◌, ℕ, ◌<◌, ◌≤◌, ◌+◌, ◌*◌, List, length, Option, Some, Bool, false, refl, ap, arith, sym, ◌∙◌, subst}
+use Rattle.std.proofs.lemmas.Option.{slice_get_within}
+use Rattle.std.specs.List.{slice_get, Contains}
+use Rattle.space_search.specs.Rules.{Rules}
+use Rattle.space_search.specs.Books.{Books, IsLabel, IsSettled, CameFrom, from_start, from_label, Follows, IsLatest, IsIndex, Reads, IsRising, Extends, KeepsLabels}
+use Rattle.space_search.specs.declared.label.Label.{Label}
+use Rattle.space_search.proofs.ListLemmas.{slice_get-same}
+
+-- one place has one label
+pub settled-unique :
+    {S : Type 0} (kept : Books S) (place : ℕ) (a b : Label S) → IsSettled kept place a → IsSettled kept place b → a ≡ b
+settled-unique kept place a b p q =
+    let same : p.number ≡ q.number = slice_get-same kept.settled place p.number q.number p.at q.at in
+    slice_get-same kept.labels q.number a b (subst (λ n. IsLabel kept n a) same p.there) q.there
+
+-- a place of a settled label is below their number
+pub settled-within : {S : Type 0} (kept : Books S) (place : ℕ) (label : Label S) → IsSettled kept place label → place < length kept.settled
+settled-within kept place label s = slice_get_within kept.settled place s.number s.at
+
+-- what a label says of itself stays true where settled labels keep their places
+came-moved :
+    {S : Type 0} (rules : Rules S) (before after : Books S) (low high : ℕ) (label : Label S) →
+    KeepsLabels before after → low ≤ high → CameFrom rules before low label → CameFrom rules after high label
+came-moved rules before after low high label keeps up (from_start none within is) = from_start none within is
+came-moved rules before after low high label keeps up (from_label place parent cost named below settled within is sum) =
+    from_label place parent cost named (omega arith) (keeps place parent settled) within is sum
+
+pub follows-moved :
+    {S : Type 0} (rules : Rules S) (before after : Books S) (low high : ℕ) (label : Label S) →
+    KeepsLabels before after → low ≤ high → Follows rules before low label → Follows rules after high label
+follows-moved rules before after low high label keeps up f =
+    record {
+      valid = f.valid;
+      bounded = omega (arith, f.bounded);
+      came = came-moved rules before after low high label keeps up f.came;
+    }
+
+module _ {S : Type 0} (rules : Rules S) (before after : Books S)
+    (more : (number : ℕ) (label : Label S) → IsLabel before number label → IsLabel after number label)
+    (reads : Reads rules before) (settled : after.settled ≡ before.settled) where
+  -- settled labels keep their places
+  pub keeps-same : KeepsLabels before after
+  keeps-same place label s =
+      record {
+        number = s.number;
+        at = rw settled s.at;
+        there = more s.number label s.there;
+      }
+
+  -- and there are no others
+  pub keeps-back : KeepsLabels after before
+  keeps-back place label s =
+      let at : slice_get before.settled place ≡ Some s.number = rw (← settled) s.at in
+      let old = reads.settled_there place s.number at in
+      let same : old.0 ≡ label = slice_get-same after.labels s.number old.0 label (more s.number old.0 old.1) s.there in
+      record { number = s.number; at = at; there = subst (λ l. IsLabel before s.number l) same old.1 }
+
+  pub reads-same : Reads rules after
+  reads-same =
+      record {
+        few_settled = rw settled reads.few_settled;
+        settled_there = λ place number at.
+            let old = reads.settled_there place number (rw (← settled) at) in (old.0, more number old.0 old.1);
+        settled_follows = λ place label s.
+            follows-moved rules before after place place label keeps-same (omega arith)
+            (reads.settled_follows place label (keeps-back place label s));
+      }
+
+  pub rising-same : IsRising rules before → IsRising rules after
+  rising-same r =
+      record {
+        ranked = λ place label s. r.ranked place label (keeps-back place label s);
+        rising = λ first second a b low high up p q. r.rising first second a b low high up (keeps-back first a p) (keeps-back second b q);
+        apart = λ first second a b up p q. r.apart first second a b up (keeps-back first a p) (keeps-back second b q);
+      }
+
+  latest-same : (cell below cursor : ℕ) → IsLatest rules before cell below cursor → IsLatest rules after cell below cursor
+  latest-same cell below cursor l =
+      record {
+        inside = λ place is. let old = l.inside place is in (old.0, (old.1.0, keeps-same place old.1.0 old.1.1, old.1.2));
+        last = λ place label s. l.last place label (keeps-back place label s);
+      }
+
+  pub index-same : after.newest ≡ before.newest → after.older ≡ before.older → IsIndex rules before → IsIndex rules after
+  index-same newest older i =
+      record {
+        cells = ap length newest ∙ i.cells;
+        places = ap length older ∙ i.places ∙ sym (ap length settled);
+        newest = λ cell cursor at.
+            subst (λ n. IsLatest rules after cell n cursor) (ap length (sym settled))
+            (latest-same cell (length before.settled) cursor (i.newest cell cursor (rw (← newest) at)));
+        older = λ place cursor label at s.
+            latest-same (rules.cell label.state) place cursor
+            (i.older place cursor label (rw (← older) at) (keeps-back place label s));
+      }

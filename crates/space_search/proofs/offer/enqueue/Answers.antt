@@ -1,0 +1,15 @@
+use Rattle.std.proofs.Common.{◌∙◌, ap, arith}
+use Rattle.space_search.proofs.OfferLemmas.{offers-pushed, leaves-pushed}
+use Rattle.space_search.proofs.offer.enqueue.Goals as goal
+
+pub returns-in-Ok-push-clause-offers : goal.returns-in-Ok-push-clause-offers
+returns-in-Ok-push-clause-offers g c =
+    offers-pushed _ _ _ _ _ c.requires.kept c.in-Ok.ensures.items _ c.args.rank c.requires.follows c.requires.above c.requires.ranked
+    (omega arith) (ap (λ n. (c.args.rank, n)) (c.len-number.ensures ∙ c.args.lists.now.labels.ok.0))
+    c.in-Ok-push.ensures.permutation c.in-Ok-push.ensures.heap_order
+
+pub returns-in-Ok-push-clause-leaves : goal.returns-in-Ok-push-clause-leaves
+returns-in-Ok-push-clause-leaves g c = leaves-pushed _ _ c.args.label _ _ c.requires.kept c.in-Ok.ensures.items
+
+pub returns-in-Err-push-clause-leaves : goal.returns-in-Err-push-clause-leaves
+returns-in-Err-push-clause-leaves g c = leaves-pushed _ _ c.args.label _ _ c.requires.kept c.in-Ok.ensures.items

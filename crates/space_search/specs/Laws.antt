@@ -1,0 +1,89 @@
+-- The laws of a search space, in five groups. They speak of valid states alone.
+-- This project's own rule.
+use Rattle.std.specs.Prelude.{ℕ, ◌≡◌, ◌<◌, ◌≤◌, ◌+◌, Bool, IsTrue, Option, Some, None, List}
+use Rattle.space_search.specs.Rules.{Rules, COST_BOUND, LOW_BOUND}
+use Rattle.space_search.specs.Runs.{Walks}
+
+-- a state that a start or step may give: it is valid, and what it costs stays below the bound
+pub record IsMove {S : Type 0} (rules : Rules S) (state : S) (cost : ℕ) : Type 0 where
+  pub valid : IsTrue (rules.is_valid state)
+  pub cheap : cost < COST_BOUND
+
+-- First group: what starts and steps give is a state of the space at a bounded cost, and each state lies
+-- in one of the cells.
+pub record HasMoves {S : Type 0} (rules : Rules S) : Type 0 where
+  pub starts :
+      (number : ℕ) (state : S) (cost : ℕ) → number < rules.starts →
+      rules.start number ≡ Some (state, cost) → IsMove rules state cost
+  pub steps :
+      (from : S) (number : ℕ) (state : S) (cost : ℕ) → IsTrue (rules.is_valid from) →
+      number < rules.steps from → rules.step from number ≡ Some (state, cost) → IsMove rules state cost
+  pub cell : (state : S) → IsTrue (rules.is_valid state) → rules.cell state < rules.cells
+
+-- Second group: covering holds only in one cell, is reflexive and transitive, and what covers costs no
+-- more.
+pub record HasCovering {S : Type 0} (rules : Rules S) : Type 0 where
+  pub one_cell :
+      (a b : S) (ca cb : ℕ) → IsTrue (rules.is_valid a) → IsTrue (rules.is_valid b) →
+      IsTrue (rules.covers a ca b cb) → rules.cell a ≡ rules.cell b
+  pub itself : (a : S) (ca : ℕ) → IsTrue (rules.is_valid a) → IsTrue (rules.covers a ca a ca)
+  pub through :
+      (a b c : S) (ca cb cc : ℕ) → IsTrue (rules.is_valid a) → IsTrue (rules.is_valid b) → IsTrue (rules.is_valid c) →
+      IsTrue (rules.covers a ca b cb) → IsTrue (rules.covers b cb c cc) → IsTrue (rules.covers a ca c cc)
+  pub cheaper :
+      (a b : S) (ca cb : ℕ) → IsTrue (rules.is_valid a) → IsTrue (rules.is_valid b) →
+      IsTrue (rules.covers a ca b cb) → ca ≤ cb
+
+-- the step of a covering state that goes along with a step of the covered one
+pub record CoversStep {S : Type 0} (rules : Rules S) (a : S) (ca number : ℕ) (next : S) (total : ℕ) : Type 0 where
+  pub state : S
+  pub cost : ℕ
+  pub is : rules.step a number ≡ Some (state, cost)
+  pub covers : IsTrue (rules.covers state (ca + cost) next total)
+
+-- Third group: covering is kept by every step.
+abbrev pub KeepsCovering : {S : Type 0} → Rules S → Type 0
+KeepsCovering {S} rules =
+    (a b : S) (ca cb : ℕ) → IsTrue (rules.is_valid a) → IsTrue (rules.is_valid b) → IsTrue (rules.covers a ca b cb) →
+    (number : ℕ) (next : S) (cost : ℕ) → number < rules.steps b → rules.step b number ≡ Some (next, cost) →
+    CoversStep rules a ca number next (cb + cost)
+
+-- Fourth group: a covered state has the permitted steps and the goal answer of what covers it.
+pub record CoveredAlike {S : Type 0} (rules : Rules S) : Type 0 where
+  pub steps :
+      (a b : S) (ca cb : ℕ) → IsTrue (rules.is_valid a) → IsTrue (rules.is_valid b) →
+      IsTrue (rules.covers a ca b cb) → rules.steps a ≡ rules.steps b
+  pub forbidden :
+      (a b : S) (ca cb : ℕ) → IsTrue (rules.is_valid a) → IsTrue (rules.is_valid b) →
+      IsTrue (rules.covers a ca b cb) → (number : ℕ) → number < rules.steps b →
+      rules.step b number ≡ None → rules.step a number ≡ None
+  pub goal :
+      (a b : S) (ca cb : ℕ) → IsTrue (rules.is_valid a) → IsTrue (rules.is_valid b) →
+      IsTrue (rules.covers a ca b cb) → rules.is_goal a ≡ rules.is_goal b
+
+-- Fifth group: the lower bound is bounded, is 0 at a goal, is none only where no goal is reached, and
+-- falls along a step by no more than the step costs.
+pub record HasBound {S : Type 0} (rules : Rules S) : Type 0 where
+  pub small : (state : S) (low : ℕ) → IsTrue (rules.is_valid state) → rules.low state ≡ Some low → low < LOW_BOUND
+  pub goal : (state : S) → IsTrue (rules.is_valid state) → IsTrue (rules.is_goal state) → rules.low state ≡ Some 0
+  pub hopeless :
+      (state end : S) (cost total : ℕ) (numbers : List ℕ) → IsTrue (rules.is_valid state) → rules.low state ≡ None →
+      Walks rules state cost numbers end total → IsTrue (rules.is_goal end) → ⊥
+  pub step :
+      (from : S) (number : ℕ) (state : S) (cost before after : ℕ) → IsTrue (rules.is_valid from) →
+      number < rules.steps from → rules.step from number ≡ Some (state, cost) →
+      rules.low from ≡ Some before → rules.low state ≡ Some after → before ≤ cost + after
+
+-- the laws of a space
+pub record IsSpace {S : Type 0} (rules : Rules S) : Type 0 where
+  pub moves : HasMoves rules
+  pub covering : HasCovering rules
+  pub kept : KeepsCovering rules
+  pub alike : CoveredAlike rules
+  pub bound : HasBound rules
+
+-- The rank of a state that was reached at a cost: the cost plus the lower bound, where that is a number.
+pub record HasRank {S : Type 0} (rules : Rules S) (state : S) (cost rank : ℕ) : Type 0 where
+  pub low : ℕ
+  pub is : rules.low state ≡ Some low
+  pub sum : rank ≡ cost + low

@@ -1,0 +1,59 @@
+-- What the parts of a turn do to a search's lists. This project's own rule.
+use Rattle.std.specs.List.{slice_get, Contains}
+use Rattle.std.specs.Prelude.{ℕ, ◌≡◌, ◌<◌, ◌≤◌, ◌+◌, Bool, Some, List, length}
+use Rattle.space_search.specs.Books.{Books, Entry, IsLabel, IsSettled, IsAccounted, HasStarts, HasStepsBelow, IsSearch, IsClosed, Extends, work_left}
+use Rattle.space_search.specs.Laws.{HasRank}
+use Rattle.space_search.specs.Rules.{Rules}
+use Rattle.space_search.specs.declared.label.Label.{Label}
+
+-- no settled label ranks above this label's rank
+abbrev pub RanksAbove : {S : Type 0} → Rules S → Books S → S → ℕ → Type 0
+RanksAbove {S} rules kept state cost =
+    (place : ℕ) (label : Label S) (low high : ℕ) → IsSettled kept place label →
+    HasRank rules label.state label.cost low → HasRank rules state cost high → low ≤ high
+
+-- a label was offered: it is taken care of, and all that was there still is
+pub record Offers {S : Type 0} (rules : Rules S) (before after : Books S) (label : Label S) : Type 0 where
+  pub kept : IsSearch rules after
+  pub accounted : IsAccounted rules after label.state label.cost
+  pub extends : Extends before after
+  pub work : work_left after ≤ work_left before
+
+-- a search at its beginning: all starts were offered, and nothing is settled
+pub record Begins {S : Type 0} (rules : Rules S) (after : Books S) : Type 0 where
+  pub kept : IsSearch rules after
+  pub closed : IsClosed rules after
+  pub none : length after.settled ≡ 0
+
+-- This label is the next to take: it stands first in the queue, and nothing that waits ranks below it.
+pub record IsNext {S : Type 0} (rules : Rules S) (kept : Books S) (number : ℕ) (label : Label S) : Type 0 where
+  pub there : IsLabel kept number label
+  pub rank : ℕ
+  pub ranked : HasRank rules label.state label.cost rank
+  pub first : slice_get kept.queue 0 ≡ Some (record { 0 = (rank, number) })
+  pub least : (entry : Entry) → Contains kept.queue entry → rank ≤ entry.0.0
+
+-- the next label left the queue because a settled label covers it
+pub record Drops {S : Type 0} (rules : Rules S) (before after : Books S) : Type 0 where
+  pub kept : IsSearch rules after
+  pub closed : IsClosed rules after
+  pub labels : after.labels ≡ before.labels
+  pub settled : after.settled ≡ before.settled
+  pub work : work_left after < work_left before
+
+-- the next label was settled, and its steps are still to be offered
+pub record Settles {S : Type 0} (rules : Rules S) (before after : Books S) (number : ℕ) (label : Label S) : Type 0 where
+  pub kept : IsSearch rules after
+  pub starts : HasStarts rules after rules.starts
+  pub steps : HasStepsBelow rules after (length before.settled)
+  pub now : IsSettled after (length before.settled) label
+  pub earlier : (place : ℕ) (old : Label S) → IsSettled before place old → IsSettled after place old
+  pub counted : length after.settled ≡ length before.settled + 1
+  pub work : work_left after < work_left before
+
+-- all steps of the newest settled label were offered
+pub record Advances {S : Type 0} (rules : Rules S) (before after : Books S) : Type 0 where
+  pub kept : IsSearch rules after
+  pub closed : IsClosed rules after
+  pub extends : Extends before after
+  pub work : work_left after ≤ work_left before

@@ -1,0 +1,35 @@
+//! What a search keeps while it runs.
+
+ghost use Rattle.space_search.specs.Books.{books, IsFresh};
+
+use crate::label::Label;
+use std::alloc::Global;
+use std::cmp::Reverse;
+use std::collections::BinaryHeap;
+
+/// The labels made so far by number; the queue of those that wait, least rank first, then least number;
+/// the numbers of the settled ones in order; and for each cell the chain of its settled ones: the newest,
+/// and for each the one before it, by place plus 1, or 0 for none.
+#[derive(Drop)]
+pub struct Lists<T> {
+    pub(crate) labels: Vec<Label<T>>,
+    pub(crate) queue: BinaryHeap<Reverse<(u128, u32)>>,
+    pub(crate) settled: Vec<u32>,
+    pub(crate) newest: Vec<u32>,
+    pub(crate) older: Vec<u32>,
+}
+
+impl<T> Lists<T> {
+    /// Lists in which nothing stands.
+    pub(crate) fn new(alloc: Global) -> Self
+        ensures fresh { IsFresh (books result) }
+    {
+        Lists {
+            labels: Vec::new(alloc),
+            queue: BinaryHeap::new(alloc),
+            settled: Vec::new(alloc),
+            newest: Vec::new(alloc),
+            older: Vec::new(alloc),
+        }
+    }
+}
