@@ -1,4 +1,5 @@
 pub mod ChainLemmas
+pub mod LeastLemmas
 pub mod ListLemmas
 pub mod NextLemmas
 pub mod OfferLemmas

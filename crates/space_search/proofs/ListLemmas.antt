@@ -39,16 +39,16 @@ Contains-rest x xs y (k, h, e) = (suc k, omega arith, e)
 
 -- an element after a write is an old one at another place, or the one that was written
 pub slice_get-set_cases :
-  {X : Type 0} (xs : List X) (i : ℕ) (y : X) (n : ℕ) (x : X) →
-  slice_get (set xs i y) n ≡ Some x →
-  ((n ≢ i) × (slice_get xs n ≡ Some x)) ⊎ ((n ≡ i) × (y ≡ x))
+    {X : Type 0} (xs : List X) (i : ℕ) (y : X) (n : ℕ) (x : X) →
+    slice_get (set xs i y) n ≡ Some x →
+    ((n ≢ i) × (slice_get xs n ≡ Some x)) ⊎ ((n ≡ i) × (y ≡ x))
 slice_get-set_cases [] i y n x e = cc
 slice_get-set_cases (z ∷ xs) zero y zero x e = inr (refl, cc)
 slice_get-set_cases (z ∷ xs) zero y (suc n) x e = inl (λ same. omega arith, e)
 slice_get-set_cases (z ∷ xs) (suc i) y zero x e = inl (λ same. omega arith, e)
 slice_get-set_cases (z ∷ xs) (suc i) y (suc n) x e =
     elim (slice_get-set_cases xs i y n x e) [
-        inl (other, h) ↦ inl (λ same. other (omega arith), h)
+      | inl (other, h) ↦ inl (λ same. other (omega arith), h)
       | inr (p, q) ↦ inr (ap suc p, q)
     ]
 

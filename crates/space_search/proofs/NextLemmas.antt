@@ -41,7 +41,7 @@ module _ {S : Type 0} (rules : Rules S) (kept : Books S) (search : IsSearch rule
       IsNext rules kept entry.0.1 label
   next-first label is above =
       let there : slice_get kept.labels entry.0.1 ≡ Some label =
-            slice_get_read kept.labels (length kept.labels) entry.0.1 label refl within-first is in
+      slice_get_read kept.labels (length kept.labels) entry.0.1 label refl within-first is in
       let l = search.queued entry queued-first in
       let same : l.0 ≡ label = slice_get-same kept.labels entry.0.1 l.0 label l.1 there in
       record {

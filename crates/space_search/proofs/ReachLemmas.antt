@@ -12,9 +12,9 @@ use Rattle.space_search.proofs.SettleLemmas.{rank-unique}
 
 -- what holds of what was found holds of each reading of it
 pub this-one :
-  {S : Type 0} (P : S → ℕ → Type 0) (r : Option (S × ℕ)) (found : S × ℕ) →
-  Some found ≡ r → P found.0 found.1 →
-  (state : S) (cost : ℕ) → r ≡ Some (state, cost) → P state cost
+    {S : Type 0} (P : S → ℕ → Type 0) (r : Option (S × ℕ)) (found : S × ℕ) →
+    Some found ≡ r → P found.0 found.1 →
+    (state : S) (cost : ℕ) → r ≡ Some (state, cost) → P state cost
 this-one {S} P r found is holds state cost same =
     let one : found ≡ (state, cost) = cc in
     subst (λ (p : S × ℕ). P p.0 p.1) one holds
@@ -22,9 +22,9 @@ this-one {S} P r found is holds state cost same =
 module _ {S : Type 0} (rules : Rules S) (laws : IsSpace rules) (kept : Books S) where
   -- a label that a permitted start gives
   pub follows-start :
-    (choice : ℕ) (found : S × ℕ) → choice < rules.starts → Some found ≡ rules.start choice →
-    Follows rules kept (length kept.settled)
-    (record { cost = found.1; state = found.0; parent = 0; choice = choice })
+      (choice : ℕ) (found : S × ℕ) → choice < rules.starts → Some found ≡ rules.start choice →
+      Follows rules kept (length kept.settled)
+      (record { cost = found.1; state = found.0; parent = 0; choice = choice })
   follows-start choice found within is =
       let move : IsMove rules found.0 found.1 = laws.moves.starts choice found.0 found.1 within (sym is) in
       record { valid = move.valid; bounded = omega (arith, move.cheap); came = from_start refl within (sym is) }
@@ -44,8 +44,8 @@ module _ {S : Type 0} (rules : Rules S) (laws : IsSpace rules) (kept : Books S) 
 
     -- a label that a permitted step of the newest settled label gives
     pub follows-step :
-      Follows rules kept (length kept.settled)
-      (record { cost = label.cost + found.1; state = found.0; parent = length kept.settled; choice = choice })
+        Follows rules kept (length kept.settled)
+        (record { cost = label.cost + found.1; state = found.0; parent = length kept.settled; choice = choice })
     follows-step =
         record {
           valid = move.valid;
@@ -58,7 +58,7 @@ module _ {S : Type 0} (rules : Rules S) (laws : IsSpace rules) (kept : Books S) 
     above-step p other low high s r new =
         let mine = search.rising.ranked place label settled in
         let first : low ≤ mine.0 =
-              search.rising.rising p place other label low mine.0 (omega (arith, settled-within kept p other s, counted)) s settled r mine.1 in
+        search.rising.rising p place other label low mine.0 (omega (arith, settled-within kept p other s, counted)) s settled r mine.1 in
         let then : mine.1.low ≤ found.1 + new.low =
-              laws.bound.step label.state choice found.0 found.1 mine.1.low new.low old.valid within (sym is) mine.1.is new.is in
+        laws.bound.step label.state choice found.0 found.1 mine.1.low new.low old.valid within (sym is) mine.1.is new.is in
         omega (arith, first, then, mine.1.sum, new.sum)

@@ -143,8 +143,8 @@ settled-extended rules before after more = to-settled rules before after more
 
 -- what a part of a turn leaves goes on from what the part before it kept
 pub leaves-extended :
-  {S : Type 0} (rules : Rules S) (before between after : Books S) → Extends before between → Leaves rules between after →
-  Leaves rules before after
+    {S : Type 0} (rules : Rules S) (before between after : Books S) → Extends before between → Leaves rules between after →
+    Leaves rules before after
 leaves-extended rules before between after more leaves =
     record {
       reads = leaves.reads;

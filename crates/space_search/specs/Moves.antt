@@ -1,10 +1,13 @@
 -- What the parts of a turn do to a search's lists. This project's own rule.
 use Rattle.std.specs.List.{slice_get, Contains}
-use Rattle.std.specs.Prelude.{ℕ, ◌≡◌, ◌<◌, ◌≤◌, ◌+◌, Bool, Some, List, length}
-use Rattle.space_search.specs.Books.{Books, Entry, IsLabel, IsSettled, IsAccounted, HasStarts, HasStepsBelow, IsSearch, IsClosed, Extends, work_left}
+use Rattle.std.specs.Bool.{IsTrue}
+use Rattle.std.specs.Prelude.{ℕ, ◌≡◌, ◌<◌, ◌≤◌, ◌+◌, Bool, false, Some, List, [], length}
+use Rattle.space_search.specs.Books.{Books, Entry, IsLabel, IsSettled, IsAccounted, HasStarts, HasStepsBelow, IsUncovered, IsSearch, IsClosed, Extends, KeepsLabels, work_left}
 use Rattle.space_search.specs.Laws.{HasRank}
 use Rattle.space_search.specs.Rules.{Rules}
 use Rattle.space_search.specs.declared.label.Label.{Label}
+use Rattle.space_search.specs.declared.take.Taken.{Taken}
+use Rattle.space_search.specs.declared.take.Taken.TheVariants.{Dropped, Settled, Goal, Empty, Spent}
 
 -- no settled label ranks above this label's rank
 abbrev pub RanksAbove : {S : Type 0} → Rules S → Books S → S → ℕ → Type 0
@@ -57,3 +60,27 @@ pub record Advances {S : Type 0} (rules : Rules S) (before after : Books S) : Ty
   pub closed : IsClosed rules after
   pub extends : Extends before after
   pub work : work_left after ≤ work_left before
+
+-- What was done with the next label: it was dropped or settled; or it is a goal, or the limit doesn't let
+-- it be settled, or nothing waits, and then the queue still has it.
+abbrev pub WhatTaken : {S : Type 0} → Rules S → ℕ → Books S → Books S → Taken → Type 0
+WhatTaken rules limit before after Dropped =
+    (length after.settled ≡ length before.settled) × (work_left after < work_left before)
+WhatTaken rules limit before after Settled =
+    (length after.settled ≡ length before.settled + 1) × (work_left after < work_left before)
+WhatTaken {S} rules limit before after (Goal number) =
+    (length after.settled ≡ length before.settled) ×
+    ((label : Label S) × IsNext rules after number label × IsTrue (rules.is_goal label.state))
+WhatTaken rules limit before after Empty = (length after.settled ≡ length before.settled) × (after.queue ≡ [])
+WhatTaken {S} rules limit before after Spent =
+    (length after.settled ≡ length before.settled) × (length after.settled ≡ limit) ×
+    ((number : ℕ) × (label : Label S) × IsNext rules after number label × (rules.is_goal label.state ≡ false) ×
+    IsUncovered rules after label.state label.cost)
+
+-- the next label was looked at
+pub record Takes {S : Type 0} (rules : Rules S) (limit : ℕ) (before after : Books S) (taken : Taken) : Type 0 where
+  pub kept : IsSearch rules after
+  pub closed : IsClosed rules after
+  pub within : length after.settled ≤ limit
+  pub keeps : KeepsLabels before after
+  pub what : WhatTaken rules limit before after taken

@@ -132,3 +132,22 @@ Counts quota before after More = length after.settled ≡ length before.settled 
 Counts quota before after (Found _) = length after.settled < length before.settled + quota
 Counts quota before after NoWay = length after.settled < length before.settled + quota
 Counts quota before after Budget = length after.settled < length before.settled + quota
+
+-- the label of a number that can be read: a settled one, or after `Found` the goal
+pub data LabelOf {S : Type 0} (search : Search S) (number : ℕ) (label : Label S) : Type 0 where
+  settled_label : IsSettled (books search.lists) number label → LabelOf search number label
+  found_label :
+      number ≡ length search.lists.settled.items → search.phase ≡ Ended (Found number) →
+      IsLabel (books search.lists) search.found label → LabelOf search number label
+
+-- a number whose label can be read
+abbrev pub IsReadable : {S : Type 0} → Search S → ℕ → Type 0
+IsReadable search number = (number < length search.lists.settled.items) ⊎ (search.phase ≡ Ended (Found number))
+
+-- what a part of a turn that came to an end says, with the number of the label that it found
+pub record Turns {S : Type 0} (rules : Rules S) (limit quota : ℕ) (before after : Books S) (turn : Turn) (found : ℕ) : Type 0 where
+  pub kept : IsSearch rules after
+  pub closed : IsClosed rules after
+  pub within : length after.settled ≤ limit
+  pub ends : Ends rules limit after found turn
+  pub counts : Counts quota before after turn

@@ -18,6 +18,7 @@ pub(crate) fn begin<T: Copy + Drop, S: Space<State = T>>(
     requires fresh { IsFresh (books lists.old) }
     ensures begins { OnOk result (Begins (S.rules space.now) (books lists.new)) }
     ensures leaves { Leaves (S.rules space.now) (books lists.old) (books lists.new) }
+    ensures settled { (books lists.new).settled ≡ (books lists.old).settled }
 {
     lists.newest.resize(space.cells() as usize, 0)?;
     'starts: for choice in 0..space.starts() {

@@ -11,6 +11,7 @@ mod phase;
 mod search;
 mod settle;
 mod space;
+mod take;
 mod turn;
 
 pub use outcome::Outcome;

@@ -49,6 +49,7 @@ pub(crate) fn offer<T: Copy + Drop, S: Space<State = T>>(
     requires above { RanksAbove (S.rules space.now) (books lists.old) label.state label.cost }
     ensures offers { OnOk result (Offers (S.rules space.now) (books lists.old) (books lists.new) label) }
     ensures leaves { Leaves (S.rules space.now) (books lists.old) (books lists.new) }
+    ensures settled { (books lists.new).settled ≡ (books lists.old).settled }
 {
     let Some(low) = space.low(&label.state) else {
         return Ok(());
@@ -72,6 +73,7 @@ fn enqueue<T: Copy + Drop, S: Space<State = T>>(
     requires ranked { HasRank (S.rules _space.now) label.state label.cost rank }
     ensures offers { OnOk result (Offers (S.rules _space.now) (books lists.old) (books lists.new) label) }
     ensures leaves { Leaves (S.rules _space.now) (books lists.old) (books lists.new) }
+    ensures settled { (books lists.new).settled ≡ (books lists.old).settled }
 {
     let number = lists.labels.len();
     if number >= MOST_LABELS as usize {

@@ -1,6 +1,6 @@
 //! The next label leaves the queue: it is dropped, or it is settled and its steps are offered.
 
-ghost use Rattle.std.specs.Prelude.{◌≡◌, ◌+◌, ◌-◌, ◌<◌, ◌^◌, false, OnOk, length};
+ghost use Rattle.std.specs.Prelude.{◌≡◌, ◌+◌, ◌-◌, ◌<◌, ◌≤◌, ◌^◌, false, OnOk, length};
 ghost use Rattle.space_search.specs.Books.{books, IsSearch, IsClosed, IsCovered, IsUncovered, IsSettled, HasStarts, HasStepsBelow, Leaves};
 ghost use Rattle.space_search.specs.Moves.{IsNext, Drops, Settles, Advances};
 
@@ -41,6 +41,7 @@ pub(crate) fn settle_next<T: Copy + Drop, S: Space<State = T>>(
     requires room { length (books lists.old).settled + 1 < 2 ^ 32 }
     ensures settles { OnOk result (Settles (S.rules space.now) (books lists.old) (books lists.new) number label) }
     ensures leaves { Leaves (S.rules space.now) (books lists.old) (books lists.new) }
+    ensures most { length (books lists.new).settled ≤ length (books lists.old).settled + 1 }
 {
     let cell = space.cell(&label.state) as usize;
     let before = lists.newest[cell];
@@ -69,6 +70,7 @@ pub(crate) fn advance<T: Copy + Drop, S: Space<State = T>>(
     requires now { IsSettled (books lists.old) (length (books lists.old).settled - 1) label }
     ensures advances { OnOk result (Advances (S.rules space.now) (books lists.old) (books lists.new)) }
     ensures leaves { Leaves (S.rules space.now) (books lists.old) (books lists.new) }
+    ensures settled { (books lists.new).settled ≡ (books lists.old).settled }
 {
     let parent = lists.settled.len() as u32;
     'steps: for choice in 0..space.steps(&label.state) {

@@ -5,8 +5,8 @@ pub returns : goal.returns
 returns g c =
     record {
       drops =
-        drops _ _ c.args._number c.args._label _ c.requires.kept c.requires.closed c.requires.next
-        (popped-front _ _ c.pop-taken.result _ _ c.pop-taken.ensures.top c.pop-taken.ensures.permutation
-         c.pop-taken.ensures.heap_order c.pop-taken.ensures.variant c.args.lists.now.queue.data.ok.0 c.requires.next.first)
-        c.requires.covered;
+          drops _ _ c.args._number c.args._label _ c.requires.kept c.requires.closed c.requires.next
+          (popped-front _ _ c.pop-taken.result _ _ c.pop-taken.ensures.top c.pop-taken.ensures.permutation
+          c.pop-taken.ensures.heap_order c.pop-taken.ensures.variant c.args.lists.now.queue.data.ok.0 c.requires.next.first)
+          c.requires.covered;
     }

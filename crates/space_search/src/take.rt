@@ -1,0 +1,63 @@
+//! One label is taken from the queue, and as many as a turn is given.
+
+ghost use Rattle.std.specs.Prelude.{◌≡◌, ◌≤◌, ◌<◌, ◌^◌, IfOk, length};
+ghost use Rattle.space_search.specs.Books.{books, IsSearch, IsClosed, Leaves};
+ghost use Rattle.space_search.specs.Moves.{Takes};
+ghost use Rattle.space_search.specs.Turns.{Turns};
+
+use crate::lists::Lists;
+use crate::next::next;
+use crate::offer::is_covered;
+use crate::settle::{advance, drop_next, settle_next};
+use crate::space::Space;
+use crate::turn::Turn;
+use std::alloc::AllocError;
+
+/// What was done with the next label.
+#[derive(Clone, Copy, Debug, PartialEq, Eq)]
+pub enum Taken {
+    /// A settled label covers it.
+    Dropped,
+    /// It is settled, and its steps were offered.
+    Settled,
+    /// It is a goal, and has this number.
+    Goal(u32),
+    /// Nothing waits.
+    Empty,
+    /// It would be settled, but as many labels are as the limit allows.
+    Spent,
+}
+
+/// Takes the next label from the queue: it is dropped, or it is settled and its steps are offered. Where
+/// it is a goal, or the limit is spent, or nothing waits, the queue stays as it is.
+pub(crate) fn take<T: Copy + Drop, S: Space<State = T>>(
+    space: &S,
+    lists: &mut Lists<T>,
+    limit: u64,
+) -> Result<Taken, AllocError>
+    requires kept { IsSearch (S.rules space.now) (books lists.old) }
+    requires closed { IsClosed (S.rules space.now) (books lists.old) }
+    requires small { limit < 2 ^ 32 }
+    requires within { length (books lists.old).settled ≤ limit }
+    ensures takes { IfOk result (λ taken. Takes (S.rules space.now) limit (books lists.old) (books lists.new) taken) }
+    ensures leaves { Leaves (S.rules space.now) (books lists.old) (books lists.new) }
+    ensures fits { length (books lists.new).settled ≤ limit }
+{
+    let Some(found) = next(space, lists) else {
+        return Ok(Taken::Empty);
+    };
+    let (number, label) = found;
+    if space.goal(&label.state) {
+        return Ok(Taken::Goal(number));
+    }
+    if is_covered(space, lists, &label.state, label.cost) {
+        drop_next(space, lists, number, label);
+        return Ok(Taken::Dropped);
+    }
+    if lists.settled.len() as u64 == limit {
+        return Ok(Taken::Spent);
+    }
+    settle_next(space, lists, number, label)?;
+    advance(space, lists, label)?;
+    Ok(Taken::Settled)
+}
