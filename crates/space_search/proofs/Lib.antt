@@ -1,4 +1,5 @@
 pub mod ChainLemmas
+pub mod EndLemmas
 pub mod LeastLemmas
 pub mod ListLemmas
 pub mod NextLemmas
@@ -7,3 +8,4 @@ pub mod ReachLemmas
 pub mod SameLemmas
 pub mod SettleLemmas
 pub mod TakeLemmas
+pub mod TurnLemmas

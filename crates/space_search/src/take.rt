@@ -61,3 +61,35 @@ pub(crate) fn take<T: Copy + Drop, S: Space<State = T>>(
     advance(space, lists, label)?;
     Ok(Taken::Settled)
 }
+
+/// Takes labels until as many are settled as the quota says, or the search is at its end; with the number
+/// of the goal's label, where one was found.
+pub(crate) fn take_many<T: Copy + Drop, S: Space<State = T>>(
+    space: &S,
+    lists: &mut Lists<T>,
+    limit: u64,
+    quota: u32,
+) -> Result<(Turn, u32), AllocError>
+    requires kept { IsSearch (S.rules space.now) (books lists.old) }
+    requires closed { IsClosed (S.rules space.now) (books lists.old) }
+    requires small { limit < 2 ^ 32 }
+    requires within { length (books lists.old).settled ≤ limit }
+    ensures turns { IfOk result (λ answer. Turns (S.rules space.now) limit quota (books lists.old) (books lists.new) answer.0 answer.1) }
+    ensures leaves { Leaves (S.rules space.now) (books lists.old) (books lists.new) }
+    ensures fits { length (books lists.new).settled ≤ limit }
+{
+    let mut count = 0;
+    'turn: while count < quota {
+        match take(space, lists, limit)? {
+            Taken::Dropped => {}
+            Taken::Settled => count += 1,
+            Taken::Goal(number) => {
+                let label = lists.settled.len() as u32;
+                return Ok((Turn::Found { label }, number));
+            }
+            Taken::Empty => return Ok((Turn::NoWay, 0)),
+            Taken::Spent => return Ok((Turn::Budget, 0)),
+        }
+    }
+    Ok((Turn::More, 0))
+}
