@@ -125,6 +125,7 @@ module _ {S : Type 0} (rules : Rules S) (laws : IsSpace rules) (kept : Books S)
           numbered = refl;
           goal = label;
           there = next.there;
+          follows = follows-next;
           least =
               record {
                 run = run-to rules kept search.reads (length kept.settled) label follows-next;

@@ -1,4 +1,5 @@
 pub mod ChainLemmas
+pub mod ChoiceLemmas
 pub mod EndLemmas
 pub mod LeastLemmas
 pub mod ListLemmas
@@ -9,3 +10,4 @@ pub mod SameLemmas
 pub mod SettleLemmas
 pub mod TakeLemmas
 pub mod TurnLemmas
+pub mod TurnsLemmas

@@ -15,8 +15,8 @@ module _ {S : Type 0} (rules : Rules S) (laws : IsSpace rules) (limit quota coun
     (counted : length between.settled ≡ length before.settled + count) where
   -- after as many labels as the turn is given
   pub turns-more :
-    IsSearch rules between → IsClosed rules between → length between.settled ≤ limit → count ≡ quota →
-    Turns rules limit quota before between More 0
+      IsSearch rules between → IsClosed rules between → length between.settled ≤ limit → count ≡ quota →
+      Turns rules limit quota before between More 0
   turns-more search closed within full =
       record {
         kept = search;
@@ -28,8 +28,8 @@ module _ {S : Type 0} (rules : Rules S) (laws : IsSpace rules) (limit quota coun
 
   module _ (after : Books S) (taken : Taken) (takes : Takes rules limit between after taken) (some : count < quota) where
     pub turns-goal :
-      (number label : ℕ) → taken ≡ Goal number → label ≡ length after.settled →
-      Turns rules limit quota before after (Found label) number
+        (number label : ℕ) → taken ≡ Goal number → label ≡ length after.settled →
+        Turns rules limit quota before after (Found label) number
     turns-goal number label is numbered =
         let what : WhatTaken rules limit between after (Goal number) = subst (λ t. WhatTaken rules limit between after t) is takes.what in
         record {
@@ -37,8 +37,8 @@ module _ {S : Type 0} (rules : Rules S) (laws : IsSpace rules) (limit quota coun
           closed = takes.closed;
           within = takes.within;
           ends =
-            subst (λ n. EndsFound rules after number n) (sym numbered)
-            (ends-found rules laws after takes.kept takes.closed number what.1.0 what.1.1 what.1.2);
+              subst (λ n. EndsFound rules after number n) (sym numbered)
+              (ends-found rules laws after takes.kept takes.closed number what.1.0 what.1.1 what.1.2);
           counts = omega (arith, what.0);
         }
 
@@ -61,6 +61,6 @@ module _ {S : Type 0} (rules : Rules S) (laws : IsSpace rules) (limit quota coun
           closed = takes.closed;
           within = takes.within;
           ends =
-            ends-spent rules laws after takes.kept takes.closed what.2.0 what.2.1 what.2.2 what.2.3 what.2.4 limit what.1;
+              ends-spent rules laws after takes.kept takes.closed what.2.0 what.2.1 what.2.2 what.2.3 what.2.4 limit what.1;
           counts = omega (arith, what.0);
         }

@@ -3,7 +3,7 @@ use Rattle.std.specs.Bool.{IsTrue}
 use Rattle.std.specs.List.{slice_get}
 use Rattle.std.specs.Prelude.{ℕ, ◌≡◌, ◌<◌, ◌≤◌, ◌+◌, ◌⊎◌, ◌^◌, Bool, true, false, Option, Some, None, List, [], length, Result, Ok, Err}
 use Rattle.std.specs.declared.alloc.AllocError.{AllocError}
-use Rattle.space_search.specs.Books.{Books, books, IsLabel, IsSettled, IsCovered, IsSearch, IsClosed, Reads, IsFresh}
+use Rattle.space_search.specs.Books.{Books, books, IsLabel, IsSettled, Follows, IsCovered, IsSearch, IsClosed, Reads, IsFresh}
 use Rattle.space_search.specs.Laws.{HasRank}
 use Rattle.space_search.specs.Rules.{Rules}
 use Rattle.space_search.specs.Runs.{IsRun, Reaches, IsUnreachable}
@@ -90,6 +90,7 @@ pub record EndsFound {S : Type 0} (rules : Rules S) (kept : Books S) (found : �
   pub numbered : label ≡ length kept.settled
   pub goal : Label S
   pub there : IsLabel kept found goal
+  pub follows : Follows rules kept label goal
   pub least : IsLeastGoal rules (label + 1) goal
   pub closed : IsClosedAndOrdered rules kept (Some goal.cost)
 
@@ -107,12 +108,19 @@ Ends rules limit kept found (Found label) = EndsFound rules kept found label
 Ends rules limit kept found NoWay = EndsNoWay rules kept
 Ends rules limit kept found Budget = EndsSpent rules limit kept
 
+-- an answer after which nothing is left to do
+abbrev pub IsLast : Turn → Type 0
+IsLast More = ⊥
+IsLast (Found label) = Unit {0}
+IsLast NoWay = Unit {0}
+IsLast Budget = Unit {0}
+
 -- What a search in this phase is: a new one has settled nothing; a running one is closed; one that ended
 -- is what its answer says; and of one that met want of memory the settled labels still read right.
 abbrev pub IsPhase : {S : Type 0} → Rules S → ℕ → Books S → ℕ → Phase → Type 0
 IsPhase rules limit kept found New = IsFresh kept
 IsPhase rules limit kept found Running = IsSearch rules kept × IsClosed rules kept
-IsPhase rules limit kept found (Ended turn) = Ends rules limit kept found turn
+IsPhase rules limit kept found (Ended turn) = IsLast turn × Ends rules limit kept found turn
 IsPhase rules limit kept found Failed = Unit {0}
 
 -- The search is one over a space that answers by these rules.
@@ -151,3 +159,10 @@ pub record Turns {S : Type 0} (rules : Rules S) (limit quota : ℕ) (before afte
   pub within : length after.settled ≤ limit
   pub ends : Ends rules limit after found turn
   pub counts : Counts quota before after turn
+
+-- after this answer the search is in this phase: running where more labels wait, else at its end
+abbrev pub EndsWith : Phase → Turn → Type 0
+EndsWith phase More = phase ≡ Running
+EndsWith phase (Found label) = phase ≡ Ended (Found label)
+EndsWith phase NoWay = phase ≡ Ended NoWay
+EndsWith phase Budget = phase ≡ Ended Budget

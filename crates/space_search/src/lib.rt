@@ -2,6 +2,8 @@
 #![tactic(auto)]
 
 mod begin;
+mod choices;
+mod finding;
 mod label;
 mod lists;
 mod next;
@@ -13,7 +15,9 @@ mod settle;
 mod space;
 mod take;
 mod turn;
+mod turns;
 
+pub use finding::least;
 pub use outcome::Outcome;
 pub use phase::Phase;
 pub use search::Search;

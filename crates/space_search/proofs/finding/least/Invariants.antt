@@ -1,0 +1,13 @@
+use Rattle.std.proofs.Common.{◌≡◌, ◌-◌, length}
+use Rattle.space_search.specs.Turns.{IsSearchOf}
+use Rattle.space_search.proofs.finding.least.Given as goal
+
+abbrev pub invariant-search : goal.invariant-search
+invariant-search g l =
+    record {
+      of : IsSearchOf (g.S.Space.rules l.space) l.search;
+      limit : l.search.limit ≡ l.limit;
+    }
+
+abbrev pub decreases-search : goal.decreases-search
+decreases-search g l = l.limit - length l.search.lists.settled.items

@@ -1,0 +1,34 @@
+//! A least run over a space, found in turns.
+
+ghost use Rattle.std.specs.Prelude.{◌≡◌, ◌<◌, ◌^◌, IfOk};
+ghost use Rattle.space_search.specs.Outcome.{Answers};
+
+use crate::outcome::Outcome;
+use crate::search::Search;
+use crate::space::Space;
+use crate::turn::Turn;
+use std::alloc::{AllocError, Global};
+
+/// How many labels one turn of `least` settles at most.
+const QUOTA: u32 = 1048576;
+
+/// A run of least cost from a start to a goal, or that no run reaches a goal, or that `limit` labels are
+/// settled and one more would be.
+pub fn least<S: Space>(alloc: Global, space: &S, limit: u64) -> Result<Outcome, AllocError>
+    requires small { limit < 2 ^ 32 }
+    ensures answers { IfOk result (λ outcome. Answers (S.rules space.now) limit outcome) }
+{
+    let mut search: Search<S::State> = Search::new(alloc, limit);
+    'search: loop {
+        match search.turn(space, QUOTA)? {
+            Turn::More => {}
+            Turn::Found { label } => {
+                let choices = search.choices(alloc, label)?;
+                let cost = search.cost_of(label);
+                return Ok(Outcome::Found { choices, cost });
+            }
+            Turn::NoWay => return Ok(Outcome::NoWay),
+            Turn::Budget => return Ok(Outcome::Budget),
+        }
+    }
+}
