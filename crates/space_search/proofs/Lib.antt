@@ -2,6 +2,7 @@ pub mod ChainLemmas
 pub mod ChoiceLemmas
 pub mod EndLemmas
 pub mod LeastLemmas
+pub mod LimitLemmas
 pub mod ListLemmas
 pub mod NextLemmas
 pub mod OfferLemmas

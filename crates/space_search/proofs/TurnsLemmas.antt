@@ -59,27 +59,26 @@ label-unique search number a b (found_label numbered phase there) (found_label n
 
 -- a search that found a goal shows a least run to it
 pub least-run :
-  {S : Type 0} (rules : Rules S) (search : Search S) (turn : Turn) (number : ℕ) (choices : List ℕ) (cost : ℕ) →
-  IsSearchOf rules search →
-  Ends rules search.limit (books search.lists) search.found turn → EndsWith search.phase turn → turn ≡ Found number →
-  ((rules : Rules S) (one : Label S) → IsSearchOf rules search → LabelOf search number one → IsRun rules choices one.state one.cost) →
-  length choices ≤ number + 1 → ((one : Label S) → LabelOf search number one → cost ≡ one.cost) →
-  IsLeastRun rules choices cost × (length choices ≤ search.limit + 1)
+    {S : Type 0} (rules : Rules S) (search : Search S) (turn : Turn) (number : ℕ) (choices : List ℕ) (cost : ℕ) →
+    IsSearchOf rules search →
+    Ends rules search.limit (books search.lists) search.found turn → EndsWith search.phase turn → turn ≡ Found number →
+    ((rules : Rules S) (one : Label S) → IsSearchOf rules search → LabelOf search number one → IsRun rules choices one.state one.cost) →
+    length choices ≤ number + 1 → ((one : Label S) → LabelOf search number one → cost ≡ one.cost) →
+    IsLeastRun rules choices cost × (length choices ≤ search.limit + 1)
 least-run {S} rules search turn number choices cost of ends ended is run short value =
     let e : EndsFound rules (books search.lists) search.found number =
-          subst (λ t. Ends rules search.limit (books search.lists) search.found t) is ends in
+    subst (λ t. Ends rules search.limit (books search.lists) search.found t) is ends in
     let phase : search.phase ≡ Ended (Found number) = subst (λ t. EndsWith search.phase t) is ended in
     let one : LabelOf search number e.goal = found_label e.numbered phase e.there in
-    let cost_is : e.goal.cost ≡ cost = sym (value e.goal one) in
-    (
+    let cost_is : e.goal.cost ≡ cost = sym (value e.goal one) in (
       record {
         reaches =
-          record {
-            end = e.goal.state;
-            run = subst (λ c. IsRun rules choices e.goal.state c) cost_is (run rules e.goal of one);
-            goal = e.least.goal;
-          };
+            record {
+              end = e.goal.state;
+              run = subst (λ c. IsRun rules choices e.goal.state c) cost_is (run rules e.goal of one);
+              goal = e.least.goal;
+            };
         least = λ others other reaches. subst (λ c. c ≤ other) cost_is (e.least.least others other reaches);
       },
-      omega (arith, short, e.numbered, of.within)
+      omega (arith, short, e.numbered, of.within),
     )

@@ -1,6 +1,7 @@
 pub mod Books
 pub mod Chains
 pub mod Laws
+pub mod Limits
 pub mod Moves
 pub mod Outcome
 pub mod Rules

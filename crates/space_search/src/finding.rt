@@ -1,6 +1,7 @@
 //! A least run over a space, found in turns.
 
-ghost use Rattle.std.specs.Prelude.{◌≡◌, ◌<◌, ◌^◌, IfOk};
+ghost use Rattle.std.specs.Prelude.{ℕ, ◌≡◌, ◌<◌, ◌≤◌, ◌*◌, ◌^◌, IfOk};
+ghost use Rattle.space_search.specs.Limits.{HasFewPerCell, IsUnspent};
 ghost use Rattle.space_search.specs.Outcome.{Answers};
 
 use crate::outcome::Outcome;
@@ -17,6 +18,7 @@ const QUOTA: u32 = 1048576;
 pub fn least<S: Space>(alloc: Global, space: &S, limit: u64) -> Result<Outcome, AllocError>
     requires small { limit < 2 ^ 32 }
     ensures answers { IfOk result (λ outcome. Answers (S.rules space.now) limit outcome) }
+    ensures enough { (most : ℕ) → HasFewPerCell (S.rules space.now) most → (S.rules space.now).cells * most ≤ limit → IfOk result IsUnspent }
 {
     let mut search: Search<S::State> = Search::new(alloc, limit);
     'search: loop {
