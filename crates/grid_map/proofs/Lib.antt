@@ -5,3 +5,6 @@ pub mod LawLemmas
 pub mod RunLemmas
 pub mod MadeLemmas
 pub mod AnswerLemmas
+pub mod LengthLemmas
+pub mod WalkLemmas
+pub mod ListLemmas

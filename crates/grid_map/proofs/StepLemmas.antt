@@ -97,27 +97,32 @@ and-true true b is = (refl, is)
 and-true false b is = cc
 
 -- what holds of either choice under its own test holds of the one that is taken
-either-below : (b east north : Bool) (m n limit : ℕ) → (east ≡ true → m < limit) → (north ≡ true → n < limit) →
-    cond b east north ≡ true → cond b m n < limit
-either-below true east north m n limit first second passes = first passes
-either-below false east north m n limit first second passes = second passes
+pub holds-either : (P : ℕ → Type 0) (b east north : Bool) (m n : ℕ) → (east ≡ true → P m) → (north ≡ true → P n) →
+    cond b east north ≡ true → P (cond b m n)
+holds-either P true east north m n first second passes = first passes
+holds-either P false east north m n first second passes = second passes
 
 -- the cell to which a segment goes lies in the grid, where there is room for it
 end_of-within : (plan : Plan) (k : ℕ) → 0 < plan.width → start_of k < cells_of plan → has_room plan k ≡ true → end_of plan k < cells_of plan
 unfolding has_room end_of
 end_of-within plan k some inside room =
-    either-below (is_east k) _ _ _ _ (cells_of plan)
+    holds-either (λ cell. cell < cells_of plan) (is_east k) _ _ _ _
     (λ passes. east_within plan.width plan.height (start_of k) inside (ltb-true _ _ passes))
     (λ passes. north_within plan.width plan.height (start_of k) some (ltb-true _ _ passes))
     room
 
+-- the cells of a segment that is there, and the test of its room
+pub is_there-parts : (plan : Plan) (k : ℕ) → is_there plan k ≡ true → (start_of k < cells_of plan) × (has_room plan k ≡ true)
+unfolding is_there
+is_there-parts plan k there =
+    let parts = and-true _ _ (and-true _ _ there).0 in
+    (ltb-true _ _ parts.0, parts.1)
+
 -- both cells of a segment that is there lie in the grid
 pub is_there-within : (plan : Plan) (k : ℕ) → 1 ≤ plan.width → is_there plan k ≡ true → IsWithin plan k
-unfolding is_there
 is_there-within plan k some there =
-    let parts = and-true _ _ (and-true _ _ there).0 in
-    let inside : start_of k < cells_of plan = ltb-true _ _ parts.0 in
-    record { start = inside; end = end_of-within plan k some inside parts.1 }
+    let parts = is_there-parts plan k there in
+    record { start = parts.0; end = end_of-within plan k some parts.0 parts.1 }
 
 -- a joined cell lies in the grid
 pub Joins-within : (plan : Plan) (costs : Costs) (a b cost : ℕ) → 1 ≤ plan.width → Joins plan costs a b cost → b < cells_of plan

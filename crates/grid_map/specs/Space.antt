@@ -59,6 +59,12 @@ abbrev pub states_of : Rules ℕ → List ℕ → List ℕ
 states_of rules [] = []
 states_of rules (number ∷ numbers) = states_along rules (state_or (rules.start number) 0) numbers
 
+-- these choices are a run of the space
+pub record IsSomeRun (rules : Rules ℕ) (choices : List ℕ) : Type 0 where
+  pub end : ℕ
+  pub cost : ℕ
+  pub run : IsRun rules choices end cost
+
 -- the runs of a space are exactly the walks of a grid from one cell to another, with their costs
 pub record RunsAreWalks (rules : Rules ℕ) (plan : Plan) (costs : Costs) (from to : ℕ) : Type 0 where
   -- each run is a walk from the one cell to where it ends

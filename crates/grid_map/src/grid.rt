@@ -61,6 +61,7 @@ impl Grid {
     /// How many segments the grid has.
     pub fn segments(&self) -> u32
         ensures value { result ≡ length (segments_of self.now) }
+        ensures lawful { IsPlan self.now }
     {
         self.numbers.len() as u32
     }
@@ -69,6 +70,8 @@ impl Grid {
     pub fn segment(&self, i: u32) -> GridSegment
         requires within { i < length (segments_of self.now) }
         ensures value { slice_get (segments_of self.now) i ≡ Some result }
+        ensures inside { (result.a < cells_of self.now) × (result.b < cells_of self.now) }
+        ensures lawful { IsPlan self.now }
     {
         self.plan.segment(self.numbers[i as usize])
     }

@@ -2,10 +2,13 @@
 #![tactic(auto)]
 
 mod grid;
+mod lengths;
 mod plan;
 mod segment;
 mod space;
+mod walk;
 
 pub use grid::Grid;
+pub use lengths::segment_lengths;
 pub use segment::GridSegment;
 pub use space::GridSpace;

@@ -24,7 +24,7 @@ pub struct GridSpace {
     backward: Vec<Option<u128>>,
     places: Vec<Option<u32>>,
     plan: Plan,
-    from: u32,
+    pub(crate) from: u32,
     to: u32,
     ghost lawful: { IsPlan plan },
     ghost placed: { places.items ≡ map (place_of plan) (range_with_len 0 (2 * cells_of plan)) },
