@@ -1,6 +1,5 @@
 -- What the space of a grid answers to a step, case by case.
 use Rattle.std.proofs.Common.{ℕ, ◌≡◌, ◌+◌, ◌*◌, ◌-◌, ◌<◌, ◌≤◌, Bool, true, false, cond, nat_le, Option, Some, None, refl, sym, ap, ◌∙◌, arith}
-use Rattle.std.proofs.lemmas.Bool.{cases_Bool}
 use Rattle.std.proofs.lemmas.Bool.Decides.{nat_tests}
 use Rattle.grid_map.specs.declared.plan.Plan.{Plan}
 use Rattle.grid_map.specs.Plan.{start_of, end_of, is_there}
@@ -22,7 +21,6 @@ cond-is_le : {X : Type 0} (m n : ℕ) (x y : X) → m ≤ n → x ≡ cond (nat_
 cond-is_le m n x y le = grind (arith, nat_tests)
 
 module _ (plan : Plan) (costs : Costs) where
-
   pub step_forward-none : (k : ℕ) → costs.forward k ≡ None → None ≡ step_forward plan costs k
   unfolding step_forward
   step_forward-none k none = cond-none (is_there plan k) _ (ap (reached (end_of plan k)) none)

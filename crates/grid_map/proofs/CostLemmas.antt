@@ -1,9 +1,9 @@
 -- The costs that lists give.
-use Rattle.std.proofs.Common.{ℕ, ◌≡◌, ◌<◌, List, Option, Some, None, slice_get, unwrap_or, ◌⊎◌, inl, inr, refl}
+use Rattle.std.proofs.Common.{ℕ, ◌≡◌, ◌<◌, List, Option, Some, None, slice_get, unwrap_or, inl, inr, refl}
 use Rattle.space_search.specs.Rules.{COST_BOUND}
 use Rattle.grid_map.specs.declared.plan.Plan.{Plan}
 use Rattle.grid_map.specs.Segments.{place_of}
-use Rattle.grid_map.specs.Costs.{Costs, cost_at, listed_costs, AreCheap}
+use Rattle.grid_map.specs.Costs.{cost_at, listed_costs, AreCheap}
 use Rattle.grid_map.specs.Walks.{Joins}
 
 -- an entry that isn't there gives no cost

@@ -1,17 +1,15 @@
 -- The segments of a grid are short.
-use Rattle.std.proofs.Common.{ℕ, zero, suc, ◌≡◌, ◌+◌, ◌*◌, ◌-◌, ◌/◌, ◌%◌, ◌<◌, ◌≤◌, Bool, true, false, inl, inr, cond, nat_lt, nat_le, ℤ, pos, ◌-ℤ◌, ◌*ℤ◌, int_div, unsigned_abs, refl, sym, ap, ◌∙◌, subst, arith}
+use Rattle.std.proofs.Common.{ℕ, zero, suc, ◌≡◌, ◌+◌, ◌*◌, ◌/◌, ◌%◌, ◌<◌, ◌≤◌, Bool, true, false, inl, inr, cond, ℤ, pos, ◌-ℤ◌, ◌*ℤ◌, unsigned_abs, refl, ap, ◌∙◌, arith}
 use Rattle.std.proofs.lemmas.Bool.{cases_lt, ltb-true, leb-true}
-use Rattle.std.proofs.lemmas.Bool.Decides.{nat_tests}
 use Rattle.std.proofs.lemmas.Int.{ints, unsigned_abs-mul}
 use Rattle.std.proofs.lemmas.Nat.{mul-le, mod-mul-add, mod_below, div-mul-add, div-add-mod'}
 use Rattle.geo_int.specs.Root.{root_up_to, whole_root}
 use Rattle.geo_int.specs.Cosine.{series_term, cosine_series, cosine_at}
-use Rattle.geo_int.specs.Place.{Place}
 use Rattle.geo_int.specs.Arrow.{north_part, east_part, middle_latitude, north_between, east_between, square_sum, length_of, length_between}
 use Rattle.geo_int.proofs.QuotientLemmas.{unsigned_abs-int_div, east_product_le}
 use Rattle.geo_int.proofs.SquareLemmas.{square_sum-is}
 use Rattle.grid_map.specs.declared.plan.Plan.{Plan}
-use Rattle.grid_map.specs.Plan.{cells_of, column_of, row_of, is_east, start_of, end_of, has_room, is_there}
+use Rattle.grid_map.specs.Plan.{column_of, row_of, is_east, start_of, end_of, has_room, is_there}
 use Rattle.grid_map.specs.Lengths.{cell_place, segment_length}
 use Rattle.grid_map.proofs.StepLemmas.{holds-either, is_there-parts}
 
@@ -32,7 +30,7 @@ whole_root-le : (n most : ℕ) → n < (most + 1) * (most + 1) → whole_root n 
 unfolding whole_root
 whole_root-le n most above =
     elim (cases_lt most (root_up_to n n)) [
-      inl more ↦ absurd (omega (arith, root_up_to-square n n, mul-le (most + 1) (most + 1) (root_up_to n n) (root_up_to n n) (omega arith) (omega arith)))
+      | inl more ↦ absurd (omega (arith, root_up_to-square n n, mul-le (most + 1) (most + 1) (root_up_to n n) (root_up_to n n) (omega arith) (omega arith)))
       | inr within ↦ within
     ]
 
@@ -64,7 +62,7 @@ length_of-le : (east north : ℤ) → unsigned_abs east ≤ 111320 → unsigned_
 unfolding length_of
 length_of-le east north e n =
     let squares : square_sum east north ≤ 111320 * 111320 + 111320 * 111320 =
-        omega (arith, square_sum-is east north, mul-le (unsigned_abs east) (unsigned_abs east) 111320 111320 e e, mul-le (unsigned_abs north) (unsigned_abs north) 111320 111320 n n) in
+    omega (arith, square_sum-is east north, mul-le (unsigned_abs east) (unsigned_abs east) 111320 111320 e e, mul-le (unsigned_abs north) (unsigned_abs north) 111320 111320 n n) in
     whole_root-le (square_sum east north) 100000000 (omega arith)
 
 -- two cells that lie side by side
@@ -79,9 +77,9 @@ beside-short : (plan : Plan) (a b : ℕ) → IsBeside plan a b → length_betwee
 unfolding length_between east_between north_between
 beside-short plan a b beside =
     let lon : unsigned_abs (pos (1000 * column_of plan b) -ℤ pos (1000 * column_of plan a)) ≤ 1000 =
-        near-difference (1000 * column_of plan a) (1000 * column_of plan b) 1000 (omega (arith, beside.column_low)) (omega (arith, beside.column_high)) in
+    near-difference (1000 * column_of plan a) (1000 * column_of plan b) 1000 (omega (arith, beside.column_low)) (omega (arith, beside.column_high)) in
     let lat : unsigned_abs (pos (1000 * row_of plan b) -ℤ pos (1000 * row_of plan a)) ≤ 1000 =
-        near-difference (1000 * row_of plan a) (1000 * row_of plan b) 1000 (omega (arith, beside.row_low)) (omega (arith, beside.row_high)) in
+    near-difference (1000 * row_of plan a) (1000 * row_of plan b) 1000 (omega (arith, beside.row_low)) (omega (arith, beside.row_high)) in
     length_of-le _ _
     (east_part-le _ (pos (cosine_at (middle_latitude (cell_place plan a) (cell_place plan b)))) lon (cosine_at-le _))
     (north_part-le _ lat)

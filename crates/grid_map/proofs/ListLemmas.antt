@@ -1,18 +1,17 @@
 -- The list of the lengths of a grid's segments.
-use Rattle.std.proofs.Common.{ℕ, ◌≡◌, ◌+◌, ◌*◌, ◌/◌, ◌<◌, ◌≤◌, ◌^◌, Bool, true, false, cond, nat_le, List, [], ◌∷◌, ◌++◌, length, map, take, get_or, Option, Some, None, option_map, slice_get, unwrap_or, refl, sym, ap, ◌∙◌, subst, inl, inr, arith}
+use Rattle.std.proofs.Common.{ℕ, ◌≡◌, ◌+◌, ◌*◌, ◌<◌, Bool, true, false, cond, List, [], ◌∷◌, ◌++◌, length, take, get_or, Option, Some, None, option_map, slice_get, unwrap_or, refl, sym, ap, ◌∙◌, subst, inl, inr, arith}
 use Rattle.std.proofs.lemmas.List.{length-map, take_more}
 use Rattle.std.proofs.lemmas.Option.{slice_get-map, slice_get_within, get_or_from_slice_get}
 use Rattle.geo_int.specs.Place.{Place}
 use Rattle.geo_int.specs.Arrow.{arrow_between, arrow_of, length_between, east_between, north_between}
 use Rattle.geo_int.specs.declared.offsets.Arrow.{Arrow}
-use Rattle.space_search.specs.Rules.{COST_BOUND}
 use Rattle.grid_map.specs.declared.plan.Plan.{Plan}
 use Rattle.grid_map.specs.declared.segment.GridSegment.{GridSegment}
-use Rattle.grid_map.specs.Plan.{IsPlan, cells_of, start_of, end_of, is_there}
+use Rattle.grid_map.specs.Plan.{cells_of, is_there}
 use Rattle.grid_map.specs.Segments.{numbers_of, segment_of, segments_of, place_of}
 use Rattle.grid_map.specs.Lengths.{cell_place, segment_length}
 use Rattle.grid_map.specs.Costs.{Costs, AreCheap, cost_at, listed_costs, length_costs, length_list}
-use Rattle.grid_map.specs.Walks.{GoesForward, GoesBackward, Joins, IsGridWalk, stays, goes, HaveSameWalks}
+use Rattle.grid_map.specs.Walks.{Joins, IsGridWalk, stays, goes, HaveSameWalks}
 use Rattle.grid_map.proofs.NumberLemmas.{IsNumber, numbers_of-within, place_of-is}
 use Rattle.grid_map.proofs.StepLemmas.{is_there-parts}
 use Rattle.grid_map.proofs.LengthLemmas.{segment_length-short}
@@ -97,7 +96,7 @@ length_list-more costs pushed all i next are at is =
 pub length_list-cheap : (plan : Plan) → 0 < plan.width → AreCheap (length_list plan)
 length_list-cheap plan some place cost at =
     let found = mapped-some (λ k. Some (segment_length plan k)) (Some cost) (slice_get (numbers_of plan) place)
-        (sym (slice_get-map (λ k. Some (segment_length plan k)) (numbers_of plan) place) ∙ at) in
+    (sym (slice_get-map (λ k. Some (segment_length plan k)) (numbers_of plan) place) ∙ at) in
     let same : segment_length plan found.0 ≡ cost = cc (found.2) in
     let short = segment_length-short plan found.0 some (numbers_of-within plan place found.0 found.1).there in
     omega (arith, short, same)
@@ -110,7 +109,7 @@ listed-length plan k there =
     let found = place_of-is plan k (record { below = below; there = there }) in
     ap (cost_at (length_list plan)) found.1
     ∙ ap (λ (entry : Option (Option ℕ)). unwrap_or entry None)
-      (slice_get-map (λ k. Some (segment_length plan k)) (numbers_of plan) found.0 ∙ ap (option_map (λ k. Some (segment_length plan k))) found.2)
+    (slice_get-map (λ k. Some (segment_length plan k)) (numbers_of plan) found.0 ∙ ap (option_map (λ k. Some (segment_length plan k))) found.2)
 
 -- a walk by other costs that join the same cells at the same costs
 same-walk : (plan : Plan) (these those : Costs) → ((a b cost : ℕ) → Joins plan these a b cost → Joins plan those a b cost) →

@@ -1,5 +1,5 @@
 -- A space that keeps copies of the grid and of the lists that it was made from.
-use Rattle.std.proofs.Common.{ℕ, ◌≡◌, ◌<◌, List, Option, sym, ap, subst, arith, length, map}
+use Rattle.std.proofs.Common.{ℕ, ◌≡◌, ◌<◌, List, Option, sym, ap, subst, arith, length}
 use Rattle.std.proofs.lemmas.List.{length-map}
 use Rattle.space_search.specs.Rules.{IsSpace}
 use Rattle.grid_map.specs.declared.plan.Plan.{Plan}
@@ -11,8 +11,7 @@ use Rattle.grid_map.proofs.LawLemmas.{grid_rules-keeps_laws}
 use Rattle.grid_map.proofs.RunLemmas.{grid_rules-runs}
 
 module _ (kept plan : Plan) (forward forward_given backward backward_given : List (Option ℕ)) (from to : ℕ)
-         (plan_is : kept ≡ plan) (forward_is : forward ≡ forward_given) (backward_is : backward ≡ backward_given) where
-
+    (plan_is : kept ≡ plan) (forward_is : forward ≡ forward_given) (backward_is : backward ≡ backward_given) where
   -- the copies keep the laws
   pub copies-keep_laws : IsPlan kept → from < cells_of plan → AreCheap forward_given → AreCheap backward_given →
       IsSpace (grid_rules kept (listed_costs kept forward backward) from to)

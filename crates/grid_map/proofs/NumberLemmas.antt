@@ -53,10 +53,10 @@ filter_range-within : (p : ℕ → Bool) (a n i x : ℕ) → slice_get (filter p
 filter_range-within p a zero i x at = cc
 filter_range-within p a (suc n) i x at =
     elim (get-cond (p a) a i x _ at) [
-      inl here ↦ (omega (arith, here.0), ap p (sym here.0) ∙ here.1)
+      | inl here ↦ (omega (arith, here.0), ap p (sym here.0) ∙ here.1)
       | inr behind ↦
-        let found = filter_range-within p (a + 1) n behind.0 x behind.1 in
-        (omega (arith, found.0), found.1)
+          let found = filter_range-within p (a + 1) n behind.0 x behind.1 in
+          (omega (arith, found.0), found.1)
     ]
 
 -- the first of the numbers that are tried stands first, if it passes
@@ -139,7 +139,7 @@ numbers_of-read_here : (plan : Plan) (numbers : List ℕ) (i k : ℕ) → number
 numbers_of-read_here plan numbers i k are within read =
     let short : i < length (numbers_of plan) = omega (arith, length-map (numbers_of plan) (segment_of plan)) in
     let at : slice_get (numbers_of plan) i ≡ Some k =
-        slice_get-get_or (numbers_of plan) i k short ∙ ap (λ (xs : List ℕ). Some (get_or xs i k)) (sym are) ∙ ap Some (sym read) in
+    slice_get-get_or (numbers_of plan) i k short ∙ ap (λ (xs : List ℕ). Some (get_or xs i k)) (sym are) ∙ ap Some (sym read) in
     record {
       number = numbers_of-within plan i k at;
       segment = slice_get-map (segment_of plan) (numbers_of plan) i ∙ ap (option_map (segment_of plan)) at;
@@ -158,14 +158,14 @@ pub place_of-some : (plan : Plan) (k place : ℕ) → k < 2 * cells_of plan → 
 unfolding place_of
 place_of-some plan k place below is =
     elim (cases_Bool (is_there plan k)) [
-      inl there ↦
-        let found = place_of-is plan k (record { below = below; there = there }) in
-        let same : Some found.0 ≡ Some place = sym found.1 ∙ is in
-        let place_is : found.0 ≡ place = cc in
-        (there, slice_get_within _ _ _ (ap (slice_get (numbers_of plan)) (sym place_is) ∙ found.2))
+      | inl there ↦
+          let found = place_of-is plan k (record { below = below; there = there }) in
+          let same : Some found.0 ≡ Some place = sym found.1 ∙ is in
+          let place_is : found.0 ≡ place = cc in
+          (there, slice_get_within _ _ _ (ap (slice_get (numbers_of plan)) (sym place_is) ∙ found.2))
       | inr not_there ↦
-        let none : None ≡ Some place = sym (place_of-none plan k not_there) ∙ is in
-        cc
+          let none : None ≡ Some place = sym (place_of-none plan k not_there) ∙ is in
+          cc
     ]
 
 -- the place that was read for a number is its place

@@ -1,16 +1,15 @@
 -- The runs of a grid's space are the walks of the grid.
-use Rattle.std.proofs.Common.{ℕ, ◌≡◌, ◌+◌, ◌<◌, ◌≤◌, List, [], ◌∷◌, Option, Some, refl, sym, ap, ◌∙◌, subst, arith}
+use Rattle.std.proofs.Common.{ℕ, ◌≡◌, ◌+◌, List, [], ◌∷◌, Some, refl, sym, ap, ◌∙◌, subst, arith}
 use Rattle.std.proofs.lemmas.Bool.{eqb-true, eq-eqb}
 use Rattle.space_search.specs.Rules.{Rules}
-use Rattle.space_search.specs.Runs.{Walks, rests, steps, IsRun, starts, Reaches, IsLeastRun, IsUnreachable}
+use Rattle.space_search.specs.Runs.{Walks, rests, steps, IsRun, starts, Reaches, IsLeastRun}
 use Rattle.grid_map.specs.declared.plan.Plan.{Plan}
 use Rattle.grid_map.specs.Costs.{Costs}
-use Rattle.grid_map.specs.Walks.{Joins, IsGridWalk, stays, goes, IsLeastGridWalk, HasNoGridWalk}
+use Rattle.grid_map.specs.Walks.{Joins, IsGridWalk, stays, goes, IsLeastGridWalk}
 use Rattle.grid_map.specs.Space.{step_of, grid_rules, state_or, states_along, states_of, RunsAreWalks}
-use Rattle.grid_map.proofs.StepLemmas.{step_of-joins, StepsTo, Joins-steps}
+use Rattle.grid_map.proofs.StepLemmas.{step_of-joins, Joins-steps}
 
 module _ (plan : Plan) (costs : Costs) (from to : ℕ) where
-
   -- the rules of the grid
   abbrev rules : Rules ℕ
   rules = grid_rules plan costs from to

@@ -1,10 +1,10 @@
 -- The steps of a cell are the segments that join it to its neighbours.
-use Rattle.std.proofs.Common.{ℕ, zero, suc, ◌≡◌, ◌+◌, ◌*◌, ◌-◌, ◌/◌, ◌%◌, ◌<◌, ◌≤◌, ◌⊎◌, Bool, true, false, ◌&&◌, not, nat_eq, nat_lt, nat_le, cond, List, Option, Some, None, refl, sym, ap, ◌∙◌, inl, inr, arith, IsTrue}
+use Rattle.std.proofs.Common.{ℕ, zero, suc, ◌≡◌, ◌+◌, ◌*◌, ◌-◌, ◌/◌, ◌%◌, ◌<◌, ◌≤◌, ◌⊎◌, Bool, true, false, ◌&&◌, nat_eq, nat_le, cond, Option, Some, None, refl, sym, ap, ◌∙◌, inl, inr, arith}
 use Rattle.std.proofs.lemmas.Bool.{cases_lt, ltb-true, leb-true, le-leb}
 use Rattle.std.proofs.lemmas.Bool.Decides.{nat_tests}
 use Rattle.std.proofs.Math.Nat.{div-add-mod, mul-div-le, lt-mul-div-succ, lt_of_mul-lt-mul_left, mul-le-mul_left}
 use Rattle.grid_map.specs.declared.plan.Plan.{Plan}
-use Rattle.grid_map.specs.Plan.{IsPlan, cells_of, is_east, start_of, end_of, has_room, is_there}
+use Rattle.grid_map.specs.Plan.{cells_of, is_east, start_of, end_of, has_room, is_there}
 use Rattle.grid_map.specs.Costs.{Costs}
 use Rattle.grid_map.specs.Walks.{GoesForward, GoesBackward, Joins}
 use Rattle.grid_map.specs.Space.{reached, step_forward, step_backward, step_of}
@@ -231,8 +231,8 @@ west-steps plan costs a b cost k even goes =
       number = 2;
       within = omega arith;
       leads =
-        cond-le 1 a _ _ (omega arith)
-        ∙ ap (step_backward plan costs) number ∙ goes-step_backward plan costs a b cost k goes;
+          cond-le 1 a _ _ (omega arith)
+          ∙ ap (step_backward plan costs) number ∙ goes-step_backward plan costs a b cost k goes;
     }
 
 -- a segment of odd number is a step south of its second cell
@@ -244,19 +244,19 @@ south-steps plan costs a b cost k odd goes =
       number = 3;
       within = omega arith;
       leads =
-        step_of-south plan costs a 3 (omega arith) ∙ cond-le plan.width a _ _ (omega arith)
-        ∙ ap (step_backward plan costs) number ∙ goes-step_backward plan costs a b cost k goes;
+          step_of-south plan costs a 3 (omega arith) ∙ cond-le plan.width a _ _ (omega arith)
+          ∙ ap (step_backward plan costs) number ∙ goes-step_backward plan costs a b cost k goes;
     }
 
 -- each joined cell is reached by a step
 pub Joins-steps : (plan : Plan) (costs : Costs) (a b cost : ℕ) → Joins plan costs a b cost → StepsTo plan costs a b cost
 Joins-steps plan costs a b cost (k, inl goes) =
     elim (halves k) [
-      inl even ↦ east-steps plan costs a b cost k even goes
+      | inl even ↦ east-steps plan costs a b cost k even goes
       | inr odd ↦ north-steps plan costs a b cost k odd goes
     ]
 Joins-steps plan costs a b cost (k, inr goes) =
     elim (halves k) [
-      inl even ↦ west-steps plan costs a b cost k even goes
+      | inl even ↦ west-steps plan costs a b cost k even goes
       | inr odd ↦ south-steps plan costs a b cost k odd goes
     ]

@@ -2,7 +2,7 @@
 use Rattle.std.proofs.Common.{ℕ, ◌≡◌, ◌+◌, ◌-◌, ◌<◌, List, [], ◌∷◌, ◌++◌, take, drop, length, get_or, Option, Some, refl, sym, ap, ◌∙◌, subst, append_assoc, add-one, drop-cons, IsTrue}
 use Rattle.std.proofs.lemmas.List.{take_rest}
 use Rattle.space_search.specs.Rules.{Rules, IsSpace}
-use Rattle.space_search.specs.Runs.{Walks, rests, steps, IsRun, starts}
+use Rattle.space_search.specs.Runs.{Walks, steps, IsRun, starts}
 use Rattle.grid_map.specs.Space.{IsSomeRun, state_or, states_along}
 
 -- from a state these steps are the rest of a run
@@ -28,7 +28,10 @@ step_on {rules = rules} laws valid (steps {state = state} {next = next} {end = e
       within = within;
       on = subst P next_is (record {
         valid = (laws.steps_valid state number next more valid within is).valid;
-        end = end; cost = cost + more; total = total; walks = walk;
+        end = end;
+        cost = cost + more;
+        total = total;
+        walks = walk;
       });
     }
 
@@ -79,13 +82,13 @@ next-taken rules cells pushed cell next numbers all i laws within on states is n
     let step = IsOnRun-step rules cell (get_or numbers i 0) rest laws (subst (IsOnRun rules cell) split on) in
     let there = ap (λ (s : ℕ). states_along rules s rest) next_is in
     let front : cells ++ states_along rules cell (drop i numbers) ≡ cells ++ (cell ∷ states_along rules (state_or (rules.step cell (get_or numbers i 0)) cell) rest) =
-        ap (λ (ns : List ℕ). cells ++ states_along rules cell ns) split in
+    ap (λ (ns : List ℕ). cells ++ states_along rules cell ns) split in
     let P : ℕ → Type 0 = λ s. IsOnRun rules s rest in
     record {
       on = subst P (sym next_is) step.on;
       states =
-        ap (λ (xs : List ℕ). xs ++ states_along rules next rest) is
-        ∙ append_assoc cells (cell ∷ []) (states_along rules next rest)
-        ∙ ap (λ (xs : List ℕ). cells ++ (cell ∷ xs)) there
-        ∙ sym front ∙ states;
+          ap (λ (xs : List ℕ). xs ++ states_along rules next rest) is
+          ∙ append_assoc cells (cell ∷ []) (states_along rules next rest)
+          ∙ ap (λ (xs : List ℕ). cells ++ (cell ∷ xs)) there
+          ∙ sym front ∙ states;
     }

@@ -5,7 +5,7 @@ use Rattle.grid_map.specs.declared.plan.Plan.{Plan}
 use Rattle.grid_map.specs.Segments.{numbers_of, place_of}
 use Rattle.grid_map.specs.Lengths.{segment_length}
 
--- the cost of each segment by its number, from its start and back to it; none where that direction is forbidden
+-- what each segment costs by its number, from its start and back; none where that is forbidden
 pub record Costs : Type 0 where
   pub forward : ℕ → Option ℕ
   pub backward : ℕ → Option ℕ
@@ -26,7 +26,10 @@ listed_costs plan forward backward =
 -- each segment costs its length in millimetres, in both directions
 abbrev pub length_costs : Plan → Costs
 length_costs plan =
-    record { forward = λ k. Some (segment_length plan k); backward = λ k. Some (segment_length plan k) }
+    record {
+      forward = λ k. Some (segment_length plan k);
+      backward = λ k. Some (segment_length plan k);
+    }
 
 -- the list of the lengths, in the order of the segments
 abbrev pub length_list : Plan → List (Option ℕ)

@@ -11,4 +11,5 @@ cell_place plan cell = place (pos (1000 * column_of plan cell)) (pos (1000 * row
 
 -- the length of a segment in millimetres
 unfoldable pub segment_length : Plan → ℕ → ℕ
-segment_length plan k = length_between (cell_place plan (start_of k)) (cell_place plan (end_of plan k))
+segment_length plan k =
+    length_between (cell_place plan (start_of k)) (cell_place plan (end_of plan k))

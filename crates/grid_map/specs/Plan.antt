@@ -1,5 +1,5 @@
--- The cells of a grid and the segments between them, as a seed makes them (this project's own rule).
-use Rattle.std.specs.Prelude.{ℕ, ◌+◌, ◌*◌, ◌/◌, ◌%◌, ◌<◌, ◌≤◌, Bool, ◌&&◌, not, nat_eq, nat_lt, cond}
+-- The cells of a grid and the segments between them, as a seed makes them. This project's own rule.
+use Rattle.std.specs.Prelude.{ℕ, ◌+◌, ◌*◌, ◌/◌, ◌%◌, ◌≤◌, Bool, ◌&&◌, not, nat_eq, nat_lt, cond}
 use Rattle.grid_map.specs.declared.plan.Plan.{Plan}
 
 -- the plan made of these numbers
@@ -49,10 +49,11 @@ has_room plan k =
     (nat_lt (column_of plan (start_of k) + 1) plan.width)
     (nat_lt (row_of plan (start_of k) + 1) plan.height)
 
--- the grid has the segment of this number: both its cells lie in the grid, and its draw isn't a multiple of 4
+-- the grid has the segment of this number: its cells lie in the grid, and 4 doesn't divide its draw
 unfoldable pub is_there : Plan → ℕ → Bool
 is_there plan k =
-    nat_lt (start_of k) (cells_of plan) && has_room plan k && not (nat_eq (draw_of plan.seed k % 4) 0)
+    nat_lt (start_of k) (cells_of plan) && has_room plan k
+    && not (nat_eq (draw_of plan.seed k % 4) 0)
 
 -- the class of a segment: 0 residential, 1 primary, 2 track, 3 cycleway
 unfoldable pub class_of : ℕ → ℕ → ℕ

@@ -29,7 +29,7 @@ step_of plan costs cell number =
     (cond (nat_le 1 cell) (step_backward plan costs (2 * (cell - 1))) None)
     (cond (nat_le plan.width cell) (step_backward plan costs (2 * (cell - plan.width) + 1)) None)))
 
--- the space of a grid: each cell is a state, the one start is the first cell, and the goal is the other
+-- the space of a grid: each cell is a state, the one start is the first cell, the goal the other
 abbrev pub grid_rules : Plan → Costs → ℕ → ℕ → Rules ℕ
 grid_rules plan costs from to =
     record {

@@ -9,4 +9,5 @@ use Rattle.grid_map.specs.Segments.{numbers_of, place_of}
 pub record IsGrid (grid : Inside) : Type 0 where
   pub lawful : IsPlan grid.plan
   pub numbers : grid.numbers.items ≡ numbers_of grid.plan
-  pub places : grid.places.items ≡ map (place_of grid.plan) (range_with_len 0 (2 * cells_of grid.plan))
+  pub places :
+      grid.places.items ≡ map (place_of grid.plan) (range_with_len 0 (2 * cells_of grid.plan))

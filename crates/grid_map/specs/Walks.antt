@@ -32,13 +32,16 @@ pub data IsGridWalk (plan : Plan) (costs : Costs) : ℕ → ℕ → List ℕ →
       IsGridWalk plan costs from to (from ∷ cells) (cost + rest)
 
 -- a walk from one cell to another, and no walk between them costs less
-pub record IsLeastGridWalk (plan : Plan) (costs : Costs) (from to : ℕ) (cells : List ℕ) (cost : ℕ) : Type 0 where
+pub record IsLeastGridWalk
+    (plan : Plan) (costs : Costs) (from to : ℕ) (cells : List ℕ) (cost : ℕ) : Type 0 where
   pub walk : IsGridWalk plan costs from to cells cost
-  pub least : (others : List ℕ) (other : ℕ) → IsGridWalk plan costs from to others other → cost ≤ other
+  pub least :
+      (others : List ℕ) (other : ℕ) → IsGridWalk plan costs from to others other → cost ≤ other
 
 -- there is no walk from one cell to another
 abbrev pub HasNoGridWalk : Plan → Costs → ℕ → ℕ → Type 0
-HasNoGridWalk plan costs from to = (cells : List ℕ) (cost : ℕ) → IsGridWalk plan costs from to cells cost → ⊥
+HasNoGridWalk plan costs from to =
+    (cells : List ℕ) (cost : ℕ) → IsGridWalk plan costs from to cells cost → ⊥
 
 -- these costs permit the same walks as those, at the same costs
 pub record HaveSameWalks (plan : Plan) (these those : Costs) : Type 0 where

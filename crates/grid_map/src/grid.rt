@@ -1,6 +1,7 @@
 //! A grid that a number makes.
 
-ghost use Rattle.std.specs.Prelude.{◌≡◌, ◌+◌, ◌*◌, ◌<◌, [], ◌∷◌, ◌++◌, Some, IfOk, OnOk, length, map, slice_get};
+ghost use Rattle.std.specs.Prelude.{◌≡◌, ◌+◌, ◌*◌, ◌<◌, [], ◌∷◌, ◌++◌, Some, IfOk, OnOk, length};
+ghost use Rattle.std.specs.Prelude.{map, slice_get};
 ghost use Rattle.std.specs.List.{range_with_len};
 ghost use Rattle.grid_map.specs.declared.plan.Plan.{Plan};
 ghost use Rattle.grid_map.specs.Plan.{IsPlan, plan_of, cells_of};
@@ -14,7 +15,8 @@ use geo_int::Spot;
 use std::alloc::{AllocError, Global};
 use std::marker::Model;
 
-/// A grid of cells and segments between neighbours; contracts see it as the plan that it was made from.
+/// A grid of cells and segments between neighbours; contracts see it as the plan that it was made
+/// from.
 #[derive(Drop)]
 pub struct Grid {
     numbers: Vec<u32>,
@@ -97,7 +99,8 @@ impl Grid {
 
     // The place of each number, in a list of its own.
     pub(crate) fn places(&self, alloc: Global) -> Result<Vec<Option<u32>>, AllocError>
-        ensures value { IfOk result (λ places. places.items ≡ map (place_of self.now) (range_with_len 0 (2 * cells_of self.now))) }
+        ensures value { let numbers = range_with_len 0 (2 * cells_of self.now) in
+            IfOk result (λ places. places.items ≡ map (place_of self.now) numbers) }
     {
         Vec::from_slice(alloc, self.places.as_slice())
     }

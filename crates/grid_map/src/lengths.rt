@@ -17,7 +17,8 @@ pub fn segment_lengths(alloc: Global, grid: &Grid) -> Result<Items<Option<u128>>
     ensures exact { IfOk result (λ costs. costs ≡ length_list grid.now) }
     ensures fits { IfOk result (λ costs. length costs ≡ length (segments_of grid.now)) }
     ensures cheap { IfOk result AreCheap }
-    ensures same { IfOk result (λ costs. HaveSameWalks grid.now (listed_costs grid.now costs costs) (length_costs grid.now)) }
+    ensures same { IfOk result (λ costs.
+        HaveSameWalks grid.now (listed_costs grid.now costs costs) (length_costs grid.now)) }
 {
     let mut costs = Vec::with_capacity(alloc, grid.segments() as usize)?;
     'segments: for i in 0..grid.segments() {

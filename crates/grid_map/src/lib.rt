@@ -2,13 +2,17 @@
 #![tactic(auto)]
 
 mod grid;
+mod least;
 mod lengths;
 mod plan;
 mod segment;
 mod space;
+#[cfg(test)]
+mod tests;
 mod walk;
 
 pub use grid::Grid;
+pub use least::{GridWalk, least_walk, shortest_walk};
 pub use lengths::segment_lengths;
 pub use segment::GridSegment;
 pub use space::GridSpace;

@@ -1,7 +1,8 @@
 //! What a grid is made from, and what follows from it for each number of a segment.
 
 ghost use Rattle.std.specs.Prelude.{◌≡◌, ◌*◌, ◌<◌, ◌≤◌, IsTrue};
-ghost use Rattle.grid_map.specs.Plan.{IsPlan, cells_of, draw_of, has_room, is_there, end_of, class_of};
+ghost use Rattle.grid_map.specs.Plan.{IsPlan, cells_of, draw_of, has_room, is_there, end_of};
+ghost use Rattle.grid_map.specs.Plan.{class_of};
 ghost use Rattle.grid_map.specs.Segments.{segment_of};
 
 use crate::segment::GridSegment;
@@ -56,7 +57,11 @@ impl Plan {
         requires within { k < 2 * cells_of self }
         ensures value { result ≡ end_of self k }
     {
-        if k % 2 == 0 { k / 2 + 1 } else { k / 2 + self.width }
+        if k % 2 == 0 {
+            k / 2 + 1
+        } else {
+            k / 2 + self.width
+        }
     }
 
     #[tactic(auto, unfolding(crate::specs::Plan::has_room))]

@@ -3,7 +3,7 @@
 /// A segment between two cells that lie side by side.
 #[derive(Clone, Copy, Debug, PartialEq, Eq)]
 pub struct GridSegment {
-    /// The segment's number: twice its first cell's where it goes east, and one more where it goes north.
+    /// The segment's number: twice its first cell's where it goes east, else one more.
     pub k: u32,
     /// The cell from which it goes.
     pub a: u32,

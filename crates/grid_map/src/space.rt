@@ -1,6 +1,6 @@
 //! The cells of a grid as a space to search.
 
-ghost use Rattle.std.specs.Prelude.{◌≡◌, ◌≢◌, ◌*◌, ◌<◌, ◌≤◌, ℕ, IfOk, IsSome, IsTrue, length, map};
+ghost use Rattle.std.specs.Prelude.{◌≡◌, ◌*◌, ◌<◌, ◌≤◌, ℕ, IfOk, IsSome, IsTrue, length, map};
 ghost use Rattle.std.specs.List.{range_with_len};
 ghost use Rattle.space_search.specs.Rules.{IsSpace};
 ghost use Rattle.grid_map.specs.declared.plan.Plan.{Plan};
@@ -14,7 +14,8 @@ use crate::plan::Plan;
 use space_search::Space;
 use std::alloc::{AllocError, Global};
 
-/// The cells of a grid, each a state and its own cell, with a step to each neighbour that a segment joins.
+/// The cells of a grid, each a state and its own cell, with a step to each neighbour that a segment
+/// joins.
 ///
 /// A cell has four steps: 0 goes east, 1 north, 2 west, 3 south. A step is `None` where there is no
 /// segment or that direction is forbidden.
@@ -37,8 +38,8 @@ impl GridSpace {
     ghost use Rattle.grid_map.specs.Rules.{costs_of, rules_of};
     ghost use Rattle.grid_map.specs.Space.{RunsAreWalks};
 
-    /// The space of the walks from the cell `from` to the cell `to`; a segment of place i costs
-    /// `forward[i]` from its first cell to its second and `backward[i]` back, and is forbidden at `None`.
+    /// The space of the walks from the cell `from` to the cell `to`. The segment of place i costs
+    /// `forward[i]` from its first cell to its second and `backward[i]` back; `None` forbids it.
     pub fn new(
         alloc: Global,
         grid: &Grid,
@@ -53,9 +54,10 @@ impl GridSpace {
         requires backward_cheap { AreCheap backward.now }
         requires from { from < cells_of grid.now }
         requires to { to < cells_of grid.now }
-        requires apart { from ≢ to }
-        ensures exact { IfOk result (λ space. rules_of space ≡ grid_rules grid.now (listed_costs grid.now forward.now backward.now) from to) }
-        ensures lawful { IfOk result (λ space. RunsAreWalks (rules_of space) grid.now (listed_costs grid.now forward.now backward.now) from to) }
+        ensures exact { let costs = listed_costs grid.now forward.now backward.now in
+            IfOk result (λ space. rules_of space ≡ grid_rules grid.now costs from to) }
+        ensures lawful { let costs = listed_costs grid.now forward.now backward.now in
+            IfOk result (λ space. RunsAreWalks (rules_of space) grid.now costs from to) }
     {
         Ok(GridSpace {
             forward: Vec::from_slice(alloc, forward)?,

@@ -1,5 +1,5 @@
 use Rattle.std.proofs.Common.{refl, sym, ◌∙◌}
-use Rattle.grid_map.proofs.ListLemmas.{AreEnds, length_list-at, segment-not_long}
+use Rattle.grid_map.proofs.ListLemmas.{length_list-at, segment-not_long}
 use Rattle.grid_map.proofs.lengths.length_at.Goals as goal
 
 pub unreachable-requires : goal.unreachable-requires

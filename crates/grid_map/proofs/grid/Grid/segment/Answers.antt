@@ -1,4 +1,4 @@
-use Rattle.std.proofs.Common.{◌≡◌, Some, sym, ap, ◌∙◌, subst, arith}
+use Rattle.std.proofs.Common.{Some, sym, ap, ◌∙◌, subst, arith}
 use Rattle.grid_map.specs.Plan.{IsPlan, cells_of}
 use Rattle.grid_map.proofs.NumberLemmas.{numbers_of-read}
 use Rattle.grid_map.proofs.StepLemmas.{is_there-within}

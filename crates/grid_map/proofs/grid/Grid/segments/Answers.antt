@@ -1,7 +1,5 @@
 use Rattle.std.proofs.Common.{◌*◌, arith, length, ap}
-use Rattle.std.proofs.lemmas.List.{length-map}
 use Rattle.grid_map.specs.Plan.{cells_of}
-use Rattle.grid_map.specs.Segments.{numbers_of, segment_of}
 use Rattle.grid_map.proofs.NumberLemmas.{cells_of-within, length-numbers_below}
 use Rattle.grid_map.proofs.grid.Grid.segments.Goals as goal
 

@@ -1,4 +1,4 @@
-use Rattle.std.proofs.Common.{◌≡◌, ◌*◌, None, sym, ap, ◌∙◌, arith, length}
+use Rattle.std.proofs.Common.{◌*◌, None, sym, ap, ◌∙◌, arith, length}
 use Rattle.std.proofs.lemmas.List.FromFn.{length-map-range_with_len}
 use Rattle.std.proofs.lemmas.Option.{unwrap_or-slice_get}
 use Rattle.grid_map.specs.Plan.{cells_of}
@@ -9,8 +9,13 @@ use Rattle.grid_map.proofs.space.GridSpace.cost_in.Goals as goal
 
 pub index-requires : goal.index-requires
 index-requires c =
-    omega (arith, c.requires.within, c.args.self.now.places.ok.0, ap length c.args.self.now.placed,
-      length-map-range_with_len (place_of c.args.self.now.plan) 0 (2 * cells_of c.args.self.now.plan))
+    omega (
+      arith,
+      c.requires.within,
+      c.args.self.now.places.ok.0,
+      ap length c.args.self.now.placed,
+      length-map-range_with_len (place_of c.args.self.now.plan) 0 (2 * cells_of c.args.self.now.plan),
+    )
 
 pub returns-in_err-place-clause-value : goal.returns-in_err-place-clause-value
 returns-in_err-place-clause-value c =

@@ -10,7 +10,7 @@ returns-in_err-cost c =
     let listed = ap (λ costs. cost_at costs (place_of c.args.self.now.plan c.args.k)) (sym c.deref.ensures.value) in
     c.from_residual.ensures
     ∙ step_forward-none c.args.self.now.plan (costs_of c.args.self.now) c.args.k
-      (listed ∙ sym c.cost_in.ensures.value ∙ c.in_err-cost.was)
+    (listed ∙ sym c.cost_in.ensures.value ∙ c.in_err-cost.was)
 
 pub returns : goal.returns
 returns c =

@@ -1,4 +1,4 @@
-use Rattle.std.proofs.Common.{◌≡◌, ◌*◌, map, ap, ◌∙◌, sym}
+use Rattle.std.proofs.Common.{◌*◌, map, ap, ◌∙◌, sym}
 use Rattle.std.specs.List.{range_with_len}
 use Rattle.grid_map.specs.Plan.{cells_of}
 use Rattle.grid_map.specs.Segments.{place_of}
@@ -12,8 +12,8 @@ invariant_of-result c = record {
   forward_fits = length-copied _ _ _ _ c.plan.ensures.value c.in_ok-from_slice.ensures.items c.requires.forward;
   backward_fits = length-copied _ _ _ _ c.plan.ensures.value c.in_ok-from_slice-2.ensures.items c.requires.backward;
   keeps =
-    copies-keep_laws _ _ _ _ _ _ c.args.from c.args.to c.plan.ensures.value c.in_ok-from_slice.ensures.items c.in_ok-from_slice-2.ensures.items
-    c.plan.ensures.lawful c.requires.from c.requires.forward_cheap c.requires.backward_cheap;
+      copies-keep_laws _ _ _ _ _ _ c.args.from c.args.to c.plan.ensures.value c.in_ok-from_slice.ensures.items c.in_ok-from_slice-2.ensures.items
+      c.plan.ensures.lawful c.requires.from c.requires.forward_cheap c.requires.backward_cheap;
 }
 
 pub returns-clause-lawful : goal.returns-clause-lawful

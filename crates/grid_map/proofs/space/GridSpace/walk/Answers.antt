@@ -19,5 +19,5 @@ next-cell-requires-clause-within c =
 pub steps-preserved : goal.steps-preserved
 steps-preserved c =
     let taken = next-taken (rules_of c.args.self.now) _ _ _ _ _ _ _ c.args.self.now.keeps c.steps-test.true c.steps.invariant.on c.steps.invariant.states
-        c.in_ok-push.ensures.items c.next-cell.ensures in
+    c.in_ok-push.ensures.items c.next-cell.ensures in
     record { on = taken.on; states = taken.states }

@@ -15,7 +15,7 @@ returns-in_err-checked_sub-in_default c =
     let first : c.args.state.now < c.args.self.now.plan.width = omega (arith, c.in_err-checked_sub-in_default.ensures) in
     record {
       value = c.from_residual-in_err-checked_sub-in_default.ensures
-        ∙ step_of-no_south c.args.self.now.plan (costs_of c.args.self.now) _ _ last first;
+          ∙ step_of-no_south c.args.self.now.plan (costs_of c.args.self.now) _ _ last first;
     }
 
 pub returns-in-0 : goal.returns-in-0
@@ -29,8 +29,8 @@ returns-in_ok-checked_sub-in-2 c =
     let found = c.in_ok-checked_sub-in-2.ensures in
     record {
       value = c.backward_step.ensures
-        ∙ ap (λ west. step_backward c.args.self.now.plan (costs_of c.args.self.now) (2 * west)) found.1
-        ∙ step_of-is_west c.args.self.now.plan (costs_of c.args.self.now) _ _ c.in-2.is found.0;
+          ∙ ap (λ west. step_backward c.args.self.now.plan (costs_of c.args.self.now) (2 * west)) found.1
+          ∙ step_of-is_west c.args.self.now.plan (costs_of c.args.self.now) _ _ c.in-2.is found.0;
     }
 
 pub returns-in_ok-checked_sub-in_default : goal.returns-in_ok-checked_sub-in_default
@@ -39,6 +39,6 @@ returns-in_ok-checked_sub-in_default c =
     let found = c.in_ok-checked_sub-in_default.ensures in
     record {
       value = c.backward_step-in_default.ensures
-        ∙ ap (λ south. step_backward c.args.self.now.plan (costs_of c.args.self.now) (2 * south + 1)) found.1
-        ∙ step_of-is_south c.args.self.now.plan (costs_of c.args.self.now) _ _ last found.0;
+          ∙ ap (λ south. step_backward c.args.self.now.plan (costs_of c.args.self.now) (2 * south + 1)) found.1
+          ∙ step_of-is_south c.args.self.now.plan (costs_of c.args.self.now) _ _ last found.0;
     }
