@@ -1,0 +1,4 @@
+pub mod Faults
+pub mod Sink
+pub mod Memory
+pub mod MemoryView

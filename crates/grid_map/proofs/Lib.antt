@@ -1,0 +1,10 @@
+pub mod NumberLemmas
+pub mod StepLemmas
+pub mod CostLemmas
+pub mod LawLemmas
+pub mod RunLemmas
+pub mod MadeLemmas
+pub mod AnswerLemmas
+pub mod LengthLemmas
+pub mod WalkLemmas
+pub mod ListLemmas
