@@ -1,0 +1,4 @@
+pub mod RootLemmas
+pub mod SquareLemmas
+pub mod QuotientLemmas
+pub mod ArrowLemmas

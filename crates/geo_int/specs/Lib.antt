@@ -1,0 +1,6 @@
+pub mod Place
+pub mod Spot
+pub mod Root
+pub mod Cosine
+pub mod Arrow
+pub mod Texts
