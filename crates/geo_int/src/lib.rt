@@ -2,6 +2,7 @@
 #![tactic(auto)]
 
 mod arrows;
+mod circles;
 mod cosines;
 mod offsets;
 mod roots;
@@ -9,10 +10,13 @@ mod spots;
 #[cfg(test)]
 mod tests;
 mod texts;
+mod turns;
 
 pub use arrows::arrow;
+pub use circles::touches;
 pub use cosines::cos_lat;
 pub use offsets::Arrow;
 pub use roots::floor_root;
 pub use spots::Spot;
-pub use texts::mm3;
+pub use texts::{ele, mm3};
+pub use turns::turn_cos;

@@ -113,3 +113,64 @@ fn lengths_are_printed_as_metres(rt: HostRuntime) -> Result<(), Fail> {
     }
     Ok(())
 }
+
+#[test]
+fn heights_are_printed_with_two_decimals(rt: HostRuntime) -> Result<(), Fail> {
+    let rows = [
+        (0i64, "0.00"),
+        (40_000_000, "40.00"),
+        (9_999, "0.00"),
+        (10_000, "0.01"),
+        (-1, "-0.01"),
+        (-10_000, "-0.01"),
+        (-10_001, "-0.02"),
+        (-1_230_000, "-1.23"),
+        (i64::MIN, "-9223372036854.78"),
+    ];
+    for (height, want) in rows {
+        let mut text = Vec::new(rt.alloc());
+        ele(&mut text, height)?;
+        assert_eq!(rt; text.as_slice(), want.as_bytes(), "of {height}");
+    }
+    Ok(())
+}
+
+// The turn from one link to the next: three places in microdegrees, and the cosine in millionths.
+const TURNS: [(i64, i64, i64, i64, i64, i64, i64); 7] = [
+    (1000, 1000, 2000, 3000, 3000, 5000, 1_000_000),
+    (0, 0, 1000, 0, 2000, 0, 1_000_000),
+    (0, 0, 1000, 0, 0, 0, -1_000_000),
+    (0, 0, 1000, 0, 1000, 1000, 0),
+    (0, 0, 1000, 0, 2000, 1000, 707_107),
+    (0, 0, 1000, 0, 1000, 0, 1_000_000),
+    (0, 0, 800_000, 0, 200_000, 600_000, -707_101),
+];
+
+#[test]
+fn turns_have_their_cosine(rt: HostRuntime) -> Result<(), Fail> {
+    for (lon0, lat0, lon1, lat1, lon2, lat2, want) in TURNS {
+        let start = Spot::new(lon0, lat0).ok_or("start")?;
+        let middle = Spot::new(lon1, lat1).ok_or("middle")?;
+        let end = Spot::new(lon2, lat2).ok_or("end")?;
+        let first = arrow(start, middle).ok_or("first")?;
+        let second = arrow(middle, end).ok_or("second")?;
+        assert_eq!(rt; turn_cos(&first, &second), want, "to {lon2}, {lat2}");
+    }
+    Ok(())
+}
+
+#[test]
+fn a_circle_may_cut_the_middle_of_a_link(rt: HostRuntime) -> Result<(), Fail> {
+    let a = Spot::new(0, 0).ok_or("a")?;
+    let b = Spot::new(1000, 0).ok_or("b")?;
+    let middle = Spot::new(500, 100).ok_or("middle")?;
+    assert!(rt; touches(a, b, middle, 11_132));
+    assert!(rt; !touches(a, b, middle, 11_131));
+    assert!(rt; touches(b, a, middle, 11_132));
+    let behind = Spot::new(1100, 0).ok_or("behind")?;
+    assert!(rt; touches(a, b, behind, 11_132));
+    assert!(rt; !touches(a, b, behind, 11_131));
+    let far = Spot::new(2_700_000, 0).ok_or("far")?;
+    assert!(rt; !touches(a, b, far, 100_000_000));
+    Ok(())
+}
