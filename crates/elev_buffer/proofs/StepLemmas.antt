@@ -178,12 +178,30 @@ pub step-within : (l : Limits) (added r buffer : ℤ) → IsLimits l → (step_o
 unfolding step_of settled_of
 step-within l added r buffer is = left-within l r (buffer +ℤ added) is
 
+-- what it pays is never taken
+pub step-paid : (l : Limits) (added r buffer : ℤ) → IsLimits l → pos 0 ≤ℤ r → pos 0 ≤ℤ (step_of l added r buffer).paid
+unfolding step_of settled_of
+step-paid l added r buffer is positive = paid-positive l r (buffer +ℤ added) is positive
+
+-- its weight is at least nothing
+pub step-light : (l : Limits) (added r buffer : ℤ) → pos 0 ≤ℤ (step_of l added r buffer).weight
+unfolding step_of settled_of
+step-light l added r buffer = weight-positive l r (buffer +ℤ added)
+
+-- and at most a million
+pub step-heavy : (l : Limits) (added r buffer : ℤ) → (step_of l added r buffer).weight ≤ℤ pos 1000000
+unfolding step_of settled_of
+step-heavy l added r buffer = weight-within l r (buffer +ℤ added)
+
 -- all that is known of what a step gives
 abbrev pub Steps : Limits → ℤ → ℤ → ℤ → Stepped → Type 0
 Steps l added r buffer s = record {
   exact : s ≡ step_of l added r buffer;
   positive : pos 0 ≤ℤ s.e;
   within : s.e ≤ℤ l.most;
+  paid : pos 0 ≤ℤ s.paid;
+  light : pos 0 ≤ℤ s.weight;
+  heavy : s.weight ≤ℤ pos 1000000;
   sum : s.e +ℤ s.paid ≡ int_max (buffer +ℤ added) (pos 0);
   grows : (more : ℤ) → buffer ≤ℤ more → IsNoMore s (step_of l added r more);
   slowly : (more : ℤ) → buffer ≤ℤ more →
@@ -196,6 +214,9 @@ step_of-Steps l added r buffer is positive = record {
   exact = refl;
   positive = step-positive l added r buffer is;
   within = step-within l added r buffer is;
+  paid = step-paid l added r buffer is positive;
+  light = step-light l added r buffer;
+  heavy = step-heavy l added r buffer;
   sum = step-sum l added r buffer is;
   grows = λ more h. step-grows l added r buffer more is positive h;
   slowly = λ more h. step-slowly l added r buffer more is h;

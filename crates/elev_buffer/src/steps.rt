@@ -32,9 +32,12 @@ pub fn step(e: i64, a: i64, r: i64, limits: &Limits) -> Stepped
     requires reduction { r ≤ℤ pos 2000000000000000000 }
     ensures exact { result ≡ step_of limits.now a r e }
 
-    // The buffer stays one, and what is paid and what is left make up the full buffer.
+    // The buffer stays one, a weight is a part of a million, and what is paid and what is left make up the full buffer.
     ensures positive { pos 0 ≤ℤ result.e }
     ensures within { result.e ≤ℤ limits.now.most }
+    ensures paid { pos 0 ≤ℤ result.paid }
+    ensures light { pos 0 ≤ℤ result.weight }
+    ensures heavy { result.weight ≤ℤ pos 1000000 }
     ensures sum { result.e +ℤ result.paid ≡ int_max (e +ℤ a) (pos 0) }
 
     // From a larger buffer no part is less, and both together are more by no more than the buffer is.
