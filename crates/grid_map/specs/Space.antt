@@ -1,5 +1,5 @@
 -- The search space of a grid's cells, and what its runs are (this project's own rule).
-use Rattle.std.specs.Prelude.{ℕ, ◌≡◌, ◌+◌, ◌-◌, ◌*◌, List, [], ◌∷◌, Option, Some, None, cond, nat_eq, nat_lt, nat_le}
+use Rattle.std.specs.Prelude.{ℕ, ◌≡◌, ◌+◌, ◌-◌, ◌*◌, List, [], ◌∷◌, Option, Some, None, cond, nat_eq, nat_lt, nat_le, ◌&&◌}
 use Rattle.space_search.specs.Rules.{Rules}
 use Rattle.space_search.specs.Runs.{IsRun, IsLeastRun, IsUnreachable}
 use Rattle.grid_map.specs.declared.plan.Plan.{Plan}
@@ -29,7 +29,8 @@ step_of plan costs cell number =
     (cond (nat_le 1 cell) (step_backward plan costs (2 * (cell - 1))) None)
     (cond (nat_le plan.width cell) (step_backward plan costs (2 * (cell - plan.width) + 1)) None)))
 
--- the space of a grid: each cell is a state, the one start is the first cell, the goal the other
+-- The space of a grid: each cell is a state, the one start is the first cell, the goal the other. A cell
+-- at a cost covers itself at each cost that isn't below, and nothing is known of what is still to pay.
 abbrev pub grid_rules : Plan → Costs → ℕ → ℕ → Rules ℕ
 grid_rules plan costs from to =
     record {
@@ -41,6 +42,8 @@ grid_rules plan costs from to =
       steps = λ _. 4;
       step = step_of plan costs;
       is_goal = λ cell. nat_eq cell to;
+      covers = λ a ca b cb. nat_eq a b && nat_le ca cb;
+      low = λ _. Some 0;
     }
 
 -- the state that a start or step gives, or this one where it gives none

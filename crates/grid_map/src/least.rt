@@ -10,7 +10,7 @@ use crate::grid::Grid;
 use crate::lengths::segment_lengths;
 use crate::space::GridSpace;
 use item_list::Items;
-use space_search::{Outcome, least};
+use space_search::{Outcome, Space, least};
 use std::alloc::{AllocError, Global};
 
 /// A walk across a grid.
@@ -45,12 +45,15 @@ pub fn least_walk(
         (λ walk. IsLeastGridWalk grid.now costs from to walk.cells walk.cost)) }
 {
     let space = GridSpace::new(alloc, grid, forward, backward, from, to)?;
-    match least(alloc, &space)? {
+    let limit = space.cells() as u64;
+    match least(alloc, &space, limit)? {
         Outcome::Found { choices, cost } => {
             let cells = space.walk(alloc, choices.as_slice())?;
             Ok(Some(GridWalk { cells, cost }))
         }
         Outcome::NoWay => Ok(None),
+        // A cell keeps one label, so as many labels as cells are enough.
+        Outcome::Budget => unreachable!(),
     }
 }
 

@@ -2,7 +2,7 @@
 
 ghost use Rattle.std.specs.Prelude.{◌≡◌, ◌*◌, ◌<◌, ◌≤◌, ℕ, IfOk, IsSome, IsTrue, length, map};
 ghost use Rattle.std.specs.List.{range_with_len};
-ghost use Rattle.space_search.specs.Rules.{IsSpace};
+ghost use Rattle.space_search.specs.Laws.{IsSpace};
 ghost use Rattle.grid_map.specs.declared.plan.Plan.{Plan};
 ghost use Rattle.grid_map.specs.Plan.{IsPlan, cells_of, is_there};
 ghost use Rattle.grid_map.specs.Segments.{numbers_of, segments_of, place_of};
@@ -141,5 +141,13 @@ impl Space for GridSpace {
 
     fn goal(&self, state: &u32) -> bool {
         *state == self.to
+    }
+
+    fn covers(&self, a: &u32, ca: u128, b: &u32, cb: u128) -> bool {
+        *a == *b && ca <= cb
+    }
+
+    fn low(&self, _state: &u32) -> Option<u128> {
+        Some(0)
     }
 }

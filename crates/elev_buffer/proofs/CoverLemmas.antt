@@ -1,0 +1,163 @@
+-- What follows from the definition of covering, for prices that are not below 0.
+use Rattle.std.proofs.Common.{◌≡◌, ℤ, pos, ◌+ℤ◌, ◌-ℤ◌, ◌*ℤ◌, ◌≤ℤ◌, ◌↔◌, refl, sym, ap, ◌∙◌, subst, arith}
+use Rattle.std.specs.Int.{int_max}
+use Rattle.std.proofs.Math.IntN.{*ℤ_comm, *ℤ-zero}
+use Rattle.std.proofs.lemmas.Int.{ints, clamps, by_lt_z}
+use Rattle.elev_buffer.specs.Step.{IsLimits, step_of}
+use Rattle.elev_buffer.specs.Covers.{excess, price, IsInOrder, CoversLabel, IsKept, IsBelowInSums}
+use Rattle.elev_buffer.specs.declared.steps.Limits.{Limits}
+use Rattle.elev_buffer.specs.declared.labels.Mode.{Mode}
+use Rattle.elev_buffer.specs.declared.labels.Mode.TheVariants.{Compensated, Ordered, Equal}
+use Rattle.elev_buffer.specs.declared.labels.Modes.{Modes}
+use Rattle.elev_buffer.specs.declared.labels.Pair.{Pair}
+use Rattle.elev_buffer.proofs.ProductLemmas.{mul-add, mul-sub, mul-grows}
+use Rattle.elev_buffer.proofs.StepLemmas.{step-grows, step-slowly}
+
+-- the order of a mode is one
+order-trans : (mode : Mode) (x y z : ℤ) → IsInOrder mode x y → IsInOrder mode y z → IsInOrder mode x z
+order-trans Compensated x y z h k = tt
+order-trans Ordered x y z h k = omega (arith, ints)
+order-trans Equal x y z h k = h ∙ k
+
+-- and holds of a buffer and itself
+order-refl : (mode : Mode) (x : ℤ) → IsInOrder mode x x
+order-refl Compensated x = tt
+order-refl Ordered x = omega (arith, ints)
+order-refl Equal x = refl
+
+-- what a buffer has more than itself costs nothing
+price-refl : (mode : Mode) (k x : ℤ) → price mode k x x ≡ pos 0
+price-refl Compensated k x =
+    let none : excess x x ≡ pos 0 = omega (arith, ints, clamps) in
+    ap (λ e. k *ℤ e) none ∙ *ℤ-zero k
+price-refl Ordered k x = refl
+price-refl Equal k x = refl
+
+-- to make up by way of a third buffer is no cheaper
+price-trans : (mode : Mode) (k x y z : ℤ) → pos 0 ≤ℤ k → price mode k x z ≤ℤ (price mode k x y +ℤ price mode k y z)
+price-trans Compensated k x y z positive =
+    let e : excess x z ≤ℤ (excess x y +ℤ excess y z) = omega (arith, ints, clamps) in
+    omega (arith, ints, mul-grows k _ _ positive e, mul-add k (excess x y) (excess y z))
+price-trans Ordered k x y z positive = omega (arith, ints)
+price-trans Equal k x y z positive = omega (arith, ints)
+
+-- covering is an order
+pub covers-trans : (modes : Modes) (kd ku : ℤ) (a b c : Pair) (ca cb cc' : ℤ) → pos 0 ≤ℤ kd → pos 0 ≤ℤ ku →
+    CoversLabel modes kd ku a ca b cb → CoversLabel modes kd ku b cb c cc' → CoversLabel modes kd ku a ca c cc'
+covers-trans modes kd ku a b c ca cb cc' d u f g =
+    let p = price-trans modes.down kd a.down b.down c.down d in
+    let q = price-trans modes.up ku a.up b.up c.up u in
+    let first = f.cost in
+    let second = g.cost in
+    record {
+      cost = omega (arith, ints);
+      down = order-trans modes.down _ _ _ f.down g.down;
+      up = order-trans modes.up _ _ _ f.up g.up;
+    }
+
+-- a label covers every one of its own buffers that costs no less
+pub covers-refl : (modes : Modes) (kd ku : ℤ) (a : Pair) (ca cb : ℤ) → ca ≤ℤ cb → CoversLabel modes kd ku a ca a cb
+covers-refl modes kd ku a ca cb h = record {
+  cost = omega (arith, ints, price-refl modes.down kd a.down, price-refl modes.up ku a.up);
+  down = order-refl modes.down a.down;
+  up = order-refl modes.up a.up;
+}
+
+-- what a step pays, and what one buffer then has more than the other, is no more than before
+step-excess : (l : Limits) (added r x y : ℤ) → IsLimits l → pos 0 ≤ℤ r →
+    ((step_of l added r x).paid +ℤ excess (step_of l added r x).e (step_of l added r y).e) ≤ℤ ((step_of l added r y).paid +ℤ excess x y)
+step-excess l added r x y is positive =
+    by_lt_z y x
+    (λ h. let more : y ≤ℤ x = omega (arith, ints) in
+    let g = step-grows l added r y x is positive more in
+    let s = step-slowly l added r y x is more in
+    let e = g.e in
+    omega (arith, ints, clamps))
+    (λ h. let g = step-grows l added r x y is positive h in
+    let e = g.e in
+    let p = g.paid in
+    omega (arith, ints, clamps))
+
+-- one buffer's part of the covering after a step
+pub record KeepsOne (mode : Mode) (l : Limits) (added r k x y : ℤ) : Type 0 where
+  pub order : IsInOrder mode (step_of l added r x).e (step_of l added r y).e
+  pub cost : ((step_of l added r x).paid *ℤ k +ℤ price mode k (step_of l added r x).e (step_of l added r y).e)
+      ≤ℤ ((step_of l added r y).paid *ℤ k +ℤ price mode k x y)
+
+-- lasts in each mode
+keeps-one : (mode : Mode) (l : Limits) (added r k x y : ℤ) → IsLimits l → pos 0 ≤ℤ r → pos 0 ≤ℤ k → IsInOrder mode x y → KeepsOne mode l added r k x y
+keeps-one Compensated l added r k x y is positive price h =
+    let sx = step_of l added r x in
+    let sy = step_of l added r y in
+    let e = mul-grows k _ _ price (step-excess l added r x y is positive) in
+    record {
+      order = tt;
+      cost = omega (arith, ints, e, mul-add k sx.paid (excess sx.e sy.e), mul-add k sy.paid (excess x y), *ℤ_comm sx.paid k, *ℤ_comm sy.paid k);
+    }
+keeps-one Ordered l added r k x y is positive price h =
+    let sx = step_of l added r x in
+    let sy = step_of l added r y in
+    let g = step-grows l added r x y is positive h in
+    record {
+      order = g.e;
+      cost = omega (arith, ints, mul-grows k _ _ price g.paid, *ℤ_comm sx.paid k, *ℤ_comm sy.paid k);
+    }
+keeps-one Equal l added r k x y is positive price h = record {
+  order = ap (λ b. (step_of l added r b).e) h;
+  cost = omega (arith, ints, ap (λ b. (step_of l added r b).paid *ℤ k) h);
+}
+
+-- covering lasts over every link
+pub covers-kept : (modes : Modes) (kd ku : ℤ) (a b : Pair) (ca cb : ℤ) → pos 0 ≤ℤ kd → pos 0 ≤ℤ ku →
+    CoversLabel modes kd ku a ca b cb → IsKept modes kd ku a ca b cb
+covers-kept modes kd ku a b ca cb d u f climb a_other b_other is positive other =
+    let down = keeps-one modes.down climb.limits climb.down_added climb.reduction kd a.down b.down is positive d f.down in
+    let up = keeps-one modes.up climb.limits climb.up_added climb.reduction ku a.up b.up is positive u f.up in
+    let p = down.cost in
+    let q = up.cost in
+    let cost = f.cost in
+    record { cost = omega (arith, ints); down = down.order; up = up.order }
+
+-- the price of what one buffer has more is the difference of both prices, or nothing
+price-excess : (k x y : ℤ) → pos 0 ≤ℤ k → k *ℤ excess x y ≡ int_max (k *ℤ x -ℤ k *ℤ y) (pos 0)
+price-excess k x y positive =
+    by_lt_z y x
+    (λ h. let e : excess x y ≡ x -ℤ y = omega (arith, ints, clamps) in
+    let more : y ≤ℤ x = omega (arith, ints) in
+    ap (λ n. k *ℤ n) e ∙ omega (arith, ints, clamps, mul-sub k x y, mul-grows k y x positive more))
+    (λ h. let e : excess x y ≡ pos 0 = omega (arith, ints, clamps) in
+    ap (λ n. k *ℤ n) e ∙ *ℤ-zero k ∙ omega (arith, ints, clamps, mul-grows k x y positive h))
+
+-- two prices are within a difference exactly where each is, and both together are
+two_prices : (u v ca cb : ℤ) → ca ≤ℤ cb → ((ca +ℤ int_max u (pos 0) +ℤ int_max v (pos 0)) ≤ℤ cb) ↔
+    (((ca +ℤ u) ≤ℤ cb) × ((ca +ℤ v) ≤ℤ cb) × ((ca +ℤ u +ℤ v) ≤ℤ cb))
+two_prices u v ca cb less = (
+  λ h. (omega (arith, ints, clamps), omega (arith, ints, clamps), omega (arith, ints, clamps)),
+  λ h. let p = h.0 in let q = h.1 in let r = h.2 in omega (arith, ints, clamps),
+)
+
+-- where both are compensated, covering is the order in three sums
+pub covers-sums : (modes : Modes) (kd ku : ℤ) (a b : Pair) (ca cb : ℤ) → pos 0 ≤ℤ kd → pos 0 ≤ℤ ku → modes.down ≡ Compensated →
+    modes.up ≡ Compensated → ca ≤ℤ cb → CoversLabel modes kd ku a ca b cb ↔ IsBelowInSums kd ku a ca b cb
+covers-sums modes kd ku a b ca cb d u e f less =
+    let p = price-excess kd a.down b.down d in
+    let q = price-excess ku a.up b.up u in
+    let two = two_prices (kd *ℤ a.down -ℤ kd *ℤ b.down) (ku *ℤ a.up -ℤ ku *ℤ b.up) ca cb less in
+    let C : Mode → Mode → Type 0 = λ m n. (ca +ℤ price m kd a.down b.down +ℤ price n ku a.up b.up) ≤ℤ cb in (
+      λ h. let cost : C Compensated Compensated = subst (λ n. C Compensated n) f (subst (λ m. C m modes.up) e h.cost) in
+          let sums = two.0 (omega (arith, ints)) in
+          let first = sums.0 in
+          let second = sums.1 in
+          let third = sums.2 in
+          record { down = omega (arith, ints); up = omega (arith, ints); both = omega (arith, ints) },
+      λ h. let first = h.down in
+          let second = h.up in
+          let third = h.both in
+          let cost = two.1 (omega (arith, ints), omega (arith, ints), omega (arith, ints)) in
+          let made : C Compensated Compensated = omega (arith, ints) in
+          record {
+            cost = subst (λ m. C m modes.up) (sym e) (subst (λ n. C Compensated n) (sym f) made);
+            down = subst (λ m. IsInOrder m a.down b.down) (sym e) tt;
+            up = subst (λ m. IsInOrder m a.up b.up) (sym f) tt;
+          },
+    )

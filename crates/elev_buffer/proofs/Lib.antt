@@ -1,0 +1,4 @@
+pub mod CallerLemmas
+pub mod StepLemmas
+pub mod ProductLemmas
+pub mod CoverLemmas

@@ -1,0 +1,9 @@
+pub mod CallerLemmas
+pub mod RootLemmas
+pub mod SquareLemmas
+pub mod QuotientLemmas
+pub mod ArrowLemmas
+pub mod ProductLemmas
+pub mod TurnLemmas
+pub mod CircleLemmas
+pub mod TextLemmas

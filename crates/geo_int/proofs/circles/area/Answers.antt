@@ -1,0 +1,22 @@
+use Rattle.std.proofs.Common.{refl, lit≤}
+use Rattle.std.proofs.lemmas.Int.{to_z-of_z}
+use Rattle.geo_int.proofs.ProductLemmas.{two_products}
+use Rattle.geo_int.proofs.circles.area.Goals as goal
+
+pub overflow_sub-result : goal.overflow_sub-result
+overflow_sub-result c =
+    let p = two_products c.args.a.east c.args.b.north c.args.a.north c.args.b.east 300000000 300000000
+    c.requires.a.east c.requires.b.north c.requires.a.north c.requires.b.east (lit≤ tt) (lit≤ tt) in
+    simp (to_z-of_z, p.first, p.second, p.third, p.fourth, p.left, p.right) (p.less)
+
+pub returns-clause-exact : goal.returns-clause-exact
+returns-clause-exact c =
+    let p = two_products c.args.a.east c.args.b.north c.args.a.north c.args.b.east 300000000 300000000
+    c.requires.a.east c.requires.b.north c.requires.a.north c.requires.b.east (lit≤ tt) (lit≤ tt) in
+    simp (to_z-of_z, p.first, p.second, p.third, p.fourth, p.left, p.right, p.less) (refl)
+
+pub returns-clause-within : goal.returns-clause-within
+returns-clause-within c =
+    let p = two_products c.args.a.east c.args.b.north c.args.a.north c.args.b.east 300000000 300000000
+    c.requires.a.east c.requires.b.north c.requires.a.north c.requires.b.east (lit≤ tt) (lit≤ tt) in
+    simp (to_z-of_z, p.first, p.second, p.third, p.fourth, p.left, p.right, p.less) (p.less_le)
