@@ -4,7 +4,7 @@ use Rattle.std.proofs.Common.{◌≡◌, ℕ, ◌<◌, ◌≤◌, ◌+◌, ◌�
 use Rattle.std.specs.Bool.{IsTrue}
 use Rattle.std.specs.List.{slice_get, Contains}
 use Rattle.space_search.specs.Books.{Books, Entry, IsLabel, IsSettled, IsCovered, Waits, IsAccounted, by_label, by_queue, by_bound, IsSearch, IsClosed}
-use Rattle.space_search.specs.Laws.{IsSpace, HasRank, CoversStep}
+use Rattle.space_search.specs.Laws.{IsSpace, HasRank}
 use Rattle.space_search.specs.Rules.{Rules}
 use Rattle.space_search.specs.Runs.{Walks, rests, steps, IsRun, starts, Reaches, IsUnreachable}
 use Rattle.space_search.specs.declared.label.Label.{Label}
@@ -67,6 +67,32 @@ module _ {S : Type 0} (rules : Rules S) (laws : IsSpace rules) where
     pub goal : IsTrue (rules.is_goal end)
     pub cheaper : sum ≤ total
 
+  -- the step of a covering state that goes along with a step of the covered one
+  record CoversStep (a : S) (ca number : ℕ) (next : S) (total : ℕ) : Type 0 where
+    state : S
+    cost : ℕ
+    is : rules.step a number ≡ Some (state, cost)
+    covers : IsTrue (rules.covers state (ca + cost) next total)
+
+  step-along :
+    (a b : S) (ca cb : ℕ) → IsTrue (rules.is_valid a) → IsTrue (rules.is_valid b) → IsTrue (rules.covers a ca b cb) →
+    (number : ℕ) (next : S) (cost : ℕ) → number < rules.steps b → rules.step b number ≡ Some (next, cost) →
+    CoversStep a ca number next (cb + cost)
+  step-along a b ca cb va vb h number next cost below is =
+      elim (rules.step a number) as (λ r. rules.step a number ≡ r → CoversStep a ca number next (cb + cost)) [
+          None ↦ λ none.
+            let same = laws.alike.permitted a b ca cb va vb h number below in
+            let never : ⊥ = cc in
+            absurd never
+        | Some found ↦ λ some.
+            record {
+              state = found.0;
+              cost = found.1;
+              is = some;
+              covers = laws.kept a b ca cb va vb h number below found.0 next found.1 cost some is;
+            }
+      ] refl
+
   pub along :
       {state end : S} {cost total : ℕ} {numbers : List ℕ} →
       (over : S) (price : ℕ) → IsTrue (rules.is_valid over) → IsTrue (rules.is_valid state) →
@@ -82,8 +108,8 @@ module _ {S : Type 0} (rules : Rules S) (laws : IsSpace rules) where
       }
   along over price valid_over valid covers (steps {state = state} {next = next} {cost = cost} {more = more} {number = number} within is rest) goal =
       let same : rules.steps over ≡ rules.steps state = laws.alike.steps over state price cost valid_over valid covers in
-      let c : CoversStep rules over price number next (cost + more) =
-      laws.kept over state price cost valid_over valid covers number next more within is in
+      let c : CoversStep over price number next (cost + more) =
+      step-along over state price cost valid_over valid covers number next more within is in
       let inside : number < rules.steps over = omega (arith, same) in
       let valid_next : IsTrue (rules.is_valid next) = (laws.moves.steps state number next more valid within is).valid in
       let valid_c : IsTrue (rules.is_valid c.state) = (laws.moves.steps over number c.state c.cost valid_over inside c.is).valid in

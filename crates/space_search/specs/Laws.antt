@@ -1,6 +1,7 @@
 -- The laws of a search space, in five groups. They speak of valid states alone.
 -- This project's own rule.
 use Rattle.std.specs.Prelude.{ℕ, ◌≡◌, ◌<◌, ◌≤◌, ◌+◌, Bool, IsTrue, Option, Some, None, List}
+use Rattle.std.specs.Option.{is_some}
 use Rattle.space_search.specs.Rules.{Rules, COST_BOUND, LOW_BOUND}
 use Rattle.space_search.specs.Runs.{Walks}
 
@@ -34,32 +35,26 @@ pub record HasCovering {S : Type 0} (rules : Rules S) : Type 0 where
       (a b : S) (ca cb : ℕ) → IsTrue (rules.is_valid a) → IsTrue (rules.is_valid b) →
       IsTrue (rules.covers a ca b cb) → ca ≤ cb
 
--- the step of a covering state that goes along with a step of the covered one
-pub record CoversStep {S : Type 0} (rules : Rules S) (a : S) (ca number : ℕ) (next : S) (total : ℕ) : Type 0 where
-  pub state : S
-  pub cost : ℕ
-  pub is : rules.step a number ≡ Some (state, cost)
-  pub covers : IsTrue (rules.covers state (ca + cost) next total)
-
 -- Third group: covering is kept by every step.
 abbrev pub KeepsCovering : {S : Type 0} → Rules S → Type 0
 KeepsCovering {S} rules =
     (a b : S) (ca cb : ℕ) → IsTrue (rules.is_valid a) → IsTrue (rules.is_valid b) → IsTrue (rules.covers a ca b cb) →
-    (number : ℕ) (next : S) (cost : ℕ) → number < rules.steps b → rules.step b number ≡ Some (next, cost) →
-    CoversStep rules a ca number next (cb + cost)
+    (number : ℕ) → number < rules.steps b →
+    (first second : S) (more other : ℕ) → rules.step a number ≡ Some (first, more) → rules.step b number ≡ Some (second, other) →
+    IsTrue (rules.covers first (ca + more) second (cb + other))
 
 -- Fourth group: a covered state has the permitted steps and the goal answer of what covers it.
 pub record CoveredAlike {S : Type 0} (rules : Rules S) : Type 0 where
   pub steps :
-      (a b : S) (ca cb : ℕ) → IsTrue (rules.is_valid a) → IsTrue (rules.is_valid b) →
-      IsTrue (rules.covers a ca b cb) → rules.steps a ≡ rules.steps b
-  pub forbidden :
-      (a b : S) (ca cb : ℕ) → IsTrue (rules.is_valid a) → IsTrue (rules.is_valid b) →
-      IsTrue (rules.covers a ca b cb) → (number : ℕ) → number < rules.steps b →
-      rules.step b number ≡ None → rules.step a number ≡ None
+    (a b : S) (ca cb : ℕ) → IsTrue (rules.is_valid a) → IsTrue (rules.is_valid b) →
+    IsTrue (rules.covers a ca b cb) → rules.steps a ≡ rules.steps b
+  pub permitted :
+    (a b : S) (ca cb : ℕ) → IsTrue (rules.is_valid a) → IsTrue (rules.is_valid b) →
+    IsTrue (rules.covers a ca b cb) → (number : ℕ) → number < rules.steps b →
+    is_some (rules.step a number) ≡ is_some (rules.step b number)
   pub goal :
-      (a b : S) (ca cb : ℕ) → IsTrue (rules.is_valid a) → IsTrue (rules.is_valid b) →
-      IsTrue (rules.covers a ca b cb) → rules.is_goal a ≡ rules.is_goal b
+    (a b : S) (ca cb : ℕ) → IsTrue (rules.is_valid a) → IsTrue (rules.is_valid b) →
+    IsTrue (rules.covers a ca b cb) → rules.is_goal a ≡ rules.is_goal b
 
 -- Fifth group: the lower bound is bounded, is 0 at a goal, is none only where no goal is reached, and
 -- falls along a step by no more than the step costs.
