@@ -5,6 +5,7 @@ use Rattle.space_search.specs.Laws.{IsSpace, IsMove}
 use Rattle.space_search.specs.Limits.{HasFewPerCell}
 use Rattle.std.proofs.lemmas.Bool.Decides.{nat_tests}
 use Rattle.std.specs.Bool.{IsTrue}
+use Rattle.std.specs.Option.{is_some}
 use Rattle.grid_map.specs.declared.plan.Plan.{Plan}
 use Rattle.grid_map.specs.Plan.{IsPlan, cells_of}
 use Rattle.grid_map.specs.Costs.{Costs, AreCheap, listed_costs}
@@ -54,18 +55,17 @@ grid_rules-keeps_laws plan forward backward from to lawful within forward_cheap 
         covers-to a c ca cc_ (first.0 ∙ second.0) (omega (arith, first.1, second.1));
     cheaper = λ a b ca cb va vb h. (covers-from a b ca cb h).1;
   };
-  kept = λ a b ca cb va vb h number next cost below is.
+  kept = λ a b ca cb va vb h number below first second more other p q.
       let both = covers-from a b ca cb h in
-      record {
-        state = next;
-        cost = cost;
-        is = subst (λ c. step_of plan (listed_costs plan forward backward) c number ≡ Some (next, cost)) (sym both.0) is;
-        covers = covers-to next next (ca + cost) (cb + cost) refl (omega (arith, both.1));
-      };
+      let here : step_of plan (listed_costs plan forward backward) b number ≡ Some (first, more) =
+            subst (λ c. step_of plan (listed_costs plan forward backward) c number ≡ Some (first, more)) both.0 p in
+      let same : ◌≡◌ {A = ℕ × ℕ} (first, more) (second, other) = cc in
+      covers-to first second (ca + more) (cb + other) (ap (λ (f : ℕ × ℕ). f.0) same)
+      (omega (arith, both.1, ap (λ (f : ℕ × ℕ). f.1) same));
   alike = record {
     steps = λ a b ca cb va vb h. refl;
-    forbidden = λ a b ca cb va vb h number below is.
-        subst (λ c. step_of plan (listed_costs plan forward backward) c number ≡ None) (sym (covers-from a b ca cb h).0) is;
+    permitted = λ a b ca cb va vb h number below.
+        ap (λ c. is_some (step_of plan (listed_costs plan forward backward) c number)) (covers-from a b ca cb h).0;
     goal = λ a b ca cb va vb h. ap (λ c. nat_eq c to) (covers-from a b ca cb h).0;
   };
   bound = record {

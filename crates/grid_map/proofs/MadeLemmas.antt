@@ -1,7 +1,7 @@
 -- A space that keeps copies of the grid and of the lists that it was made from.
 use Rattle.std.proofs.Common.{ℕ, ◌≡◌, ◌<◌, List, Option, sym, ap, subst, arith, length}
 use Rattle.std.proofs.lemmas.List.{length-map}
-use Rattle.space_search.specs.Rules.{IsSpace}
+use Rattle.space_search.specs.Laws.{IsSpace}
 use Rattle.grid_map.specs.declared.plan.Plan.{Plan}
 use Rattle.grid_map.specs.Plan.{IsPlan, cells_of}
 use Rattle.grid_map.specs.Segments.{numbers_of, segment_of, segments_of}

@@ -1,7 +1,8 @@
 -- The states along a run, one after another.
 use Rattle.std.proofs.Common.{ℕ, ◌≡◌, ◌+◌, ◌-◌, ◌<◌, List, [], ◌∷◌, ◌++◌, take, drop, length, get_or, Option, Some, refl, sym, ap, ◌∙◌, subst, append_assoc, add-one, drop-cons, IsTrue}
 use Rattle.std.proofs.lemmas.List.{take_rest}
-use Rattle.space_search.specs.Rules.{Rules, IsSpace}
+use Rattle.space_search.specs.Rules.{Rules}
+use Rattle.space_search.specs.Laws.{IsSpace}
 use Rattle.space_search.specs.Runs.{Walks, steps, IsRun, starts}
 use Rattle.grid_map.specs.Space.{IsSomeRun, state_or, states_along}
 
@@ -27,7 +28,7 @@ step_on {rules = rules} laws valid (steps {state = state} {next = next} {end = e
     record {
       within = within;
       on = subst P next_is (record {
-        valid = (laws.steps_valid state number next more valid within is).valid;
+        valid = (laws.moves.steps state number next more valid within is).valid;
         end = end;
         cost = cost + more;
         total = total;
@@ -54,7 +55,7 @@ run_rest {rules = rules} from start valid (starts {state = state} {end = end} {c
 pub run_numbers : (rules : Rules ℕ) (choices : List ℕ) (from : ℕ) → IsSpace rules → 0 < rules.starts → ((number : ℕ) → rules.start number ≡ Some (from, 0)) →
     IsSomeRun rules choices → IsOnRun rules from (take (length choices - 1) (drop 1 choices))
 run_numbers rules choices from laws some start is =
-    let valid = (laws.starts_valid 0 from 0 some (start 0)).valid in
+    let valid = (laws.moves.starts 0 from 0 some (start 0)).valid in
     subst (IsOnRun rules from) (sym (take_rest choices 1)) (run_rest from start valid is.run)
 
 -- what is known once the next step was taken

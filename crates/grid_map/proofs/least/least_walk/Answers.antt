@@ -1,0 +1,9 @@
+use Rattle.std.proofs.Common.{arith, subst, ◌≤◌, ◌*◌}
+use Rattle.space_search.specs.Limits.{IsUnspent}
+use Rattle.grid_map.proofs.LawLemmas.{grid_rules-few}
+use Rattle.grid_map.proofs.least.least_walk.Goals as goal
+
+pub unreachable-requires : goal.unreachable-requires
+unreachable-requires c =
+    subst IsUnspent c.in-Budget.is
+    (c.in_ok-choices.ensures.enough 1 (grid_rules-few _ _ _ _) (omega (arith, c.cells-limit.ensures.value)))
