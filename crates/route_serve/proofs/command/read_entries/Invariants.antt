@@ -1,0 +1,11 @@
+use Rattle.std.proofs.Common.{◌≡◌, [], drop, length}
+use Rattle.route_serve.specs.Command.{entries_after}
+use Rattle.route_serve.specs.Refusals.{texts_of}
+use Rattle.route_serve.proofs.command.read_entries.Given as goal
+
+abbrev pub invariant-words : goal.invariant-words
+invariant-words l =
+    record {
+      counted : length l.entries.items ≡ l.word-index;
+      rest : entries_after [] (texts_of l.words) ≡ entries_after l.entries.items (texts_of (drop l.word-index l.words));
+    }

@@ -1,0 +1,92 @@
+-- What the statuses of the program mean. This project's own rule.
+use Rattle.std.specs.Prelude.{ℕ, ◌≡◌, ◌≤◌, ◌+◌, ◌*◌, ◌<◌, List, [], Result, Ok, Err, take, Option}
+use Rattle.edge_io.specs.Faults.{CountRose}
+use Rattle.edge_io.specs.Sink.{followed_by}
+use Rattle.grid_map.specs.Costs.{length_costs}
+use Rattle.grid_map.specs.declared.plan.Plan.{Plan}
+use Rattle.grid_map.specs.Plan.{IsPlan, plan_of}
+use Rattle.grid_map.specs.Walks.{IsLeastGridWalk, HasNoGridWalk}
+use Rattle.route_serve.specs.Command.{command_of}
+use Rattle.route_serve.specs.Lines.{grid_lines}
+use Rattle.route_serve.specs.declared.command.GridCommand.{GridCommand}
+use Rattle.route_serve.specs.declared.command.Place.{Place}
+use Rattle.route_serve.specs.declared.status.Status.{Status}
+use Rattle.route_serve.specs.declared.status.Status.TheVariants.{Done, Usage, WriteFault, NoMemory, Grid}
+use Rattle.route_serve.specs.declared.status.GridError.{GridError}
+use Rattle.route_serve.specs.declared.status.GridError.TheVariants.{NoTrack}
+
+-- the plan of a command's grid
+abbrev pub plan_by : GridCommand → Plan
+plan_by command = plan_of command.seed command.w command.h
+
+-- the cell at a place
+abbrev pub cell_at : GridCommand → Place → ℕ
+cell_at command place = place.y * command.w + place.x
+
+-- A walk from the command's one place to the other than which none is shorter, with the lines that say so.
+pub record ShowsWalk (command : GridCommand) (lines : List ℕ) : Type 0 where
+  pub cells : List ℕ
+  pub cost : ℕ
+  pub least :
+      IsLeastGridWalk (plan_by command) (length_costs (plan_by command)) (cell_at command command.from)
+      (cell_at command command.to) cells cost
+  pub are : lines ≡ grid_lines (plan_by command) cells cost
+
+-- there is no walk from the command's one place to the other
+abbrev pub HasNoWalk : GridCommand → Type 0
+HasNoWalk command =
+    HasNoGridWalk (plan_by command) (length_costs (plan_by command)) (cell_at command command.from)
+    (cell_at command command.to)
+
+-- What a command may answer and write: the lines of a least walk, whole; a front of them after a write
+-- fault; or nothing, where there is no walk or memory ran out.
+abbrev pub IsGridOutcome : GridCommand → Status → List ℕ → Type 0
+IsGridOutcome command Done output = ShowsWalk command output
+IsGridOutcome command (Grid NoTrack) output = HasNoWalk command × (output ≡ [])
+IsGridOutcome command WriteFault output =
+    (lines : List ℕ) × ShowsWalk command lines × ((sent : ℕ) × (output ≡ take sent lines))
+IsGridOutcome command NoMemory output = output ≡ []
+IsGridOutcome command (Usage word) output = ⊥
+
+-- Words that are no command may be answered by the word at fault or by want of memory, and nothing is written.
+abbrev pub IsRefusal : ℕ → Status → List ℕ → Type 0
+IsRefusal fault (Usage word) output = (word ≡ fault) × (output ≡ [])
+IsRefusal fault NoMemory output = output ≡ []
+IsRefusal fault status output = ⊥
+
+-- what the program may answer to words, and write
+abbrev pub IsOutcomeBy : Result GridCommand ℕ → Status → List ℕ → Type 0
+IsOutcomeBy (Ok command) status output = IsGridOutcome command status output
+IsOutcomeBy (Err fault) status output = IsRefusal fault status output
+
+-- what the program may answer to words, and write behind what the output held
+pub record IsOutcome (words : List (List ℕ)) (status : Status) (before after : Option (List ℕ)) : Type 0 where
+  pub output : List ℕ
+  pub allowed : IsOutcomeBy (command_of words) status output
+  pub written : after ≡ followed_by before output
+
+-- a write fault comes only where the count of faults rose
+abbrev pub HasCause : Status → ℕ → ℕ → Type 0
+HasCause WriteFault before after = CountRose before after
+HasCause status before after = before ≤ after
+
+-- with a command and no fault counted the answer is the lines, that there is no walk, or want of memory
+abbrev pub IsComplete : Status → Type 0
+IsComplete Done = Unit {0}
+IsComplete (Grid error) = Unit {0}
+IsComplete NoMemory = Unit {0}
+IsComplete status = ⊥
+
+-- the numbers of a command are within their limits, and its places in its grid
+pub record IsFit (command : GridCommand) : Type 0 where
+  pub lawful : IsPlan (plan_by command)
+  pub from_x : command.from.x < command.w
+  pub from_y : command.from.y < command.h
+  pub to_x : command.to.x < command.w
+  pub to_y : command.to.y < command.h
+
+-- what a command that is answered writes behind what the output held
+pub record Writes (command : GridCommand) (status : Status) (before after : Option (List ℕ)) : Type 0 where
+  pub output : List ℕ
+  pub allowed : IsGridOutcome command status output
+  pub written : after ≡ followed_by before output
