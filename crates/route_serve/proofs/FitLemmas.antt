@@ -31,8 +31,8 @@ number-fit : (low high : ℕ) (r : Option ℕ) (place : Place) → number_value 
 number-fit low high None place e = cc
 number-fit low high (Some number) place e = go (nat_le low number && nat_le number high) refl e where
   go :
-    (b : Bool) → (nat_le low number && nat_le number high) ≡ b → number_value (cond b (Some number) None) ≡ Some place →
-    (low ≤ place.x) × (place.x ≤ high)
+      (b : Bool) → (nat_le low number && nat_le number high) ≡ b → number_value (cond b (Some number) None) ≡ Some place →
+      (low ≤ place.x) × (place.x ≤ high)
   go true is e =
       let x_is : number ≡ place.x = ap (λ (o : Option Place). elim o [ None ↦ 0 | Some p ↦ p.x ]) e in
       subst (λ x. (low ≤ x) × (x ≤ high)) x_is (in_limits low high number is)
@@ -87,29 +87,27 @@ after-fit [] before entries all e =
     let same : before ≡ entries = cc in subst AllFit same all
 after-fit (text ∷ texts) before entries all e =
     elim (entry_of (length before + 1) text) as
-      (λ r. entry_of (length before + 1) text ≡ r →
-        ◌≡◌ {A = Result (List Entry) ℕ}
-        (elim r [
-            None ↦ Err (length before + 1)
-          | Some entry ↦
-              elim (entry_with entry.key before) [
-                  None ↦ entries_after (before ++ entry ∷ []) texts
-                | Some _ ↦ Err (length before + 1)
-              ]
-        ])
-        (Ok entries) → AllFit entries)
-    [
-        None ↦ λ is f. absurd (err-not_ok (length before + 1) entries f)
+    (λ r. entry_of (length before + 1) text ≡ r →
+    ◌≡◌ {A = Result (List Entry) ℕ}
+    (elim r [
+      | None ↦ Err (length before + 1)
+      | Some entry ↦
+          elim (entry_with entry.key before) [
+            | None ↦ entries_after (before ++ entry ∷ []) texts
+            | Some _ ↦ Err (length before + 1)
+          ]
+    ])
+    (Ok entries) → AllFit entries) [
+      | None ↦ λ is f. absurd (err-not_ok (length before + 1) entries f)
       | Some entry ↦ λ is f.
           (elim (entry_with entry.key before) as
-            (λ r. ◌≡◌ {A = Result (List Entry) ℕ}
-              (elim r [
-                  None ↦ entries_after (before ++ entry ∷ []) texts
-                | Some _ ↦ Err (length before + 1)
-              ])
-              (Ok entries) → AllFit entries)
-          [
-              None ↦ λ h. after-fit texts (before ++ entry ∷ []) entries (all-push before entry all (entry-fit (length before + 1) text entry is)) h
+          (λ r. ◌≡◌ {A = Result (List Entry) ℕ}
+          (elim r [
+            | None ↦ entries_after (before ++ entry ∷ []) texts
+            | Some _ ↦ Err (length before + 1)
+          ])
+          (Ok entries) → AllFit entries) [
+            | None ↦ λ h. after-fit texts (before ++ entry ∷ []) entries (all-push before entry all (entry-fit (length before + 1) text entry is)) h
             | Some other ↦ λ h. absurd (err-not_ok (length before + 1) entries h)
           ]) f
     ] refl e
@@ -146,7 +144,7 @@ with-fit : (key : Key) (entries : List Entry) (entry : Entry) → AllFit entries
 with-fit key [] entry all e = cc
 with-fit key (first ∷ rest) entry all e =
     elim (split (same_key first.key key) (Some first) (find (λ (x : Entry). same_key x.key key) rest) (Some entry) e) [
-        inl (is, here) ↦
+      | inl (is, here) ↦
           let same : first ≡ entry = cc in
           subst (λ (x : Entry). FitBy key x.place.x) same (subst (λ k. FitBy k first.place.x) (key-is first.key key is) all.0)
       | inr (is, later) ↦ with-fit key rest entry all.1 later
@@ -160,10 +158,10 @@ command-fit : (seed w h from to : Entry) (command : GridCommand) →
     command_by seed w h from to ≡ Ok command → IsFit command
 command-fit seed w h from to command fit_seed fit_w fit_h e =
     elim (split (lies_in w.place.x h.place.x from.place) _ (Err from.word) (Ok command) e) [
-        inr (out, f) ↦ cc
+      | inr (out, f) ↦ cc
       | inl (inside_from, f) ↦
           elim (split (lies_in w.place.x h.place.x to.place) _ (Err to.word) (Ok command) f) [
-              inr (out, f') ↦ cc
+            | inr (out, f') ↦ cc
             | inl (inside_to, f') ↦
                 let made : GridCommand = record { from = from.place; to = to.place; seed = seed.place.x; w = w.place.x; h = h.place.x } in
                 let same : made ≡ command = cc in
@@ -171,8 +169,8 @@ command-fit seed w h from to command fit_seed fit_w fit_h e =
                 let b = in_grid w.place.x h.place.x to.place inside_to in
                 subst IsFit same
                 (
-                  record {
-                    lawful =
+                record {
+                  lawful =
                       record {
                         seed = fit_seed;
                         some_width = fit_w.0;
@@ -180,11 +178,11 @@ command-fit seed w h from to command fit_seed fit_w fit_h e =
                         some_height = fit_h.0;
                         height = fit_h.1;
                       };
-                    from_x = a.0;
-                    from_y = a.1;
-                    to_x = b.0;
-                    to_y = b.1;
-                  }
+                  from_x = a.0;
+                  from_y = a.1;
+                  to_x = b.0;
+                  to_y = b.1;
+                }
                 )
           ]
     ]
@@ -213,10 +211,9 @@ complete-fit entries after command all e =
 grid-fit : (texts : List (List ℕ)) (command : GridCommand) → grid_command texts ≡ Ok command → IsFit command
 grid-fit texts command e =
     elim (entries_after [] texts) as
-      (λ r. entries_after [] texts ≡ r →
-        elim r [ Err word ↦ Err word | Ok entries ↦ complete entries (length texts + 1) ] ≡ Ok command → IsFit command)
-    [
-        Err word ↦ λ is f. absurd (err-not_ok word command f)
+    (λ r. entries_after [] texts ≡ r →
+    elim r [ Err word ↦ Err word | Ok entries ↦ complete entries (length texts + 1) ] ≡ Ok command → IsFit command) [
+      | Err word ↦ λ is f. absurd (err-not_ok word command f)
       | Ok entries ↦ λ is f. complete-fit entries (length texts + 1) command (after-fit texts [] entries tt is) f
     ] refl e
 
@@ -225,6 +222,6 @@ pub command-is_fit : (words : List (List ℕ)) (command : GridCommand) → comma
 command-is_fit [] command e = cc
 command-is_fit (name ∷ texts) command e =
     elim (split (same_text name _) (grid_command texts) (Err 0) (Ok command) e) [
-        inl (is, f) ↦ grid-fit texts command f
+      | inl (is, f) ↦ grid-fit texts command f
       | inr (is, f) ↦ cc
     ]

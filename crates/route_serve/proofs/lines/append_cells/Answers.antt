@@ -11,6 +11,6 @@ cells-preserved c =
       cells-push c.args.w (take c.cells.cell-index c.args.cells.now) (get_or c.args.cells.now c.cells.cell-index 0),
       c.in_ok-append_named-2.ensures.value,
       c.in_ok-append_named.ensures.value,
-      c.cells.invariant
+      c.cells.invariant,
     )
     (simp append_assoc)
