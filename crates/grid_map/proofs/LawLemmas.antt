@@ -25,10 +25,11 @@ step_of-is_move plan forward backward from to lawful forward_cheap backward_chea
       cheap = Joins-cheap plan forward backward cell next cost forward_cheap backward_cheap joins;
     }
 
--- covering is the order of costs in one cell
+-- what covers lies in the same cell and costs no more
 covers-from : (a b ca cb : ℕ) → IsTrue (nat_eq a b && nat_le ca cb) → (a ≡ b) × (ca ≤ cb)
 covers-from a b ca cb h = (grind (arith, nat_tests), grind (arith, nat_tests))
 
+-- the order of costs in one cell is covering
 covers-to : (a b ca cb : ℕ) → a ≡ b → ca ≤ cb → IsTrue (nat_eq a b && nat_le ca cb)
 covers-to a b ca cb e h = grind (arith, nat_tests)
 
