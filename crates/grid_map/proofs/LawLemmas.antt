@@ -1,5 +1,5 @@
 -- The space of a grid keeps the laws of a space.
-use Rattle.std.proofs.Common.{ℕ, ◌≡◌, ◌<◌, ◌≤◌, ◌+◌, List, [], ◌∷◌, Option, Some, None, Bool, false, nat_eq, nat_le, ◌&&◌, refl, ap, sym, ◌∙◌, subst, arith}
+use Rattle.std.proofs.Common.{ℕ, ◌≡◌, ◌<◌, ◌≤◌, ◌+◌, List, [], ◌∷◌, Option, Some, false, nat_eq, nat_le, ◌&&◌, refl, ap, sym, ◌∙◌, subst, arith}
 use Rattle.std.proofs.lemmas.Bool.{lt-ltb, ltb-true}
 use Rattle.space_search.specs.Laws.{IsSpace, IsMove}
 use Rattle.space_search.specs.Limits.{HasFewPerCell}
@@ -25,10 +25,11 @@ step_of-is_move plan forward backward from to lawful forward_cheap backward_chea
       cheap = Joins-cheap plan forward backward cell next cost forward_cheap backward_cheap joins;
     }
 
--- covering is the order of costs in one cell
+-- what covers lies in the same cell and costs no more
 covers-from : (a b ca cb : ℕ) → IsTrue (nat_eq a b && nat_le ca cb) → (a ≡ b) × (ca ≤ cb)
 covers-from a b ca cb h = (grind (arith, nat_tests), grind (arith, nat_tests))
 
+-- the order of costs in one cell is covering
 covers-to : (a b ca cb : ℕ) → a ≡ b → ca ≤ cb → IsTrue (nat_eq a b && nat_le ca cb)
 covers-to a b ca cb e h = grind (arith, nat_tests)
 
@@ -58,7 +59,7 @@ grid_rules-keeps_laws plan forward backward from to lawful within forward_cheap 
   kept = λ a b ca cb va vb h number below first second more other p q.
       let both = covers-from a b ca cb h in
       let here : step_of plan (listed_costs plan forward backward) b number ≡ Some (first, more) =
-            subst (λ c. step_of plan (listed_costs plan forward backward) c number ≡ Some (first, more)) both.0 p in
+      subst (λ c. step_of plan (listed_costs plan forward backward) c number ≡ Some (first, more)) both.0 p in
       let same : ◌≡◌ {A = ℕ × ℕ} (first, more) (second, other) = cc in
       covers-to first second (ca + more) (cb + other) (ap (λ (f : ℕ × ℕ). f.0) same)
       (omega (arith, both.1, ap (λ (f : ℕ × ℕ). f.1) same));
@@ -83,8 +84,8 @@ grid_rules-few plan costs from to cell (a ∷ []) chain lie = omega arith
 grid_rules-few plan costs from to cell (a ∷ (b ∷ rest)) chain lie =
     let none = chain.1 0 b refl in
     let cheaper : a.cost ≤ b.cost =
-          (let h = none.1 (a.cost + 0) (b.cost + 0) (record { low = 0; is = refl; sum = refl }) (record { low = 0; is = refl; sum = refl }) in omega (arith, h)) in
+    (let h = none.1 (a.cost + 0) (b.cost + 0) (record { low = 0; is = refl; sum = refl }) (record { low = 0; is = refl; sum = refl }) in omega (arith, h)) in
     let covers : IsTrue (nat_eq a.state b.state && nat_le a.cost b.cost) =
-          covers-to a.state b.state a.cost b.cost (lie.0 ∙ sym lie.1.0) cheaper in
+    covers-to a.state b.state a.cost b.cost (lie.0 ∙ sym lie.1.0) cheaper in
     let uncovers : (nat_eq a.state b.state && nat_le a.cost b.cost) ≡ false = none.0 in
     cc

@@ -57,17 +57,20 @@ goes-step_backward plan costs a b cost k goes =
     ∙ ap (reached (start_of k)) goes.permitted
     ∙ ap (λ (cell : ℕ). reached cell (Some cost)) goes.start
 
--- the cells of the segments of a cell
+-- the segment of even number goes from its cell
 start_of-east : (cell : ℕ) → start_of (2 * cell) ≡ cell
 start_of-east cell = omega arith
 
+-- the segment of odd number goes from the same cell
 start_of-north : (cell : ℕ) → start_of (2 * cell + 1) ≡ cell
 start_of-north cell = omega arith
 
+-- the one goes to the next cell
 end_of-east : (plan : Plan) (cell : ℕ) → end_of plan (2 * cell) ≡ cell + 1
 unfolding end_of
 end_of-east plan cell = grind (arith, nat_tests)
 
+-- the other goes to the cell a row further
 end_of-north : (plan : Plan) (cell : ℕ) → end_of plan (2 * cell + 1) ≡ cell + plan.width
 unfolding end_of
 end_of-north plan cell = grind (arith, nat_tests)

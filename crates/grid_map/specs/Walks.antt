@@ -25,7 +25,9 @@ Joins plan costs a b cost =
 
 -- a walk from one cell to another over these cells, the first and the last among them, at this cost
 pub data IsGridWalk (plan : Plan) (costs : Costs) : ℕ → ℕ → List ℕ → ℕ → Type 0 where
+  -- the walk over one cell costs nothing
   stays : {cell : ℕ} → IsGridWalk plan costs cell cell (cell ∷ []) 0
+  -- a walk goes on from the cell that the first segment joins
   goes :
       {from next to cost rest : ℕ} {cells : List ℕ} →
       Joins plan costs from next cost → IsGridWalk plan costs next to cells rest →

@@ -1,4 +1,4 @@
-use Rattle.std.proofs.Common.{arith, subst, ◌≤◌, ◌*◌}
+use Rattle.std.proofs.Common.{arith, subst}
 use Rattle.space_search.specs.Limits.{IsUnspent}
 use Rattle.grid_map.proofs.LawLemmas.{grid_rules-few}
 use Rattle.grid_map.proofs.least.least_walk.Goals as goal
