@@ -1,18 +1,18 @@
 -- What the answers of a turn say, from what a search keeps.
-use Rattle.std.proofs.Common.{◌≡◌, ◌≢◌, ℕ, zero, suc, ◌<◌, ◌≤◌, ◌+◌, ◌⊎◌, inl, inr, List, [], ◌∷◌, ◌++◌, length, get_or, Option, Some, None, Bool, true, false, refl, ap, arith, sym, ◌∙◌, subst, length-append}
+use Rattle.std.proofs.Common.{◌≡◌, ℕ, zero, suc, ◌<◌, ◌≤◌, ◌+◌, ◌⊎◌, inl, inr, List, [], ◌∷◌, ◌++◌, length, get_or, Option, Some, None, false, refl, ap, arith, sym, ◌∙◌, subst, length-append}
 use Rattle.std.proofs.lemmas.Option.{slice_get_within, slice_get-get_or, get_or_from_slice_get}
 use Rattle.std.specs.Bool.{IsTrue}
 use Rattle.std.specs.List.{slice_get, Contains}
-use Rattle.space_search.specs.Books.{Books, Entry, IsLabel, IsSettled, Follows, CameFrom, from_start, from_label, IsCovered, IsUncovered, Waits, IsAccounted, by_label, by_queue, by_bound, Reads, IsSearch, IsClosed}
+use Rattle.space_search.specs.Books.{Books, Entry, IsSettled, Follows, CameFrom, from_start, from_label, IsUncovered, IsAccounted, by_label, by_queue, by_bound, Reads, IsSearch, IsClosed}
 use Rattle.space_search.specs.Laws.{IsSpace, HasRank}
 use Rattle.space_search.specs.Moves.{IsNext}
 use Rattle.space_search.specs.Rules.{Rules}
 use Rattle.space_search.specs.Runs.{Walks, rests, steps, IsRun, starts, Reaches}
-use Rattle.space_search.specs.Turns.{IsDone, covered, hopeless, ranks, IsClosedAndOrdered, IsRunTo, IsLeastGoal, IsSpentLabel, IsSpent, EndsSpent, EndsFound, EndsNoWay}
+use Rattle.space_search.specs.Turns.{IsDone, covered, hopeless, ranks, IsClosedAndOrdered, IsRunTo, IsSpentLabel, EndsSpent, EndsFound, EndsNoWay}
 use Rattle.space_search.specs.declared.label.Label.{Label}
 use Rattle.space_search.proofs.LeastLemmas.{waits-high, none-below, no_way}
 use Rattle.space_search.proofs.ListLemmas.{slice_get-append, slice_get-pushed, slice_get-push_cases, slice_get-same, Contains-none}
-use Rattle.space_search.proofs.SameLemmas.{settled-unique, settled-within}
+use Rattle.space_search.proofs.SameLemmas.{settled-within}
 use Rattle.space_search.proofs.SettleLemmas.{rank-unique}
 
 -- a walk with one step more

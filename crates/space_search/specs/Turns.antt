@@ -1,8 +1,7 @@
 -- What the turns of a search promise. This project's own rule.
 use Rattle.std.specs.Bool.{IsTrue}
 use Rattle.std.specs.List.{slice_get}
-use Rattle.std.specs.Prelude.{ℕ, ◌≡◌, ◌<◌, ◌≤◌, ◌+◌, ◌⊎◌, ◌^◌, Bool, true, false, Option, Some, None, List, [], length, Result, Ok, Err}
-use Rattle.std.specs.declared.alloc.AllocError.{AllocError}
+use Rattle.std.specs.Prelude.{ℕ, ◌≡◌, ◌<◌, ◌≤◌, ◌+◌, ◌⊎◌, ◌^◌, false, Option, Some, None, List, length}
 use Rattle.space_search.specs.Books.{Books, books, IsLabel, IsSettled, Follows, IsCovered, IsSearch, IsClosed, Reads, IsFresh}
 use Rattle.space_search.specs.Laws.{HasRank}
 use Rattle.space_search.specs.Rules.{Rules}
@@ -114,6 +113,13 @@ IsLast More = ⊥
 IsLast (Found label) = Unit {0}
 IsLast NoWay = Unit {0}
 IsLast Budget = Unit {0}
+
+-- the answer of a turn isn't a spent limit
+abbrev pub IsUnspentTurn : Turn → Type 0
+IsUnspentTurn More = Unit {0}
+IsUnspentTurn (Found label) = Unit {0}
+IsUnspentTurn NoWay = Unit {0}
+IsUnspentTurn Budget = ⊥
 
 -- What a search in this phase is: a new one has settled nothing; a running one is closed; one that ended
 -- is what its answer says; and of one that met want of memory the settled labels still read right.
