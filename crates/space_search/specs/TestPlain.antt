@@ -1,8 +1,9 @@
 -- The laws of covering where it means the same state at no greater cost, as the small spaces of the tests
 -- have it.
-use Rattle.std.proofs.Common.{◌≡◌, ℕ, ◌≤◌, ◌+◌, Bool, true, false, Some, None, ap, arith, sym, ◌∙◌, subst}
+use Rattle.std.proofs.Common.{◌≡◌, ℕ, ◌≤◌, ◌+◌, Bool, true, false, Option, Some, ap, arith, sym, ◌∙◌, subst}
 use Rattle.std.proofs.lemmas.Bool.Decides.{nat_tests}
 use Rattle.std.specs.Bool.{IsTrue}
+use Rattle.std.specs.Option.{is_some}
 use Rattle.std.specs.Prelude.{cond, ◌==◌, nat_lt}
 use Rattle.space_search.specs.Laws.{HasMoves, HasCovering, KeepsCovering, CoveredAlike, HasBound, IsSpace}
 use Rattle.space_search.specs.Rules.{Rules}
@@ -23,6 +24,14 @@ no-more a ca b cb covers = grind (arith, nat_tests)
 covers-itself : (a ca cb : ℕ) → ca ≤ cb → IsTrue (plain_covers a ca a cb)
 covers-itself a ca cb less = grind (arith, nat_tests)
 
+-- one step leads to one state at one cost
+one-answer :
+    (first second more other : ℕ) (answer : Option (ℕ × ℕ)) → answer ≡ Some (first, more) → answer ≡ Some (second, other) →
+    (first ≡ second) × (more ≡ other)
+one-answer first second more other answer is is' =
+    let same : ◌≡◌ {A = ℕ × ℕ} (first, more) (second, other) = cc in
+    (ap (λ (answer : ℕ × ℕ). answer.0) same, ap (λ (answer : ℕ × ℕ). answer.1) same)
+
 module _ (rules : Rules ℕ) (plain : rules.covers ≡ plain_covers) where
   covers : {a ca b cb : ℕ} → IsTrue (rules.covers a ca b cb) → IsTrue (plain_covers a ca b cb)
   covers {a} {ca} {b} {cb} h = subst (λ (f : ℕ → ℕ → ℕ → ℕ → Bool). IsTrue (f a ca b cb)) plain h
@@ -42,20 +51,19 @@ module _ (rules : Rules ℕ) (plain : rules.covers ≡ plain_covers) where
       }
 
   plain-kept : KeepsCovering rules
-  plain-kept a b ca cb va vb h number next cost within is =
-      record {
-        state = next;
-        cost = cost;
-        is = subst (λ (s : ℕ). rules.step s number ≡ Some (next, cost)) (sym (same-state a ca b cb (covers h))) is;
-        covers = covers' next (ca + cost) (cb + cost) (omega (arith, no-more a ca b cb (covers h)));
-      }
+  plain-kept a b ca cb va vb h number within first second more other is is' =
+      let same : (first ≡ second) × (more ≡ other) =
+      one-answer first second more other (rules.step b number)
+      (subst (λ (s : ℕ). rules.step s number ≡ Some (first, more)) (same-state a ca b cb (covers h)) is) is' in
+      subst (λ (s : ℕ). IsTrue (rules.covers first (ca + more) s (cb + other))) same.0
+      (covers' first (ca + more) (cb + other) (omega (arith, same.1, no-more a ca b cb (covers h))))
 
   plain-alike : CoveredAlike rules
   plain-alike =
       record {
         steps = λ a b ca cb va vb h. ap rules.steps (same-state a ca b cb (covers h));
-        forbidden = λ a b ca cb va vb h number within is.
-            subst (λ (s : ℕ). rules.step s number ≡ None) (sym (same-state a ca b cb (covers h))) is;
+        permitted = λ a b ca cb va vb h number within.
+            ap (λ (s : ℕ). is_some (rules.step s number)) (same-state a ca b cb (covers h));
         goal = λ a b ca cb va vb h. ap rules.is_goal (same-state a ca b cb (covers h));
       }
 

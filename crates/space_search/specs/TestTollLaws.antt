@@ -1,7 +1,8 @@
 -- The tolls of the tests keep the laws.
-use Rattle.std.proofs.Common.{◌≡◌, ℕ, zero, suc, ◌<◌, ◌≤◌, ◌+◌, Some, None, refl, ap, arith, sym, ◌∙◌, subst}
+use Rattle.std.proofs.Common.{◌≡◌, ℕ, zero, suc, ◌<◌, ◌≤◌, ◌+◌, Some, refl, ap, arith, sym, ◌∙◌, subst}
 use Rattle.std.proofs.lemmas.Bool.Decides.{nat_tests}
 use Rattle.std.specs.Bool.{IsTrue}
+use Rattle.std.specs.Option.{is_some}
 use Rattle.space_search.specs.Laws.{IsMove, IsSpace}
 use Rattle.space_search.specs.TestToll.{toll_rules, toll_step, toll_covers}
 
@@ -35,23 +36,24 @@ move (suc (suc m)) due n state cost small is = record { valid = grind (arith, na
 due-small : (state : ℕ × ℕ) → IsTrue (toll_rules.is_valid state) → state.1 < 10
 due-small (p, d) valid = grind (arith, nat_tests)
 
--- two states of one place go to the same state by the same step, the one with less due at no greater cost
-alike :
-    (place due due' number : ℕ) (next : ℕ × ℕ) (cost : ℕ) → due ≤ due' → toll_step (place, due') number ≡ Some (next, cost) →
-    (less : ℕ) × (toll_step (place, due) number ≡ Some (next, less)) × (less ≤ cost)
-alike zero due due' zero next cost less is = (1 + due, grind (arith, nat_tests), grind (arith, nat_tests))
-alike zero due due' (suc zero) next cost less is = (3 + due, grind (arith, nat_tests), grind (arith, nat_tests))
-alike zero due due' (suc (suc n)) next cost less is = (4 + due, grind (arith, nat_tests), grind (arith, nat_tests))
-alike (suc zero) due due' n next cost less is = (2 + due, grind (arith, nat_tests), grind (arith, nat_tests))
-alike (suc (suc m)) due due' n next cost less is = (0, grind (arith, nat_tests), omega arith)
+-- two states of one place go to the same state by the same step, the one with no more due at no greater cost
+along :
+    (place due due' number : ℕ) (first second : ℕ × ℕ) (more other : ℕ) → due ≤ due' →
+    toll_step (place, due) number ≡ Some (first, more) → toll_step (place, due') number ≡ Some (second, other) →
+    (first ≡ second) × (more ≤ other)
+along zero due due' zero first second more other less is is' = (grind (arith, nat_tests), grind (arith, nat_tests))
+along zero due due' (suc zero) first second more other less is is' = (grind (arith, nat_tests), grind (arith, nat_tests))
+along zero due due' (suc (suc n)) first second more other less is is' = (grind (arith, nat_tests), grind (arith, nat_tests))
+along (suc zero) due due' n first second more other less is is' = (grind (arith, nat_tests), grind (arith, nat_tests))
+along (suc (suc m)) due due' n first second more other less is is' = (grind (arith, nat_tests), grind (arith, nat_tests))
 
--- a step that is forbidden at a place is forbidden whatever is due
-forbidden : (place due due' number : ℕ) → toll_step (place, due') number ≡ None → toll_step (place, due) number ≡ None
-forbidden zero due due' zero is = cc
-forbidden zero due due' (suc zero) is = cc
-forbidden zero due due' (suc (suc n)) is = grind (arith, nat_tests)
-forbidden (suc zero) due due' n is = cc
-forbidden (suc (suc m)) due due' n is = grind (arith, nat_tests)
+-- a step that is permitted at a place is permitted whatever is due
+permitted : (place due due' number : ℕ) → is_some (toll_step (place, due) number) ≡ is_some (toll_step (place, due') number)
+permitted zero due due' zero = refl
+permitted zero due due' (suc zero) = refl
+permitted zero due due' (suc (suc n)) = grind (arith, nat_tests)
+permitted (suc zero) due due' n = refl
+permitted (suc (suc m)) due due' n = grind (arith, nat_tests)
 
 pub toll-keeps_laws : IsSpace toll_rules
 toll-keeps_laws =
@@ -72,21 +74,18 @@ toll-keeps_laws =
                 (omega (arith, no-more a b ca cb h, no-more b c cb cc k));
             cheaper = λ a b ca cb va vb h. no-more a b ca cb h;
           };
-      kept = λ a b ca cb va vb h number next cost within is.
-          let along = alike b.0 a.1 b.1 number next cost (no-more_due a b ca cb h) is in
-          record {
-            state = next;
-            cost = along.0;
-            is = subst (λ (p : ℕ). toll_step (p, a.1) number ≡ Some (next, along.0)) (sym (same-place a b ca cb h)) along.1;
-            covers = covers-these next next (ca + along.0) (cb + cost) refl (omega arith)
-                (omega (arith, along.2, no-more a b ca cb h));
-          };
+      kept = λ a b ca cb va vb h number within first second more other is is'.
+          let same : (first ≡ second) × (more ≤ other) =
+          along b.0 a.1 b.1 number first second more other (no-more_due a b ca cb h)
+          (subst (λ (p : ℕ). toll_step (p, a.1) number ≡ Some (first, more)) (same-place a b ca cb h) is) is' in
+          subst (λ (s : ℕ × ℕ). IsTrue (toll_covers first (ca + more) s (cb + other))) same.0
+          (covers-these first first (ca + more) (cb + other) refl (omega arith) (omega (arith, same.1, no-more a b ca cb h)));
       alike =
           record {
             steps = λ a b ca cb va vb h. ap (λ (p : ℕ). toll_rules.steps (p, 0)) (same-place a b ca cb h);
-            forbidden = λ a b ca cb va vb h number within is.
-                subst (λ (p : ℕ). toll_step (p, a.1) number ≡ None) (sym (same-place a b ca cb h))
-                (forbidden b.0 a.1 b.1 number is);
+            permitted = λ a b ca cb va vb h number within.
+                subst (λ (p : ℕ). is_some (toll_step (p, a.1) number) ≡ is_some (toll_step (b.0, b.1) number))
+                (sym (same-place a b ca cb h)) (permitted b.0 a.1 b.1 number);
             goal = λ a b ca cb va vb h. ap (λ (p : ℕ). toll_rules.is_goal (p, 0)) (same-place a b ca cb h);
           };
       bound =
