@@ -1,9 +1,9 @@
 -- The covering test goes along the chain of a cell's settled labels.
-use Rattle.std.proofs.Common.{◌≡◌, ◌≢◌, ℕ, zero, suc, ◌<◌, ◌≤◌, ◌+◌, ◌-◌, ◌*◌, ◌^◌, ◌⊎◌, inl, inr, List, length, get_or, Option, Some, Bool, true, false, refl, ap, arith, sym, ◌∙◌, subst}
+use Rattle.std.proofs.Common.{◌≡◌, ◌≢◌, ℕ, zero, suc, ◌<◌, ◌≤◌, ◌-◌, ◌⊎◌, inl, inr, length, get_or, Some, Bool, true, false, refl, ap, arith, sym, ◌∙◌, subst}
 use Rattle.std.proofs.lemmas.Option.{slice_get_read, slice_get_within}
 use Rattle.std.specs.Bool.{IsTrue}
 use Rattle.std.specs.List.{slice_get}
-use Rattle.space_search.specs.Books.{Books, IsLabel, IsSettled, IsCovered, IsUncovered, IsSearch, IsLatest}
+use Rattle.space_search.specs.Books.{Books, IsLabel, IsSettled, IsUncovered, IsSearch, IsLatest}
 use Rattle.space_search.specs.Chains.{IsTested}
 use Rattle.space_search.specs.Laws.{IsSpace}
 use Rattle.space_search.specs.Rules.{Rules, LOW_BOUND}

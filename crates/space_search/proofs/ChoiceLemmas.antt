@@ -1,11 +1,11 @@
 -- The way back from a label to its start.
-use Rattle.std.proofs.Common.{◌≡◌, ℕ, ◌<◌, ◌≤◌, ◌+◌, ◌-◌, List, [], ◌∷◌, ◌++◌, length, get_or, reverse, Option, Some, refl, ap, arith, sym, ◌∙◌, subst}
+use Rattle.std.proofs.Common.{◌≡◌, ℕ, ◌<◌, ◌+◌, ◌-◌, List, [], ◌∷◌, ◌++◌, length, get_or, reverse, Some, refl, arith, subst}
 use Rattle.std.proofs.lemmas.List.{reverse-append}
 use Rattle.std.proofs.lemmas.Option.{slice_get_read, slice_get_within}
 use Rattle.std.specs.List.{slice_get}
 use Rattle.space_search.specs.Books.{Books, IsLabel, IsSettled, CameFrom, from_start, from_label, Follows, Reads}
 use Rattle.space_search.specs.Rules.{Rules}
-use Rattle.space_search.specs.Runs.{Walks, rests, steps, IsRun, starts}
+use Rattle.space_search.specs.Runs.{Walks, steps, IsRun, starts}
 use Rattle.space_search.specs.declared.label.Label.{Label}
 use Rattle.space_search.proofs.ListLemmas.{slice_get-same}
 use Rattle.space_search.proofs.SameLemmas.{settled-unique, settled-within}

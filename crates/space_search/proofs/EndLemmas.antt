@@ -1,18 +1,18 @@
 -- What the answers of a turn say, from what a search keeps.
-use Rattle.std.proofs.Common.{◌≡◌, ◌≢◌, ℕ, zero, suc, ◌<◌, ◌≤◌, ◌+◌, ◌⊎◌, inl, inr, List, [], ◌∷◌, ◌++◌, length, get_or, Option, Some, None, Bool, true, false, refl, ap, arith, sym, ◌∙◌, subst, length-append}
+use Rattle.std.proofs.Common.{◌≡◌, ℕ, zero, suc, ◌<◌, ◌≤◌, ◌+◌, ◌⊎◌, inl, inr, List, [], ◌∷◌, ◌++◌, length, get_or, Option, Some, None, false, refl, ap, arith, sym, ◌∙◌, subst, length-append}
 use Rattle.std.proofs.lemmas.Option.{slice_get_within, slice_get-get_or, get_or_from_slice_get}
 use Rattle.std.specs.Bool.{IsTrue}
 use Rattle.std.specs.List.{slice_get, Contains}
-use Rattle.space_search.specs.Books.{Books, Entry, IsLabel, IsSettled, Follows, CameFrom, from_start, from_label, IsCovered, IsUncovered, Waits, IsAccounted, by_label, by_queue, by_bound, Reads, IsSearch, IsClosed}
+use Rattle.space_search.specs.Books.{Books, Entry, IsSettled, Follows, CameFrom, from_start, from_label, IsUncovered, IsAccounted, by_label, by_queue, by_bound, Reads, IsSearch, IsClosed}
 use Rattle.space_search.specs.Laws.{IsSpace, HasRank}
 use Rattle.space_search.specs.Moves.{IsNext}
 use Rattle.space_search.specs.Rules.{Rules}
 use Rattle.space_search.specs.Runs.{Walks, rests, steps, IsRun, starts, Reaches}
-use Rattle.space_search.specs.Turns.{IsDone, covered, hopeless, ranks, IsClosedAndOrdered, IsRunTo, IsLeastGoal, IsSpentLabel, IsSpent, EndsSpent, EndsFound, EndsNoWay}
+use Rattle.space_search.specs.Turns.{IsDone, covered, hopeless, ranks, IsClosedAndOrdered, IsRunTo, IsSpentLabel, EndsSpent, EndsFound, EndsNoWay}
 use Rattle.space_search.specs.declared.label.Label.{Label}
 use Rattle.space_search.proofs.LeastLemmas.{waits-high, none-below, no_way}
 use Rattle.space_search.proofs.ListLemmas.{slice_get-append, slice_get-pushed, slice_get-push_cases, slice_get-same, Contains-none}
-use Rattle.space_search.proofs.SameLemmas.{settled-unique, settled-within}
+use Rattle.space_search.proofs.SameLemmas.{settled-within}
 use Rattle.space_search.proofs.SettleLemmas.{rank-unique}
 
 -- a walk with one step more
@@ -74,6 +74,20 @@ module _ {S : Type 0} (rules : Rules S) (laws : IsSpace rules) (kept : Books S)
   done-all empty state cost (by_queue w) =
       absurd (Contains-none w.entry (subst (λ q. Contains q w.entry) empty w.queued))
 
+  -- each settled label is a run to no goal that ranks above no run to a goal
+  pub settled-each : (place : ℕ) (label : Label S) → IsSettled kept place label → IsSpentLabel rules (place + 1) label
+  settled-each place label s =
+      let r = search.rising.ranked place label s in
+      let f : Follows rules kept place label = search.reads.settled_follows place label s in
+      record {
+        valid = f.valid;
+        run = run-to rules kept search.reads place label f;
+        no_goal = search.no_goal place label s;
+        rank = r.0;
+        ranked = r.1;
+        below = none-below rules laws kept search closed r.0 (λ entry h. search.above place label r.0 s r.1 entry h);
+      }
+
   -- what ranks below all that waits is done with
   pub closed-below :
       (least : ℕ) → ((entry : Entry) → Contains kept.queue entry → least ≤ entry.0.0) →
@@ -85,6 +99,8 @@ module _ {S : Type 0} (rules : Rules S) (laws : IsSpace rules) (kept : Books S)
             done least low state (label.cost + cost)
             (closed.steps place label (settled-within kept place label s) s number state cost within is);
         ordered = search.rising.rising;
+        each = settled-each;
+        apart = search.rising.apart;
       }
 
   -- after a turn that settled as many labels as it was given
@@ -105,6 +121,8 @@ module _ {S : Type 0} (rules : Rules S) (laws : IsSpace rules) (kept : Books S)
                   done-all empty state (label.cost + cost)
                   (closed.steps place label (settled-within kept place label s) s number state cost within is);
               ordered = search.rising.rising;
+              each = settled-each;
+              apart = search.rising.apart;
             };
       }
 
@@ -232,17 +250,7 @@ module _ {S : Type 0} (rules : Rules S) (laws : IsSpace rules) (kept : Books S)
   spent-each : (place : ℕ) (l : Label S) → slice_get shown place ≡ Some l → IsSpentLabel rules (place + 1) l
   spent-each place l at =
       elim (shown-cases place l at) [
-        | inl s ↦
-            let r = search.rising.ranked place l s in
-            let f : Follows rules kept place l = search.reads.settled_follows place l s in
-            record {
-              valid = f.valid;
-              run = run-to rules kept search.reads place l f;
-              no_goal = search.no_goal place l s;
-              rank = r.0;
-              ranked = r.1;
-              below = λ choices cost reaches. omega (arith, settled-under place l r.0 s r.1, goals-above choices cost reaches);
-            }
+        | inl s ↦ settled-each rules laws kept search closed place l s
         | inr (end, same) ↦
             let f : Follows rules kept (length kept.settled) label = search.follows number label next.there in
             subst (λ k. IsSpentLabel rules (place + 1) k) (sym same)

@@ -1,9 +1,9 @@
 -- Why no run that reaches a goal costs less than what waits ranks: runs go along settled labels until they
 -- wait, and what waits can't reach a goal below its rank.
-use Rattle.std.proofs.Common.{◌≡◌, ℕ, ◌<◌, ◌≤◌, ◌+◌, ◌⊎◌, inl, inr, List, [], ◌∷◌, Option, Some, None, Bool, true, false, refl, ap, arith, sym, ◌∙◌, subst}
+use Rattle.std.proofs.Common.{◌≡◌, ℕ, ◌<◌, ◌≤◌, ◌+◌, List, [], ◌∷◌, Some, None, true, refl, arith, sym, ◌∙◌, subst}
 use Rattle.std.specs.Bool.{IsTrue}
-use Rattle.std.specs.List.{slice_get, Contains}
-use Rattle.space_search.specs.Books.{Books, Entry, IsLabel, IsSettled, IsCovered, Waits, IsAccounted, by_label, by_queue, by_bound, IsSearch, IsClosed}
+use Rattle.std.specs.List.{Contains}
+use Rattle.space_search.specs.Books.{Books, Entry, IsSettled, Waits, by_label, by_queue, by_bound, IsSearch, IsClosed}
 use Rattle.space_search.specs.Laws.{IsSpace, HasRank}
 use Rattle.space_search.specs.Rules.{Rules}
 use Rattle.space_search.specs.Runs.{Walks, rests, steps, IsRun, starts, Reaches, IsUnreachable}
@@ -75,12 +75,12 @@ module _ {S : Type 0} (rules : Rules S) (laws : IsSpace rules) where
     covers : IsTrue (rules.covers state (ca + cost) next total)
 
   step-along :
-    (a b : S) (ca cb : ℕ) → IsTrue (rules.is_valid a) → IsTrue (rules.is_valid b) → IsTrue (rules.covers a ca b cb) →
-    (number : ℕ) (next : S) (cost : ℕ) → number < rules.steps b → rules.step b number ≡ Some (next, cost) →
-    CoversStep a ca number next (cb + cost)
+      (a b : S) (ca cb : ℕ) → IsTrue (rules.is_valid a) → IsTrue (rules.is_valid b) → IsTrue (rules.covers a ca b cb) →
+      (number : ℕ) (next : S) (cost : ℕ) → number < rules.steps b → rules.step b number ≡ Some (next, cost) →
+      CoversStep a ca number next (cb + cost)
   step-along a b ca cb va vb h number next cost below is =
       elim (rules.step a number) as (λ r. rules.step a number ≡ r → CoversStep a ca number next (cb + cost)) [
-          None ↦ λ none.
+        | None ↦ λ none.
             let same = laws.alike.permitted a b ca cb va vb h number below in
             let never : ⊥ = cc in
             absurd never

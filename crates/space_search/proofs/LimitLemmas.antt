@@ -1,13 +1,13 @@
 -- A limit of cells times the most labels of a cell is never spent.
-use Rattle.std.proofs.Common.{◌≡◌, ◌≢◌, ℕ, zero, suc, ◌<◌, ◌≤◌, ◌+◌, ◌*◌, ◌⊎◌, inl, inr, List, [], ◌∷◌, length, Option, Some, Bool, true, false, cond, refl, ap, arith, sym, ◌∙◌, subst}
+use Rattle.std.proofs.Common.{◌≡◌, ◌≢◌, ℕ, zero, suc, ◌<◌, ◌≤◌, ◌+◌, ◌*◌, ◌⊎◌, inl, inr, List, [], ◌∷◌, length, Some, false, refl, arith}
 use Rattle.std.specs.Bool.{IsTrue}
 use Rattle.std.specs.List.{slice_get}
 use Rattle.space_search.specs.Laws.{IsSpace, HasRank}
-use Rattle.space_search.specs.Limits.{CoversNone, IsUncoveredChain, LieIn, HasFewPerCell}
+use Rattle.space_search.specs.Limits.{IsUncoveredChain, LieIn, HasFewPerCell}
 use Rattle.space_search.specs.Rules.{Rules}
 use Rattle.space_search.specs.Turns.{IsSpent}
 use Rattle.space_search.specs.declared.label.Label.{Label}
-use Rattle.space_search.proofs.ListLemmas.{equal-or_not, most-or_below}
+use Rattle.space_search.proofs.ListLemmas.{equal-or_not}
 
 -- one of two choices by a decision
 abbrev either : {A : Type 0} {P Q : Type 0} → P ⊎ Q → A → A → A

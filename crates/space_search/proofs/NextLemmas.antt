@@ -1,5 +1,5 @@
 -- What the front of the queue says of all that waits.
-use Rattle.std.proofs.Common.{◌≡◌, ℕ, ◌<◌, ◌≤◌, ◌⊎◌, inl, inr, List, [], ◌∷◌, length, get_or, Option, Some, Bool, true, false, refl, ap, arith, sym, ◌∙◌, subst}
+use Rattle.std.proofs.Common.{◌≡◌, ℕ, ◌<◌, ◌≤◌, inl, inr, List, [], ◌∷◌, length, get_or, Some, false, refl, arith, sym, subst}
 use Rattle.std.proofs.lemmas.Bool.Decides.{nat_tests}
 use Rattle.std.proofs.lemmas.Option.{slice_get_read, slice_get_within}
 use Rattle.std.specs.BinaryHeap.{IsUpperBound}
@@ -7,7 +7,7 @@ use Rattle.std.specs.List.{slice_get, Contains}
 use Rattle.std.specs.Ordering.{nat_cmp, ordering_then, is_lt}
 use Rattle.std.specs.declared.cmp.Ordering.{Ordering}
 use Rattle.space_search.specs.Rules.{Rules}
-use Rattle.space_search.specs.Books.{Books, Entry, entry_cmp, IsLabel, IsSearch}
+use Rattle.space_search.specs.Books.{Books, Entry, entry_cmp, IsSearch}
 use Rattle.space_search.specs.Laws.{HasRank}
 use Rattle.space_search.specs.Moves.{IsNext}
 use Rattle.space_search.specs.declared.label.Label.{Label}

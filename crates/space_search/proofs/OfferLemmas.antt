@@ -1,10 +1,10 @@
 -- What an offered label changes in a search's lists.
-use Rattle.std.proofs.Common.{◌≡◌, ◌≢◌, ℕ, ◌<◌, ◌≤◌, ◌+◌, ◌⊎◌, inl, inr, List, [], ◌∷◌, ◌++◌, length, get_or, Option, Some, None, refl, ap, arith, sym, ◌∙◌, subst, length-append}
+use Rattle.std.proofs.Common.{◌≡◌, ℕ, ◌<◌, ◌≤◌, ◌+◌, ◌⊎◌, inl, inr, List, [], ◌∷◌, ◌++◌, length, Some, refl, ap, arith, sym, subst, length-append}
 use Rattle.std.specs.BinaryHeap.{IsHeap}
 use Rattle.std.specs.List.{slice_get, Contains}
 use Rattle.std.specs.List.Sorted.{IsPermutation}
 use Rattle.std.proofs.lemmas.List.Sorted.{Contains-permutation, IsPermutation-sym, length_permutation}
-use Rattle.space_search.specs.Books.{Books, Entry, entry_cmp, IsLabel, IsSettled, Follows, IsCovered, IsSearch, IsAccounted, by_label, by_queue, by_bound, Extends, Leaves, KeepsLabels, Reads}
+use Rattle.space_search.specs.Books.{Books, Entry, entry_cmp, IsLabel, IsSettled, Follows, IsSearch, IsAccounted, by_queue, Extends, Leaves, KeepsLabels}
 use Rattle.space_search.specs.Laws.{HasRank}
 use Rattle.space_search.specs.Moves.{Offers, RanksAbove}
 use Rattle.space_search.specs.Rules.{Rules}

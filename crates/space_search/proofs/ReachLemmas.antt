@@ -1,14 +1,11 @@
 -- A new label follows from a start or from a settled label, and ranks no less than what is settled.
-use Rattle.std.proofs.Common.{◌≡◌, ◌≢◌, ℕ, ◌<◌, ◌≤◌, ◌+◌, ◌-◌, ◌*◌, ◌^◌, List, [], ◌∷◌, length, Option, Some, None, Bool, refl, ap, arith, sym, ◌∙◌, subst}
-use Rattle.std.specs.Bool.{IsTrue}
-use Rattle.std.specs.List.{slice_get}
-use Rattle.space_search.specs.Books.{Books, IsLabel, IsSettled, Follows, CameFrom, from_start, from_label, IsSearch, IsRising}
-use Rattle.space_search.specs.Laws.{IsSpace, IsMove, HasRank}
+use Rattle.std.proofs.Common.{◌≡◌, ℕ, ◌<◌, ◌≤◌, ◌+◌, ◌^◌, length, Option, Some, refl, arith, sym, subst}
+use Rattle.space_search.specs.Books.{Books, IsSettled, Follows, from_start, from_label, IsSearch}
+use Rattle.space_search.specs.Laws.{IsSpace, IsMove}
 use Rattle.space_search.specs.Moves.{RanksAbove}
 use Rattle.space_search.specs.Rules.{Rules}
 use Rattle.space_search.specs.declared.label.Label.{Label}
 use Rattle.space_search.proofs.SameLemmas.{settled-within}
-use Rattle.space_search.proofs.SettleLemmas.{rank-unique}
 
 -- what holds of what was found holds of each reading of it
 pub this-one :

@@ -1,19 +1,18 @@
 -- What a search's lists are once the next label was dropped or settled.
-use Rattle.std.proofs.Common.{◌≡◌, ◌≢◌, ℕ, zero, suc, ◌<◌, ◌≤◌, ◌+◌, ◌*◌, ◌^◌, ◌⊎◌, ◌↔◌, inl, inr, List, [], ◌∷◌, ◌++◌, length, set, get_or, Option, Some, None, Bool, false, refl, ap, arith, sym, ◌∙◌, subst, length-set, length-append}
+use Rattle.std.proofs.Common.{◌≡◌, ℕ, ◌<◌, ◌≤◌, ◌+◌, ◌^◌, ◌⊎◌, ◌↔◌, inl, inr, List, [], ◌∷◌, ◌++◌, length, set, get_or, Option, Some, None, false, refl, ap, arith, sym, ◌∙◌, subst, length-set, length-append}
 use Rattle.std.proofs.lemmas.List.Sorted.{length_permutation}
 use Rattle.std.proofs.lemmas.Option.{slice_get_read, slice_get_within, get_or_from_slice_get}
-use Rattle.std.specs.Bool.{IsTrue}
-use Rattle.std.specs.BinaryHeap.{IsHeap, PopsGreatest}
+use Rattle.std.specs.BinaryHeap.{PopsGreatest}
 use Rattle.std.specs.List.{slice_get, Contains}
 use Rattle.std.specs.List.Sorted.{IsPermutation}
 use Rattle.std.specs.Option.{IfSome, IsSome}
-use Rattle.space_search.specs.Books.{Books, Entry, entry_cmp, IsLabel, IsSettled, Follows, IsCovered, IsUncovered, IsAccounted, IsLatest, IsIndex, Reads, IsRising, IsSearch, IsClosed, KeepsLabels, Leaves, Extends}
+use Rattle.space_search.specs.Books.{Books, Entry, entry_cmp, IsLabel, IsSettled, Follows, IsCovered, IsUncovered, IsAccounted, IsLatest, IsIndex, Reads, IsRising, IsSearch, IsClosed, KeepsLabels, Leaves}
 use Rattle.space_search.specs.Laws.{IsSpace, HasRank}
 use Rattle.space_search.specs.Moves.{IsNext, Drops, Settles}
 use Rattle.space_search.specs.Rules.{Rules}
 use Rattle.space_search.specs.declared.label.Label.{Label}
-use Rattle.space_search.proofs.ListLemmas.{slice_get-append, slice_get-pushed, slice_get-push_cases, slice_get-set_cases, slice_get-same, equal-or_not}
-use Rattle.space_search.proofs.SameLemmas.{settled-unique, settled-within, follows-moved, keeps-same, keeps-back, reads-same, rising-same, index-same}
+use Rattle.space_search.proofs.ListLemmas.{slice_get-append, slice_get-pushed, slice_get-push_cases, slice_get-set_cases, slice_get-same}
+use Rattle.space_search.proofs.SameLemmas.{settled-within, follows-moved, keeps-same, keeps-back, reads-same, rising-same, index-same}
 use Rattle.space_search.proofs.TakeLemmas.{Popped, accounted-popped, left-queued}
 
 -- what a pop gives is the entry at the front

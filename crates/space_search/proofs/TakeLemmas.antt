@@ -1,15 +1,14 @@
 -- What was taken care of still is when labels are offered and when the next one leaves the queue.
-use Rattle.std.proofs.Common.{◌≡◌, ◌≢◌, ℕ, ◌<◌, ◌≤◌, ◌+◌, ◌-◌, ◌⊎◌, inl, inr, List, [], ◌∷◌, ◌++◌, length, Option, Some, None, Bool, false, refl, ap, arith, sym, ◌∙◌, subst}
+use Rattle.std.proofs.Common.{◌≡◌, ℕ, ◌<◌, ◌+◌, inl, inr, List, ◌∷◌, length, Some, ap, arith, sym, ◌∙◌, subst}
 use Rattle.std.specs.BinaryHeap.{IsHeap}
-use Rattle.std.specs.List.{slice_get, Contains}
+use Rattle.std.specs.List.{Contains}
 use Rattle.std.specs.List.Sorted.{IsPermutation}
 use Rattle.std.proofs.lemmas.List.Sorted.{Contains-permutation, IsPermutation-sym}
-use Rattle.space_search.specs.Books.{Books, Entry, entry_cmp, IsLabel, IsSettled, IsCovered, Waits, IsAccounted, by_label, by_queue, by_bound, HasStarts, HasSteps, HasStepsBelow, IsSearch, IsClosed, Extends, KeepsLabels, Leaves}
-use Rattle.space_search.specs.Laws.{HasRank}
+use Rattle.space_search.specs.Books.{Books, Entry, entry_cmp, IsLabel, IsSettled, IsCovered, IsAccounted, by_label, by_queue, by_bound, HasStarts, HasSteps, HasStepsBelow, IsSearch, IsClosed, Extends, KeepsLabels, Leaves}
 use Rattle.space_search.specs.Rules.{Rules}
 use Rattle.space_search.specs.declared.label.Label.{Label}
 use Rattle.space_search.proofs.ListLemmas.{slice_get-same, Contains-cons_cases, Contains-rest, equal-or_not, below-next}
-use Rattle.space_search.proofs.SameLemmas.{settled-unique, settled-within, keeps-same, keeps-back}
+use Rattle.space_search.proofs.SameLemmas.{settled-unique, settled-within, keeps-back}
 
 -- two such changes make one
 pub extends-trans : {S : Type 0} (a b c : Books S) → Extends a b → Extends b c → Extends a c

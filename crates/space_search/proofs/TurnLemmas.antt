@@ -1,13 +1,12 @@
 -- What a part of a turn says where it comes to an end.
-use Rattle.std.proofs.Common.{◌≡◌, ℕ, ◌<◌, ◌≤◌, ◌+◌, List, length, Bool, refl, ap, arith, sym, ◌∙◌, subst}
+use Rattle.std.proofs.Common.{◌≡◌, ℕ, ◌<◌, ◌≤◌, ◌+◌, length, arith, sym, subst}
 use Rattle.space_search.specs.Books.{Books, IsSearch, IsClosed}
 use Rattle.space_search.specs.Laws.{IsSpace}
 use Rattle.space_search.specs.Moves.{Takes, WhatTaken}
 use Rattle.space_search.specs.Rules.{Rules}
-use Rattle.space_search.specs.Turns.{Turns, EndsFound, EndsNoWay, EndsSpent}
+use Rattle.space_search.specs.Turns.{Turns, EndsFound}
 use Rattle.space_search.specs.declared.take.Taken.{Taken}
 use Rattle.space_search.specs.declared.take.Taken.TheVariants.{Goal, Empty, Spent}
-use Rattle.space_search.specs.declared.turn.Turn.{Turn}
 use Rattle.space_search.specs.declared.turn.Turn.TheVariants.{More, Found, NoWay, Budget}
 use Rattle.space_search.proofs.EndLemmas.{ends-more, ends-no_way, ends-found, ends-spent}
 

@@ -1,16 +1,17 @@
 -- What the calls of a search say, from its phase.
-use Rattle.std.proofs.Common.{◌≡◌, ℕ, ◌<◌, ◌≤◌, ◌+◌, ◌⊎◌, inl, inr, IfOk, Result, Ok, Err, List, length, Bool, refl, ap, arith, sym, ◌∙◌, subst}
-use Rattle.std.proofs.lemmas.Option.{slice_get_within, slice_get_read}
-use Rattle.std.specs.List.{slice_get}
-use Rattle.space_search.specs.Books.{Books, books, IsLabel, IsSettled, Follows, Reads, IsSearch}
+use Rattle.std.proofs.Common.{◌≡◌, ℕ, ◌≤◌, ◌+◌, ◌*◌, IfOk, Result, Ok, Err, List, length, arith, sym, subst}
+use Rattle.space_search.specs.Books.{Books, books, Follows}
+use Rattle.space_search.specs.Laws.{IsSpace}
+use Rattle.space_search.specs.Limits.{HasFewPerCell}
 use Rattle.space_search.specs.Rules.{Rules}
-use Rattle.space_search.specs.Turns.{IsPhase, IsLast, Ends, EndsWith, Counts, IsSearchOf, LabelOf, settled_label, found_label, EndsFound}
+use Rattle.space_search.specs.Turns.{IsPhase, IsLast, Ends, EndsWith, Counts, IsUnspentTurn, IsSearchOf, LabelOf, settled_label, found_label, EndsFound}
 use Rattle.space_search.specs.Runs.{IsRun, IsLeastRun}
 use Rattle.space_search.specs.declared.label.Label.{Label}
 use Rattle.space_search.specs.declared.phase.Phase.{Phase}
-use Rattle.space_search.specs.declared.phase.Phase.TheVariants.{New, Running, Ended, Failed}
+use Rattle.space_search.specs.declared.phase.Phase.TheVariants.{Ended}
 use Rattle.space_search.specs.declared.search.Search.{Search}
 use Rattle.space_search.specs.declared.turn.Turn.{Turn}
+use Rattle.space_search.proofs.LimitLemmas.{never-spent}
 use Rattle.space_search.proofs.ListLemmas.{slice_get-same}
 use Rattle.space_search.proofs.SameLemmas.{settled-unique, settled-within}
 use Rattle.space_search.specs.declared.turn.Turn.TheVariants.{More, Found, NoWay, Budget}
@@ -82,3 +83,23 @@ least-run {S} rules search turn number choices cost of ends ended is run short v
       },
       omega (arith, short, e.numbered, of.within),
     )
+
+-- where no cell can keep more than the limit divides into, a turn doesn't end with a spent limit
+pub unspent :
+    {S : Type 0} (rules : Rules S) (laws : IsSpace rules) (most limit : ℕ) (kept : Books S) (found : ℕ) (turn : Turn) →
+    HasFewPerCell rules most → rules.cells * most ≤ limit → Ends rules limit kept found turn → IsUnspentTurn turn
+unspent rules laws most limit kept found More few enough ends = tt
+unspent rules laws most limit kept found (Found label) few enough ends = tt
+unspent rules laws most limit kept found NoWay few enough ends = tt
+unspent rules laws most limit kept found Budget few enough ends =
+    never-spent rules laws most limit ends.shown few enough ends.spent
+
+-- also where it was the last answer before
+pub unspent-again :
+    {S : Type 0} (rules : Rules S) (laws : IsSpace rules) (most : ℕ) (search : Search S) (turn : Turn) →
+    HasFewPerCell rules most → rules.cells * most ≤ search.limit → IsSearchOf rules search → search.phase ≡ Ended turn →
+    IsUnspentTurn turn
+unspent-again {S} rules laws most search turn few enough of phase =
+    let ended : IsPhase rules search.limit (books search.lists) search.found (Ended turn) =
+    subst (λ p. IsPhase rules search.limit (books search.lists) search.found p) phase of.is_phase in
+    unspent rules laws most search.limit (books search.lists) search.found turn few enough ended.1

@@ -1,5 +1,5 @@
 -- How far the covering test has gone along the chain of a cell's settled labels. This project's own rule.
-use Rattle.std.specs.Prelude.{ℕ, ◌≡◌, ◌≤◌, ◌+◌, Bool, false}
+use Rattle.std.specs.Prelude.{ℕ, ◌≡◌, ◌≤◌, ◌+◌, false}
 use Rattle.space_search.specs.Books.{Books, IsSettled}
 use Rattle.space_search.specs.Rules.{Rules}
 use Rattle.space_search.specs.declared.label.Label.{Label}

@@ -1,6 +1,6 @@
 -- The laws of a search space, in five groups. They speak of valid states alone.
 -- This project's own rule.
-use Rattle.std.specs.Prelude.{ℕ, ◌≡◌, ◌<◌, ◌≤◌, ◌+◌, Bool, IsTrue, Option, Some, None, List}
+use Rattle.std.specs.Prelude.{ℕ, ◌≡◌, ◌<◌, ◌≤◌, ◌+◌, IsTrue, Some, None, List}
 use Rattle.std.specs.Option.{is_some}
 use Rattle.space_search.specs.Rules.{Rules, COST_BOUND, LOW_BOUND}
 use Rattle.space_search.specs.Runs.{Walks}
@@ -46,15 +46,15 @@ KeepsCovering {S} rules =
 -- Fourth group: a covered state has the permitted steps and the goal answer of what covers it.
 pub record CoveredAlike {S : Type 0} (rules : Rules S) : Type 0 where
   pub steps :
-    (a b : S) (ca cb : ℕ) → IsTrue (rules.is_valid a) → IsTrue (rules.is_valid b) →
-    IsTrue (rules.covers a ca b cb) → rules.steps a ≡ rules.steps b
+      (a b : S) (ca cb : ℕ) → IsTrue (rules.is_valid a) → IsTrue (rules.is_valid b) →
+      IsTrue (rules.covers a ca b cb) → rules.steps a ≡ rules.steps b
   pub permitted :
-    (a b : S) (ca cb : ℕ) → IsTrue (rules.is_valid a) → IsTrue (rules.is_valid b) →
-    IsTrue (rules.covers a ca b cb) → (number : ℕ) → number < rules.steps b →
-    is_some (rules.step a number) ≡ is_some (rules.step b number)
+      (a b : S) (ca cb : ℕ) → IsTrue (rules.is_valid a) → IsTrue (rules.is_valid b) →
+      IsTrue (rules.covers a ca b cb) → (number : ℕ) → number < rules.steps b →
+      is_some (rules.step a number) ≡ is_some (rules.step b number)
   pub goal :
-    (a b : S) (ca cb : ℕ) → IsTrue (rules.is_valid a) → IsTrue (rules.is_valid b) →
-    IsTrue (rules.covers a ca b cb) → rules.is_goal a ≡ rules.is_goal b
+      (a b : S) (ca cb : ℕ) → IsTrue (rules.is_valid a) → IsTrue (rules.is_valid b) →
+      IsTrue (rules.covers a ca b cb) → rules.is_goal a ≡ rules.is_goal b
 
 -- Fifth group: the lower bound is bounded, is 0 at a goal, is none only where no goal is reached, and
 -- falls along a step by no more than the step costs.

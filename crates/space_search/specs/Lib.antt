@@ -6,4 +6,11 @@ pub mod Moves
 pub mod Outcome
 pub mod Rules
 pub mod Runs
+pub mod TestDiamond
+pub mod TestDiamondLaws
+pub mod TestLine
+pub mod TestLineLaws
+pub mod TestPlain
+pub mod TestToll
+pub mod TestTollLaws
 pub mod Turns

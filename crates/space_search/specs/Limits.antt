@@ -1,7 +1,7 @@
 -- When a limit of settled labels is always enough. This project's own rule.
 use Rattle.std.specs.Bool.{IsTrue}
 use Rattle.std.specs.List.{slice_get}
-use Rattle.std.specs.Prelude.{ℕ, ◌≡◌, ◌≤◌, Bool, false, Some, List, [], ◌∷◌, length}
+use Rattle.std.specs.Prelude.{ℕ, ◌≡◌, ◌≤◌, false, Some, List, [], ◌∷◌, length}
 use Rattle.space_search.specs.Laws.{HasRank}
 use Rattle.space_search.specs.Rules.{Rules}
 use Rattle.space_search.specs.declared.label.Label.{Label}
@@ -31,7 +31,7 @@ abbrev pub HasFewPerCell : {S : Type 0} → Rules S → ℕ → Type 0
 HasFewPerCell {S} rules most =
     (cell : ℕ) (labels : List (Label S)) → IsUncoveredChain rules labels → LieIn rules cell labels → length labels ≤ most
 
--- the answer isn't a spent limit
+-- the answer of a whole search isn't a spent limit
 abbrev pub IsUnspent : Outcome → Type 0
 IsUnspent (Found choices cost) = Unit {0}
 IsUnspent NoWay = Unit {0}

@@ -1,7 +1,7 @@
 -- What the parts of a turn do to a search's lists. This project's own rule.
 use Rattle.std.specs.List.{slice_get, Contains}
 use Rattle.std.specs.Bool.{IsTrue}
-use Rattle.std.specs.Prelude.{ℕ, ◌≡◌, ◌<◌, ◌≤◌, ◌+◌, Bool, false, Some, List, [], length}
+use Rattle.std.specs.Prelude.{ℕ, ◌≡◌, ◌<◌, ◌≤◌, ◌+◌, false, Some, [], length}
 use Rattle.space_search.specs.Books.{Books, Entry, IsLabel, IsSettled, IsAccounted, HasStarts, HasStepsBelow, IsUncovered, IsSearch, IsClosed, Extends, KeepsLabels, work_left}
 use Rattle.space_search.specs.Laws.{HasRank}
 use Rattle.space_search.specs.Rules.{Rules}

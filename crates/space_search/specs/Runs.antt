@@ -1,6 +1,6 @@
 -- Runs of a search space: a start's number and then the numbers of steps, with the sum of the costs.
 -- This project's own rule.
-use Rattle.std.specs.Prelude.{ℕ, ◌≡◌, ◌<◌, ◌≤◌, ◌+◌, Bool, IsTrue, Option, Some, List, [], ◌∷◌, length}
+use Rattle.std.specs.Prelude.{ℕ, ◌≡◌, ◌<◌, ◌≤◌, ◌+◌, IsTrue, Some, List, [], ◌∷◌}
 use Rattle.space_search.specs.Rules.{Rules}
 
 -- From a state, reached at a cost, these steps lead to the state `end`, and all together costs `total`.

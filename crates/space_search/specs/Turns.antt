@@ -1,8 +1,7 @@
 -- What the turns of a search promise. This project's own rule.
 use Rattle.std.specs.Bool.{IsTrue}
 use Rattle.std.specs.List.{slice_get}
-use Rattle.std.specs.Prelude.{ℕ, ◌≡◌, ◌<◌, ◌≤◌, ◌+◌, ◌⊎◌, ◌^◌, Bool, true, false, Option, Some, None, List, [], length, Result, Ok, Err}
-use Rattle.std.specs.declared.alloc.AllocError.{AllocError}
+use Rattle.std.specs.Prelude.{ℕ, ◌≡◌, ◌<◌, ◌≤◌, ◌+◌, ◌⊎◌, ◌^◌, false, Option, Some, None, List, length}
 use Rattle.space_search.specs.Books.{Books, books, IsLabel, IsSettled, Follows, IsCovered, IsSearch, IsClosed, Reads, IsFresh}
 use Rattle.space_search.specs.Laws.{HasRank}
 use Rattle.space_search.specs.Rules.{Rules}
@@ -21,8 +20,25 @@ pub data IsDone {S : Type 0} (rules : Rules S) (kept : Books S) (floor : Option 
   hopeless : rules.low state ≡ None → IsDone rules kept floor state cost
   ranks : (bound : ℕ) (rank : ℕ) → floor ≡ Some bound → HasRank rules state cost rank → bound ≤ rank → IsDone rules kept floor state cost
 
+-- a run leads to the label's state at its cost, with at most so many choices
+pub record IsRunTo {S : Type 0} (rules : Rules S) (most : ℕ) (label : Label S) : Type 0 where
+  pub choices : List ℕ
+  pub run : IsRun rules choices label.state label.cost
+  pub short : length choices ≤ most
+
+-- What holds of each label that is settled, and of each that a spent limit shows: a run leads to it and to
+-- no goal, and its rank is a number and no larger than the cost of any run that reaches a goal.
+pub record IsSpentLabel {S : Type 0} (rules : Rules S) (most : ℕ) (label : Label S) : Type 0 where
+  pub valid : IsTrue (rules.is_valid label.state)
+  pub run : IsRunTo rules most label
+  pub no_goal : rules.is_goal label.state ≡ false
+  pub rank : ℕ
+  pub ranked : HasRank rules label.state label.cost rank
+  pub below : (others : List ℕ) (other : ℕ) → Reaches rules others other → rank ≤ other
+
 -- The settled labels are closed below the floor, each permitted start and each permitted step of a settled
--- label being done with, and ordered, the later ones having no smaller rank.
+-- label being done with, and ordered, the later ones having no smaller rank. None was settled for nothing:
+-- each is a run to no goal that ranks above no run to a goal, and no earlier one covers a later one.
 pub record IsClosedAndOrdered {S : Type 0} (rules : Rules S) (kept : Books S) (floor : Option ℕ) : Type 0 where
   pub starts :
       (number : ℕ) (state : S) (cost : ℕ) → number < rules.starts → rules.start number ≡ Some (state, cost) →
@@ -35,28 +51,16 @@ pub record IsClosedAndOrdered {S : Type 0} (rules : Rules S) (kept : Books S) (f
       (first second : ℕ) (a b : Label S) (low high : ℕ) → first ≤ second →
       IsSettled kept first a → IsSettled kept second b →
       HasRank rules a.state a.cost low → HasRank rules b.state b.cost high → low ≤ high
-
--- a run leads to the label's state at its cost, with at most so many choices
-pub record IsRunTo {S : Type 0} (rules : Rules S) (most : ℕ) (label : Label S) : Type 0 where
-  pub choices : List ℕ
-  pub run : IsRun rules choices label.state label.cost
-  pub short : length choices ≤ most
+  pub each : (place : ℕ) (label : Label S) → IsSettled kept place label → IsSpentLabel rules (place + 1) label
+  pub apart :
+      (first second : ℕ) (a b : Label S) → first < second → IsSettled kept first a → IsSettled kept second b →
+      rules.covers a.state a.cost b.state b.cost ≡ false
 
 -- A goal of least cost: it is reached by a run at its cost, and no run that reaches a goal costs less.
 pub record IsLeastGoal {S : Type 0} (rules : Rules S) (most : ℕ) (label : Label S) : Type 0 where
   pub run : IsRunTo rules most label
   pub goal : IsTrue (rules.is_goal label.state)
   pub least : (others : List ℕ) (other : ℕ) → Reaches rules others other → label.cost ≤ other
-
--- One of the labels that a spent limit shows: a run to no goal, whose rank is a number and no larger than
--- the cost of any run that reaches a goal.
-pub record IsSpentLabel {S : Type 0} (rules : Rules S) (most : ℕ) (label : Label S) : Type 0 where
-  pub valid : IsTrue (rules.is_valid label.state)
-  pub run : IsRunTo rules most label
-  pub no_goal : rules.is_goal label.state ≡ false
-  pub rank : ℕ
-  pub ranked : HasRank rules label.state label.cost rank
-  pub below : (others : List ℕ) (other : ℕ) → Reaches rules others other → rank ≤ other
 
 -- The evidence of a spent limit: one label more than the limit, in order of rank, of which no earlier one
 -- covers a later one.
@@ -114,6 +118,13 @@ IsLast More = ⊥
 IsLast (Found label) = Unit {0}
 IsLast NoWay = Unit {0}
 IsLast Budget = Unit {0}
+
+-- the answer of a turn isn't a spent limit
+abbrev pub IsUnspentTurn : Turn → Type 0
+IsUnspentTurn More = Unit {0}
+IsUnspentTurn (Found label) = Unit {0}
+IsUnspentTurn NoWay = Unit {0}
+IsUnspentTurn Budget = ⊥
 
 -- What a search in this phase is: a new one has settled nothing; a running one is closed; one that ended
 -- is what its answer says; and of one that met want of memory the settled labels still read right.

@@ -2,11 +2,15 @@
 
 use crate::turn::Turn;
 
-/// Before the first turn, between turns, after the last answer, or after want of memory.
+/// How far a search is.
 #[derive(Clone, Copy, Debug, PartialEq, Eq)]
 pub enum Phase {
+    /// No turn was made.
     New,
+    /// The last turn answered `More`.
     Running,
+    /// The last turn gave this answer, which isn't `More`.
     Ended(Turn),
+    /// A turn met want of memory.
     Failed,
 }

@@ -8,7 +8,9 @@ use crate::phase::Phase;
 #[derive(Drop)]
 pub struct Search<T> {
     pub(crate) lists: Lists<T>,
+    /// The most labels that are settled.
     pub(crate) limit: u64,
+    /// The number among the made labels of the goal that was found; else it says nothing.
     pub(crate) found: u32,
     pub(crate) phase: Phase,
 }

@@ -1,11 +1,12 @@
 //! The turns of a search, and what is read of it between them.
 
-ghost use Rattle.std.specs.Prelude.{◌≡◌, ◌≤◌, ◌<◌, ◌^◌, ◌+◌, List, IfOk, OnErr, length, Ok, Err, alloc_error};
+ghost use Rattle.std.specs.Prelude.{ℕ, ◌≡◌, ◌≤◌, ◌*◌, ◌<◌, ◌^◌, ◌+◌, List, IfOk, OnErr, length, Ok, Err, alloc_error};
 ghost use Rattle.space_search.specs.Books.{books, KeepsLabels};
 ghost use Rattle.space_search.specs.Laws.{IsSpace};
+ghost use Rattle.space_search.specs.Limits.{HasFewPerCell};
 ghost use Rattle.space_search.specs.Rules.{Rules};
 ghost use Rattle.space_search.specs.Runs.{IsRun};
-ghost use Rattle.space_search.specs.Turns.{IsSearchOf, Ends, Counts, EndsWith, LabelOf, IsReadable};
+ghost use Rattle.space_search.specs.Turns.{IsSearchOf, Ends, Counts, EndsWith, IsUnspentTurn, LabelOf, IsReadable};
 ghost use Rattle.space_search.specs.declared.label.Label.{Label as TheLabel};
 
 use crate::begin::begin;
@@ -49,12 +50,14 @@ impl<T: Copy + Drop> Search<T> {
         ensures ends { IfOk result (λ turn. Ends (S.rules space.now) self.new.limit (books self.new.lists) self.new.found turn) }
         ensures counts { IfOk result (λ turn. Counts quota (books self.old.lists) (books self.new.lists) turn) }
         ensures last { IfOk result (λ turn. EndsWith self.new.phase turn) }
+        ensures enough { (most : ℕ) → HasFewPerCell (S.rules space.now) most → (S.rules space.now).cells * most ≤ self.old.limit → IfOk result IsUnspentTurn }
 
         ensures limit { self.new.limit ≡ self.old.limit }
         ensures kept { KeepsLabels (books self.old.lists) (books self.new.lists) }
         ensures again { (turn : _) → self.old.phase ≡ Phase.Ended turn → (result ≡ Ok turn) × (self.new ≡ self.old) }
         ensures failed { OnErr result (self.new.phase ≡ Phase.Failed) }
         ensures fails_again { self.old.phase ≡ Phase.Failed → result ≡ Err alloc_error }
+        ensures same { self.old.phase ≡ Phase.Failed → self.new ≡ self.old }
     {
         let phase = self.phase;
         match phase {

@@ -1,4 +1,4 @@
-use Rattle.std.proofs.Common.{arith, sym, ◌∙◌, subst}
+use Rattle.std.proofs.Common.{arith, ◌∙◌}
 use Rattle.space_search.specs.Books.{books, IsAccounted}
 use Rattle.space_search.proofs.ReachLemmas.{follows-start, this-one}
 use Rattle.space_search.proofs.TakeLemmas.{has_starts-more}

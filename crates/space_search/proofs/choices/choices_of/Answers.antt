@@ -1,5 +1,5 @@
-use Rattle.std.proofs.Common.{arith, ◌<◌, ◌-◌, ◌∙◌, length}
-use Rattle.space_search.specs.Books.{books, Follows}
+use Rattle.std.proofs.Common.{arith}
+use Rattle.space_search.specs.Books.{books}
 use Rattle.space_search.specs.Runs.{rests}
 use Rattle.space_search.proofs.ChoiceLemmas.{place-below, place-within, number-within, follows-before, walks-before, run-whole}
 use Rattle.space_search.proofs.choices.choices_of.Goals as goal

@@ -1,4 +1,4 @@
-use Rattle.std.proofs.Common.{ℕ, ◌≤◌, ◌+◌, length, reverse}
+use Rattle.std.proofs.Common.{◌≤◌, ◌+◌, length, reverse}
 use Rattle.space_search.specs.Books.{books, Reads, Follows}
 use Rattle.space_search.specs.Rules.{Rules}
 use Rattle.space_search.specs.Runs.{Walks}

@@ -1,6 +1,5 @@
 use Rattle.std.proofs.Common.{arith, sym, ◌∙◌}
-use Rattle.space_search.specs.Books.{books}
-use Rattle.space_search.proofs.ChainLemmas.{tested-first, uncovered-last, within-settled, within-older, within-labels, settled-here, settled-valid, settled-small, next-below, tested-next}
+use Rattle.space_search.proofs.ChainLemmas.{tested-first, within-settled, within-older, within-labels, settled-here, settled-valid, settled-small, next-below, tested-next}
 use Rattle.space_search.proofs.offer.is_covered.Goals as goal
 
 pub chain-init : goal.chain-init

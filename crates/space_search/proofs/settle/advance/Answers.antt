@@ -1,5 +1,5 @@
-use Rattle.std.proofs.Common.{arith, sym, ◌∙◌, ap, subst, ◌<◌, ◌≡◌, ◌^◌, ◌*◌, ◌+◌, ◌-◌, length}
-use Rattle.space_search.specs.Books.{books, IsAccounted, IsSettled}
+use Rattle.std.proofs.Common.{arith, ◌∙◌, ap, ◌≡◌, ◌+◌, ◌-◌, length}
+use Rattle.space_search.specs.Books.{books, IsAccounted}
 use Rattle.space_search.proofs.OfferLemmas.{extends-refl}
 use Rattle.space_search.proofs.ReachLemmas.{step-fits, follows-step, above-step, this-one}
 use Rattle.space_search.proofs.SameLemmas.{settled-within}

@@ -1,5 +1,4 @@
-use Rattle.std.proofs.Common.{arith, refl, ◌≡◌, ◌<◌, ◌+◌, length, set, ◌∙◌, ap, sym}
-use Rattle.space_search.specs.Books.{books}
+use Rattle.std.proofs.Common.{arith, ◌≡◌, ◌+◌, length, set, ap}
 use Rattle.space_search.proofs.SettleLemmas.{popped-front, settles, leaves-settled, leaves-failed}
 use Rattle.space_search.proofs.settle.settle_next.Goals as goal
 

@@ -1,5 +1,4 @@
-use Rattle.std.proofs.Common.{refl, arith, sym, ◌∙◌, ap, length, ◌≡◌, ◌-◌, subst}
-use Rattle.space_search.specs.Books.{books, HasStepsBelow}
+use Rattle.std.proofs.Common.{refl, arith, sym, ◌∙◌}
 use Rattle.space_search.proofs.take.take.Goals as goal
 
 pub returns-then-goal-clause-takes : goal.returns-then-goal-clause-takes

@@ -1,6 +1,5 @@
 use Rattle.std.proofs.Common.{◌≡◌, subst}
 use Rattle.space_search.specs.declared.label.Label.{Label}
-use Rattle.space_search.specs.Books.{books, Reads, Follows}
 use Rattle.space_search.specs.Runs.{IsRun}
 use Rattle.space_search.proofs.TurnsLemmas.{label-follows, label-unique, if_ok-weaker}
 use Rattle.space_search.proofs.search.Search.choices.Goals as goal

@@ -1,10 +1,7 @@
-use Rattle.std.proofs.Common.{◌∙◌, subst, sym, arith}
-use Rattle.space_search.specs.Books.{books}
-use Rattle.space_search.specs.Turns.{Ends, EndsSpent}
-use Rattle.space_search.specs.declared.turn.Turn.TheVariants.{Budget}
-use Rattle.space_search.proofs.LimitLemmas.{never-spent}
+use Rattle.std.proofs.Common.{subst, arith}
+use Rattle.space_search.specs.Turns.{IsUnspentTurn}
 use Rattle.space_search.proofs.TurnsLemmas.{least-run}
-use Rattle.space_search.proofs.finding.least.Goals as goal
+use Rattle.space_search.proofs.finding.least_in_turns.Goals as goal
 
 pub search-init : goal.search-init
 search-init g c =
@@ -21,9 +18,5 @@ returns-in-Found-clause-answers g c =
 
 pub returns-in-Budget-clause-enough : goal.returns-in-Budget-clause-enough
 returns-in-Budget-clause-enough g c most few enough =
-    let turn = c.in_ok-turn.ensures in
-    let ended : EndsSpent (g.S.Space.rules c.args.space.now) c.turn.new.self.limit (books c.turn.new.self.lists) =
-    subst (λ t. Ends (g.S.Space.rules c.args.space.now) c.turn.new.self.limit (books c.turn.new.self.lists) c.turn.new.self.found t)
-    c.in-Budget.is turn.ends in
-    never-spent (g.S.Space.rules c.args.space.now) (g.met.S.Space.keeps_laws c.args.space.now) most c.turn.new.self.limit
-    ended.shown few (omega (arith, enough, turn.limit, c.search.invariant.limit)) ended.spent
+    subst IsUnspentTurn c.in-Budget.is
+    (c.in_ok-turn.ensures.enough most few (omega (arith, enough, c.search.invariant.limit)))

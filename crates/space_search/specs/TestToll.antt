@@ -1,0 +1,31 @@
+-- A space of the tests: a state is a place and what is due at its next step. Three steps lead from the
+-- place 0 to the place 1, and leave more or less due there; one leads on to the goal 2.
+use Rattle.std.specs.Prelude.{ℕ, ◌+◌, Bool, true, false, cond, ◌==◌, nat_lt, Option, Some, None}
+use Rattle.space_search.specs.Rules.{Rules}
+
+-- where a step leads, and what it costs with what is due
+abbrev pub toll_step : ℕ × ℕ → ℕ → Option ((ℕ × ℕ) × ℕ)
+toll_step state number =
+    cond (state.0 == 0)
+    (cond (number == 0) (Some ((1, 9), 1 + state.1)) (cond (number == 1) (Some ((1, 2), 3 + state.1)) (Some ((1, 5), 4 + state.1))))
+    (cond (state.0 == 1) (Some ((2, 0), 2 + state.1)) None)
+
+-- the same place with no more due, at no greater cost
+abbrev pub toll_covers : ℕ × ℕ → ℕ → ℕ × ℕ → ℕ → Bool
+toll_covers a ca b cb = cond (a.0 == b.0) (cond (nat_lt b.1 a.1) false (cond (nat_lt cb ca) false true)) false
+
+-- the space of the tolls
+abbrev pub toll_rules : Rules (ℕ × ℕ)
+toll_rules =
+    record {
+      is_valid = λ state. cond (nat_lt state.0 3) (nat_lt state.1 10) false;
+      cells = 3;
+      cell = λ state. state.0;
+      starts = 1;
+      start = λ number. Some ((0, 0), 0);
+      steps = λ state. cond (state.0 == 0) 3 (cond (state.0 == 1) 1 0);
+      step = toll_step;
+      is_goal = λ state. state.0 == 2;
+      covers = toll_covers;
+      low = λ state. Some 0;
+    }
