@@ -1,0 +1,6 @@
+pub mod NameLemmas
+pub mod FileLemmas
+pub mod MixLemmas
+pub mod HeightLemmas
+pub mod PlaceLemmas
+pub mod TilesLemmas
