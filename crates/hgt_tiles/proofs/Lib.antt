@@ -1,3 +1,4 @@
+pub mod CallerLemmas
 pub mod NameLemmas
 pub mod FileLemmas
 pub mod MixLemmas

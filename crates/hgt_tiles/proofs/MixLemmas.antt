@@ -1,5 +1,6 @@
 -- Numbers between two others, weighed in millionths.
-use Rattle.std.proofs.Common.{◌≡◌, ℕ, ◌+◌, ◌-◌, ◌*◌, ◌<◌, ◌≤◌, ℤ, pos, ◌+ℤ◌, ◌*ℤ◌, unsigned_abs, FitsSigned, w16, Some, false, refl, ap, arith}
+use Rattle.std.proofs.Common.{◌≡◌, ℕ, ◌+◌, ◌-◌, ◌*◌, ◌<◌, ◌≤◌, ℤ, pos, negsuc, ◌+ℤ◌, ◌*ℤ◌, unsigned_abs, FitsSigned, w16, Some, false, refl, ap, arith}
+use Rattle.std.specs.Int.{int_div_euclid}
 use Rattle.std.proofs.lemmas.Nat.{mul-le}
 use Rattle.std.proofs.lemmas.Int.{ints, unsigned_abs-mul}
 use Rattle.hgt_tiles.specs.Height.{between, has_void, height_around}
@@ -36,3 +37,8 @@ sample_le z fits = omega (arith, ints)
 -- a height that is known
 pub height_around-known : (cell : Cell) (height : ℤ) → has_void cell ≡ false → height ≡ between cell → Some height ≡ height_around cell
 height_around-known cell height known is = rw (known, is) refl
+
+-- a quotient that is rounded down stays within what its number stays within
+pub floored_le : (z : ℤ) (most : ℕ) → unsigned_abs z ≤ 1000000 * most → unsigned_abs (int_div_euclid z (pos 1000000)) ≤ most
+floored_le (pos n) most h = omega arith
+floored_le (negsuc n) most h = omega arith

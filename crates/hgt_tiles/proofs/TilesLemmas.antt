@@ -1,5 +1,5 @@
 -- What adding a tile changes, and where a height comes from.
-use Rattle.std.proofs.Common.{◌≡◌, ◌≢◌, ℤ, Option, Some, None, Result, Ok, Err, OnErr, IfSome, true, false, is_some, refl, sym, ap, subst}
+use Rattle.std.proofs.Common.{unsigned_abs, ◌≤◌, ◌≡◌, ◌≢◌, ℤ, Option, Some, None, Result, Ok, Err, OnErr, IfSome, true, false, is_some, refl, sym, ap, subst}
 use Rattle.std.specs.Option.{unwrap_or}
 use Rattle.std.specs.BTreeMap.{is_at}
 use Rattle.std.specs.Ordering.{int_cmp, ordering_then}
@@ -89,3 +89,7 @@ height_of-lawful tiles at = lawful-at tiles at (relief_at tiles (corner_of_place
 -- so does what equals it
 pub lawful_result : (o : Option ℤ) (at : Place) (tiles : Tiles) → o ≡ height_of tiles at → IfSome o (IsInterpolated tiles at)
 lawful_result o at tiles e = subst (λ x. IfSome x (IsInterpolated tiles at)) (sym e) (height_of-lawful tiles at)
+
+-- a height that is not known is within any bound
+pub none_within : (o : Option ℤ) → o ≡ None → IfSome o (λ height. unsigned_abs height ≤ 32768000000)
+none_within o e = subst (λ x. IfSome x (λ height. unsigned_abs height ≤ 32768000000)) (sym e) tt

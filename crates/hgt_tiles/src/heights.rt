@@ -21,6 +21,7 @@ pub(crate) fn height_between(cell: Cell) -> Option<i64>
     requires east { cell.east < 1000000 }
     requires north { cell.north < 1000000 }
     ensures exact { result ≡ height_around cell }
+    ensures within { IfSome result (λ height. unsigned_abs height ≤ 32768000000) }
 {
     if is_void(cell) {
         return None;

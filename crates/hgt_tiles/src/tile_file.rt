@@ -1,6 +1,6 @@
 //! A tile of samples, and how it is read from a file.
 
-ghost use Rattle.std.specs.Prelude.{◌≡◌, ◌↔◌, ◌<◌, ◌≤◌, ◌*◌, ◌+◌, ◌/◌, IfOk, IfSome, IsNone, IsSome, Some, Err, length};
+ghost use Rattle.std.specs.Prelude.{◌≡◌, ◌↔◌, ◌<◌, ◌≤◌, ◌*◌, ◌+◌, ◌/◌, IfOk, IfSome, unsigned_abs, IsNone, IsSome, Some, Err, length};
 ghost use Rattle.hgt_tiles.specs.Name.{corner_of_name};
 ghost use Rattle.hgt_tiles.specs.File.{relief_of_file, samples_of, steps_of};
 ghost use Rattle.hgt_tiles.specs.Height.{height_on};
@@ -87,6 +87,7 @@ impl Tile {
         requires east { east < 1000000 }
         requires north { north < 1000000 }
         ensures exact { result ≡ height_on self.now east north }
+        ensures within { IfSome result (λ height. unsigned_abs height ≤ 32768000000) }
     {
         let steps = self.steps as usize;
         let x = east as usize * steps;

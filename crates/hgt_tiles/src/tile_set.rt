@@ -1,6 +1,6 @@
 //! Tiles by their corners.
 
-ghost use Rattle.std.specs.Prelude.{◌≡◌, OnOk, OnErr, IsNone, IfSome, Some};
+ghost use Rattle.std.specs.Prelude.{◌≡◌, ◌≤◌, unsigned_abs, OnOk, OnErr, IsNone, IfSome, Some};
 ghost use Rattle.geo_int.specs.Spot.{place_of};
 ghost use Rattle.hgt_tiles.specs.Relief.{Relief};
 ghost use Rattle.hgt_tiles.specs.declared.names.Corner.{Corner};
@@ -44,6 +44,7 @@ impl Tiles {
     /// The height of a place in micrometres, none where no tile is there or one of the four samples around it is void.
     pub fn height(&self, spot: Spot) -> Option<i64>
         ensures exact { result ≡ height_of self.now (place_of spot) }
+        ensures within { IfSome result (λ height. unsigned_abs height ≤ 32768000000) }
 
         // At a sample's own place it is the sample, and between four equal samples it is theirs.
         ensures lawful { IfSome result (IsInterpolated self.now (place_of spot)) }

@@ -1,8 +1,8 @@
-use Rattle.std.proofs.Common.{◌≡◌, pos, SFits, w16, w64, rules, arith, sym, ◌∙◌}
+use Rattle.std.proofs.Common.{◌≡◌, ◌≤◌, ◌*◌, unsigned_abs, pos, SFits, w16, w64, rules, arith, sym, ◌∙◌}
 use Rattle.std.proofs.lemmas.Int.{to_z-of_z, fits_signed_from_abs}
 use Rattle.std.specs.Int.{int_div_euclid}
 use Rattle.hgt_tiles.specs.Height.{mix, between}
-use Rattle.hgt_tiles.proofs.MixLemmas.{sample_le, height_around-known}
+use Rattle.hgt_tiles.proofs.MixLemmas.{sample_le, height_around-known, floored_le}
 use Rattle.hgt_tiles.proofs.heights.height_between.Goals as goal
 
 pub mixed-requires-clause-first : goal.mixed-requires-clause-first
@@ -48,4 +48,14 @@ returns c =
     let m : c.mixed.result ≡ mix cell.north c.mixed-south.result c.mixed-north.result = simp (to_z-of_z, south, north) at c.mixed.ensures.exact in
     let d : c.div_euclid.result ≡ int_div_euclid c.mixed.result (pos 1000000) = simp (to_z-of_z, all) at c.div_euclid.ensures in
     let is : c.div_euclid.result ≡ between cell = cc in
-    simp (to_z-of_z, made) (record { exact = height_around-known cell _ (sym c.is_void.ensures.exact ∙ c.if-is_void.false) is })
+    let low : unsigned_abs c.mixed-south.result ≤ 32768000000 =
+    c.mixed-south.ensures.within 32768 (simp (to_z-of_z, sw, sw') (sample_le _ sw)) (simp (to_z-of_z, se, se') (sample_le _ se)) in
+    let high : unsigned_abs c.mixed-north.result ≤ 32768000000 =
+    c.mixed-north.ensures.within 32768 (simp (to_z-of_z, nw, nw') (sample_le _ nw)) (simp (to_z-of_z, ne, ne') (sample_le _ ne)) in
+    let whole : unsigned_abs c.mixed.result ≤ 1000000 * 32768000000 =
+    c.mixed.ensures.within 32768000000 (simp (to_z-of_z, south) low) (simp (to_z-of_z, north) high) in
+    simp (to_z-of_z, made)
+    (record {
+      exact = height_around-known cell _ (sym c.is_void.ensures.exact ∙ c.if-is_void.false) is;
+      within = rw d (floored_le c.mixed.result 32768000000 whole);
+    })

@@ -3,7 +3,7 @@ use Rattle.geo_int.specs.Spot.{place_of}
 use Rattle.hgt_tiles.specs.Tiles.{relief_at, beyond}
 use Rattle.hgt_tiles.specs.Height.{height_on}
 use Rattle.hgt_tiles.proofs.PlaceLemmas.{corner-is, beyond-lon, beyond-lat}
-use Rattle.hgt_tiles.proofs.TilesLemmas.{height_of-some, height_of-none, lawful_result}
+use Rattle.hgt_tiles.proofs.TilesLemmas.{height_of-some, height_of-none, lawful_result, none_within}
 use Rattle.hgt_tiles.proofs.tile_set.Tiles.height.Goals as goal
 
 pub returns-in_err-tile : goal.returns-in_err-tile
@@ -13,7 +13,7 @@ returns-in_err-tile c =
     let same = corner-is c.args.spot _ refl in
     let none = ap (relief_at c.args.self.now) (sym same) ∙ sym c.in_err-tile.ensures.value in
     let is = c.from_residual.ensures ∙ sym (height_of-none c.args.self.now at none) in
-    record { exact = is; lawful = lawful_result _ at c.args.self.now is }
+    record { exact = is; within = none_within _ c.from_residual.ensures; lawful = lawful_result _ at c.args.self.now is }
 
 pub returns : goal.returns
 unfolding relief_at
@@ -26,4 +26,4 @@ returns c =
     ∙ ap (λ a. height_on on a (c.args.spot.ilat % 1000000)) (sym (beyond-lon c.args.spot))
     ∙ ap (λ b. height_on on (beyond at.lon) b) (sym (beyond-lat c.args.spot))
     ∙ sym (height_of-some c.args.self.now at on some) in
-    record { exact = is; lawful = lawful_result _ at c.args.self.now is }
+    record { exact = is; within = c.height.ensures.within; lawful = lawful_result _ at c.args.self.now is }
