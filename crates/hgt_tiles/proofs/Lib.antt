@@ -1,0 +1,7 @@
+pub mod CallerLemmas
+pub mod NameLemmas
+pub mod FileLemmas
+pub mod MixLemmas
+pub mod HeightLemmas
+pub mod PlaceLemmas
+pub mod TilesLemmas
