@@ -1,0 +1,7 @@
+//! JSON texts, in whatever pieces they come, read into steps.
+#![tactic(auto)]
+
+mod mode;
+mod step;
+
+pub use step::JsonStep;
