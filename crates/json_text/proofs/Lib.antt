@@ -1,2 +1,5 @@
 pub mod Tests
 pub mod NumberLemmas
+pub mod Goes
+pub mod Forth
+pub mod Back

@@ -40,3 +40,12 @@ begins_number b part e = begins_by b part (kind_of b) refl e
     begins_by b part kind_.Letter k e = cc
     begins_by b part kind_.Plus k e = cc
     begins_by b part kind_.Other k e = cc
+
+-- equal by a test
+pub eq_of : (b n : ℕ) → eqb b n ≡ true → b ≡ n
+eq_of b n e = grind (arith, nat_tests)
+
+-- what holds of both sides holds of the choice
+pub by_cond : {A : Type 0} (P : A → Type 0) (t : Bool) (x y : A) → (t ≡ true → P x) → (t ≡ false → P y) → P (cond t x y)
+by_cond P true x y f g = f refl
+by_cond P false x y f g = g refl
