@@ -35,20 +35,20 @@ use Rattle.json_text.proofs.NumberLemmas.{number_spelled}
 use Rattle.json_text.proofs.Goes.{Goes, reads, gives, finishes, Ends, Follows, sides}
 
 -- what a move that is known leads to
-out_reads : {mode : Mode} {room : ℕ} {opens : List Bracket} {content : List ℕ} {marks : List Mark} → Goes (Reads mode room opens content) marks → Rest mode room opens content marks
+pub out_reads : {mode : Mode} {room : ℕ} {opens : List Bracket} {content : List ℕ} {marks : List Mark} → Goes (Reads mode room opens content) marks → Rest mode room opens content marks
 out_reads (reads r) = r
 
-out_gives : {step : Step} {mode : Mode} {room : ℕ} {opens : List Bracket} {content : List ℕ} {marks : List Mark} → Goes (Gives step mode room opens content) marks
+pub out_gives : {step : Step} {mode : Mode} {room : ℕ} {opens : List Bracket} {content : List ℕ} {marks : List Mark} → Goes (Gives step mode room opens content) marks
     → (rest : List Mark) × (marks ≡ Given step ∷ rest) × Rest mode room opens content rest
 out_gives (gives {marks = rest} r) = (rest, refl, r)
 
-out_stuck : {marks : List Mark} → Goes Stuck marks → ⊥
+pub out_stuck : {marks : List Mark} → Goes Stuck marks → ⊥
 out_stuck g = elim g [ ]
 
-out_first : {step : Step} {mode : Mode} {room : ℕ} {opens : List Bracket} {content : List ℕ} {marks : List Mark} → Goes (GivesFirst step mode room opens content) marks → ⊥
+pub out_first : {step : Step} {mode : Mode} {room : ℕ} {opens : List Bracket} {content : List ℕ} {marks : List Mark} → Goes (GivesFirst step mode room opens content) marks → ⊥
 out_first g = elim g [ ]
 
-out_finishes : {marks : List Mark} → Goes Finishes marks → marks ≡ []
+pub out_finishes : {marks : List Mark} → Goes Finishes marks → marks ≡ []
 out_finishes finishes = refl
 
 -- a byte and what follows it

@@ -3,3 +3,7 @@ pub mod NumberLemmas
 pub mod Goes
 pub mod Forth
 pub mod Back
+pub mod Lists
+pub mod Alive
+pub mod Stops
+pub mod Fronts

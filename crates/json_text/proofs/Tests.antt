@@ -49,3 +49,7 @@ eq_of b n e = grind (arith, nat_tests)
 pub by_cond : {A : Type 0} (P : A → Type 0) (t : Bool) (x y : A) → (t ≡ true → P x) → (t ≡ false → P y) → P (cond t x y)
 by_cond P true x y f g = f refl
 by_cond P false x y f g = g refl
+
+-- a space is nothing of a number
+pub space_kind : (b : ℕ) → is_space b ≡ true → kind_of b ≡ kind_.Other
+space_kind b e = grind (arith, nat_tests)

@@ -50,5 +50,6 @@ symbols [] = []
 symbols (b ∷ bytes) = Byte b ∷ symbols bytes
 
 -- the first list is the beginning of the second
-abbrev pub Begins : {A : Type 0} → List A → List A → Type 0
-Begins {A} front whole = (rest : List A) × (whole ≡ front ++ rest)
+pub record Begins {A : Type 0} (front whole : List A) : Type 0 where
+  pub rest : List A
+  pub same : whole ≡ front ++ rest

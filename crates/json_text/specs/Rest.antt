@@ -14,10 +14,10 @@ use Rattle.json_text.specs.declared.mode.Place.{Place}
 use Rattle.json_text.specs.declared.mode.Place.TheVariants as place_
 use Rattle.json_text.specs.declared.mode.Mode.{Mode}
 use Rattle.json_text.specs.declared.mode.Mode.TheVariants as mode_
-use Rattle.json_text.specs.Marks.{Symbol, Byte, End, Literal, Yes, No, Null, Step, Mark, Seen, Given, see}
+use Rattle.json_text.specs.Marks.{Symbol, Byte, End, Literal, Yes, No, Null, Step, Mark, Seen, Given, see, symbols_of, Begins}
 use Rattle.json_text.specs.Bytes.{AreAll, is_space, kind_of, AreIn, ranges_of, is_hex}
 use Rattle.json_text.specs.Chars.{Char, Coded, Plain, Short, IsChar, AreChars, print_chars, print_text, close_text, content_of}
-use Rattle.json_text.specs.Grammar.{Value, Entries, Others, print_value, print_entries, print_others, IsValue, AreEntries, AreOthers}
+use Rattle.json_text.specs.Grammar.{Value, Entries, Others, print_value, print_entries, print_others, IsValue, AreEntries, AreOthers, IsText}
 
 -- behind a value, inside the brackets that are open, the innermost first, where so many more may open
 abbrev pub After : ℕ → List Bracket → List Mark → Type 0
@@ -185,3 +185,17 @@ Rest (mode_.Number part) room opens content marks =
     (bytes : List ℕ) × (rest : List Mark) × Completes bytes part
     × (marks ≡ see bytes (Given (Step.Number (content ++ bytes)) ∷ rest)) × After room opens rest
 Rest (mode_.Text role place) room opens content marks = RestOfText role place room opens content marks
+
+-- The marks were read up to a place: what goes on from them to a whole text is what may follow there. Each text
+-- that begins with their symbols and the next one begins with the marks; and of other marks with these symbols
+-- that begin some text, one is the beginning of the other.
+pub record IsFrontOf (front : List Mark) (next : List Symbol) (mode : Mode) (room : ℕ) (opens : List Bracket) (content : List ℕ) : Type 0 where
+  pub forth : (rest : List Mark) → IsText (front ++ rest) → Rest mode room opens content rest
+  pub back : (rest : List Mark) → Rest mode room opens content rest → IsText (front ++ rest)
+  pub only : (text : List Mark) → IsText text → Begins (symbols_of front ++ next) (symbols_of text) → Begins front text
+  pub kin : (other rest : List Mark) → IsText (other ++ rest) → symbols_of other ≡ symbols_of front → Begins other front ⊎ Begins front other
+
+-- the first symbol, where there is one
+abbrev pub first_of : List Symbol → List Symbol
+first_of [] = []
+first_of (x ∷ others) = x ∷ []
