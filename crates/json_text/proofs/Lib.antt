@@ -7,3 +7,4 @@ pub mod Lists
 pub mod Alive
 pub mod Stops
 pub mod Fronts
+pub mod Verdicts
