@@ -8,3 +8,4 @@ pub mod Alive
 pub mod Stops
 pub mod Fronts
 pub mod Verdicts
+pub mod Exists

@@ -55,7 +55,7 @@ begins_trans {A} {a} f g = begins (f.rest ++ g.rest) (g.same ∙ ap (λ x. x ++ 
 pub begins_self : {A : Type 0} (a : List A) → Begins a a
 begins_self a = begins [] (sym (append_nil a))
 
-nothing_more : {A : Type 0} (a m : List A) → a ≡ a ++ m → m ≡ []
+pub nothing_more : {A : Type 0} (a m : List A) → a ≡ a ++ m → m ≡ []
 nothing_more a m e = sym (cancel a (append_nil a ∙ e))
 
 front_nil : {A : Type 0} (m n : List A) → m ++ n ≡ [] → m ≡ []

@@ -67,7 +67,7 @@ part_none part_.Letter = refl
 part_none part_.Sign = refl
 part_none part_.Exponent = refl
 
-may_end_gives : (part : Part) (room : ℕ) (opens : List Bracket) (content : List ℕ) → may_end part ≡ true
+pub may_end_gives : (part : Part) (room : ℕ) (opens : List Bracket) (content : List ℕ) → may_end part ≡ true
     → end_move part room opens content ≡ GivesFirst (Step.Number content) mode_.After room opens []
 may_end_gives part room opens content m =
     subst (λ t. cond t (GivesFirst (Step.Number content) mode_.After room opens []) Stuck ≡ GivesFirst (Step.Number content) mode_.After room opens []) (sym m) refl
@@ -109,13 +109,20 @@ FirstSays mode room opens content _ = Unit {0}
 -- no other move gives a step first
 abbrev pub NeverFirst : Move → Type 0
 NeverFirst (GivesFirst step to room_to opens_to content_to) = ⊥
+NeverFirst Finishes = ⊥
 NeverFirst _ = Unit {0}
 
-never_says : (mode : Mode) (room : ℕ) (opens : List Bracket) (content : List ℕ) (move : Move) → NeverFirst move → FirstSays mode room opens content move
+-- a byte finishes nothing
+abbrev pub ByteSays : Mode → ℕ → List Bracket → List ℕ → Move → Type 0
+ByteSays mode room opens content (GivesFirst step to room_to opens_to content_to) = Ended mode room opens content step to room_to opens_to
+ByteSays mode room opens content Finishes = ⊥
+ByteSays mode room opens content _ = Unit {0}
+
+never_says : (mode : Mode) (room : ℕ) (opens : List Bracket) (content : List ℕ) (move : Move) → NeverFirst move → ByteSays mode room opens content move
 never_says mode room opens content (Reads m r o c) n = tt
 never_says mode room opens content (Gives s m r o c) n = tt
 never_says mode room opens content (GivesFirst s m r o c) n = absurd n
-never_says mode room opens content Finishes n = tt
+never_says mode room opens content Finishes n = absurd n
 never_says mode room opens content Stuck n = tt
 
 open_never : (bracket : Bracket) (room : ℕ) (opens : List Bracket) (content : List ℕ) → NeverFirst (open_move bracket room opens content)
@@ -176,17 +183,22 @@ text_never role (place_.Hex4 w x y z) room opens content b = by_cond NeverFirst 
 text_never role (place_.Tail tail) room opens content b =
     by_cond NeverFirst (fits_tail tail b) _ _ (λ e. tail_never role (tail_after tail) room opens (content ++ (b ∷ []))) (λ e. tt)
 
+end_says_byte : (part : Part) (room : ℕ) (opens : List Bracket) (content : List ℕ) → ByteSays (mode_.Number part) room opens content (end_move part room opens content)
+end_says_byte part room opens content = by_cond (ByteSays (mode_.Number part) room opens content) (may_end part) _ _
+    (λ e. record { part = part; is_number = refl; ends = e; step_is = refl; mode_is = refl; room_is = refl; opens_is = refl })
+    (λ e. tt)
+
 end_says : (part : Part) (room : ℕ) (opens : List Bracket) (content : List ℕ) → FirstSays (mode_.Number part) room opens content (end_move part room opens content)
 end_says part room opens content = by_cond (FirstSays (mode_.Number part) room opens content) (may_end part) _ _
     (λ e. record { part = part; is_number = refl; ends = e; step_is = refl; mode_is = refl; room_is = refl; opens_is = refl })
     (λ e. tt)
 
 number_says : (part : Part) (next : Option Part) (room : ℕ) (opens : List Bracket) (content : List ℕ) (b : ℕ)
-    → FirstSays (mode_.Number part) room opens content (number_move part next room opens content b)
+    → ByteSays (mode_.Number part) room opens content (number_move part next room opens content b)
 number_says part (Some next) room opens content b = tt
-number_says part None room opens content b = end_says part room opens content
+number_says part None room opens content b = end_says_byte part room opens content
 
-byte_says : (mode : Mode) (room : ℕ) (opens : List Bracket) (content : List ℕ) (b : ℕ) → FirstSays mode room opens content (byte_move mode room opens content b)
+pub byte_says : (mode : Mode) (room : ℕ) (opens : List Bracket) (content : List ℕ) (b : ℕ) → ByteSays mode room opens content (byte_move mode room opens content b)
 byte_says mode_.Value room opens content b = never_says _ _ _ _ _ (by_cond NeverFirst (is_space b) _ _ (λ e. tt) (λ e. start_never (start_of b) room opens content b))
 byte_says mode_.First room opens content b = never_says _ _ _ _ _ (by_cond NeverFirst (is_space b) _ _ (λ e. tt) (λ e. first_never room opens content b))
 byte_says mode_.After room opens content b = never_says _ _ _ _ _ (by_cond NeverFirst (is_space b) _ _ (λ e. tt) (λ e. after_never room opens content b))
@@ -208,6 +220,13 @@ last_says mode_.Colon room opens content = tt
 last_says (mode_.Word letters) room opens content = tt
 last_says (mode_.Text role place) room opens content = tt
 
+byte_first : (mode : Mode) (room : ℕ) (opens : List Bracket) (content : List ℕ) (move : Move) → ByteSays mode room opens content move → FirstSays mode room opens content move
+byte_first mode room opens content (Reads m r o c) s = tt
+byte_first mode room opens content (Gives x m r o c) s = tt
+byte_first mode room opens content (GivesFirst x m r o c) s = s
+byte_first mode room opens content Finishes s = tt
+byte_first mode room opens content Stuck s = tt
+
 pub first_says : (mode : Mode) (room : ℕ) (opens : List Bracket) (content : List ℕ) (x : Symbol) → FirstSays mode room opens content (move_by mode room opens content x)
-first_says mode room opens content (Byte b) = byte_says mode room opens content b
+first_says mode room opens content (Byte b) = byte_first mode room opens content (byte_move mode room opens content b) (byte_says mode room opens content b)
 first_says mode room opens content End = last_says mode room opens content

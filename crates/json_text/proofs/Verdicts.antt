@@ -9,7 +9,7 @@ use Rattle.json_text.specs.Grammar.{IsText}
 use Rattle.json_text.specs.Reading.{seen, Verdict, More, Whole, BadAt, IsMore, IsWhole, IsBad, IsFrontFor, Reads, AreFixed}
 use Rattle.json_text.specs.Rest.{Rest, After, may_end, IsFrontOf, first_of}
 use Rattle.json_text.specs.Machine.{Move, Finishes, Stuck, move_by}
-use Rattle.json_text.proofs.Lists.{append_nil, symbols_append, steps_append, head_of, tail_of, no_cons, cancel, begins, comparable, begins_trans, begins_self, begins_more, begins_front, begins_antisym, symbols_begin, steps_begin}
+use Rattle.json_text.proofs.Lists.{append_nil, symbols_append, steps_append, head_of, tail_of, no_cons, cancel, nothing_more, begins, comparable, begins_trans, begins_self, begins_more, begins_front, begins_antisym, symbols_begin, steps_begin}
 use Rattle.json_text.proofs.Goes.{Goes, reads, gives, finishes, Ends, Follows}
 use Rattle.json_text.proofs.Alive.{alive}
 use Rattle.json_text.proofs.Back.{back, out_reads, out_gives, out_stuck, out_first, out_finishes}
@@ -65,8 +65,8 @@ bad_at {front} {next} {mode} {room} {opens} {content} bytes ended x others f n s
       ]
     ]
 
--- a front within a text that shows a symbol behind another front of the same length lies within that front
-within : (front other rest : List Mark) (x : Symbol) → Begins front (other ++ (Seen x ∷ rest)) → symbols_of front ≡ symbols_of other → Begins front other
+-- a front within a text that shows a symbol behind another front, at least as long, lies within that front
+within : (front other rest : List Mark) (x : Symbol) → Begins front (other ++ (Seen x ∷ rest)) → Begins (symbols_of front) (symbols_of other) → Begins front other
 within front other rest x g s = elim (comparable front g.rest other (Seen x ∷ rest) (sym g.same)) [
   | inl h ↦ h
   | inr h ↦ within_by h.rest h.same
@@ -75,7 +75,8 @@ within front other rest x g s = elim (comparable front g.rest other (Seen x ∷ 
     within_by : (m : List Mark) → front ≡ other ++ m → Begins front other
     within_by [] e = begins [] (sym (e ∙ append_nil other) ∙ sym (append_nil front))
     within_by (Seen y ∷ m) e =
-        absurd (no_cons (cancel (symbols_of other) (append_nil (symbols_of other) ∙ sym s ∙ ap symbols_of e ∙ symbols_append other (Seen y ∷ m))))
+        absurd (no_cons (sym (nothing_more (symbols_of other) (y ∷ (symbols_of m ++ s.rest))
+          (s.same ∙ ap (λ z. z ++ s.rest) (ap symbols_of e ∙ symbols_append other (Seen y ∷ m)) ∙ append_assoc (symbols_of other) (y ∷ symbols_of m) s.rest))))
     within_by (Given y ∷ m) e =
         let k : Given y ∷ (m ++ g.rest) ≡ Seen x ∷ rest =
             cancel other (sym (append_assoc other (Given y ∷ m) g.rest) ∙ ap (λ r. r ++ g.rest) (sym e) ∙ sym g.same) in
@@ -111,7 +112,7 @@ goes_begin bytes front m =
 
 more_within : (bytes : List ℕ) (front other : List Mark) → IsMore bytes front → IsMore bytes other → Begins front other
 more_within bytes front other b c =
-    within front other c.goes_on.1 c.goes_on.0 (b.only (other ++ (Seen c.goes_on.0 ∷ c.goes_on.1)) c.goes_on.2 (goes_begin bytes other c)) (b.same ∙ sym c.same)
+    within front other c.goes_on.1 c.goes_on.0 (b.only (other ++ (Seen c.goes_on.0 ∷ c.goes_on.1)) c.goes_on.2 (goes_begin bytes other c)) (begins [] (c.same ∙ sym b.same ∙ sym (append_nil (symbols_of front))))
 
 more_not_bad : (bytes : List ℕ) (front other : List Mark) → IsMore bytes front → IsBad bytes false other → ⊥
 more_not_bad bytes front other m b =
@@ -142,3 +143,69 @@ pub unique : (bytes : List ℕ) (ended : Bool) (steps others : List Step) (v w :
 unique bytes ended steps others v w b c =
     let s = same_front bytes ended b.front c.front v w b.fits c.fits in
     (sym b.given ∙ ap steps_of s.0 ∙ c.given, s.1)
+
+-- the first symbol begins what it is the first of
+first_begins : (pending : List Symbol) → Begins (first_of pending) pending
+first_begins [] = begins [] refl
+first_begins (x ∷ others) = begins others refl
+
+module _ {front : List Mark} {mode : Mode} {room : ℕ} {opens : List Bracket} {content : List ℕ} (pending : List Symbol) (bytes : List ℕ) (ended : Bool)
+    (f : IsFrontOf front (first_of pending) mode room opens content) (s : seen bytes ended ≡ symbols_of front ++ pending) where
+  -- the front and its next symbol were seen
+  next_seen : Begins (symbols_of front ++ first_of pending) (seen bytes ended)
+  next_seen = subst (λ z. Begins (symbols_of front ++ first_of pending) z) (sym s) (begins_more (symbols_of front) (first_begins pending))
+
+  -- the front begins each front of a reading
+  before_bad : (other : List Mark) → IsBad bytes ended other → Begins front other
+  before_bad other c = elim (comparable (symbols_of front) pending (symbols_of other) (c.next ∷ c.others) (sym s ∙ c.same)) [
+    | inl g ↦ longer g.rest g.same
+    | inr g ↦ shorter g.rest g.same
+  ]
+    where
+      equal : symbols_of front ≡ symbols_of other → Begins front other
+      equal e = let a = alive mode room opens content in c.all front (Seen a.symbol ∷ a.rest) (f.back (Seen a.symbol ∷ a.rest) a.follows) e
+      longer : (m : List Symbol) → symbols_of other ≡ symbols_of front ++ m → Begins front other
+      longer [] e = equal (sym (e ∙ append_nil (symbols_of front)))
+      longer (y ∷ m) e =
+          let p : pending ≡ y ∷ (m ++ (c.next ∷ c.others)) =
+              cancel (symbols_of front) (sym s ∙ c.same ∙ ap (λ z. z ++ (c.next ∷ c.others)) e ∙ append_assoc (symbols_of front) (y ∷ m) (c.next ∷ c.others)) in
+          let n : Begins (symbols_of front ++ first_of pending) (symbols_of other) =
+              begins m (e ∙ sym (append_assoc (symbols_of front) (y ∷ []) m) ∙ ap (λ z. (symbols_of front ++ first_of z) ++ m) (sym p)) in
+          let g = f.only (other ++ c.begins.0) c.begins.1 (begins_trans n (symbols_begin (begins_front other c.begins.0))) in
+          elim (comparable front g.rest other c.begins.0 (sym g.same)) [
+            | inl h ↦ h
+            | inr h ↦ absurd (no_cons (sym (nothing_more (symbols_of front) (y ∷ (m ++ symbols_of h.rest))
+                (ap symbols_of h.same ∙ symbols_append other h.rest ∙ ap (λ z. z ++ symbols_of h.rest) e ∙ append_assoc (symbols_of front) (y ∷ m) (symbols_of h.rest)))))
+          ]
+      shorter : (m : List Symbol) → symbols_of front ≡ symbols_of other ++ m → Begins front other
+      shorter [] e = equal (e ∙ append_nil (symbols_of other))
+      shorter (y ∷ m) e =
+          let a = alive mode room opens content in
+          let p : c.next ∷ c.others ≡ y ∷ (m ++ pending) =
+              cancel (symbols_of other) (sym c.same ∙ s ∙ ap (λ z. z ++ pending) e ∙ append_assoc (symbols_of other) (y ∷ m) pending) in
+          let g : Begins (symbols_of other ++ (c.next ∷ [])) (symbols_of front) =
+              begins m (e ∙ ap (λ z. symbols_of other ++ (z ∷ m)) (sym (head_of p)) ∙ sym (append_assoc (symbols_of other) (c.next ∷ []) m)) in
+          absurd (c.longest (front ++ (Seen a.symbol ∷ a.rest)) (f.back (Seen a.symbol ∷ a.rest) a.follows)
+            (begins_trans g (symbols_begin (begins_front front (Seen a.symbol ∷ a.rest)))))
+
+  before_more : (other : List Mark) → ended ≡ false → IsMore bytes other → Begins front other
+  before_more other e c =
+      let q : symbols bytes ≡ symbols_of front ++ pending = sym (seen_more bytes) ∙ ap (λ t. seen bytes t) (sym e) ∙ s in
+      let n : Begins (symbols_of front ++ first_of pending) (symbols bytes) =
+          subst (λ z. Begins (symbols_of front ++ first_of pending) z) (sym q) (begins_more (symbols_of front) (first_begins pending)) in
+      within front other c.goes_on.1 c.goes_on.0
+      (f.only (other ++ (Seen c.goes_on.0 ∷ c.goes_on.1)) c.goes_on.2 (begins_trans n (goes_begin bytes other c)))
+      (begins pending (c.same ∙ q))
+
+  before_whole : (other : List Mark) → ended ≡ true → IsWhole bytes other → Begins front other
+  before_whole other e c =
+      f.only other c.is_text (subst (λ z. Begins (symbols_of front ++ first_of pending) z) (ap (λ t. seen bytes t) e ∙ sym c.same) next_seen)
+
+  before : (other : List Mark) (v : Verdict) → IsFrontFor bytes ended other v → Begins front other
+  before other More (e, c) = before_more other e c
+  before other Whole (e, c) = before_whole other e c
+  before other (BadAt n) (e, c) = before_bad other c
+
+  -- so its steps are fixed
+  pub fixed : AreFixed bytes ended (steps_of front)
+  fixed all v r = subst (λ z. Begins (steps_of front) z) r.given (steps_begin (before r.front v r.fits))
