@@ -2,6 +2,7 @@
 #![tactic(auto)]
 
 mod bytes;
+mod content;
 mod mode;
 mod step;
 
