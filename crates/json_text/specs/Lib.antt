@@ -6,3 +6,4 @@ pub mod Grammar
 pub mod Reading
 pub mod Rest
 pub mod Machine
+pub mod Taking

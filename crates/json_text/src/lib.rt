@@ -3,6 +3,7 @@
 
 mod bytes;
 mod content;
+mod machine;
 mod mode;
 mod step;
 

@@ -131,3 +131,28 @@ pub enum Mode {
     /// Between quotation marks.
     Text(Role, Place),
 }
+
+/// A step that a move gives, where the content stands beside it.
+#[derive(Clone, Copy)]
+pub enum Token {
+    Open(Bracket),
+    Close(Bracket),
+    Text(Role),
+    Number,
+    Word(Letters),
+}
+
+/// What became of a symbol.
+#[derive(Clone, Copy)]
+pub enum Taken {
+    /// It was read.
+    Read,
+    /// It was read, and a step is given.
+    Given(Token),
+    /// It ends a number, which is given, and is still to be read.
+    First,
+    /// It ends the text.
+    Finished,
+    /// No text goes on so. Nothing has changed.
+    Stuck,
+}
