@@ -1,5 +1,5 @@
 -- A machine of the code as the scanner's moves see it.
-use Rattle.std.specs.Prelude.{ℕ, List, [], ◌≡◌, ◌-◌, length, reverse}
+use Rattle.std.specs.Prelude.{ℕ, List, [], ◌∷◌, ◌≡◌, Option, Some, None, ◌-◌, length, reverse}
 use Rattle.json_text.specs.declared.mode.Bracket.{Bracket}
 use Rattle.json_text.specs.declared.mode.Mode.{Mode}
 use Rattle.json_text.specs.declared.mode.Token.{Token}
@@ -19,6 +19,15 @@ room_of machine = 64 - length machine.opens.items
 -- the brackets that are open, the innermost first
 abbrev pub opens_of : Machine → List Bracket
 opens_of machine = reverse machine.opens.items
+
+-- the innermost bracket, and the others
+abbrev pub top_of : List Bracket → Option Bracket
+top_of [] = None
+top_of (bracket ∷ opens) = Some bracket
+
+abbrev pub rest_of : List Bracket → List Bracket
+rest_of [] = []
+rest_of (bracket ∷ opens) = opens
 
 -- the step of a token beside its content
 abbrev pub step_of : Token → List ℕ → Step

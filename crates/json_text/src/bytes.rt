@@ -6,7 +6,7 @@ ghost use Rattle.json_text.specs.Machine as machine;
 ghost use Rattle.json_text.specs.Rest as rest;
 ghost use Rattle.json_text.specs.Grammar as grammar;
 
-use crate::mode::{Bracket, Escape, Kind, Lead, Letters, Part, Start, Tail};
+use crate::mode::{Bracket, Escape, Kind, Lead, Letters, Mode, Part, Start, Tail};
 
 /// Whether a byte is white space.
 pub fn is_space(b: u8) -> bool
@@ -231,5 +231,15 @@ pub fn closing(bracket: Bracket) -> u8
     match bracket {
         Bracket::Square => 93,
         Bracket::Curly => 125,
+    }
+}
+
+/// Where the next entry stands, behind a comma.
+pub fn entry_mode(bracket: Bracket) -> Mode
+    ensures value { result ≡ machine.entry_mode bracket }
+{
+    match bracket {
+        Bracket::Square => Mode::Value,
+        Bracket::Curly => Mode::Name,
     }
 }
