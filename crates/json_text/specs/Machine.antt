@@ -171,9 +171,12 @@ escape_move role w escape_.Coded room opens content = Reads (mode_.Text role (pl
 escape_move role w escape_.Nothing room opens content = Stuck
 
 -- behind a byte of a character
+abbrev pub place_after : Option Tail → Place
+place_after None = place_.Chars None
+place_after (Some tail) = place_.Tail tail
+
 abbrev pub tail_move : Role → Option Tail → ℕ → List Bracket → List ℕ → Move
-tail_move role None room opens content = Reads (mode_.Text role (place_.Chars None)) room opens content
-tail_move role (Some tail) room opens content = Reads (mode_.Text role (place_.Tail tail)) room opens content
+tail_move role next room opens content = Reads (mode_.Text role (place_after next)) room opens content
 
 -- between quotation marks
 abbrev pub text_move : Role → Place → ℕ → List Bracket → List ℕ → ℕ → Move

@@ -2,6 +2,7 @@
 use Rattle.std.specs.Prelude.{ℕ, List, [], ◌∷◌, ◌≡◌, Option, Some, None, ◌-◌, length, reverse}
 use Rattle.json_text.specs.declared.mode.Bracket.{Bracket}
 use Rattle.json_text.specs.declared.mode.Mode.{Mode}
+use Rattle.json_text.specs.declared.mode.Mode.TheVariants as mode_
 use Rattle.json_text.specs.declared.mode.Token.{Token}
 use Rattle.json_text.specs.declared.mode.Token.TheVariants as token_
 use Rattle.json_text.specs.declared.mode.Taken.{Taken}
@@ -68,3 +69,12 @@ abbrev pub Stays : Taken → Machine → Machine → Type 0
 Stays taken_.Finished old new = IsSame old new
 Stays taken_.Stuck old new = IsSame old new
 Stays _ old new = Unit {0}
+
+-- white space may stand there
+abbrev pub MaySpace : Mode → Type 0
+MaySpace mode_.Value = Unit {0}
+MaySpace mode_.First = Unit {0}
+MaySpace mode_.After = Unit {0}
+MaySpace mode_.Name = Unit {0}
+MaySpace mode_.Colon = Unit {0}
+MaySpace _ = ⊥

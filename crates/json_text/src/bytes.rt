@@ -6,7 +6,7 @@ ghost use Rattle.json_text.specs.Machine as machine;
 ghost use Rattle.json_text.specs.Rest as rest;
 ghost use Rattle.json_text.specs.Grammar as grammar;
 
-use crate::mode::{Bracket, Escape, Kind, Lead, Letters, Mode, Part, Start, Tail};
+use crate::mode::{Bracket, Escape, Kind, Lead, Letters, Mode, Part, Place, Role, Start, Tail};
 
 /// Whether a byte is white space.
 pub fn is_space(b: u8) -> bool
@@ -241,5 +241,25 @@ pub fn entry_mode(bracket: Bracket) -> Mode
     match bracket {
         Bracket::Square => Mode::Value,
         Bracket::Curly => Mode::Name,
+    }
+}
+
+/// The mode behind a text.
+pub fn mode_behind(role: Role) -> Mode
+    ensures value { result ≡ machine.mode_behind role }
+{
+    match role {
+        Role::Name => Mode::Colon,
+        Role::Value => Mode::After,
+    }
+}
+
+/// The place behind a byte of a character.
+pub fn place_after(tail: Tail) -> Place
+    ensures value { result ≡ machine.place_after (machine.tail_after tail) }
+{
+    match tail_after(tail) {
+        Some(next) => Place::Tail(next),
+        None => Place::Chars(None),
     }
 }
