@@ -9,3 +9,4 @@ pub mod Stops
 pub mod Fronts
 pub mod Verdicts
 pub mod Exists
+pub mod ScannerLemmas

@@ -7,3 +7,5 @@ pub mod Reading
 pub mod Rest
 pub mod Machine
 pub mod Taking
+pub mod Scanner
+pub mod Told

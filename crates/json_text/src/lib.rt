@@ -5,6 +5,8 @@ mod bytes;
 mod content;
 mod machine;
 mod mode;
+mod scanner;
 mod step;
 
+pub use scanner::Scanner;
 pub use step::JsonStep;
