@@ -80,10 +80,3 @@ IsVerdict step_.Done verdict = verdict ≡ Whole
 IsVerdict step_.More verdict = verdict ≡ More
 IsVerdict (step_.Bad at) verdict = verdict ≡ BadAt at
 IsVerdict _ verdict = ⊥
-
--- the last content stays where a step has none
-abbrev pub KeepsContent : JsonStep → List ℕ → List ℕ → Type 0
-KeepsContent step_.Key old new = Unit {0}
-KeepsContent step_.Text old new = Unit {0}
-KeepsContent step_.Number old new = Unit {0}
-KeepsContent _ old new = new ≡ old

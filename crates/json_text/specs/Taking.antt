@@ -3,14 +3,13 @@ use Rattle.std.specs.Prelude.{ℕ, List, [], ◌∷◌, ◌≡◌, Option, Some,
 use Rattle.json_text.specs.declared.mode.Bracket.{Bracket}
 use Rattle.json_text.specs.declared.mode.Mode.{Mode}
 use Rattle.json_text.specs.declared.mode.Mode.TheVariants as mode_
-use Rattle.json_text.specs.declared.mode.Token.{Token}
-use Rattle.json_text.specs.declared.mode.Token.TheVariants as token_
 use Rattle.json_text.specs.declared.mode.Taken.{Taken}
 use Rattle.json_text.specs.declared.mode.Taken.TheVariants as taken_
+use Rattle.json_text.specs.declared.mode.Ending.{Ending}
+use Rattle.json_text.specs.declared.mode.Ending.TheVariants as ending_
 use Rattle.json_text.specs.declared.machine.Machine.{Machine}
 use Rattle.json_text.specs.Marks.{Symbol, Step}
-use Rattle.json_text.specs.Chars.{text_step}
-use Rattle.json_text.specs.Rest.{word_of}
+use Rattle.json_text.specs.Tokens.{step_of, KeepsWith}
 use Rattle.json_text.specs.Machine.{Move, Reads, Gives, GivesFirst, Finishes, Stuck, move_by}
 
 -- how many brackets may open
@@ -30,31 +29,16 @@ abbrev pub rest_of : List Bracket → List Bracket
 rest_of [] = []
 rest_of (bracket ∷ opens) = opens
 
--- the step of a token beside its content
-abbrev pub step_of : Token → List ℕ → Step
-step_of (token_.Open bracket) text = Step.Opens bracket
-step_of (token_.Close bracket) text = Step.Closes bracket
-step_of (token_.Text role) text = text_step role text
-step_of token_.Number text = Step.Number text
-step_of (token_.Word letters) text = Step.Word (word_of letters)
-
 -- the move that was made, seen by what became of the symbol and by the machine then
 abbrev pub move_of : Taken → Machine → Move
 move_of taken_.Read new = Reads new.mode (room_of new) (opens_of new) new.content.items
 move_of (taken_.Given token) new = Gives (step_of token new.text.items) new.mode (room_of new) (opens_of new) new.content.items
 move_of taken_.First new = GivesFirst (Step.Number new.text.items) new.mode (room_of new) (opens_of new) new.content.items
-move_of taken_.Finished new = Finishes
 move_of taken_.Stuck new = Stuck
-
--- a token with content, which takes the place of the one before
-abbrev pub KeepsToken : Token → Machine → Machine → Type 0
-KeepsToken (token_.Text role) old new = Unit {0}
-KeepsToken token_.Number old new = Unit {0}
-KeepsToken _ old new = new.text.items ≡ old.text.items
 
 -- the last content stays where no other is given
 abbrev pub KeepsText : Taken → Machine → Machine → Type 0
-KeepsText (taken_.Given token) old new = KeepsToken token old new
+KeepsText (taken_.Given token) old new = KeepsWith token old.text.items new.text.items
 KeepsText taken_.First old new = Unit {0}
 KeepsText _ old new = new.text.items ≡ old.text.items
 
@@ -64,9 +48,8 @@ pub record IsSame (old new : Machine) : Type 0 where
   pub opens : new.opens.items ≡ old.opens.items
   pub content : new.content.items ≡ old.content.items
 
--- where no text goes on so, or it ends, nothing has changed
+-- where no text goes on so, nothing has changed
 abbrev pub Stays : Taken → Machine → Machine → Type 0
-Stays taken_.Finished old new = IsSame old new
 Stays taken_.Stuck old new = IsSame old new
 Stays _ old new = Unit {0}
 
@@ -78,3 +61,18 @@ MaySpace mode_.After = Unit {0}
 MaySpace mode_.Name = Unit {0}
 MaySpace mode_.Colon = Unit {0}
 MaySpace _ = ⊥
+
+-- the same for the end
+abbrev pub end_move_of : Ending → Machine → Move
+end_move_of ending_.Number new = GivesFirst (Step.Number new.text.items) new.mode (room_of new) (opens_of new) new.content.items
+end_move_of ending_.Whole new = Finishes
+end_move_of ending_.Stuck new = Stuck
+
+-- but for a number that ends, nothing has changed
+pub record IsUnchanged (old new : Machine) : Type 0 where
+  pub place : IsSame old new
+  pub text : new.text.items ≡ old.text.items
+
+abbrev pub EndStays : Ending → Machine → Machine → Type 0
+EndStays ending_.Number old new = Unit {0}
+EndStays _ old new = IsUnchanged old new

@@ -1,6 +1,7 @@
 //! JSON texts, in whatever pieces they come, read into steps.
 #![tactic(auto)]
 
+mod answer;
 mod bytes;
 mod content;
 mod machine;

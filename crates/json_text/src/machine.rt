@@ -10,7 +10,7 @@ use crate::bytes::{
     may_end, mode_behind, part_after, place_after, start_of,
 };
 use crate::content::{push_lone, push_unit, unit_of, waits};
-use crate::mode::{Bracket, Escape, Lead, Letters, Mode, Part, Place, Role, Start, Tail, Taken, Token};
+use crate::mode::{Bracket, Ending, Escape, Lead, Letters, Mode, Part, Place, Role, Start, Tail, Taken, Token};
 
 /// The place in the text, the open brackets, and the content of the text or number that is read and of the last
 /// that was given.
@@ -34,7 +34,7 @@ impl Machine {
     ghost use Rattle.json_text.specs.declared.mode.Place.TheVariants as place_;
     ghost use Rattle.json_text.specs.Marks.{Step, Byte, End};
     ghost use Rattle.json_text.specs.Machine.{start_move, open_move, move_by, Reads, Gives, Stuck};
-    ghost use Rattle.json_text.specs.Taking.{room_of, opens_of, top_of, rest_of, move_of, KeepsText, Stays, IsSame, MaySpace};
+    ghost use Rattle.json_text.specs.Taking.{room_of, opens_of, top_of, rest_of, move_of, KeepsText, Stays, IsSame, MaySpace, end_move_of, EndStays};
 
     /// Before any symbol.
     pub fn new(alloc: Global) -> Self
@@ -221,20 +221,16 @@ impl Machine {
         }
     }
 
-    /// Where a number can't go on.
-    fn end_number(&mut self, part: Part) -> Result<Taken, AllocError>
-        ensures moves { IfOk result (λ taken. move_of taken self.new ≡ machine.end_move part (room_of self.old) (opens_of self.old) self.old.content.items) }
-        ensures kept { IfOk result (λ taken. KeepsText taken self.old self.new) }
-        ensures stays { IfOk result (λ taken. Stays taken self.old self.new) }
-        ensures err { OnErr result (self.new.text.items ≡ self.old.text.items) }
+    /// Gives the number that ends here.
+    fn give_number(&mut self)
+        ensures opens { self.new.opens.items ≡ self.old.opens.items }
+        ensures text { self.new.text.items ≡ self.old.content.items }
+        ensures content { self.new.content.items ≡ [] }
+        ensures mode { self.new.mode ≡ mode_.After }
     {
-        if !may_end(part) {
-            return Ok(Taken::Stuck);
-        }
         mem::swap(&mut self.content, &mut self.text);
         self.content.clear();
         self.mode = Mode::After;
-        Ok(Taken::First)
     }
 
     /// In a number.
@@ -250,7 +246,11 @@ impl Machine {
                 self.mode = Mode::Number(next);
                 Ok(Taken::Read)
             }
-            None => self.end_number(part),
+            None if may_end(part) => {
+                self.give_number();
+                Ok(Taken::First)
+            }
+            None => Ok(Taken::Stuck),
         }
     }
 
@@ -432,22 +432,17 @@ impl Machine {
     }
 
     /// Takes the end of the text.
-    pub fn take_end(&mut self) -> Result<Taken, AllocError>
-        ensures moves { IfOk result (λ taken. move_of taken self.new ≡ move_by self.old.mode (room_of self.old) (opens_of self.old) self.old.content.items End) }
-        ensures kept { IfOk result (λ taken. KeepsText taken self.old self.new) }
-        ensures stays { IfOk result (λ taken. Stays taken self.old self.new) }
-        ensures err { OnErr result (self.new.text.items ≡ self.old.text.items) }
+    pub fn take_end(&mut self) -> Ending
+        ensures moves { end_move_of result self.new ≡ move_by self.old.mode (room_of self.old) (opens_of self.old) self.old.content.items End }
+        ensures stays { EndStays result self.old self.new }
     {
         match self.mode {
-            Mode::After => {
-                if self.opens.is_empty() {
-                    Ok(Taken::Finished)
-                } else {
-                    Ok(Taken::Stuck)
-                }
+            Mode::After if self.opens.is_empty() => Ending::Whole,
+            Mode::Number(part) if may_end(part) => {
+                self.give_number();
+                Ending::Number
             }
-            Mode::Number(part) => self.end_number(part),
-            _ => Ok(Taken::Stuck),
+            _ => Ending::Stuck,
         }
     }
 }

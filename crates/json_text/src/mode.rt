@@ -151,8 +151,17 @@ pub enum Taken {
     Given(Token),
     /// It ends a number, which is given, and is still to be read.
     First,
-    /// It ends the text.
-    Finished,
     /// No text goes on so. Nothing has changed.
+    Stuck,
+}
+
+/// What became of the end.
+#[derive(Clone, Copy)]
+pub enum Ending {
+    /// It ends a number, which is given.
+    Number,
+    /// It ends the text.
+    Whole,
+    /// The text is not whole. Nothing has changed.
     Stuck,
 }
