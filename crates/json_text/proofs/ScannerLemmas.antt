@@ -18,12 +18,12 @@ use Rattle.json_text.specs.Rest.{IsFrontOf, first_of}
 use Rattle.json_text.specs.Machine.{Gives, GivesFirst, Finishes, Stuck, move_by}
 use Rattle.json_text.specs.Machine as machine
 use Rattle.json_text.specs.Taking.{room_of, opens_of, move_of, IsSame, Stays, end_move_of, IsUnchanged, EndStays}
-use Rattle.json_text.specs.Scanner.{fed, has_ended, has_failed, content, pending, symbols_left, Holds, Stands, GaveStep, GaveVerdict, Answers, IsVerdict}
+use Rattle.json_text.specs.Scanner.{most_steps, is_number, IsNearer, fed, has_ended, has_failed, content, pending, symbols_left, Holds, Stands, GaveStep, GaveVerdict, Answers, IsVerdict}
 use Rattle.json_text.specs.Tokens.{step_of, step_for, verdict_for, KeepsContent}
 use Rattle.json_text.specs.Told.{Told, told_step, told_verdict, Found}
 use Rattle.json_text.proofs.Lists.{no_cons, nothing_more, append_nil, symbols_append, steps_append, bytes_append, begins, begins_trans, begins_self, begins_more}
 use Rattle.json_text.proofs.Fronts.{empty_front, reads_on, gives_on, first_on}
-use Rattle.json_text.proofs.Stops.{ByteSays, byte_says}
+use Rattle.json_text.proofs.Stops.{Ended, FirstSays, first_says}
 use Rattle.json_text.proofs.Verdicts.{more_at, whole_at, bad_at, fixed, unique}
 
 -- a front with more symbols known behind it
@@ -324,6 +324,7 @@ pub record ReadsOn (old new : Scanner) : Type 0 where
   pub ended_same : has_ended new ≡ has_ended old
   pub failed_same : has_failed new ≡ has_failed old
   pub content_same : content new ≡ content old
+  pub fewer : most_steps new ≤ most_steps old
 
 -- what was told, as the caller sees it
 some_same : {A : Type 0} {x y : A} → Some x ≡ Some y → x ≡ y
@@ -417,3 +418,15 @@ told_exact mid bytes ended steps answer verdict t (told_step step e h) r =
     absurd (no_cons (sym (nothing_more steps (step ∷ g.rest) (g.same ∙ append_assoc steps (step ∷ []) g.rest))))
 told_exact mid bytes ended steps answer verdict t (told_verdict said e h r) q =
     is_verdict answer said verdict e (unique bytes ended steps steps verdict said q (subst (λ z. Reads bytes z steps said) t r)).1
+
+-- a number that ends is no number any more
+pub first_nearer : (old new : Machine) (b : ℕ) (taken : Taken) → move_of taken new ≡ move_by old.mode (room_of old) (opens_of old) old.content.items (Byte b)
+    → taken ≡ taken_.First → is_number new.mode < is_number old.mode
+first_nearer old new b taken m t =
+    let d : Ended old.mode (room_of old) (opens_of old) old.content.items (Step.Number new.text.items) new.mode (room_of new) (opens_of new) =
+        subst (FirstSays old.mode (room_of old) (opens_of old) old.content.items)
+        (sym (subst (λ x. move_of x new ≡ move_by old.mode (room_of old) (opens_of old) old.content.items (Byte b)) t m))
+        (first_says old.mode (room_of old) (opens_of old) old.content.items (Byte b)) in
+    let one : is_number old.mode ≡ 1 = ap is_number d.is_number in
+    let none : is_number new.mode ≡ 0 = ap is_number d.mode_is in
+    omega (arith, one, none)

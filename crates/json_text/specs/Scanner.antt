@@ -1,6 +1,8 @@
 -- What a scanner stands for: the bytes fed to it, whether the end was said, and the steps that it gave.
-use Rattle.std.specs.Prelude.{ℕ, ◌+◌, List, [], ◌∷◌, ◌++◌, ◌≡◌, Bool, true, false, if◌then◌else◌, length, drop, vec_len}
+use Rattle.std.specs.Prelude.{ℕ, ◌+◌, ◌-◌, ◌*◌, ◌<◌, ◌≤◌, List, [], ◌∷◌, ◌++◌, ◌≡◌, Bool, true, false, if◌then◌else◌, length, drop, vec_len}
 use Rattle.json_text.specs.declared.mode.Bracket.TheVariants as bracket_
+use Rattle.json_text.specs.declared.mode.Mode.{Mode}
+use Rattle.json_text.specs.declared.mode.Mode.TheVariants as mode_
 use Rattle.json_text.specs.declared.step.JsonStep.{JsonStep}
 use Rattle.json_text.specs.declared.step.JsonStep.TheVariants as step_
 use Rattle.json_text.specs.declared.scanner.Scanner.{Scanner}
@@ -32,6 +34,15 @@ pending scanner = drop scanner.read scanner.input.items
 -- what is still to be scanned, with the end where it was said
 abbrev pub symbols_left : Scanner → List Symbol
 symbols_left scanner = symbols (pending scanner) ++ (if scanner.ended then End ∷ [] else [])
+
+-- a number is read
+abbrev pub is_number : Mode → ℕ
+is_number (mode_.Number part) = 1
+is_number _ = 0
+
+-- more steps than so many don't come before more is fed
+abbrev pub most_steps : Scanner → ℕ
+most_steps scanner = 2 * (vec_len scanner.input - scanner.read) + is_number scanner.machine.mode
 
 -- The bytes are those that were scanned and those that are pending. The scanned ones are a front's, whose steps
 -- were given, and the scanner's place is behind it.
@@ -80,3 +91,10 @@ IsVerdict step_.Done verdict = verdict ≡ Whole
 IsVerdict step_.More verdict = verdict ≡ More
 IsVerdict (step_.Bad at) verdict = verdict ≡ BadAt at
 IsVerdict _ verdict = ⊥
+
+-- an answer that is a step leaves fewer steps
+abbrev pub IsNearer : JsonStep → Scanner → Scanner → Type 0
+IsNearer step_.Done old new = Unit {0}
+IsNearer step_.More old new = Unit {0}
+IsNearer (step_.Bad at) old new = Unit {0}
+IsNearer _ old new = most_steps new < most_steps old

@@ -6,8 +6,10 @@ mod bytes;
 mod content;
 mod machine;
 mod mode;
+mod reading;
 mod scanner;
 mod step;
 
+pub use reading::one_reading;
 pub use scanner::Scanner;
 pub use step::JsonStep;

@@ -27,9 +27,9 @@ impl Scanner {
     ghost use Rattle.json_text.specs.Marks.{Step};
     ghost use Rattle.json_text.specs.Reading.{Reads, Verdict};
     ghost use Rattle.json_text.specs.Tokens.{KeepsContent, KeepsFound};
-    ghost use Rattle.json_text.specs.Scanner.{Stands, Holds, Answers, IsVerdict, fed, has_ended, has_failed};
+    ghost use Rattle.json_text.specs.Scanner.{Stands, Holds, Answers, IsVerdict, IsNearer, fed, has_ended, has_failed};
     ghost use Rattle.json_text.specs.Scanner as scanner;
-    ghost use Rattle.json_text.specs.Told.{Found, Told};
+    ghost use Rattle.json_text.specs.Told.{Found, Told, IsNearerBy};
 
     /// A scanner of a text of which nothing has come yet.
     pub fn new(alloc: Global) -> Self
@@ -124,7 +124,8 @@ impl Scanner {
     fn step(&mut self) -> Result<Option<JsonStep>, AllocError>
         requires left { self.old.read < vec_len self.old.input }
         ensures value { (bytes : List ℕ) (steps : List Step) → Holds self.old bytes steps → IfOk result (λ found. Found found self.new bytes steps) }
-        ensures nearer { IfOk result (λ found. IsNone found → self.new.read ≡ self.old.read + 1) }
+        ensures read { IfOk result (λ found. IsNone found → self.new.read ≡ self.old.read + 1) }
+        ensures nearer { IfOk result (λ found. IsNearerBy found self.old self.new) }
         ensures input { self.new.input ≡ self.old.input }
         ensures before { self.new.before ≡ self.old.before }
         ensures ended { has_ended self.new ≡ has_ended self.old }
@@ -154,6 +155,7 @@ impl Scanner {
         ensures fed { fed self.new ≡ fed self.old }
         ensures ended { has_ended self.new ≡ has_ended self.old }
         ensures failed { has_failed self.new ≡ has_failed self.old }
+        ensures nearer { IsNearer result self.old self.new }
         ensures kept { KeepsContent result (scanner.content self.old) (scanner.content self.new) }
     {
         if !self.ended {
@@ -172,6 +174,7 @@ impl Scanner {
         ensures fed { fed self.new ≡ fed self.old }
         ensures ended { has_ended self.new ≡ has_ended self.old }
         ensures failed { has_failed self.new ≡ has_failed self.old }
+        ensures nearer { IfOk result (λ answer. IsNearer answer self.old self.new) }
         ensures kept { IfOk result (λ answer. KeepsContent answer (scanner.content self.old) (scanner.content self.new)) }
         ensures err { OnErr result (scanner.content self.new ≡ scanner.content self.old) }
     {
@@ -190,6 +193,9 @@ impl Scanner {
         ensures value { (bytes : List ℕ) (ended : Bool) (steps : List Step) → Stands self.old bytes ended steps → IfOk result (λ answer. Answers answer self.new bytes ended steps) }
         // Once all fixed steps were given, the verdict and nothing else, at this call and at each later one.
         ensures exact { (bytes : List ℕ) (ended : Bool) (steps : List Step) (verdict : Verdict) → Stands self.old bytes ended steps → Reads bytes ended steps verdict → IfOk result (λ answer. IsVerdict answer verdict) }
+
+        // So the steps that come before more is fed are few, and a loop over them ends.
+        ensures nearer { IfOk result (λ answer. IsNearer answer self.old self.new) }
 
         ensures fed { fed self.new ≡ fed self.old }
         ensures ended { has_ended self.new ≡ has_ended self.old }

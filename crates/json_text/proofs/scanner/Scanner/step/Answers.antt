@@ -1,6 +1,7 @@
 -- By what became of the byte.
-use Rattle.std.proofs.Common.{refl, arith}
-use Rattle.json_text.proofs.ScannerLemmas.{pending_byte, byte_read, byte_given, byte_first, byte_stuck}
+use Rattle.std.proofs.Common.{refl, arith, ◌<◌}
+use Rattle.json_text.specs.Scanner.{is_number}
+use Rattle.json_text.proofs.ScannerLemmas.{pending_byte, byte_read, byte_given, byte_first, byte_stuck, first_nearer}
 use Rattle.json_text.proofs.scanner.Scanner.step.Goals as goal
 
 pub returns-in-Read-clause-value : goal.returns-in-Read-clause-value
@@ -23,3 +24,9 @@ returns-in-Stuck-clause-value c bytes steps h =
     byte_stuck c.args.self.now _ bytes steps c.index-b.result.now c.in_ok-take.field-0 _ c.at.result h c.in_ok-take.ensures.moves c.in_ok-take.ensures.stays c.in-Stuck.is
     (pending_byte c.args.self.now.input.items c.args.self.now.read c.index-b.result.now (omega (arith, c.requires, c.args.self.now.input.ok.0)) c.index-b.ensures) refl refl refl
     (omega (arith, c.requires)) c.at.ensures.value
+
+pub returns-in-First-clause-nearer : goal.returns-in-First-clause-nearer
+returns-in-First-clause-nearer c =
+    let fewer : is_number c.take.new.self.mode < is_number c.args.self.now.machine.mode =
+        first_nearer c.args.self.now.machine c.take.new.self c.index-b.result.now c.in_ok-take.field-0 c.in_ok-take.ensures.moves c.in-First.is in
+    omega (arith, fewer)
