@@ -143,9 +143,13 @@ entry_others : (bracket : Bracket) (room : ℕ) (opens : List Bracket) (content 
     → b ≡ 44 → Rest (entry_mode bracket) room (bracket ∷ opens) content marks → After room (bracket ∷ opens) (Seen (Byte b) ∷ marks)
 entry_others bracket_.Square room opens content b marks e (space, value, r1, h, v, p, (others, rest, ho, q, a)) =
     (Next [] space NoName value others, rest, (tt, h, tt, v, ho), cons e (p ∙ ap (λ r. see space (print_value value r)) q), a)
-entry_others bracket_.Curly room opens content b marks e (space, chars, r1, h, hc, p, (c, r2, hs, q, (d, value, r3, hd, v, r, (others, rest, ho, s, a)))) =
-    (Next [] space (Named chars c d) value others, rest, (tt, h, (hc, hs, hd), v, ho),
-      cons e (p ∙ ap (λ x. see space (print_text role_.Name chars x)) (q ∙ ap (λ x. see c (Seen (Byte 58) ∷ x)) (r ∙ ap (λ x. see d (print_value value x)) s))), a)
+entry_others bracket_.Curly room opens content b marks e (space, chars, r1, h, hc, p, (c, r2, hs, q, (d, value, r3, hd, v, r, (others, rest, ho, s, a)))) = (
+  Next [] space (Named chars c d) value others,
+  rest,
+  (tt, h, (hc, hs, hd), v, ho),
+  cons e (p ∙ ap (λ x. see space (print_text role_.Name chars x)) (q ∙ ap (λ x. see c (Seen (Byte 58) ∷ x)) (r ∙ ap (λ x. see d (print_value value x)) s))),
+  a,
+)
 
 -- behind an entry
 others_back : (bracket : Bracket) (room : ℕ) (opens : List Bracket) (content : List ℕ) (b : ℕ) (marks : List Mark)
@@ -165,6 +169,7 @@ others_back bracket room opens content b marks g = elim (sides (is_space b) _ _ 
     spaced e (others, rest, h, p, a) =
         let w = more_others bracket room b others e h in
         (w.0, rest, w.1, ap (λ m. Seen (Byte b) ∷ m) p ∙ w.2 rest, a)
+
     closed : b ≡ closing bracket → (rest : List Mark) × (marks ≡ Given (Step.Closes bracket) ∷ rest) × After (suc room) opens rest → After room (bracket ∷ opens) (Seen (Byte b) ∷ marks)
     closed e (rest, p, a) = (Last [], rest, tt, cons e p, a)
 
@@ -194,14 +199,19 @@ first_entry bracket_.Square room opens content b marks g = item (found_at room (
     item_at : (value : Value) (r1 : List Mark) → IsValue value room → Seen (Byte b) ∷ marks ≡ print_value value r1 → After room (bracket_.Square ∷ opens) r1
         → BeforeFirst room (bracket_.Square ∷ opens) (Seen (Byte b) ∷ marks)
     item_at value r1 v p (others, rest, ho, q, a) = (Entry [] NoName value others, rest, (tt, tt, v, ho), p ∙ ap (λ r. print_value value r) q, a)
+
     item : Found room (bracket_.Square ∷ opens) (Seen (Byte b) ∷ marks) → BeforeFirst room (bracket_.Square ∷ opens) (Seen (Byte b) ∷ marks)
     item f = item_at f.value f.rest f.is f.printed f.after
 first_entry bracket_.Curly room opens content b marks g = member (named room (bracket_.Curly ∷ opens) content b marks g)
   where
     member : BeforeName room (bracket_.Curly ∷ opens) (Seen (Byte b) ∷ marks) → BeforeFirst room (bracket_.Curly ∷ opens) (Seen (Byte b) ∷ marks)
-    member (space, chars, r1, h, hc, p, (c, r2, hs, q, (d, value, r3, hd, v, r, (others, rest, ho, s, a)))) =
-        (Entry space (Named chars c d) value others, rest, (h, (hc, hs, hd), v, ho),
-          p ∙ ap (λ x. see space (print_text role_.Name chars x)) (q ∙ ap (λ x. see c (Seen (Byte 58) ∷ x)) (r ∙ ap (λ x. see d (print_value value x)) s)), a)
+    member (space, chars, r1, h, hc, p, (c, r2, hs, q, (d, value, r3, hd, v, r, (others, rest, ho, s, a)))) = (
+      Entry space (Named chars c d) value others,
+      rest,
+      (h, (hc, hs, hd), v, ho),
+      p ∙ ap (λ x. see space (print_text role_.Name chars x)) (q ∙ ap (λ x. see c (Seen (Byte 58) ∷ x)) (r ∙ ap (λ x. see d (print_value value x)) s)),
+      a,
+    )
 
 -- behind a bracket that opened
 first_back : (bracket : Bracket) (room : ℕ) (opens : List Bracket) (content : List ℕ) (b : ℕ) (marks : List Mark)
@@ -218,6 +228,7 @@ first_back bracket room opens content b marks g = elim (sides (is_space b) _ _ m
     spaced e (entries, rest, h, p, a) =
         let w = more_entries bracket room b entries e h in
         (w.0, rest, w.1, ap (λ m. Seen (Byte b) ∷ m) p ∙ w.2 rest, a)
+
     closed : b ≡ closing bracket → (rest : List Mark) × (marks ≡ Given (Step.Closes bracket) ∷ rest) × After (suc room) opens rest → BeforeFirst room (bracket ∷ opens) (Seen (Byte b) ∷ marks)
     closed e (rest, p, a) = (Empty [], rest, tt, cons e p, a)
 
@@ -283,9 +294,13 @@ number_back part None room opens content b marks e g = absurd (no_end part room 
 number_back part (Some next) room opens content b marks e g = digit_at (out_reads g)
   where
     digit_at : Rest (mode_.Number next) room opens (content ++ (b ∷ [])) marks → Rest (mode_.Number part) room opens content (Seen (Byte b) ∷ marks)
-    digit_at (bytes, rest, c, p, a) =
-        (b ∷ bytes, rest, subst (λ o. OnPart o (Completes bytes)) (sym e) c,
-          ap (λ m. Seen (Byte b) ∷ m) (p ∙ ap (λ x. see bytes (Given (Step.Number x) ∷ rest)) (append_assoc content (b ∷ []) bytes)), a)
+    digit_at (bytes, rest, c, p, a) = (
+      b ∷ bytes,
+      rest,
+      subst (λ o. OnPart o (Completes bytes)) (sym e) c,
+      ap (λ m. Seen (Byte b) ∷ m) (p ∙ ap (λ x. see bytes (Given (Step.Number x) ∷ rest)) (append_assoc content (b ∷ []) bytes)),
+      a,
+    )
 
 -- the quotation mark, the backslash and the letter u
 abbrev pub LeadSays : Lead → ℕ → Type 0
@@ -340,21 +355,30 @@ lead_back role w lead_.Backslash room opens content b marks e g = escape_at (out
   where
     is_backslash : b ≡ 92
     is_backslash = subst (λ l. LeadSays l b) e (lead_says b)
+
     escape_at : InEscape role room opens content w marks → InText role room opens content w (Seen (Byte b) ∷ marks)
     escape_at (inl (y, letter, (chars, rest, c, h, p, k))) = (Short y letter ∷ chars, rest, (c, h), cons is_backslash p, k)
     escape_at (inr (x, y, z, v, (chars, rest, c, h, p, k))) = (Coded x y z v ∷ chars, rest, (c, h), cons is_backslash p, k)
 lead_back role w lead_.Whole room opens content b marks e g = whole_at (out_reads g)
   where
     whole_at : InText role room opens ((content ++ lone w) ++ (b ∷ [])) None marks → InText role room opens content w (Seen (Byte b) ∷ marks)
-    whole_at (chars, rest, h, p, k) =
-        (Plain (b ∷ []) ∷ chars, rest, (subst (λ l. Follow l []) (sym e) refl, h),
-          ap (λ m. Seen (Byte b) ∷ m) (p ∙ sym (moved_byte role content (lone w) b [] (content_of None chars) chars rest)), k)
+    whole_at (chars, rest, h, p, k) = (
+      Plain (b ∷ []) ∷ chars,
+      rest,
+      (subst (λ l. Follow l []) (sym e) refl, h),
+      ap (λ m. Seen (Byte b) ∷ m) (p ∙ sym (moved_byte role content (lone w) b [] (content_of None chars) chars rest)),
+      k,
+    )
 lead_back role w (lead_.Longer tail) room opens content b marks e g = longer_at (out_reads g)
   where
     longer_at : InBytes role room opens ((content ++ lone w) ++ (b ∷ [])) tail marks → InText role room opens content w (Seen (Byte b) ∷ marks)
-    longer_at (bytes, chars, rest, f, h, p, k) =
-        (Plain (b ∷ bytes) ∷ chars, rest, (subst (λ l. Follow l bytes) (sym e) f, h),
-          ap (λ m. Seen (Byte b) ∷ m) (p ∙ sym (moved_byte role content (lone w) b bytes (bytes ++ content_of None chars) chars rest)), k)
+    longer_at (bytes, chars, rest, f, h, p, k) = (
+      Plain (b ∷ bytes) ∷ chars,
+      rest,
+      (subst (λ l. Follow l bytes) (sym e) f, h),
+      ap (λ m. Seen (Byte b) ∷ m) (p ∙ sym (moved_byte role content (lone w) b bytes (bytes ++ content_of None chars) chars rest)),
+      k,
+    )
 lead_back role w lead_.Nothing room opens content b marks e g = absurd (out_stuck g)
 
 -- behind a backslash
@@ -387,15 +411,27 @@ tail_back : (role : Role) (tail : Tail) (next : Option Tail) (room : ℕ) (opens
 tail_back role tail None room opens content b marks f e g = none_at (out_reads g)
   where
     none_at : InText role room opens (content ++ (b ∷ [])) None marks → InBytes role room opens content tail (Seen (Byte b) ∷ marks)
-    none_at (chars, rest, h, p, k) =
-        (b ∷ [], chars, rest, tail_join tail b [] f (subst (λ o. OnTail o []) (sym e) refl), h,
-          ap (λ m. Seen (Byte b) ∷ m) (p ∙ sym (moved role content (b ∷ []) [] chars None rest)), k)
+    none_at (chars, rest, h, p, k) = (
+      b ∷ [],
+      chars,
+      rest,
+      tail_join tail b [] f (subst (λ o. OnTail o []) (sym e) refl),
+      h,
+      ap (λ m. Seen (Byte b) ∷ m) (p ∙ sym (moved role content (b ∷ []) [] chars None rest)),
+      k,
+    )
 tail_back role tail (Some next) room opens content b marks f e g = some_at (out_reads g)
   where
     some_at : InBytes role room opens (content ++ (b ∷ [])) next marks → InBytes role room opens content tail (Seen (Byte b) ∷ marks)
-    some_at (bytes, chars, rest, t, h, p, k) =
-        (b ∷ bytes, chars, rest, tail_join tail b bytes f (subst (λ o. OnTail o bytes) (sym e) t), h,
-          ap (λ m. Seen (Byte b) ∷ m) (p ∙ ap (λ x. see bytes (print_chars chars (close_text role x rest))) (append_assoc content (b ∷ []) (bytes ++ content_of None chars))), k)
+    some_at (bytes, chars, rest, t, h, p, k) = (
+      b ∷ bytes,
+      chars,
+      rest,
+      tail_join tail b bytes f (subst (λ o. OnTail o bytes) (sym e) t),
+      h,
+      ap (λ m. Seen (Byte b) ∷ m) (p ∙ ap (λ x. see bytes (print_chars chars (close_text role x rest))) (append_assoc content (b ∷ []) (bytes ++ content_of None chars))),
+      k,
+    )
 
 -- between quotation marks
 place_back : (role : Role) (place : Place) (room : ℕ) (opens : List Bracket) (content : List ℕ) (b : ℕ) (marks : List Mark)

@@ -47,6 +47,7 @@ comes {front} {mode} {room} {opens} {content} x f = comes_by (move_by mode room 
   where
     n : Begins [] (x ∷ [])
     n = begins (x ∷ []) refl
+
     comes_by : (move : Move) → move_by mode room opens content x ≡ move → Comes front x
     comes_by (machine.Reads m r o c) e = goes (front ++ (Seen x ∷ [])) m r o c (reads_on f x n m r o c e) (symbols_append front (Seen x ∷ []))
     comes_by (Gives step m r o c) e =
@@ -117,8 +118,8 @@ one_left {front} bytes ended b left s go (goes longer mode room opens content g 
 one_left bytes ended b left s go (stays longer next mode room opens content g n e (inl m)) = absurd (no_finish mode room opens content b m)
 one_left {front} bytes ended b left s go (stays longer next mode room opens content g n e (inr m)) =
     bad_reading bytes ended longer (bad_at bytes ended (Byte b) (symbols left ++ (if ended then End ∷ [] else [])) g n
-      (ap (λ z. z ++ (if ended then End ∷ [] else [])) s ∙ append_assoc (symbols_of front) (Byte b ∷ symbols left) (if ended then End ∷ [] else [])
-        ∙ ap (λ z. z ++ (Byte b ∷ (symbols left ++ (if ended then End ∷ [] else [])))) (sym e)) m)
+    (ap (λ z. z ++ (if ended then End ∷ [] else [])) s ∙ append_assoc (symbols_of front) (Byte b ∷ symbols left) (if ended then End ∷ [] else [])
+    ∙ ap (λ z. z ++ (Byte b ∷ (symbols left ++ (if ended then End ∷ [] else [])))) (sym e)) m)
 
 -- where some are left
 some_left : (bytes : List ℕ) (ended : Bool) (left : List ℕ) (front : List Mark) (mode : Mode) (room : ℕ) (opens : List Bracket) (content : List ℕ)

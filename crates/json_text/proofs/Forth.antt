@@ -49,9 +49,21 @@ after_entry bracket_.Square room opens content (Next [] behind NoName value othe
 after_entry bracket_.Square room opens content (Next [] behind (Named chars c d) value others) rest h a = absurd h.2
 after_entry bracket_.Curly room opens content (Next [] behind NoName value others) rest h a = absurd h.2
 after_entry bracket_.Curly room opens content (Next [] behind (Named chars c d) value others) rest h a =
-    reads (behind, chars, see c (Seen (Byte 58) ∷ see d (print_value value (print_others others bracket_.Curly rest))), h.1, h.2.0, refl,
-      (c, see d (print_value value (print_others others bracket_.Curly rest)), h.2.1, refl,
-        (d, value, print_others others bracket_.Curly rest, h.2.2, h.3, refl, (others, rest, h.4, refl, a))))
+    reads (
+      behind,
+      chars,
+      see c (Seen (Byte 58) ∷ see d (print_value value (print_others others bracket_.Curly rest))),
+      h.1,
+      h.2.0,
+      refl,
+      (
+        c,
+        see d (print_value value (print_others others bracket_.Curly rest)),
+        h.2.1,
+        refl,
+        (d, value, print_others others bracket_.Curly rest, h.2.2, h.3, refl, (others, rest, h.4, refl, a)),
+      ),
+    )
 after_entry bracket room opens content (Next (b ∷ space) behind name value others) rest h a =
     if_true _ h.0.0 (reads (Next space behind name value others, rest, (h.0.1, h.1, h.2, h.3, h.4), refl, a))
 
@@ -123,9 +135,19 @@ at_first bracket_.Square room opens content (Entry [] NoName value others) rest 
 at_first bracket_.Square room opens content (Entry [] (Named chars c d) value others) rest h a = absurd h.1
 at_first bracket_.Curly room opens content (Entry [] NoName value others) rest h a = absurd h.1
 at_first bracket_.Curly room opens content (Entry [] (Named chars c d) value others) rest h a =
-    reads (chars, see c (Seen (Byte 58) ∷ see d (print_value value (print_others others bracket_.Curly rest))), h.1.0, refl,
-      (c, see d (print_value value (print_others others bracket_.Curly rest)), h.1.1, refl,
-        (d, value, print_others others bracket_.Curly rest, h.1.2, h.2, refl, (others, rest, h.3, refl, a))))
+    reads (
+      chars,
+      see c (Seen (Byte 58) ∷ see d (print_value value (print_others others bracket_.Curly rest))),
+      h.1.0,
+      refl,
+      (
+        c,
+        see d (print_value value (print_others others bracket_.Curly rest)),
+        h.1.1,
+        refl,
+        (d, value, print_others others bracket_.Curly rest, h.1.2, h.2, refl, (others, rest, h.3, refl, a)),
+      ),
+    )
 at_first bracket room opens content (Entry (b ∷ space) name value others) rest h a =
     if_true _ h.0.0 (reads (Entry space name value others, rest, (h.0.1, h.1, h.2, h.3), refl, a))
 
@@ -182,14 +204,14 @@ behind_text role_.Value step room opens rest b = gives b
 -- the content so far, moved past what a character adds to it
 pub moved : (role : Role) (content added front : List ℕ) (chars : List Char) (w : Option ℕ) (rest : List Mark)
     → see front (print_chars chars (close_text role (content ++ (added ++ content_of w chars)) rest))
-      ≡ see front (print_chars chars (close_text role ((content ++ added) ++ content_of w chars) rest))
+    ≡ see front (print_chars chars (close_text role ((content ++ added) ++ content_of w chars) rest))
 moved role content added front chars w rest =
     ap (λ x. see front (print_chars chars (close_text role x rest))) (sym (append_assoc content added (content_of w chars)))
 
 -- past what waited, and a byte
 pub moved_byte : (role : Role) (content waited : List ℕ) (b : ℕ) (front more : List ℕ) (chars : List Char) (rest : List Mark)
     → see front (print_chars chars (close_text role (content ++ (waited ++ (b ∷ more))) rest))
-      ≡ see front (print_chars chars (close_text role (((content ++ waited) ++ (b ∷ [])) ++ more) rest))
+    ≡ see front (print_chars chars (close_text role (((content ++ waited) ++ (b ∷ [])) ++ more) rest))
 moved_byte role content waited b front more chars rest =
     ap (λ x. see front (print_chars chars (close_text role x rest)))
     (sym (append_assoc (content ++ waited) (b ∷ []) more ∙ append_assoc content waited (b ∷ more)))
@@ -198,7 +220,7 @@ moved_byte role content waited b front more chars rest =
 at_plain : (role : Role) (w : Option ℕ) (lead : Lead) (room : ℕ) (opens : List Bracket) (content : List ℕ) (b : ℕ) (bytes : List ℕ) (chars : List Char) (rest : List Mark)
     → Follow lead bytes → AreChars chars → Behind role room opens rest
     → Goes (lead_move role w lead room opens content b)
-      (see bytes (print_chars chars (close_text role (content ++ (lone w ++ (b ∷ (bytes ++ content_of None chars)))) rest)))
+    (see bytes (print_chars chars (close_text role (content ++ (lone w ++ (b ∷ (bytes ++ content_of None chars)))) rest)))
 at_plain role w lead_.Quote room opens content b bytes chars rest f h k = absurd f
 at_plain role w lead_.Backslash room opens content b bytes chars rest f h k = absurd f
 at_plain role w lead_.Whole room opens content b [] chars rest f h k =
@@ -222,7 +244,7 @@ at_chars role w room opens content (Coded a b c d ∷ chars) rest h k = reads (i
 at_short : (role : Role) (w : Option ℕ) (room : ℕ) (opens : List Bracket) (content : List ℕ) (b letter : ℕ) (chars : List Char) (rest : List Mark)
     → escape_of letter ≡ escape_.Short b → AreChars chars → Behind role room opens rest
     → Follows (mode_.Text role (place_.Escape w)) room opens content
-      (see (letter ∷ []) (print_chars chars (close_text role (content ++ content_of w (Short b letter ∷ chars)) rest)))
+    (see (letter ∷ []) (print_chars chars (close_text role (content ++ content_of w (Short b letter ∷ chars)) rest)))
 at_short role w room opens content b letter chars rest e h k =
     subst (λ x. Goes (escape_move role w x room opens content) (print_chars chars (close_text role (content ++ content_of w (Short b letter ∷ chars)) rest)))
     (sym e) (reads (chars, rest, h, moved_byte role content (lone w) b [] (content_of None chars) chars rest, k))
@@ -270,17 +292,24 @@ tail_bytes tail_.BehindF4 (b ∷ bytes) h = record { byte = b; more = bytes; sam
 at_tail_byte : (role : Role) (next : Option Tail) (room : ℕ) (opens : List Bracket) (content : List ℕ) (b : ℕ) (more : List ℕ) (chars : List Char) (rest : List Mark)
     → OnTail next more → AreChars chars → Behind role room opens rest
     → Goes (tail_move role next room opens (content ++ (b ∷ [])))
-      (see more (print_chars chars (close_text role (content ++ (b ∷ (more ++ content_of None chars))) rest)))
+    (see more (print_chars chars (close_text role (content ++ (b ∷ (more ++ content_of None chars))) rest)))
 at_tail_byte role None room opens content b [] chars rest t h k = reads (chars, rest, h, moved role content (b ∷ []) [] chars None rest, k)
 at_tail_byte role None room opens content b (x ∷ more) chars rest t h k = cc
 at_tail_byte role (Some tail) room opens content b more chars rest t h k =
-    reads (more, chars, rest, t, h,
-      ap (λ x. see more (print_chars chars (close_text role x rest))) (sym (append_assoc content (b ∷ []) (more ++ content_of None chars))), k)
+    reads (
+      more,
+      chars,
+      rest,
+      t,
+      h,
+      ap (λ x. see more (print_chars chars (close_text role x rest))) (sym (append_assoc content (b ∷ []) (more ++ content_of None chars))),
+      k,
+    )
 
 at_tail : (role : Role) (tail : Tail) (room : ℕ) (opens : List Bracket) (content bytes : List ℕ) (chars : List Char) (rest : List Mark)
     → AreIn (ranges_of tail) bytes → AreChars chars → Behind role room opens rest
     → Follows (mode_.Text role (place_.Tail tail)) room opens content
-      (see bytes (print_chars chars (close_text role (content ++ (bytes ++ content_of None chars)) rest)))
+    (see bytes (print_chars chars (close_text role (content ++ (bytes ++ content_of None chars)) rest)))
 at_tail role tail room opens content bytes chars rest t h k =
     let s = tail_bytes tail bytes t in
     subst (λ bs. Follows (mode_.Text role (place_.Tail tail)) room opens content (see bs (print_chars chars (close_text role (content ++ (bs ++ content_of None chars)) rest))))

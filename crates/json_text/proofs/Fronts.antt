@@ -24,7 +24,12 @@ empty_front = record {
   where
     text_of : (rest : List Mark) → Rest mode_.Value 64 [] [] rest → IsText rest
     text_of rest (before, value, middle, h, v, p, (behind, k, q)) = record {
-      before = before; value = value; behind = behind; before_is = h; value_is = v; behind_is = k;
+      before = before;
+      value = value;
+      behind = behind;
+      before_is = h;
+      value_is = v;
+      behind_is = k;
       printed = p ∙ ap (λ m. see before (print_value value m)) q;
     }
 
@@ -104,7 +109,7 @@ kin_of : (front : List Mark) → ((text : List Mark) → IsText text → Begins 
     → (other rest : List Mark) → IsText (other ++ rest) → symbols_of other ≡ symbols_of front → Begins other front ⊎ Begins front other
 kin_of front only other rest t e =
     let b : Begins (symbols_of front ++ []) (symbols_of (other ++ rest)) =
-        begins (symbols_of rest) (symbols_append other rest ∙ ap (λ s. s ++ symbols_of rest) (e ∙ sym (append_nil (symbols_of front)))) in
+    begins (symbols_of rest) (symbols_append other rest ∙ ap (λ s. s ++ symbols_of rest) (e ∙ sym (append_nil (symbols_of front)))) in
     let g = only (other ++ rest) t b in
     comparable other rest front g.rest g.same
 
@@ -124,12 +129,14 @@ module _ {front : List Mark} {next : List Symbol} {mode : Mode} {room : ℕ} {op
       forth_to : (rest : List Mark) → IsText ((front ++ (Seen x ∷ [])) ++ rest) → Rest to room_to opens_to content_to rest
       forth_to rest t =
           let g : Goes (move_by mode room opens content x) rest =
-              forth mode room opens content (Seen x ∷ rest) (f.forth (Seen x ∷ rest) (subst IsText (append_assoc front (Seen x ∷ []) rest) t)) in
+          forth mode room opens content (Seen x ∷ rest) (f.forth (Seen x ∷ rest) (subst IsText (append_assoc front (Seen x ∷ []) rest) t)) in
           out_reads (subst (λ v. Goes v rest) e g)
+
       back_to : (rest : List Mark) → Rest to room_to opens_to content_to rest → IsText ((front ++ (Seen x ∷ [])) ++ rest)
       back_to rest r =
           let g : Goes (move_by mode room opens content x) rest = subst (λ v. Goes v rest) (sym e) (reads r) in
           subst IsText (sym (append_assoc front (Seen x ∷ []) rest)) (f.back (Seen x ∷ rest) (back mode room opens content (Seen x ∷ rest) g))
+
       only_to : (text : List Mark) → IsText text → Begins (symbols_of (front ++ (Seen x ∷ [])) ++ []) (symbols_of text) → Begins (front ++ (Seen x ∷ [])) text
       only_to text t b =
           let c = with_next (Seen x ∷ []) refl text b in
@@ -145,15 +152,17 @@ module _ {front : List Mark} {next : List Symbol} {mode : Mode} {room : ℕ} {op
       forth_to : (rest : List Mark) → IsText ((front ++ (Seen x ∷ Given step ∷ [])) ++ rest) → Rest to room_to opens_to content_to rest
       forth_to rest t =
           let g : Goes (move_by mode room opens content x) (Given step ∷ rest) =
-              forth mode room opens content (Seen x ∷ Given step ∷ rest)
-              (f.forth (Seen x ∷ Given step ∷ rest) (subst IsText (append_assoc front (Seen x ∷ Given step ∷ []) rest) t)) in
+          forth mode room opens content (Seen x ∷ Given step ∷ rest)
+          (f.forth (Seen x ∷ Given step ∷ rest) (subst IsText (append_assoc front (Seen x ∷ Given step ∷ []) rest) t)) in
           let o = out_gives (subst (λ v. Goes v (Given step ∷ rest)) e g) in
           subst (λ r. Rest to room_to opens_to content_to r) (sym (tail_of o.1)) o.2
+
       back_to : (rest : List Mark) → Rest to room_to opens_to content_to rest → IsText ((front ++ (Seen x ∷ Given step ∷ [])) ++ rest)
       back_to rest r =
           let g : Goes (move_by mode room opens content x) (Given step ∷ rest) = subst (λ v. Goes v (Given step ∷ rest)) (sym e) (gives r) in
           subst IsText (sym (append_assoc front (Seen x ∷ Given step ∷ []) rest))
           (f.back (Seen x ∷ Given step ∷ rest) (back mode room opens content (Seen x ∷ Given step ∷ rest) g))
+
       only_to : (text : List Mark) → IsText text → Begins (symbols_of (front ++ (Seen x ∷ Given step ∷ [])) ++ []) (symbols_of text) → Begins (front ++ (Seen x ∷ Given step ∷ [])) text
       only_to text t b =
           let c = with_next (Seen x ∷ Given step ∷ []) refl text b in
@@ -196,36 +205,45 @@ module _ {front : List Mark} {next : List Symbol} {mode : Mode} {room : ℕ} {op
         where
           here : (rest : List Mark) → Ends mode room opens content step rest → Ends (mode_.Number d.part) room opens content step rest
           here rest h = subst (λ m. Ends m room opens content step rest) d.is_number h
+
           there : (rest : List Mark) → Ends (mode_.Number d.part) room opens content step rest → Ends mode room opens content step rest
           there rest h = subst (λ m. Ends m room opens content step rest) (sym d.is_number) h
+
           arrives : (rest : List Mark) → After room opens rest → Rest to room_to opens_to content_to rest
           arrives rest a =
               subst (λ m. Rest m room_to opens_to content_to rest) (sym d.mode_is)
               (subst (λ r. After r opens_to rest) (sym d.room_is) (subst (λ o. After room o rest) (sym d.opens_is) a))
+
           left : (rest : List Mark) → Rest to room_to opens_to content_to rest → After room opens rest
           left rest r =
               let a : After room_to opens_to rest = subst (λ m. Rest m room_to opens_to content_to rest) d.mode_is r in
               subst (λ o. After room o rest) d.opens_is (subst (λ r. After r opens_to rest) d.room_is a)
+
           forth_to : (rest : List Mark) → IsText ((front ++ (Given step ∷ [])) ++ rest) → Rest to room_to opens_to content_to rest
           forth_to rest t = arrives rest (here rest (stands step [] rest t)).2
+
           back_to : (rest : List Mark) → Rest to room_to opens_to content_to rest → IsText ((front ++ (Given step ∷ [])) ++ rest)
           back_to rest r =
               subst IsText (sym (append_assoc front (Given step ∷ []) rest))
               (f.back (Given step ∷ rest) (back mode room opens content (Given step ∷ rest) (there rest (d.ends, d.step_is, left rest r))))
+
           step_same : (other : Step) (rest : List Mark) → Ends mode room opens content other rest → other ≡ step
           step_same other rest h = (subst (λ m. Ends m room opens content other rest) d.is_number h).1 ∙ sym d.step_is
+
           only_rest : (rest : List Mark) (more : List Symbol) → Follows mode room opens content rest → symbols_of rest ≡ x ∷ more → (others : List Mark) × (rest ≡ Given step ∷ others)
           only_rest [] more h s = absurd h
           only_rest (Seen y ∷ others) more h s =
               absurd (out_first (subst (λ v. Goes v others) e (subst (λ z. Goes (move_by mode room opens content z) others) (head_of s) h)))
           only_rest (Given other ∷ others) more h s = (others, ap (λ z. Given z ∷ others) (step_same other others h))
+
           only_to : (text : List Mark) → IsText text → Begins (symbols_of (front ++ (Given step ∷ [])) ++ (x ∷ [])) (symbols_of text) → Begins (front ++ (Given step ∷ [])) text
           only_to text t b =
               let c : Begins (symbols_of front ++ (x ∷ [])) (symbols_of text) =
-                  subst (λ s. Begins (s ++ (x ∷ [])) (symbols_of text)) (symbols_append front (Given step ∷ []) ∙ append_nil (symbols_of front)) b in
+              subst (λ s. Begins (s ++ (x ∷ [])) (symbols_of text)) (symbols_append front (Given step ∷ []) ∙ append_nil (symbols_of front)) b in
               let o = on f x n text t c in
               let s = only_rest o.rest c.rest o.follows o.seen in
               begins s.0 (o.same ∙ ap (λ r. front ++ r) s.1 ∙ sym (append_assoc front (Given step ∷ []) s.0))
+
           kin_to : (other rest : List Mark) → IsText (other ++ rest) → symbols_of other ≡ symbols_of (front ++ (Given step ∷ [])) → Begins other (front ++ (Given step ∷ [])) ⊎ Begins (front ++ (Given step ∷ [])) other
           kin_to other rest t s = elim (f.kin other rest t same) [
             | inl g ↦ inl (begins_trans g (begins_front front (Given step ∷ [])))

@@ -10,3 +10,4 @@ pub mod Fronts
 pub mod Verdicts
 pub mod Exists
 pub mod ScannerLemmas
+pub mod CallerLemmas

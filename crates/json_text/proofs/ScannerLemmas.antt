@@ -75,6 +75,7 @@ end_holds old new bytes steps p n m e h =
     longer true ps = begins_self (first_of (symbols ps ++ (End ∷ [])))
     longer false [] = begins (End ∷ []) refl
     longer false (b ∷ ps) = begins [] refl
+
     known : Begins (first_of (symbols_left old)) (first_of (symbols_left new))
     known =
         subst (λ t. Begins (first_of (symbols_left old)) (first_of (symbols (pending new) ++ (if t then End ∷ [] else [])))) (sym e)
@@ -88,6 +89,7 @@ feed_holds old new bytes piece steps p n m e f h =
   where
     left : (scanner : Scanner) → scanner.ended ≡ false → symbols_left scanner ≡ symbols (pending scanner)
     left scanner e = ap (λ t. symbols (pending scanner) ++ (if t then End ∷ [] else [])) e ∙ append_nil (symbols (pending scanner))
+
     known : Begins (first_of (symbols_left old)) (first_of (symbols_left new))
     known =
         subst (λ x. Begins (first_of x) (first_of (symbols_left new))) (sym (left old e))
@@ -129,7 +131,7 @@ module _ (old new : Scanner) (bytes : List ℕ) (steps : List Step) (b : ℕ) (h
 pub first_holds : (old new : Scanner) (bytes : List ℕ) (steps : List Step) (x : Symbol) (others : List Symbol) (step : Step) → Holds old bytes steps
     → pending new ≡ pending old → fed new ≡ fed old → new.ended ≡ old.ended → symbols_left old ≡ x ∷ others
     → GivesFirst step new.machine.mode (room_of new.machine) (opens_of new.machine) new.machine.content.items
-      ≡ move_by old.machine.mode (room_of old.machine) (opens_of old.machine) old.machine.content.items x → Holds new bytes (steps ++ (step ∷ []))
+    ≡ move_by old.machine.mode (room_of old.machine) (opens_of old.machine) old.machine.content.items x → Holds new bytes (steps ++ (step ∷ []))
 first_holds old new bytes steps x others step h p n t l e = record {
   front = h.front ++ (Given step ∷ []);
   given = steps_append h.front (Given step ∷ []) ∙ ap (λ z. z ++ (step ∷ [])) h.given;
@@ -141,6 +143,7 @@ first_holds old new bytes steps x others step h p n t l e = record {
   where
     same : symbols_of (h.front ++ (Given step ∷ [])) ≡ symbols_of h.front
     same = symbols_append h.front (Given step ∷ []) ∙ append_nil (symbols_of h.front)
+
     left : first_of (symbols_left new) ≡ x ∷ []
     left = ap (λ ps. first_of (symbols ps ++ (if new.ended then End ∷ [] else []))) p
         ∙ ap (λ y. first_of (symbols (pending old) ++ (if y then End ∷ [] else []))) t ∙ ap first_of l
@@ -162,8 +165,10 @@ holds_more scanner bytes steps h p e = record { front = h.front; given = h.given
   where
     same : symbols_of h.front ≡ symbols bytes
     same = sym (h.split ∙ ap (λ ps. symbols_of h.front ++ symbols ps) p ∙ append_nil (symbols_of h.front))
+
     none : first_of (symbols_left scanner) ≡ []
     none = ap (λ t. first_of (symbols (pending scanner) ++ (if t then End ∷ [] else []))) e ∙ ap (λ ps. first_of (symbols ps ++ [])) p
+
     front_is : IsFrontOf h.front [] scanner.machine.mode (room_of scanner.machine) (opens_of scanner.machine) scanner.machine.content.items
     front_is = subst (λ z. IsFrontOf h.front z scanner.machine.mode (room_of scanner.machine) (opens_of scanner.machine) scanner.machine.content.items) none h.is_front
 
@@ -178,6 +183,7 @@ holds_whole scanner bytes steps h p e m = record {
   where
     same : symbols_of h.front ≡ symbols bytes
     same = sym (h.split ∙ ap (λ ps. symbols_of h.front ++ symbols ps) p ∙ append_nil (symbols_of h.front))
+
     next : End ∷ [] ≡ first_of (symbols_left scanner) ++ []
     next = sym (append_nil (first_of (symbols_left scanner))
         ∙ ap (λ t. first_of (symbols (pending scanner) ++ (if t then End ∷ [] else []))) e ∙ ap (λ ps. first_of (symbols ps ++ (End ∷ []))) p)
@@ -191,7 +197,7 @@ front_length : (scanner : Scanner) (bytes : List ℕ) (steps : List Step) (h : H
     → length (symbols_of h.front) ≡ scanner.before + scanner.read
 front_length scanner bytes steps h r =
     let total : length (symbols bytes) ≡ length (symbols_of h.front) + length (symbols (pending scanner)) =
-        ap length h.split ∙ length-append (symbols_of h.front) (symbols (pending scanner)) in
+    ap length h.split ∙ length-append (symbols_of h.front) (symbols (pending scanner)) in
     let rest : length (pending scanner) ≡ length scanner.input.items - scanner.read = length-drop scanner.read scanner.input.items in
     omega (arith, total, rest, length_symbols bytes, length_symbols (pending scanner), h.count, scanner.input.ok.0, r)
 
@@ -202,9 +208,11 @@ pub holds_bad : (scanner : Scanner) (bytes : List ℕ) (steps : List Step) (x : 
 holds_bad scanner bytes steps x others h r l m = record {
   front = h.front;
   given = h.given;
-  fits = (front_length scanner bytes steps h r,
+  fits = (
+    front_length scanner bytes steps h r,
     bad_at bytes scanner.ended x others h.is_front (begins [] (sym (append_nil (first_of (symbols_left scanner)) ∙ ap first_of l)))
-    (seen_by scanner bytes steps h ∙ ap (λ z. symbols_of h.front ++ z) l) m);
+        (seen_by scanner bytes steps h ∙ ap (λ z. symbols_of h.front ++ z) l) m,
+  );
 }
 
 -- the byte that is read is the first that is pending
@@ -231,7 +239,7 @@ module _ (old new : Scanner) (bytes : List ℕ) (steps : List Step) (b : ℕ) (t
   byte_first t others q p n e =
       told_step (Step.Number (content new)) refl
       (first_holds old new bytes steps (Byte b) (symbols others ++ (if old.ended then End ∷ [] else [])) (Step.Number (content new)) h p n e
-        (ap (λ ps. symbols ps ++ (if old.ended then End ∷ [] else [])) q) (subst (λ x. Moves old new x (Byte b)) t m))
+      (ap (λ ps. symbols ps ++ (if old.ended then End ∷ [] else [])) q) (subst (λ x. Moves old new x (Byte b)) t m))
 
 -- the same place, with the same bytes pending
 pub same_holds : (old new : Scanner) (bytes : List ℕ) (steps : List Step) → Holds old bytes steps → pending new ≡ pending old → fed new ≡ fed old → new.ended ≡ old.ended
@@ -266,7 +274,7 @@ stuck_told old new bytes steps x others at h p n e s l m r a =
     let k = same_holds old new bytes steps h p n e s in
     told_verdict (BadAt at) refl k
     (subst (λ z. Reads bytes new.ended steps (BadAt z)) (sym a)
-      (holds_bad new bytes steps x others k r l (same_move old.machine new.machine x s ∙ sym m)))
+    (holds_bad new bytes steps x others k r l (same_move old.machine new.machine x s ∙ sym m)))
 
 -- no text goes on with a byte
 pub byte_stuck : (old new : Scanner) (bytes : List ℕ) (steps : List Step) (b : ℕ) (taken : Taken) (others : List ℕ) (at : ℕ) → Holds old bytes steps → Moves old new taken (Byte b)
@@ -424,9 +432,9 @@ pub first_nearer : (old new : Machine) (b : ℕ) (taken : Taken) → move_of tak
     → taken ≡ taken_.First → is_number new.mode < is_number old.mode
 first_nearer old new b taken m t =
     let d : Ended old.mode (room_of old) (opens_of old) old.content.items (Step.Number new.text.items) new.mode (room_of new) (opens_of new) =
-        subst (FirstSays old.mode (room_of old) (opens_of old) old.content.items)
-        (sym (subst (λ x. move_of x new ≡ move_by old.mode (room_of old) (opens_of old) old.content.items (Byte b)) t m))
-        (first_says old.mode (room_of old) (opens_of old) old.content.items (Byte b)) in
+    subst (FirstSays old.mode (room_of old) (opens_of old) old.content.items)
+    (sym (subst (λ x. move_of x new ≡ move_by old.mode (room_of old) (opens_of old) old.content.items (Byte b)) t m))
+    (first_says old.mode (room_of old) (opens_of old) old.content.items (Byte b)) in
     let one : is_number old.mode ≡ 1 = ap is_number d.is_number in
     let none : is_number new.mode ≡ 0 = ap is_number d.mode_is in
     omega (arith, one, none)

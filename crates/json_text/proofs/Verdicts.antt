@@ -34,8 +34,10 @@ whole_at {front} {next} {mode} {room} {opens} {content} bytes f n s e = record {
   where
     same_at : symbols_of (front ++ (Seen End ∷ [])) ≡ seen bytes true
     same_at = symbols_append front (Seen End ∷ []) ∙ ap (λ y. y ++ (End ∷ [])) s
+
     text_at : IsText (front ++ (Seen End ∷ []))
     text_at = f.back (Seen End ∷ []) (back mode room opens content (Seen End ∷ []) (subst (λ v. Goes v []) (sym e) finishes))
+
     only_at : (text : List Mark) → IsText text → symbols_of text ≡ seen bytes true → text ≡ front ++ (Seen End ∷ [])
     only_at text t q =
         let b : Begins (symbols_of front ++ (End ∷ [])) (symbols_of text) = begins [] (q ∙ ap (λ y. y ++ (End ∷ [])) (sym s) ∙ sym (append_nil (symbols_of front ++ (End ∷ [])))) in
@@ -56,6 +58,7 @@ bad_at {front} {next} {mode} {room} {opens} {content} bytes ended x others f n s
         let o = on f x n text t b in
         let w = shown mode room opens content x b.rest o.rest (subst ReadsFirst (sym e) tt) o.follows o.seen in
         out_stuck (subst (λ v. Goes v w.0) e w.2)
+
     all_at : (other rest : List Mark) → IsText (other ++ rest) → symbols_of other ≡ symbols_of front → Begins other front
     all_at other rest t q = elim (f.kin other rest t q) [
       | inl g ↦ g
@@ -76,10 +79,10 @@ within front other rest x g s = elim (comparable front g.rest other (Seen x ∷ 
     within_by [] e = begins [] (sym (e ∙ append_nil other) ∙ sym (append_nil front))
     within_by (Seen y ∷ m) e =
         absurd (no_cons (sym (nothing_more (symbols_of other) (y ∷ (symbols_of m ++ s.rest))
-          (s.same ∙ ap (λ z. z ++ s.rest) (ap symbols_of e ∙ symbols_append other (Seen y ∷ m)) ∙ append_assoc (symbols_of other) (y ∷ symbols_of m) s.rest))))
+        (s.same ∙ ap (λ z. z ++ s.rest) (ap symbols_of e ∙ symbols_append other (Seen y ∷ m)) ∙ append_assoc (symbols_of other) (y ∷ symbols_of m) s.rest))))
     within_by (Given y ∷ m) e =
         let k : Given y ∷ (m ++ g.rest) ≡ Seen x ∷ rest =
-            cancel other (sym (append_assoc other (Given y ∷ m) g.rest) ∙ ap (λ r. r ++ g.rest) (sym e) ∙ sym g.same) in
+        cancel other (sym (append_assoc other (Given y ∷ m) g.rest) ∙ ap (λ r. r ++ g.rest) (sym e) ∙ sym g.same) in
         absurd (not_seen (head_of k))
       where
         not_seen : Given y ≡ Seen x → ⊥
@@ -91,9 +94,9 @@ not_shorter : (bytes : List ℕ) (ended : Bool) (front other : List Mark) (b : I
 not_shorter bytes ended front other b c [] e = e ∙ append_nil (symbols_of front)
 not_shorter bytes ended front other b c (y ∷ m) e =
     let k : b.next ∷ b.others ≡ (y ∷ m) ++ (c.next ∷ c.others) =
-        cancel (symbols_of front) (sym b.same ∙ c.same ∙ ap (λ s. s ++ (c.next ∷ c.others)) e ∙ append_assoc (symbols_of front) (y ∷ m) (c.next ∷ c.others)) in
+    cancel (symbols_of front) (sym b.same ∙ c.same ∙ ap (λ s. s ++ (c.next ∷ c.others)) e ∙ append_assoc (symbols_of front) (y ∷ m) (c.next ∷ c.others)) in
     let g : Begins (symbols_of front ++ (b.next ∷ [])) (symbols_of other) =
-        begins m (e ∙ ap (λ z. symbols_of front ++ (z ∷ m)) (sym (head_of k)) ∙ sym (append_assoc (symbols_of front) (b.next ∷ []) m)) in
+    begins m (e ∙ ap (λ z. symbols_of front ++ (z ∷ m)) (sym (head_of k)) ∙ sym (append_assoc (symbols_of front) (b.next ∷ []) m)) in
     absurd (b.longest (other ++ c.begins.0) c.begins.1 (begins_trans g (symbols_begin (begins_front other c.begins.0))))
 
 same_length : (bytes : List ℕ) (ended : Bool) (front other : List Mark) → IsBad bytes ended front → IsBad bytes ended other → symbols_of other ≡ symbols_of front
@@ -117,7 +120,7 @@ more_within bytes front other b c =
 more_not_bad : (bytes : List ℕ) (front other : List Mark) → IsMore bytes front → IsBad bytes false other → ⊥
 more_not_bad bytes front other m b =
     let g : Begins (symbols_of other ++ (b.next ∷ [])) (symbols bytes) =
-        begins b.others (sym (seen_more bytes) ∙ b.same ∙ sym (append_assoc (symbols_of other) (b.next ∷ []) b.others)) in
+    begins b.others (sym (seen_more bytes) ∙ b.same ∙ sym (append_assoc (symbols_of other) (b.next ∷ []) b.others)) in
     b.longest (front ++ (Seen m.goes_on.0 ∷ m.goes_on.1)) m.goes_on.2 (begins_trans g (goes_begin bytes front m))
 
 whole_not_bad : (bytes : List ℕ) (front other : List Mark) → IsWhole bytes front → IsBad bytes true other → ⊥
@@ -164,35 +167,37 @@ module _ {front : List Mark} {mode : Mode} {room : ℕ} {opens : List Bracket} {
     where
       equal : symbols_of front ≡ symbols_of other → Begins front other
       equal e = let a = alive mode room opens content in c.all front (Seen a.symbol ∷ a.rest) (f.back (Seen a.symbol ∷ a.rest) a.follows) e
+
       longer : (m : List Symbol) → symbols_of other ≡ symbols_of front ++ m → Begins front other
       longer [] e = equal (sym (e ∙ append_nil (symbols_of front)))
       longer (y ∷ m) e =
           let p : pending ≡ y ∷ (m ++ (c.next ∷ c.others)) =
-              cancel (symbols_of front) (sym s ∙ c.same ∙ ap (λ z. z ++ (c.next ∷ c.others)) e ∙ append_assoc (symbols_of front) (y ∷ m) (c.next ∷ c.others)) in
+          cancel (symbols_of front) (sym s ∙ c.same ∙ ap (λ z. z ++ (c.next ∷ c.others)) e ∙ append_assoc (symbols_of front) (y ∷ m) (c.next ∷ c.others)) in
           let n : Begins (symbols_of front ++ first_of pending) (symbols_of other) =
-              begins m (e ∙ sym (append_assoc (symbols_of front) (y ∷ []) m) ∙ ap (λ z. (symbols_of front ++ first_of z) ++ m) (sym p)) in
+          begins m (e ∙ sym (append_assoc (symbols_of front) (y ∷ []) m) ∙ ap (λ z. (symbols_of front ++ first_of z) ++ m) (sym p)) in
           let g = f.only (other ++ c.begins.0) c.begins.1 (begins_trans n (symbols_begin (begins_front other c.begins.0))) in
           elim (comparable front g.rest other c.begins.0 (sym g.same)) [
             | inl h ↦ h
             | inr h ↦ absurd (no_cons (sym (nothing_more (symbols_of front) (y ∷ (m ++ symbols_of h.rest))
                 (ap symbols_of h.same ∙ symbols_append other h.rest ∙ ap (λ z. z ++ symbols_of h.rest) e ∙ append_assoc (symbols_of front) (y ∷ m) (symbols_of h.rest)))))
           ]
+
       shorter : (m : List Symbol) → symbols_of front ≡ symbols_of other ++ m → Begins front other
       shorter [] e = equal (e ∙ append_nil (symbols_of other))
       shorter (y ∷ m) e =
           let a = alive mode room opens content in
           let p : c.next ∷ c.others ≡ y ∷ (m ++ pending) =
-              cancel (symbols_of other) (sym c.same ∙ s ∙ ap (λ z. z ++ pending) e ∙ append_assoc (symbols_of other) (y ∷ m) pending) in
+          cancel (symbols_of other) (sym c.same ∙ s ∙ ap (λ z. z ++ pending) e ∙ append_assoc (symbols_of other) (y ∷ m) pending) in
           let g : Begins (symbols_of other ++ (c.next ∷ [])) (symbols_of front) =
-              begins m (e ∙ ap (λ z. symbols_of other ++ (z ∷ m)) (sym (head_of p)) ∙ sym (append_assoc (symbols_of other) (c.next ∷ []) m)) in
+          begins m (e ∙ ap (λ z. symbols_of other ++ (z ∷ m)) (sym (head_of p)) ∙ sym (append_assoc (symbols_of other) (c.next ∷ []) m)) in
           absurd (c.longest (front ++ (Seen a.symbol ∷ a.rest)) (f.back (Seen a.symbol ∷ a.rest) a.follows)
-            (begins_trans g (symbols_begin (begins_front front (Seen a.symbol ∷ a.rest)))))
+          (begins_trans g (symbols_begin (begins_front front (Seen a.symbol ∷ a.rest)))))
 
   before_more : (other : List Mark) → ended ≡ false → IsMore bytes other → Begins front other
   before_more other e c =
       let q : symbols bytes ≡ symbols_of front ++ pending = sym (seen_more bytes) ∙ ap (λ t. seen bytes t) (sym e) ∙ s in
       let n : Begins (symbols_of front ++ first_of pending) (symbols bytes) =
-          subst (λ z. Begins (symbols_of front ++ first_of pending) z) (sym q) (begins_more (symbols_of front) (first_begins pending)) in
+      subst (λ z. Begins (symbols_of front ++ first_of pending) z) (sym q) (begins_more (symbols_of front) (first_begins pending)) in
       within front other c.goes_on.1 c.goes_on.0
       (f.only (other ++ (Seen c.goes_on.0 ∷ c.goes_on.1)) c.goes_on.2 (begins_trans n (goes_begin bytes other c)))
       (begins pending (c.same ∙ q))

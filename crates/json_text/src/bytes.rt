@@ -151,7 +151,9 @@ pub fn part_after(part: Part, kind: Kind) -> Option<Part>
         (Part::Whole, Kind::Zero | Kind::Digit) => Some(Part::Whole),
         (Part::Point | Part::Fraction, Kind::Zero | Kind::Digit) => Some(Part::Fraction),
         (Part::Letter, Kind::Plus | Kind::Minus) => Some(Part::Sign),
-        (Part::Letter | Part::Sign | Part::Exponent, Kind::Zero | Kind::Digit) => Some(Part::Exponent),
+        (Part::Letter | Part::Sign | Part::Exponent, Kind::Zero | Kind::Digit) => Some(
+            Part::Exponent,
+        ),
         _ => None,
     }
 }

@@ -3,9 +3,8 @@
 ghost use Rattle.std.specs.Prelude.{◌≡◌, ◌<◌, ◌≤◌, ◌++◌, OnOk, Option};
 ghost use Rattle.json_text.specs.Chars as chars;
 
-use std::alloc::AllocError;
-
 use crate::bytes::hex_value;
+use std::alloc::AllocError;
 
 /// Writes a code point in UTF-8.
 pub fn push_utf8(out: &mut Vec<u8>, n: u32) -> Result<(), AllocError>

@@ -6,6 +6,7 @@ mod bytes;
 mod content;
 mod machine;
 mod mode;
+mod quoted;
 mod reading;
 mod scanner;
 mod step;

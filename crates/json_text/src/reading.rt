@@ -10,5 +10,4 @@ pub fn one_reading()
     ensures found { (bytes : List ℕ) (ended : Bool) → (steps : List Step) × (verdict : Verdict) × Reads bytes ended steps verdict }
     ensures only { (bytes : List ℕ) (ended : Bool) (steps others : List Step) (verdict other : Verdict) →
         Reads bytes ended steps verdict → Reads bytes ended others other → (steps ≡ others) × (verdict ≡ other) }
-{
-}
+{}

@@ -2,12 +2,11 @@
 
 ghost use Rattle.std.specs.Prelude.{◌≤◌, ◌<◌, ◌+◌, ◌^◌, vec_len};
 
-use std::alloc::{AllocError, Global};
-
 use crate::answer::json_step;
 use crate::machine::Machine;
 use crate::mode::{Ending, Taken};
 use crate::step::JsonStep;
+use std::alloc::{AllocError, Global};
 
 /// A reader of one JSON text, whose pieces are fed to it and whose steps it gives.
 #[derive(Drop)]

@@ -28,5 +28,5 @@ returns-in-Stuck-clause-value c bytes steps h =
 pub returns-in-First-clause-nearer : goal.returns-in-First-clause-nearer
 returns-in-First-clause-nearer c =
     let fewer : is_number c.take.new.self.mode < is_number c.args.self.now.machine.mode =
-        first_nearer c.args.self.now.machine c.take.new.self c.index-b.result.now c.in_ok-take.field-0 c.in_ok-take.ensures.moves c.in-First.is in
+    first_nearer c.args.self.now.machine c.take.new.self c.index-b.result.now c.in_ok-take.field-0 c.in_ok-take.ensures.moves c.in-First.is in
     omega (arith, fewer)
