@@ -29,7 +29,7 @@ use Rattle.json_text.specs.Chars.{Char, Plain, Short, Coded, IsChar, AreChars, F
 use Rattle.json_text.specs.Grammar.{Name, NoName, Named, Value, Word, Number, Text, Group, Entries, Empty, Entry, Others, Last, Next, letters_of, opening, closing, close, print_name, print_value, print_entries, print_others, IsName, IsValue, AreEntries, AreOthers}
 use Rattle.json_text.specs.Rest.{After, BeforeValue, BeforeColon, BeforeName, BeforeFirst, word_of, letters_left, part_after, may_end, OnPart, Completes, Behind, InText, InChar, InDigits, InEscape, InBytes, RestOfText, Rest}
 use Rattle.json_text.specs.Machine.{Move, Reads, Gives, GivesFirst, Finishes, Stuck, letter_after, letters_after, fits_tail, tail_after, start_of, start_of_number, start_move, open_move, name_move, entry_move, entry_mode, finish_move, end_move, mode_behind, move_by, number_move, word_move, byte_move, tail_move, lead_move, escape_move, text_move, last_move, after_move, first_move}
-use Rattle.json_text.proofs.Tests.{eq_of, by_cond}
+use Rattle.json_text.proofs.ByteTests.{eq_of, by_cond}
 use Rattle.json_text.proofs.Forth.{append_nil, moved, moved_byte, OnTail}
 use Rattle.json_text.proofs.NumberLemmas.{number_spelled}
 use Rattle.json_text.proofs.Goes.{Goes, reads, gives, finishes, Ends, Follows, sides}

@@ -1,4 +1,4 @@
-pub mod Tests
+pub mod ByteTests
 pub mod NumberLemmas
 pub mod Goes
 pub mod Forth

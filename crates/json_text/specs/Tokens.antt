@@ -1,5 +1,5 @@
 -- The steps of the code as the definitions know them.
-use Rattle.std.specs.Prelude.{ℕ, List, [], ◌∷◌, ◌≡◌, Option, Some, None}
+use Rattle.std.specs.Prelude.{ℕ, List, [], ◌∷◌, ◌++◌, ◌≡◌, Option, Some, None, option_to_list}
 use Rattle.json_text.specs.declared.mode.Bracket.TheVariants as bracket_
 use Rattle.json_text.specs.declared.mode.Token.{Token}
 use Rattle.json_text.specs.declared.mode.Token.TheVariants as token_
@@ -58,3 +58,8 @@ KeepsContent _ old new = new ≡ old
 abbrev pub KeepsFound : Option JsonStep → List ℕ → List ℕ → Type 0
 KeepsFound None old new = new ≡ old
 KeepsFound (Some answer) old new = KeepsContent answer old new
+
+-- the steps of answers with the content that stood beside each
+abbrev pub steps_seen : List (JsonStep × List ℕ) → List Step
+steps_seen [] = []
+steps_seen (answer ∷ answers) = option_to_list (step_for answer.0 answer.1) ++ steps_seen answers

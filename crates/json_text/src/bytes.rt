@@ -1,7 +1,7 @@
 //! Kinds of bytes.
 
 ghost use Rattle.std.specs.Prelude.{◌≡◌, ◌<◌, ◌≤◌};
-ghost use Rattle.json_text.specs.Bytes as kinds;
+ghost use Rattle.json_text.specs.Bytes as bytes_;
 ghost use Rattle.json_text.specs.Machine as machine;
 ghost use Rattle.json_text.specs.Rest as rest;
 ghost use Rattle.json_text.specs.Grammar as grammar;
@@ -10,14 +10,14 @@ use crate::mode::{Bracket, Escape, Kind, Lead, Letters, Mode, Part, Place, Role,
 
 /// Whether a byte is white space.
 pub fn is_space(b: u8) -> bool
-    ensures value { result ≡ kinds.is_space b }
+    ensures value { result ≡ bytes_.is_space b }
 {
     b == 32 || b == 10 || b == 13 || b == 9
 }
 
 /// What a byte can be in a number.
 pub fn kind_of(b: u8) -> Kind
-    ensures value { result ≡ kinds.kind_of b }
+    ensures value { result ≡ bytes_.kind_of b }
 {
     if b == 48 {
         Kind::Zero
@@ -38,14 +38,14 @@ pub fn kind_of(b: u8) -> Kind
 
 /// Whether a byte is a hexadecimal digit.
 pub fn is_hex(b: u8) -> bool
-    ensures value { result ≡ kinds.is_hex b }
+    ensures value { result ≡ bytes_.is_hex b }
 {
     (48 <= b && b <= 57) || (65 <= b && b <= 70) || (97 <= b && b <= 102)
 }
 
 /// The number that a hexadecimal digit stands for.
 pub fn hex_value(b: u8) -> u16
-    ensures value { result ≡ kinds.hex_value b }
+    ensures value { result ≡ bytes_.hex_value b }
     ensures small { result < 16 }
 {
     if 48 <= b && b <= 57 {
@@ -61,7 +61,7 @@ pub fn hex_value(b: u8) -> u16
 
 /// What a byte begins between quotation marks.
 pub fn lead_of(b: u8) -> Lead
-    ensures value { result ≡ kinds.lead_of b }
+    ensures value { result ≡ bytes_.lead_of b }
 {
     if b < 32 {
         Lead::Nothing
@@ -79,7 +79,7 @@ pub fn lead_of(b: u8) -> Lead
 /// What a byte above the ASCII range begins between quotation marks.
 fn long_lead_of(b: u8) -> Lead
     requires long { 128 ≤ b }
-    ensures value { result ≡ kinds.lead_of b }
+    ensures value { result ≡ bytes_.lead_of b }
 {
     if b < 194 {
         Lead::Nothing
@@ -104,7 +104,7 @@ fn long_lead_of(b: u8) -> Lead
 
 /// What a byte behind a backslash stands for.
 pub fn escape_of(b: u8) -> Escape
-    ensures value { result ≡ kinds.escape_of b }
+    ensures value { result ≡ bytes_.escape_of b }
 {
     match b {
         34 => Escape::Short(34),

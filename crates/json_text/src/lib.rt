@@ -11,6 +11,9 @@ mod reading;
 mod scanner;
 mod step;
 
+#[cfg(test)]
+mod tests;
+
 pub use reading::one_reading;
 pub use scanner::Scanner;
 pub use step::JsonStep;

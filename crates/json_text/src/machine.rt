@@ -24,7 +24,7 @@ impl Machine {
     ghost use Rattle.std.specs.Prelude.{◌≡◌, ◌∷◌, [], ◌++◌, ◌==◌, ℕ, suc, cond, IfOk, OnErr, Option, Some, None};
     ghost use Rattle.json_text.specs.declared.mode.Mode.TheVariants as mode_;
     ghost use Rattle.json_text.specs.declared.mode.Lead.TheVariants as lead_;
-    ghost use Rattle.json_text.specs.Bytes as kinds;
+    ghost use Rattle.json_text.specs.Bytes as bytes_;
     ghost use Rattle.json_text.specs.Chars as chars;
     ghost use Rattle.json_text.specs.Rest as rest;
     ghost use Rattle.json_text.specs.Machine as machine;
@@ -236,7 +236,7 @@ impl Machine {
 
     /// In a number.
     fn number(&mut self, part: Part, b: u8) -> Result<Taken, AllocError>
-        ensures moves { IfOk result (λ taken. move_of taken self.new ≡ machine.number_move part (rest.part_after part (kinds.kind_of b)) (room_of self.old) (opens_of self.old) self.old.content.items b) }
+        ensures moves { IfOk result (λ taken. move_of taken self.new ≡ machine.number_move part (rest.part_after part (bytes_.kind_of b)) (room_of self.old) (opens_of self.old) self.old.content.items b) }
         ensures kept { IfOk result (λ taken. KeepsText taken self.old self.new) }
         ensures stays { IfOk result (λ taken. Stays taken self.old self.new) }
         ensures err { OnErr result (self.new.text.items ≡ self.old.text.items) }

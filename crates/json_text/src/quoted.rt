@@ -12,7 +12,7 @@ impl Machine {
     ghost use Rattle.std.specs.Prelude.{◌≡◌, ◌∷◌, [], ◌++◌, ◌==◌, ℕ, suc, cond, IfOk, OnErr, Option, Some, None};
     ghost use Rattle.json_text.specs.declared.mode.Mode.TheVariants as mode_;
     ghost use Rattle.json_text.specs.declared.mode.Lead.TheVariants as lead_;
-    ghost use Rattle.json_text.specs.Bytes as kinds;
+    ghost use Rattle.json_text.specs.Bytes as bytes_;
     ghost use Rattle.json_text.specs.Chars as chars;
     ghost use Rattle.json_text.specs.Rest as rest;
     ghost use Rattle.json_text.specs.Machine as machine;
@@ -56,7 +56,7 @@ impl Machine {
 
     /// Where a character may begin.
     fn lead(&mut self, role: Role, waiting: Option<u16>, b: u8) -> Result<Taken, AllocError>
-        ensures moves { IfOk result (λ taken. move_of taken self.new ≡ machine.lead_move role waiting (kinds.lead_of b) (room_of self.old) (opens_of self.old) self.old.content.items b) }
+        ensures moves { IfOk result (λ taken. move_of taken self.new ≡ machine.lead_move role waiting (bytes_.lead_of b) (room_of self.old) (opens_of self.old) self.old.content.items b) }
         ensures kept { IfOk result (λ taken. KeepsText taken self.old self.new) }
         ensures stays { IfOk result (λ taken. Stays taken self.old self.new) }
         ensures err { OnErr result (self.new.text.items ≡ self.old.text.items) }
@@ -75,7 +75,7 @@ impl Machine {
 
     /// Behind a backslash.
     fn escape(&mut self, role: Role, waiting: Option<u16>, b: u8) -> Result<Taken, AllocError>
-        ensures moves { IfOk result (λ taken. move_of taken self.new ≡ machine.escape_move role waiting (kinds.escape_of b) (room_of self.old) (opens_of self.old) self.old.content.items) }
+        ensures moves { IfOk result (λ taken. move_of taken self.new ≡ machine.escape_move role waiting (bytes_.escape_of b) (room_of self.old) (opens_of self.old) self.old.content.items) }
         ensures kept { IfOk result (λ taken. KeepsText taken self.old self.new) }
         ensures stays { IfOk result (λ taken. Stays taken self.old self.new) }
         ensures err { OnErr result (self.new.text.items ≡ self.old.text.items) }
@@ -104,7 +104,7 @@ impl Machine {
 
     /// At a digit of a code unit.
     fn hex(&mut self, role: Role, place: Place, b: u8) -> Result<Taken, AllocError>
-        ensures moves { IfOk result (λ taken. move_of taken self.new ≡ cond (kinds.is_hex b) (Reads (mode_.Text role place) (room_of self.old) (opens_of self.old) self.old.content.items) Stuck) }
+        ensures moves { IfOk result (λ taken. move_of taken self.new ≡ cond (bytes_.is_hex b) (Reads (mode_.Text role place) (room_of self.old) (opens_of self.old) self.old.content.items) Stuck) }
         ensures kept { IfOk result (λ taken. KeepsText taken self.old self.new) }
         ensures stays { IfOk result (λ taken. Stays taken self.old self.new) }
         ensures err { OnErr result (self.new.text.items ≡ self.old.text.items) }
