@@ -1,34 +1,21 @@
 -- From each place some symbol goes on to a whole text.
-use Rattle.std.proofs.Common.{◌≡◌, ℕ, zero, suc, ◌⊎◌, inl, inr, Bool, true, false, cond, eqb, nat_lt, List, [], ◌∷◌, ◌++◌, refl, sym, ◌∙◌, ap, subst, append_assoc, Option, Some, None}
-use mathlib.Core.Bool.{false≢true}
+use Rattle.std.proofs.Common.{ℕ, suc, inl, List, [], ◌∷◌, refl}
 use Rattle.json_text.specs.declared.mode.Bracket.{Bracket}
-use Rattle.json_text.specs.declared.mode.Bracket.TheVariants as bracket_
-use Rattle.json_text.specs.declared.mode.Kind.{Kind}
-use Rattle.json_text.specs.declared.mode.Kind.TheVariants as kind_
 use Rattle.json_text.specs.declared.mode.Part.{Part}
 use Rattle.json_text.specs.declared.mode.Part.TheVariants as part_
 use Rattle.json_text.specs.declared.mode.Letters.{Letters}
 use Rattle.json_text.specs.declared.mode.Letters.TheVariants as letters_
 use Rattle.json_text.specs.declared.mode.Tail.{Tail}
 use Rattle.json_text.specs.declared.mode.Tail.TheVariants as tail_
-use Rattle.json_text.specs.declared.mode.Lead.{Lead}
-use Rattle.json_text.specs.declared.mode.Lead.TheVariants as lead_
-use Rattle.json_text.specs.declared.mode.Escape.{Escape}
-use Rattle.json_text.specs.declared.mode.Escape.TheVariants as escape_
-use Rattle.json_text.specs.declared.mode.Start.{Start}
-use Rattle.json_text.specs.declared.mode.Start.TheVariants as start_
 use Rattle.json_text.specs.declared.mode.Role.{Role}
 use Rattle.json_text.specs.declared.mode.Role.TheVariants as role_
 use Rattle.json_text.specs.declared.mode.Place.{Place}
 use Rattle.json_text.specs.declared.mode.Place.TheVariants as place_
 use Rattle.json_text.specs.declared.mode.Mode.{Mode}
 use Rattle.json_text.specs.declared.mode.Mode.TheVariants as mode_
-use Rattle.json_text.specs.Marks.{Symbol, Byte, End, Literal, Yes, No, Null, Step, Mark, Seen, Given, see}
-use Rattle.json_text.specs.Bytes.{AreAll, is_space, kind_of, is_digit, is_hex, Range, AreIn, ranges_of, lead_of, escape_of}
-use Rattle.json_text.specs.Chars.{Char, Plain, Short, Coded, IsChar, AreChars, Follow, IsPlain, spelled, print_chars, lone, content_of, unit_of, unit_bytes, waits, text_step, close_text, print_text}
-use Rattle.json_text.specs.Grammar.{Name, NoName, Named, Value, Word, Number, Text, Group, Entries, Empty, Entry, Others, Last, Next, letters_of, opening, closing, close, print_name, print_value, print_entries, print_others, IsName, IsValue, AreEntries, AreOthers}
-use Rattle.json_text.specs.Rest.{After, BeforeValue, BeforeColon, BeforeName, BeforeFirst, word_of, letters_left, part_after, may_end, OnPart, Completes, Behind, InText, InChar, InDigits, InEscape, InBytes, RestOfText, Rest}
-use Rattle.json_text.specs.Machine.{Move, Reads, Gives, GivesFirst, Finishes, Stuck, letter_after, letters_after, fits_tail, tail_after, start_of, start_of_number, start_move, open_move, name_move, entry_move, entry_mode, finish_move, end_move, mode_behind, move_by, number_move, word_move, byte_move, tail_move, lead_move, escape_move, text_move, last_move, after_move, first_move}
+use Rattle.json_text.specs.Marks.{Symbol, Byte, End, Null, Mark, Seen}
+use Rattle.json_text.specs.Grammar.{Word, Empty, Last, closing, print_others}
+use Rattle.json_text.specs.Rest.{After, BeforeValue, BeforeColon, Behind, Rest}
 
 -- every bracket can be closed
 pub closes : (room : ℕ) (opens : List Bracket) → (rest : List Mark) × After room opens rest

@@ -1,10 +1,7 @@
 -- Where a move leads to what may follow, what may follow begins with the move's symbol.
-use Rattle.std.proofs.Common.{◌≡◌, ℕ, zero, suc, ◌⊎◌, inl, inr, Bool, true, false, cond, eqb, nat_lt, List, [], ◌∷◌, ◌++◌, refl, sym, ◌∙◌, ap, subst, append_assoc, Option, Some, None}
-use mathlib.Core.Bool.{false≢true}
+use Rattle.std.proofs.Common.{◌≡◌, ℕ, zero, suc, inl, inr, true, eqb, nat_lt, List, [], ◌∷◌, ◌++◌, refl, sym, ◌∙◌, ap, subst, append_assoc, Option, Some, None}
 use Rattle.json_text.specs.declared.mode.Bracket.{Bracket}
 use Rattle.json_text.specs.declared.mode.Bracket.TheVariants as bracket_
-use Rattle.json_text.specs.declared.mode.Kind.{Kind}
-use Rattle.json_text.specs.declared.mode.Kind.TheVariants as kind_
 use Rattle.json_text.specs.declared.mode.Part.{Part}
 use Rattle.json_text.specs.declared.mode.Part.TheVariants as part_
 use Rattle.json_text.specs.declared.mode.Letters.{Letters}
@@ -23,12 +20,12 @@ use Rattle.json_text.specs.declared.mode.Place.{Place}
 use Rattle.json_text.specs.declared.mode.Place.TheVariants as place_
 use Rattle.json_text.specs.declared.mode.Mode.{Mode}
 use Rattle.json_text.specs.declared.mode.Mode.TheVariants as mode_
-use Rattle.json_text.specs.Marks.{Symbol, Byte, End, Literal, Yes, No, Null, Step, Mark, Seen, Given, see}
-use Rattle.json_text.specs.Bytes.{AreAll, is_space, kind_of, is_digit, is_hex, Range, AreIn, ranges_of, lead_of, escape_of}
-use Rattle.json_text.specs.Chars.{Char, Plain, Short, Coded, IsChar, AreChars, Follow, IsPlain, spelled, print_chars, lone, content_of, unit_of, unit_bytes, waits, text_step, close_text, print_text}
-use Rattle.json_text.specs.Grammar.{Name, NoName, Named, Value, Word, Number, Text, Group, Entries, Empty, Entry, Others, Last, Next, letters_of, opening, closing, close, print_name, print_value, print_entries, print_others, IsName, IsValue, AreEntries, AreOthers}
-use Rattle.json_text.specs.Rest.{After, BeforeValue, BeforeColon, BeforeName, BeforeFirst, word_of, letters_left, part_after, may_end, OnPart, Completes, Behind, InText, InChar, InDigits, InEscape, InBytes, RestOfText, Rest}
-use Rattle.json_text.specs.Machine.{Move, Reads, Gives, GivesFirst, Finishes, Stuck, letter_after, letters_after, fits_tail, tail_after, start_of, start_of_number, start_move, open_move, name_move, entry_move, entry_mode, finish_move, end_move, mode_behind, move_by, number_move, word_move, byte_move, tail_move, lead_move, escape_move, text_move, last_move, after_move, first_move}
+use Rattle.json_text.specs.Marks.{Byte, End, Step, Mark, Seen, Given, see}
+use Rattle.json_text.specs.Bytes.{is_space, kind_of, is_hex, AreIn, ranges_of, lead_of, escape_of}
+use Rattle.json_text.specs.Chars.{Plain, Short, Coded, Follow, print_chars, lone, content_of, unit_of, unit_bytes, waits, text_step, close_text, print_text}
+use Rattle.json_text.specs.Grammar.{NoName, Named, Value, Word, Number, Text, Group, Entries, Empty, Entry, Others, Last, Next, letters_of, opening, closing, print_value, print_entries, print_others, IsValue, AreEntries, AreOthers}
+use Rattle.json_text.specs.Rest.{After, BeforeValue, BeforeColon, BeforeName, BeforeFirst, word_of, letters_left, part_after, may_end, OnPart, Completes, Behind, InText, InEscape, InBytes, RestOfText, Rest}
+use Rattle.json_text.specs.Machine.{Reads, Gives, GivesFirst, Finishes, Stuck, letter_after, letters_after, fits_tail, tail_after, start_of, start_of_number, start_move, open_move, name_move, entry_move, entry_mode, end_move, mode_behind, number_move, word_move, byte_move, tail_move, lead_move, escape_move, text_move, last_move}
 use Rattle.json_text.proofs.ByteTests.{eq_of, by_cond}
 use Rattle.json_text.proofs.Forth.{append_nil, moved, moved_byte, OnTail}
 use Rattle.json_text.proofs.NumberLemmas.{number_spelled}

@@ -1,13 +1,12 @@
 -- What a test says, and kinds of bytes.
-use Rattle.std.proofs.Common.{◌≡◌, ℕ, ◌≤◌, ◌<◌, ◌⊎◌, inl, inr, Bool, true, false, cond, refl, sym, ◌∙◌, ap, subst, eqb, arith, Option, Some, None}
+use Rattle.std.proofs.Common.{◌≡◌, ℕ, ◌≤◌, ◌⊎◌, inl, inr, Bool, true, false, cond, refl, eqb, arith, Some}
 use Rattle.std.proofs.lemmas.Bool.Decides.{nat_tests}
 use Rattle.json_text.specs.declared.mode.Kind.{Kind}
 use Rattle.json_text.specs.declared.mode.Kind.TheVariants as kind_
 use Rattle.json_text.specs.declared.mode.Part.{Part}
 use Rattle.json_text.specs.declared.mode.Part.TheVariants as part_
-use Rattle.json_text.specs.declared.mode.Start.{Start}
 use Rattle.json_text.specs.declared.mode.Start.TheVariants as start_
-use Rattle.json_text.specs.Bytes.{is_within, is_space, kind_of, is_digit, is_digit_kind}
+use Rattle.json_text.specs.Bytes.{is_space, kind_of}
 use Rattle.json_text.specs.Rest.{part_after}
 use Rattle.json_text.specs.Machine.{start_of}
 

@@ -5,11 +5,11 @@ use Rattle.json_text.specs.declared.mode.Part.{Part}
 use Rattle.json_text.specs.declared.mode.Mode.{Mode}
 use Rattle.json_text.specs.declared.mode.Mode.TheVariants as mode_
 use Rattle.json_text.specs.Marks.{Symbol, Byte, End, Step, Mark, Seen, Given, symbols_of, steps_of, symbols, Begins}
-use Rattle.json_text.specs.Reading.{seen, Verdict, More, Whole, BadAt, IsMore, IsWhole, IsBad, IsFrontFor, Reads}
+use Rattle.json_text.specs.Reading.{Verdict, More, Whole, BadAt, IsBad, Reads}
 use Rattle.json_text.specs.Rest.{IsFrontOf, may_end}
 use Rattle.json_text.specs.Machine.{Move, Gives, GivesFirst, Finishes, Stuck, move_by, byte_move}
 use Rattle.json_text.specs.Machine as machine
-use Rattle.json_text.proofs.Lists.{append_nil, symbols_append, cancel, begins, begins_self}
+use Rattle.json_text.proofs.Lists.{append_nil, symbols_append, begins, begins_self}
 use Rattle.json_text.proofs.Stops.{may_end_gives, Ended, FirstSays, first_says, ByteSays, byte_says}
 use Rattle.json_text.proofs.Fronts.{empty_front, reads_on, gives_on, first_on}
 use Rattle.json_text.proofs.Verdicts.{more_at, whole_at, bad_at}

@@ -1,10 +1,8 @@
 -- What may follow at a place goes where the move by its first symbol leads.
-use Rattle.std.proofs.Common.{◌≡◌, ℕ, zero, suc, ◌⊎◌, inl, inr, Bool, true, false, cond, eqb, List, [], ◌∷◌, ◌++◌, refl, sym, ◌∙◌, ap, subst, append_assoc, Option, Some, None}
+use Rattle.std.proofs.Common.{◌≡◌, ℕ, zero, suc, inl, inr, true, false, eqb, List, [], ◌∷◌, ◌++◌, refl, sym, ◌∙◌, ap, subst, append_assoc, Option, Some, None}
 use mathlib.Core.Bool.{false≢true}
 use Rattle.json_text.specs.declared.mode.Bracket.{Bracket}
 use Rattle.json_text.specs.declared.mode.Bracket.TheVariants as bracket_
-use Rattle.json_text.specs.declared.mode.Kind.{Kind}
-use Rattle.json_text.specs.declared.mode.Kind.TheVariants as kind_
 use Rattle.json_text.specs.declared.mode.Part.{Part}
 use Rattle.json_text.specs.declared.mode.Part.TheVariants as part_
 use Rattle.json_text.specs.declared.mode.Letters.{Letters}
@@ -13,25 +11,22 @@ use Rattle.json_text.specs.declared.mode.Tail.{Tail}
 use Rattle.json_text.specs.declared.mode.Tail.TheVariants as tail_
 use Rattle.json_text.specs.declared.mode.Lead.{Lead}
 use Rattle.json_text.specs.declared.mode.Lead.TheVariants as lead_
-use Rattle.json_text.specs.declared.mode.Escape.{Escape}
 use Rattle.json_text.specs.declared.mode.Escape.TheVariants as escape_
-use Rattle.json_text.specs.declared.mode.Start.{Start}
-use Rattle.json_text.specs.declared.mode.Start.TheVariants as start_
 use Rattle.json_text.specs.declared.mode.Role.{Role}
 use Rattle.json_text.specs.declared.mode.Role.TheVariants as role_
 use Rattle.json_text.specs.declared.mode.Place.{Place}
 use Rattle.json_text.specs.declared.mode.Place.TheVariants as place_
 use Rattle.json_text.specs.declared.mode.Mode.{Mode}
 use Rattle.json_text.specs.declared.mode.Mode.TheVariants as mode_
-use Rattle.json_text.specs.Marks.{Symbol, Byte, End, Literal, Yes, No, Null, Step, Mark, Seen, Given, see}
-use Rattle.json_text.specs.Bytes.{AreAll, is_space, kind_of, is_digit, is_hex, Range, AreIn, ranges_of, lead_of, escape_of}
-use Rattle.json_text.specs.Chars.{Char, Plain, Short, Coded, IsChar, AreChars, Follow, IsPlain, spelled, print_chars, lone, content_of, unit_of, unit_bytes, waits, text_step, close_text, print_text}
-use Rattle.json_text.specs.Grammar.{Name, NoName, Named, Value, Word, Number, Text, Group, Entries, Empty, Entry, Others, Last, Next, letters_of, opening, closing, close, print_name, print_value, print_entries, print_others, IsName, IsValue, AreEntries, AreOthers}
-use Rattle.json_text.specs.Rest.{After, BeforeValue, BeforeColon, BeforeName, BeforeFirst, word_of, letters_left, part_after, may_end, OnPart, Completes, Behind, InText, InChar, InDigits, InEscape, InBytes, RestOfText, Rest}
-use Rattle.json_text.specs.Machine.{Move, Reads, Gives, GivesFirst, Finishes, Stuck, letter_after, letters_after, fits_tail, tail_after, start_of, start_of_number, start_move, mode_behind, move_by, number_move, word_move, byte_move, tail_move, lead_move, escape_move, text_move, last_move, after_move, first_move}
+use Rattle.json_text.specs.Marks.{Byte, End, Yes, No, Null, Step, Mark, Seen, Given, see}
+use Rattle.json_text.specs.Bytes.{AreAll, is_space, kind_of, AreIn, ranges_of, lead_of, escape_of}
+use Rattle.json_text.specs.Chars.{Char, Plain, Short, Coded, AreChars, Follow, print_chars, lone, content_of, unit_of, unit_bytes, waits, text_step, close_text, print_text}
+use Rattle.json_text.specs.Grammar.{NoName, Named, Value, Word, Number, Text, Group, Entries, Empty, Entry, Others, Last, Next, print_value, print_entries, print_others, IsValue, AreEntries, AreOthers}
+use Rattle.json_text.specs.Rest.{After, BeforeValue, BeforeColon, word_of, letters_left, part_after, OnPart, Completes, Behind, InEscape, RestOfText, Rest}
+use Rattle.json_text.specs.Machine.{Gives, Stuck, fits_tail, tail_after, start_of, start_move, mode_behind, number_move, tail_move, lead_move, escape_move}
 use Rattle.json_text.proofs.ByteTests.{begins_number}
 use Rattle.json_text.proofs.NumberLemmas.{number_goes}
-use Rattle.json_text.proofs.Goes.{Goes, reads, gives, finishes, Ends, Follows, if_true, if_false}
+use Rattle.json_text.proofs.Goes.{Goes, reads, gives, finishes, Follows, if_true, if_false}
 
 -- behind a value, at the end of the text
 after_end : (room : ℕ) (content space : List ℕ) → AreAll is_space space → Follows mode_.After room [] content (see space (Seen End ∷ []))

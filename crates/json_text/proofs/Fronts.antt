@@ -1,16 +1,16 @@
 -- A front grows with each move.
-use Rattle.std.proofs.Common.{◌≡◌, ℕ, ◌⊎◌, inl, inr, Bool, true, false, List, [], ◌∷◌, ◌++◌, refl, sym, ◌∙◌, ap, subst, append_assoc}
+use Rattle.std.proofs.Common.{◌≡◌, ℕ, ◌⊎◌, inl, inr, List, [], ◌∷◌, ◌++◌, refl, sym, ◌∙◌, ap, subst, append_assoc}
 use Rattle.json_text.specs.declared.mode.Bracket.{Bracket}
 use Rattle.json_text.specs.declared.mode.Mode.{Mode}
 use Rattle.json_text.specs.declared.mode.Mode.TheVariants as mode_
-use Rattle.json_text.specs.Marks.{Symbol, Byte, End, Step, Mark, Seen, Given, symbols_of, steps_of, symbols, see, Begins}
+use Rattle.json_text.specs.Marks.{Symbol, End, Step, Mark, Seen, Given, symbols_of, see, Begins}
 use Rattle.json_text.specs.Grammar.{IsText, print_value}
-use Rattle.json_text.specs.Rest.{Rest, After, may_end, IsFrontOf}
-use Rattle.json_text.specs.Machine.{Move, Reads, Gives, GivesFirst, Finishes, Stuck, move_by}
-use Rattle.json_text.proofs.Lists.{append_nil, symbols_append, steps_append, head_of, tail_of, no_cons, cancel, begins, comparable, begins_trans, begins_self, begins_more, begins_front, symbols_begin}
-use Rattle.json_text.proofs.Goes.{Goes, reads, gives, finishes, Ends, Follows}
+use Rattle.json_text.specs.Rest.{Rest, After, IsFrontOf}
+use Rattle.json_text.specs.Machine.{Move, Reads, Gives, GivesFirst, Stuck, move_by}
+use Rattle.json_text.proofs.Lists.{append_nil, symbols_append, head_of, tail_of, no_cons, cancel, begins, comparable, begins_trans, begins_more, begins_front}
+use Rattle.json_text.proofs.Goes.{Goes, reads, gives, Ends, Follows}
 use Rattle.json_text.proofs.Forth.{forth}
-use Rattle.json_text.proofs.Back.{back, out_reads, out_gives, out_stuck, out_first, out_finishes}
+use Rattle.json_text.proofs.Back.{back, out_reads, out_gives, out_first}
 use Rattle.json_text.proofs.Stops.{number_stops, number_free, Ended, FirstSays, first_says}
 
 -- the marks before any symbol

@@ -1,12 +1,11 @@
 -- Where a move leads, and what may follow there.
-use Rattle.std.proofs.Common.{◌≡◌, ℕ, ◌⊎◌, inl, inr, Bool, true, false, cond, List, [], ◌∷◌, ◌++◌, refl, sym, ◌∙◌, ap, subst, Option, Some, None}
-use mathlib.Core.Bool.{false≢true}
+use Rattle.std.proofs.Common.{◌≡◌, ℕ, ◌⊎◌, inl, inr, Bool, true, false, cond, List, [], ◌∷◌, refl, sym, subst}
 use Rattle.json_text.specs.declared.mode.Bracket.{Bracket}
 use Rattle.json_text.specs.declared.mode.Mode.{Mode}
 use Rattle.json_text.specs.declared.mode.Mode.TheVariants as mode_
-use Rattle.json_text.specs.Marks.{Symbol, Byte, End, Step, Mark, Seen, Given}
+use Rattle.json_text.specs.Marks.{Step, Mark, Seen, Given}
 use Rattle.json_text.specs.Rest.{Rest, After, may_end}
-use Rattle.json_text.specs.Machine.{Move, Reads, Gives, GivesFirst, Finishes, Stuck, move_by}
+use Rattle.json_text.specs.Machine.{Move, Reads, Gives, Finishes, move_by}
 
 -- behind the symbol that made the move stand these marks
 pub data Goes : Move → List Mark → Type 0 where

@@ -1,6 +1,6 @@
 -- Laws of beginnings, and of the symbols and steps among marks.
-use Rattle.std.proofs.Common.{◌≡◌, ℕ, suc, ◌+◌, ◌⊎◌, inl, inr, List, [], ◌∷◌, ◌++◌, length, refl, sym, ◌∙◌, ap, subst, append_assoc}
-use Rattle.json_text.specs.Marks.{Symbol, Byte, End, Step, Mark, Seen, Given, symbols_of, steps_of, symbols, Begins}
+use Rattle.std.proofs.Common.{◌≡◌, ℕ, ◌⊎◌, inl, inr, List, [], ◌∷◌, ◌++◌, refl, sym, ◌∙◌, ap, append_assoc}
+use Rattle.json_text.specs.Marks.{Byte, Mark, Seen, Given, symbols_of, steps_of, symbols, Begins}
 
 pub append_nil : {A : Type 0} (xs : List A) → xs ++ [] ≡ xs
 append_nil [] = refl

@@ -1,5 +1,5 @@
 -- A number's bytes, one after the other, are what the four parts of the grammar spell.
-use Rattle.std.proofs.Common.{◌≡◌, ℕ, ◌⊎◌, inl, inr, Bool, true, false, List, [], ◌∷◌, ◌++◌, refl, sym, ◌∙◌, ap, subst, append_assoc, Option, Some, None}
+use Rattle.std.proofs.Common.{◌≡◌, ℕ, inl, inr, true, List, [], ◌∷◌, ◌++◌, refl, sym, ap, subst, Option, Some, None}
 use mathlib.Core.Bool.{false≢true}
 use Rattle.json_text.specs.declared.mode.Kind.{Kind}
 use Rattle.json_text.specs.declared.mode.Kind.TheVariants as kind_

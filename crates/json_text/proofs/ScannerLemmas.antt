@@ -1,5 +1,5 @@
 -- What a scanner stands for, call by call.
-use Rattle.std.proofs.Common.{◌≡◌, ℕ, zero, suc, ◌+◌, ◌-◌, ◌≤◌, ◌⊎◌, inl, inr, Bool, true, false, List, [], ◌∷◌, ◌++◌, length, drop, vec_len, refl, sym, ◌∙◌, ap, subst, append_assoc, arith, Option, Some, None, if◌then◌else◌, length-append, length-drop, reverse, ◌<◌, get_or, drop-cons, add-one}
+use Rattle.std.proofs.Common.{◌≡◌, ℕ, zero, suc, ◌+◌, ◌-◌, ◌≤◌, Bool, true, false, List, [], ◌∷◌, ◌++◌, length, drop, vec_len, refl, sym, ◌∙◌, ap, subst, append_assoc, arith, Some, None, if◌then◌else◌, length-append, length-drop, reverse, ◌<◌, get_or, drop-cons, add-one}
 use Rattle.json_text.specs.declared.mode.Bracket.{Bracket}
 use Rattle.json_text.specs.declared.mode.Mode.{Mode}
 use Rattle.json_text.specs.declared.mode.Mode.TheVariants as mode_
@@ -18,9 +18,9 @@ use Rattle.json_text.specs.Rest.{IsFrontOf, first_of}
 use Rattle.json_text.specs.Machine.{Gives, GivesFirst, Finishes, Stuck, move_by}
 use Rattle.json_text.specs.Machine as machine
 use Rattle.json_text.specs.Taking.{room_of, opens_of, move_of, IsSame, Stays, end_move_of, IsUnchanged, EndStays}
-use Rattle.json_text.specs.Scanner.{most_steps, is_number, IsNearer, fed, has_ended, has_failed, content, pending, symbols_left, Holds, Stands, GaveStep, GaveVerdict, Answers, IsVerdict}
-use Rattle.json_text.specs.Tokens.{step_of, step_for, verdict_for, KeepsContent}
-use Rattle.json_text.specs.Told.{Told, told_step, told_verdict, Found}
+use Rattle.json_text.specs.Scanner.{most_steps, is_number, fed, has_ended, has_failed, content, pending, symbols_left, Holds, GaveStep, GaveVerdict, Answers, IsVerdict}
+use Rattle.json_text.specs.Tokens.{step_of, step_for, verdict_for}
+use Rattle.json_text.specs.Told.{Told, told_step, told_verdict}
 use Rattle.json_text.proofs.Lists.{no_cons, nothing_more, append_nil, symbols_append, steps_append, bytes_append, begins, begins_trans, begins_self, begins_more}
 use Rattle.json_text.proofs.Fronts.{empty_front, reads_on, gives_on, first_on}
 use Rattle.json_text.proofs.Stops.{Ended, FirstSays, first_says}

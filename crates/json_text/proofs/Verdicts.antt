@@ -1,18 +1,17 @@
 -- What a front says of a text, and that what is read of it is unique.
-use Rattle.std.proofs.Common.{◌≡◌, ℕ, ◌⊎◌, inl, inr, Bool, true, false, List, [], ◌∷◌, ◌++◌, length, refl, sym, ◌∙◌, ap, subst, append_assoc, cond}
+use Rattle.std.proofs.Common.{◌≡◌, ℕ, inl, inr, Bool, true, false, List, [], ◌∷◌, ◌++◌, length, refl, sym, ◌∙◌, ap, subst, append_assoc}
 use mathlib.Core.Bool.{false≢true}
 use Rattle.json_text.specs.declared.mode.Bracket.{Bracket}
 use Rattle.json_text.specs.declared.mode.Mode.{Mode}
-use Rattle.json_text.specs.declared.mode.Mode.TheVariants as mode_
-use Rattle.json_text.specs.Marks.{Symbol, Byte, End, Step, Mark, Seen, Given, symbols_of, steps_of, symbols, Begins}
+use Rattle.json_text.specs.Marks.{Symbol, End, Step, Mark, Seen, Given, symbols_of, steps_of, symbols, Begins}
 use Rattle.json_text.specs.Grammar.{IsText}
 use Rattle.json_text.specs.Reading.{seen, Verdict, More, Whole, BadAt, IsMore, IsWhole, IsBad, IsFrontFor, Reads, AreFixed}
-use Rattle.json_text.specs.Rest.{Rest, After, may_end, IsFrontOf, first_of}
-use Rattle.json_text.specs.Machine.{Move, Finishes, Stuck, move_by}
-use Rattle.json_text.proofs.Lists.{append_nil, symbols_append, steps_append, head_of, tail_of, no_cons, cancel, nothing_more, begins, comparable, begins_trans, begins_self, begins_more, begins_front, begins_antisym, symbols_begin, steps_begin}
-use Rattle.json_text.proofs.Goes.{Goes, reads, gives, finishes, Ends, Follows}
+use Rattle.json_text.specs.Rest.{IsFrontOf, first_of}
+use Rattle.json_text.specs.Machine.{Finishes, Stuck, move_by}
+use Rattle.json_text.proofs.Lists.{append_nil, symbols_append, head_of, no_cons, cancel, nothing_more, begins, comparable, begins_trans, begins_more, begins_front, begins_antisym, symbols_begin, steps_begin}
+use Rattle.json_text.proofs.Goes.{Goes, finishes}
 use Rattle.json_text.proofs.Alive.{alive}
-use Rattle.json_text.proofs.Back.{back, out_reads, out_gives, out_stuck, out_first, out_finishes}
+use Rattle.json_text.proofs.Back.{back, out_stuck, out_finishes}
 use Rattle.json_text.proofs.Fronts.{on, shown, ReadsFirst, given_free, longer_by, stands}
 
 -- nothing is fixed behind the front

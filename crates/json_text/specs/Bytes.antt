@@ -1,5 +1,5 @@
 -- Kinds of bytes: RFC 8259 for white space, numbers and escapes, RFC 3629 for characters of several bytes.
-use Rattle.std.specs.Prelude.{ℕ, ◌+◌, ◌-◌, ◌*◌, List, [], ◌∷◌, ◌≡◌, Bool, true, false, if◌then◌else◌, Option, Some, None, ◌==◌, nat_le, nat_lt, ◌&&◌, ◌||◌}
+use Rattle.std.specs.Prelude.{ℕ, ◌-◌, List, [], ◌∷◌, ◌≡◌, Bool, true, false, if◌then◌else◌, ◌==◌, nat_le, nat_lt, ◌&&◌, ◌||◌}
 use Rattle.json_text.specs.declared.mode.Kind.{Kind}
 use Rattle.json_text.specs.declared.mode.Kind.TheVariants as kind_
 use Rattle.json_text.specs.declared.mode.Tail.{Tail}

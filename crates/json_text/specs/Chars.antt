@@ -1,11 +1,11 @@
 -- The texts of RFC 8259, section 7: their characters, how they are spelled, and what they stand for.
-use Rattle.std.specs.Prelude.{ℕ, ◌+◌, ◌*◌, ◌/◌, ◌%◌, List, [], ◌∷◌, ◌++◌, ◌≡◌, Bool, true, false, if◌then◌else◌, Option, Some, None, nat_lt}
+use Rattle.std.specs.Prelude.{ℕ, ◌+◌, ◌*◌, ◌/◌, ◌%◌, List, [], ◌∷◌, ◌++◌, ◌≡◌, Bool, true, if◌then◌else◌, Option, Some, None, nat_lt}
 use Rattle.json_text.specs.declared.mode.Lead.{Lead}
 use Rattle.json_text.specs.declared.mode.Lead.TheVariants as lead_
 use Rattle.json_text.specs.declared.mode.Escape.TheVariants as escape_
 use Rattle.json_text.specs.declared.mode.Role.{Role}
 use Rattle.json_text.specs.declared.mode.Role.TheVariants as role_
-use Rattle.json_text.specs.Marks.{Symbol, Byte, Step, Mark, Seen, Given, see}
+use Rattle.json_text.specs.Marks.{Byte, Step, Mark, Seen, Given, see}
 use Rattle.json_text.specs.Bytes.{is_within, AreIn, ranges_of, lead_of, escape_of, is_hex, hex_value}
 
 -- a character as it is written: its own bytes, a byte and the letter that stands for it behind a backslash,

@@ -3,7 +3,7 @@ use Rattle.std.specs.Prelude.{ℕ, zero, suc, List, [], ◌∷◌, ◌≡◌}
 use Rattle.json_text.specs.declared.mode.Bracket.{Bracket}
 use Rattle.json_text.specs.declared.mode.Bracket.TheVariants as bracket_
 use Rattle.json_text.specs.declared.mode.Role.TheVariants as role_
-use Rattle.json_text.specs.Marks.{Symbol, Byte, End, Literal, Yes, No, Null, Step, Mark, Seen, Given, see}
+use Rattle.json_text.specs.Marks.{Byte, End, Literal, Yes, No, Null, Step, Mark, Seen, Given, see}
 use Rattle.json_text.specs.Bytes.{AreAll, is_space}
 use Rattle.json_text.specs.Numbers.{IsNumber}
 use Rattle.json_text.specs.Chars.{Char, AreChars, print_text}

@@ -1,9 +1,8 @@
 -- The moves of a scanner, symbol by symbol, for the private clauses: no public clause and no definition of the
 -- grammar or of a reading cites them.
-use Rattle.std.specs.Prelude.{ℕ, zero, suc, List, [], ◌∷◌, ◌++◌, ◌==◌, Bool, true, false, cond, Option, Some, None}
+use Rattle.std.specs.Prelude.{ℕ, zero, suc, List, [], ◌∷◌, ◌++◌, ◌==◌, Bool, cond, Option, Some, None}
 use Rattle.json_text.specs.declared.mode.Bracket.{Bracket}
 use Rattle.json_text.specs.declared.mode.Bracket.TheVariants as bracket_
-use Rattle.json_text.specs.declared.mode.Kind.{Kind}
 use Rattle.json_text.specs.declared.mode.Part.{Part}
 use Rattle.json_text.specs.declared.mode.Part.TheVariants as part_
 use Rattle.json_text.specs.declared.mode.Letters.{Letters}

@@ -1,6 +1,6 @@
 -- The steps of a text of which so much was seen, and the three verdicts.
 use Rattle.std.specs.Prelude.{ℕ, List, [], ◌∷◌, ◌++◌, ◌≡◌, Bool, true, false, if◌then◌else◌, length}
-use Rattle.json_text.specs.Marks.{Symbol, Byte, End, Step, Mark, Seen, Given, symbols_of, steps_of, symbols, Begins}
+use Rattle.json_text.specs.Marks.{Symbol, End, Step, Mark, Seen, symbols_of, steps_of, symbols, Begins}
 use Rattle.json_text.specs.Grammar.{IsText}
 
 -- what was seen of a text: its bytes so far, and its end once that was said

@@ -1,5 +1,5 @@
 -- What may follow in a text, said in the grammar's own words for each place where a scanner may stand.
-use Rattle.std.specs.Prelude.{ℕ, zero, suc, List, [], ◌∷◌, ◌++◌, ◌≡◌, ◌⊎◌, Bool, true, false, Option, Some, None}
+use Rattle.std.specs.Prelude.{ℕ, suc, List, [], ◌∷◌, ◌++◌, ◌≡◌, ◌⊎◌, Bool, true, false, Option, Some, None}
 use Rattle.json_text.specs.declared.mode.Bracket.{Bracket}
 use Rattle.json_text.specs.declared.mode.Kind.{Kind}
 use Rattle.json_text.specs.declared.mode.Kind.TheVariants as kind_
@@ -16,7 +16,7 @@ use Rattle.json_text.specs.declared.mode.Mode.{Mode}
 use Rattle.json_text.specs.declared.mode.Mode.TheVariants as mode_
 use Rattle.json_text.specs.Marks.{Symbol, Byte, End, Literal, Yes, No, Null, Step, Mark, Seen, Given, see, symbols_of, Begins}
 use Rattle.json_text.specs.Bytes.{AreAll, is_space, kind_of, AreIn, ranges_of, is_hex}
-use Rattle.json_text.specs.Chars.{Char, Coded, Plain, Short, IsChar, AreChars, print_chars, print_text, close_text, content_of}
+use Rattle.json_text.specs.Chars.{Char, Coded, Short, IsChar, AreChars, print_chars, print_text, close_text, content_of}
 use Rattle.json_text.specs.Grammar.{Value, Entries, Others, print_value, print_entries, print_others, IsValue, AreEntries, AreOthers, IsText}
 
 -- behind a value, inside the brackets that are open, the innermost first, where so many more may open

@@ -1,12 +1,12 @@
 -- What a scanner stands for: the bytes fed to it, whether the end was said, and the steps that it gave.
-use Rattle.std.specs.Prelude.{ℕ, ◌+◌, ◌-◌, ◌*◌, ◌<◌, ◌≤◌, List, [], ◌∷◌, ◌++◌, ◌≡◌, Bool, true, false, if◌then◌else◌, length, drop, vec_len}
+use Rattle.std.specs.Prelude.{ℕ, ◌+◌, ◌-◌, ◌*◌, ◌<◌, List, [], ◌∷◌, ◌++◌, ◌≡◌, Bool, false, if◌then◌else◌, length, drop, vec_len}
 use Rattle.json_text.specs.declared.mode.Bracket.TheVariants as bracket_
 use Rattle.json_text.specs.declared.mode.Mode.{Mode}
 use Rattle.json_text.specs.declared.mode.Mode.TheVariants as mode_
 use Rattle.json_text.specs.declared.step.JsonStep.{JsonStep}
 use Rattle.json_text.specs.declared.step.JsonStep.TheVariants as step_
 use Rattle.json_text.specs.declared.scanner.Scanner.{Scanner}
-use Rattle.json_text.specs.Marks.{Symbol, End, Literal, Yes, No, Null, Step, Mark, symbols_of, steps_of, symbols}
+use Rattle.json_text.specs.Marks.{Symbol, End, Yes, No, Null, Step, Mark, symbols_of, steps_of, symbols}
 use Rattle.json_text.specs.Reading.{Verdict, More, Whole, BadAt, Reads, AreFixed}
 use Rattle.json_text.specs.Rest.{IsFrontOf, first_of}
 use Rattle.json_text.specs.Taking.{room_of, opens_of}

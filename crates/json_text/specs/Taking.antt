@@ -8,9 +8,9 @@ use Rattle.json_text.specs.declared.mode.Taken.TheVariants as taken_
 use Rattle.json_text.specs.declared.mode.Ending.{Ending}
 use Rattle.json_text.specs.declared.mode.Ending.TheVariants as ending_
 use Rattle.json_text.specs.declared.machine.Machine.{Machine}
-use Rattle.json_text.specs.Marks.{Symbol, Step}
+use Rattle.json_text.specs.Marks.{Step}
 use Rattle.json_text.specs.Tokens.{step_of, KeepsWith}
-use Rattle.json_text.specs.Machine.{Move, Reads, Gives, GivesFirst, Finishes, Stuck, move_by}
+use Rattle.json_text.specs.Machine.{Move, Reads, Gives, GivesFirst, Finishes, Stuck}
 
 -- how many brackets may open
 abbrev pub room_of : Machine → ℕ

@@ -10,7 +10,6 @@ mod quoted;
 mod reading;
 mod scanner;
 mod step;
-
 #[cfg(test)]
 mod tests;
 

@@ -3,7 +3,8 @@
 ghost use Rattle.std.specs.Prelude.{◌≤◌, vec_len};
 
 use crate::bytes::{
-    closing, entry_mode, is_space, kind_of, letter_after, letters_after, may_end, part_after, start_of,
+    closing, entry_mode, is_space, kind_of, letter_after, letters_after, may_end, part_after,
+    start_of,
 };
 use crate::mode::{Bracket, Ending, Letters, Mode, Part, Place, Role, Start, Taken, Token};
 use std::alloc::{AllocError, Global};
@@ -21,17 +22,15 @@ pub struct Machine {
 }
 
 impl Machine {
-    ghost use Rattle.std.specs.Prelude.{◌≡◌, ◌∷◌, [], ◌++◌, ◌==◌, ℕ, suc, cond, IfOk, OnErr, Option, Some, None};
+    ghost use Rattle.std.specs.Prelude.{◌≡◌, ◌∷◌, [], ◌==◌, suc, cond, IfOk, OnErr, Option, Some, None};
     ghost use Rattle.json_text.specs.declared.mode.Mode.TheVariants as mode_;
-    ghost use Rattle.json_text.specs.declared.mode.Lead.TheVariants as lead_;
     ghost use Rattle.json_text.specs.Bytes as bytes_;
-    ghost use Rattle.json_text.specs.Chars as chars;
     ghost use Rattle.json_text.specs.Rest as rest;
     ghost use Rattle.json_text.specs.Machine as machine;
     ghost use Rattle.json_text.specs.declared.mode.Place.TheVariants as place_;
     ghost use Rattle.json_text.specs.Marks.{Step, Byte, End};
     ghost use Rattle.json_text.specs.Machine.{start_move, open_move, move_by, Reads, Gives, Stuck};
-    ghost use Rattle.json_text.specs.Taking.{room_of, opens_of, top_of, rest_of, move_of, KeepsText, Stays, IsSame, MaySpace, end_move_of, EndStays};
+    ghost use Rattle.json_text.specs.Taking.{room_of, opens_of, top_of, rest_of, move_of, KeepsText, Stays, MaySpace, end_move_of, EndStays};
 
     /// Before any symbol.
     pub fn new(alloc: Global) -> Self

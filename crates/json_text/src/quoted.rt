@@ -1,25 +1,22 @@
 //! How a symbol between quotation marks changes what a scanner keeps.
 
-use std::alloc::AllocError;
-use std::mem;
-
 use crate::bytes::{escape_of, fits_tail, is_hex, lead_of, mode_behind, place_after};
 use crate::content::{push_lone, push_unit, unit_of, waits};
 use crate::machine::Machine;
 use crate::mode::{Escape, Lead, Mode, Place, Role, Tail, Taken, Token};
+use std::alloc::AllocError;
+use std::mem;
 
 impl Machine {
-    ghost use Rattle.std.specs.Prelude.{◌≡◌, ◌∷◌, [], ◌++◌, ◌==◌, ℕ, suc, cond, IfOk, OnErr, Option, Some, None};
+    ghost use Rattle.std.specs.Prelude.{◌≡◌, ◌∷◌, [], ◌++◌, cond, IfOk, OnErr, Option, None};
     ghost use Rattle.json_text.specs.declared.mode.Mode.TheVariants as mode_;
     ghost use Rattle.json_text.specs.declared.mode.Lead.TheVariants as lead_;
     ghost use Rattle.json_text.specs.Bytes as bytes_;
     ghost use Rattle.json_text.specs.Chars as chars;
-    ghost use Rattle.json_text.specs.Rest as rest;
     ghost use Rattle.json_text.specs.Machine as machine;
     ghost use Rattle.json_text.specs.declared.mode.Place.TheVariants as place_;
-    ghost use Rattle.json_text.specs.Marks.{Step, Byte, End};
-    ghost use Rattle.json_text.specs.Machine.{start_move, open_move, move_by, Reads, Gives, Stuck};
-    ghost use Rattle.json_text.specs.Taking.{room_of, opens_of, top_of, rest_of, move_of, KeepsText, Stays, IsSame, MaySpace, end_move_of, EndStays};
+    ghost use Rattle.json_text.specs.Machine.{Reads, Stuck};
+    ghost use Rattle.json_text.specs.Taking.{room_of, opens_of, move_of, KeepsText, Stays};
 
     /// Ends a text between quotation marks.
     fn unquote(&mut self, role: Role, waiting: Option<u16>) -> Result<Taken, AllocError>

@@ -5,17 +5,19 @@ ghost use Rattle.json_text.specs.Reading.{Reads, Verdict};
 ghost use Rattle.json_text.specs.Tokens.{verdict_for, steps_seen};
 ghost use Rattle.json_text.specs.Scanner.{Stands, IsVerdict, fed, has_ended};
 
+use crate::{JsonStep, Scanner};
 use std::alloc::{AllocError, Global};
 use std::process::Abort;
 use std::test::Fail;
-
-use crate::{JsonStep, Scanner};
 
 /// Whether an answer is a verdict and no step.
 fn is_verdict(answer: JsonStep) -> bool
     ensures value { result ≡ is_some (verdict_for answer) }
 {
-    matches!(answer, JsonStep::Done | JsonStep::More | JsonStep::Bad { .. })
+    matches!(
+        answer,
+        JsonStep::Done | JsonStep::More | JsonStep::Bad { .. }
+    )
 }
 
 /// Takes every step that is fixed, with its content, and returns the verdict behind them.
@@ -26,7 +28,7 @@ fn take_steps(
 ) -> Result<JsonStep, AllocError>
     ensures value { (bytes : List ℕ) (ended : Bool) → Stands scanner.old bytes ended (steps_seen (map (λ g. (g.0, g.1.items)) given.old.items))
         → IfOk result (λ answer. Stands scanner.new bytes ended (steps_seen (map (λ g. (g.0, g.1.items)) given.new.items))
-            × (verdict : Verdict) × IsVerdict answer verdict × Reads bytes ended (steps_seen (map (λ g. (g.0, g.1.items)) given.new.items)) verdict) }
+        × (verdict : Verdict) × IsVerdict answer verdict × Reads bytes ended (steps_seen (map (λ g. (g.0, g.1.items)) given.new.items)) verdict) }
     ensures fed { fed scanner.new ≡ fed scanner.old }
     ensures ended { has_ended scanner.new ≡ has_ended scanner.old }
 {
@@ -118,16 +120,26 @@ fn steps_of_whole_texts(rt: HostRuntime) -> Result<(), Fail> {
         ("{\"a\":[true,false,null]}", "{ ka [ T F N ] } ."),
         (" [ 1 , 2 ] ", "[ n1 n2 ] ."),
         ("\t{\n\"k\"\r:\t\"v\" }\n", "{ kk tv } ."),
-        ("{\"a\":{\"b\":[[],{}]},\"\":-1}", "{ ka { kb [ [ ] { } ] } k n-1 } ."),
+        (
+            "{\"a\":{\"b\":[[],{}]},\"\":-1}",
+            "{ ka { kb [ [ ] { } ] } k n-1 } .",
+        ),
         ("\"\"", "t ."),
         ("\"\\\"\\\\\\/\\b\\f\\n\\r\\t\"", "t\"\\/\u{8}\u{c}\n\r\t ."),
         ("\"\\u0041\\u00e9\\u20AC\"", "tA\u{e9}\u{20ac} ."),
-        ("\"\u{7f}\u{e9}\u{20ac}\u{1f600}\"", "t\u{7f}\u{e9}\u{20ac}\u{1f600} ."),
+        (
+            "\"\u{7f}\u{e9}\u{20ac}\u{1f600}\"",
+            "t\u{7f}\u{e9}\u{20ac}\u{1f600} .",
+        ),
         ("\"\\ud83d\\ude00\"", "t\u{1f600} ."),
         ("\"\\udbff\\udfff\"", "t\u{10ffff} ."),
     ] {
         for size in [1, 2, 3, 7, 1000] {
-            assert_eq!(rt; show(rt.alloc(), text.as_bytes(), size)?.as_slice(), want.as_bytes(), "{text} by {size}");
+            assert_eq!(rt;
+                show(rt.alloc(), text.as_bytes(), size)?.as_slice(),
+                want.as_bytes(),
+                "{text} by {size}"
+            );
         }
     }
     Ok(())
@@ -146,7 +158,11 @@ fn a_lone_surrogate_is_the_replacement_character(rt: HostRuntime) -> Result<(), 
         ("\"\\ud83d\u{e9}\"", "t\u{fffd}\u{e9} ."),
     ] {
         for size in [1, 2, 3, 7, 1000] {
-            assert_eq!(rt; show(rt.alloc(), text.as_bytes(), size)?.as_slice(), want.as_bytes(), "{text} by {size}");
+            assert_eq!(rt;
+                show(rt.alloc(), text.as_bytes(), size)?.as_slice(),
+                want.as_bytes(),
+                "{text} by {size}"
+            );
         }
     }
     Ok(())
@@ -193,7 +209,11 @@ fn texts_that_no_text_goes_on_from(rt: HostRuntime) -> Result<(), Fail> {
         ("'a'", "!0"),
     ] {
         for size in [1, 2, 3, 7, 1000] {
-            assert_eq!(rt; show(rt.alloc(), text.as_bytes(), size)?.as_slice(), want.as_bytes(), "{text} by {size}");
+            assert_eq!(rt;
+                show(rt.alloc(), text.as_bytes(), size)?.as_slice(),
+                want.as_bytes(),
+                "{text} by {size}"
+            );
         }
     }
     Ok(())
@@ -212,11 +232,36 @@ fn bytes_that_are_utf8_and_bytes_that_are_not(rt: HostRuntime) -> Result<(), Fai
     // The first and the last characters of each length.
     check_bytes(&rt, alloc, &[34, 0xc2, 0x80, 34], "t\u{80} .".as_bytes())?;
     check_bytes(&rt, alloc, &[34, 0xdf, 0xbf, 34], "t\u{7ff} .".as_bytes())?;
-    check_bytes(&rt, alloc, &[34, 0xe0, 0xa0, 0x80, 34], "t\u{800} .".as_bytes())?;
-    check_bytes(&rt, alloc, &[34, 0xed, 0x9f, 0xbf, 34], "t\u{d7ff} .".as_bytes())?;
-    check_bytes(&rt, alloc, &[34, 0xee, 0x80, 0x80, 34], "t\u{e000} .".as_bytes())?;
-    check_bytes(&rt, alloc, &[34, 0xf0, 0x90, 0x80, 0x80, 34], "t\u{10000} .".as_bytes())?;
-    check_bytes(&rt, alloc, &[34, 0xf4, 0x8f, 0xbf, 0xbf, 34], "t\u{10ffff} .".as_bytes())?;
+    check_bytes(
+        &rt,
+        alloc,
+        &[34, 0xe0, 0xa0, 0x80, 34],
+        "t\u{800} .".as_bytes(),
+    )?;
+    check_bytes(
+        &rt,
+        alloc,
+        &[34, 0xed, 0x9f, 0xbf, 34],
+        "t\u{d7ff} .".as_bytes(),
+    )?;
+    check_bytes(
+        &rt,
+        alloc,
+        &[34, 0xee, 0x80, 0x80, 34],
+        "t\u{e000} .".as_bytes(),
+    )?;
+    check_bytes(
+        &rt,
+        alloc,
+        &[34, 0xf0, 0x90, 0x80, 0x80, 34],
+        "t\u{10000} .".as_bytes(),
+    )?;
+    check_bytes(
+        &rt,
+        alloc,
+        &[34, 0xf4, 0x8f, 0xbf, 0xbf, 34],
+        "t\u{10ffff} .".as_bytes(),
+    )?;
     // Overlong forms, surrogates, beyond the last code point, bytes that begin nothing.
     check_bytes(&rt, alloc, &[34, 0xc0, 0x80, 34], b"!1")?;
     check_bytes(&rt, alloc, &[34, 0xc1, 0xbf, 34], b"!1")?;
@@ -284,7 +329,8 @@ fn told(alloc: Global, text: &[u8]) -> Result<(usize, JsonStep), AllocError> {
 
 #[test]
 fn no_beginning_of_a_map_is_a_map(rt: HostRuntime) -> Result<(), Fail> {
-    let map = "{\"version\":0.6,\"elements\":[{\"type\":\"node\",\"id\":1,\"lat\":0.0,\"lon\":-0.001},\n{\"type\":\"way\",\"id\":10,\"nodes\":[1,2],\"tags\":{\"name\":\"Kaiserstra\u{df}e \\u2116\"}}]}".as_bytes();
+    let map =
+        "{\"version\":0.6,\"elements\":[{\"type\":\"node\",\"id\":1,\"lat\":0.0,\"lon\":-0.001},\n{\"type\":\"way\",\"id\":10,\"nodes\":[1,2],\"tags\":{\"name\":\"Kaiserstra\u{df}e \\u2116\"}}]}".as_bytes();
     for n in 0..map.len() {
         let (_, verdict) = told(rt.alloc(), &map[..n])?;
         assert_eq!(rt; verdict, JsonStep::Bad { at: n as u64 }, "after {n} bytes");

@@ -7,7 +7,7 @@ use Rattle.json_text.proofs.tests.take_steps.Given as goal
 abbrev pub invariant-steps : goal.invariant-steps
 invariant-steps l =
     ((bytes : List ℕ) (ended : Bool) → Stands l.initial.scanner bytes ended (steps_seen (map (λ g. (g.0, g.1.items)) l.initial.given.items))
-      → Stands l.scanner bytes ended (steps_seen (map (λ g. (g.0, g.1.items)) l.given.items)))
+    → Stands l.scanner bytes ended (steps_seen (map (λ g. (g.0, g.1.items)) l.given.items)))
     × (fed l.scanner ≡ fed l.initial.scanner) × (has_ended l.scanner ≡ has_ended l.initial.scanner)
 
 abbrev pub decreases-steps : goal.decreases-steps

@@ -1,6 +1,5 @@
 -- By whether the end was said, and by what became of it.
-use Rattle.std.proofs.Common.{refl, arith, ◌≡◌, [], ◌≤◌, vec_len}
-use Rattle.json_text.specs.Scanner.{pending}
+use Rattle.std.proofs.Common.{refl, arith}
 use Rattle.json_text.proofs.ScannerLemmas.{none_pending, last_more, end_number_told, end_whole_told, end_stuck_told}
 use Rattle.json_text.proofs.scanner.Scanner.last.Goals as goal
 

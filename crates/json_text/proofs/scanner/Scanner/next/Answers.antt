@@ -1,6 +1,6 @@
 -- What was told is what the caller sees.
 use Rattle.std.proofs.Common.{refl, ◌∙◌}
-use Rattle.json_text.proofs.ScannerLemmas.{IsAlike, alike_holds, told_answers, told_exact}
+use Rattle.json_text.proofs.ScannerLemmas.{alike_holds, told_answers, told_exact}
 use Rattle.json_text.proofs.scanner.Scanner.next.Goals as goal
 
 pub returns-clause-value : goal.returns-clause-value
