@@ -28,6 +28,7 @@ pub record Alive (mode : Mode) (room : ℕ) (opens : List Bracket) (content : Li
   pub rest : List Mark
   pub follows : Rest mode room opens content (Seen symbol ∷ rest)
 
+-- a number goes on or is completed from each of its parts
 number_more : (part : Part) (room : ℕ) (opens : List Bracket) (content : List ℕ) → Alive (mode_.Number part) room opens content
 number_more part_.Nothing room opens content = let c = closes room opens in record { symbol = Byte 48; rest = _; follows = (48 ∷ [], c.0, refl, refl, c.1) }
 number_more part_.Minus room opens content = let c = closes room opens in record { symbol = Byte 48; rest = _; follows = (48 ∷ [], c.0, refl, refl, c.1) }
@@ -39,6 +40,7 @@ number_more part_.Letter room opens content = let c = closes room opens in recor
 number_more part_.Sign room opens content = let c = closes room opens in record { symbol = Byte 48; rest = _; follows = (48 ∷ [], c.0, refl, refl, c.1) }
 number_more part_.Exponent room opens content = let c = closes room opens in record { symbol = Byte 48; rest = _; follows = (48 ∷ [], c.0, refl, refl, c.1) }
 
+-- a word goes on from each of its letters
 word_more : (letters : Letters) (room : ℕ) (opens : List Bracket) (content : List ℕ) → Alive (mode_.Word letters) room opens content
 word_more letters_.T room opens content = let c = closes room opens in record { symbol = Byte 114; rest = _; follows = (c.0, refl, c.1) }
 word_more letters_.Tr room opens content = let c = closes room opens in record { symbol = Byte 117; rest = _; follows = (c.0, refl, c.1) }
@@ -55,13 +57,16 @@ word_more letters_.Nul room opens content = let c = closes room opens in record 
 value_more : (room : ℕ) (opens : List Bracket) → (rest : List Mark) × BeforeValue room opens (Seen (Byte 110) ∷ rest)
 value_more room opens = let c = closes room opens in (_, ([], Word Null, c.0, tt, tt, refl, c.1))
 
+-- a colon and a value may follow a name
 colon_more : (room : ℕ) (opens : List Bracket) → (rest : List Mark) × BeforeColon room opens (Seen (Byte 58) ∷ rest)
 colon_more room opens = let v = value_more room opens in (_, ([], Seen (Byte 110) ∷ v.0, tt, refl, v.1))
 
+-- something may follow a text between quotation marks
 behind_more : (role : Role) (room : ℕ) (opens : List Bracket) → (rest : List Mark) × Behind role room opens rest
 behind_more role_.Name room opens = let c = colon_more room opens in (Seen (Byte 58) ∷ c.0, c.1)
 behind_more role_.Value room opens = closes room opens
 
+-- a character of several bytes goes on from each of its bytes
 tail_more : (role : Role) (tail : Tail) (room : ℕ) (opens : List Bracket) (content : List ℕ) → Alive (mode_.Text role (place_.Tail tail)) room opens content
 tail_more role tail_.One room opens content = let c = behind_more role room opens in record { symbol = Byte 128; rest = _; follows = (128 ∷ [], [], c.0, (refl, tt), tt, refl, c.1) }
 tail_more role tail_.Two room opens content = let c = behind_more role room opens in record { symbol = Byte 128; rest = _; follows = (128 ∷ 128 ∷ [], [], c.0, (refl, (refl, tt)), tt, refl, c.1) }
@@ -71,6 +76,7 @@ tail_more role tail_.BehindEd room opens content = let c = behind_more role room
 tail_more role tail_.BehindF0 room opens content = let c = behind_more role room opens in record { symbol = Byte 144; rest = _; follows = (144 ∷ 128 ∷ 128 ∷ [], [], c.0, (refl, (refl, (refl, tt))), tt, refl, c.1) }
 tail_more role tail_.BehindF4 room opens content = let c = behind_more role room opens in record { symbol = Byte 128; rest = _; follows = (128 ∷ 128 ∷ 128 ∷ [], [], c.0, (refl, (refl, (refl, tt))), tt, refl, c.1) }
 
+-- a text goes on from each place between its quotation marks
 place_more : (role : Role) (place : Place) (room : ℕ) (opens : List Bracket) (content : List ℕ) → Alive (mode_.Text role place) room opens content
 place_more role (place_.Chars w) room opens content = let c = behind_more role room opens in record { symbol = Byte 34; rest = _; follows = ([], c.0, tt, refl, c.1) }
 place_more role (place_.Escape w) room opens content = let c = behind_more role room opens in record { symbol = Byte 34; rest = _; follows = inl (34, 34, ([], c.0, refl, tt, refl, c.1)) }
@@ -80,6 +86,7 @@ place_more role (place_.Hex3 w x y) room opens content = let c = behind_more rol
 place_more role (place_.Hex4 w x y z) room opens content = let c = behind_more role room opens in record { symbol = Byte 48; rest = _; follows = (48, ([], c.0, (refl, tt), tt, refl, c.1)) }
 place_more role (place_.Tail tail) room opens content = tail_more role tail room opens content
 
+-- each place is alive
 pub alive : (mode : Mode) (room : ℕ) (opens : List Bracket) (content : List ℕ) → Alive mode room opens content
 alive mode_.Value room opens content = let v = value_more room opens in record { symbol = Byte 110; rest = v.0; follows = v.1 }
 alive mode_.First room [] content = let v = value_more room [] in record { symbol = Byte 110; rest = v.0; follows = v.1 }

@@ -35,16 +35,20 @@ use Rattle.json_text.proofs.Goes.{Goes, reads, gives, finishes, Ends, Follows, s
 pub out_reads : {mode : Mode} {room : ℕ} {opens : List Bracket} {content : List ℕ} {marks : List Mark} → Goes (Reads mode room opens content) marks → Rest mode room opens content marks
 out_reads (reads r) = r
 
+-- a move that gives leads to its step, and then on
 pub out_gives : {step : Step} {mode : Mode} {room : ℕ} {opens : List Bracket} {content : List ℕ} {marks : List Mark} → Goes (Gives step mode room opens content) marks
     → (rest : List Mark) × (marks ≡ Given step ∷ rest) × Rest mode room opens content rest
 out_gives (gives {marks = rest} r) = (rest, refl, r)
 
+-- a move that is stuck leads nowhere
 pub out_stuck : {marks : List Mark} → Goes Stuck marks → ⊥
 out_stuck g = elim g [ ]
 
+-- no symbol is read where a step comes first
 pub out_first : {step : Step} {mode : Mode} {room : ℕ} {opens : List Bracket} {content : List ℕ} {marks : List Mark} → Goes (GivesFirst step mode room opens content) marks → ⊥
 out_first g = elim g [ ]
 
+-- behind the end nothing stands
 pub out_finishes : {marks : List Mark} → Goes Finishes marks → marks ≡ []
 out_finishes finishes = refl
 
@@ -60,10 +64,12 @@ Says (start_.Word letters) b = letters_of (word_of letters) ≡ b ∷ letters_le
 Says (start_.Number part) b = part_after part_.Nothing (kind_of b) ≡ Some part
 Says start_.Nothing b = Unit {0}
 
+-- a byte that begins a number continues one behind nothing
 says_number : (b : ℕ) (next : Option Part) → part_after part_.Nothing (kind_of b) ≡ next → Says (start_of_number next) b
 says_number b None e = tt
 says_number b (Some part) e = e
 
+-- each byte is what it begins
 says : (b : ℕ) → Says (start_of b) b
 says b =
     by_cond (λ s. Says s b) (eqb b 34) _ _ (λ e. eq_of b 34 e) (λ n1.
@@ -82,6 +88,7 @@ record Found (room : ℕ) (opens : List Bracket) (marks : List Mark) : Type 0 wh
   printed : marks ≡ print_value value rest
   after : After room opens rest
 
+-- a bracket begins a group
 opened : (bracket : Bracket) (room : ℕ) (opens : List Bracket) (content : List ℕ) (b : ℕ) (marks : List Mark)
     → b ≡ opening bracket → Goes (open_move bracket room opens content) marks → Found room opens (Seen (Byte b) ∷ marks)
 opened bracket zero opens content b marks e g = absurd (out_stuck g)
@@ -91,6 +98,7 @@ opened bracket (suc room) opens content b marks e g = opened_at (out_gives g)
     opened_at (inner, p, (entries, rest, h, q, a)) =
         record { value = Group bracket entries; rest = rest; is = h; printed = cons e (p ∙ ap (λ m. Given (Step.Opens bracket) ∷ m) q); after = a }
 
+-- what a byte begins goes on to a value
 found : (start : Start) (room : ℕ) (opens : List Bracket) (content : List ℕ) (b : ℕ) (marks : List Mark)
     → Says start b → Goes (start_move start room opens content b) marks → Found room opens (Seen (Byte b) ∷ marks)
 found start_.Quote room opens content b marks s g = text_at (out_reads g)
@@ -120,6 +128,7 @@ found (start_.Number part) room opens content b marks s g = number_at (out_reads
     }
 found start_.Nothing room opens content b marks s g = absurd (out_stuck g)
 
+-- so does each byte that begins something
 found_at : (room : ℕ) (opens : List Bracket) (content : List ℕ) (b : ℕ) (marks : List Mark)
     → Goes (start_move (start_of b) room opens content b) marks → Found room opens (Seen (Byte b) ∷ marks)
 found_at room opens content b marks g = found (start_of b) room opens content b marks (says b) g
@@ -130,6 +139,7 @@ more_others : (bracket : Bracket) (room : ℕ) (b : ℕ) (others : Others) → i
 more_others bracket room b (Last space) e h = (Last (b ∷ space), (e, h), λ rest. refl)
 more_others bracket room b (Next space behind name value others) e h = (Next (b ∷ space) behind name value others, ((e, h.0), h.1, h.2, h.3, h.4), λ rest. refl)
 
+-- a space more in front of all entries
 more_entries : (bracket : Bracket) (room : ℕ) (b : ℕ) (entries : Entries) → is_space b ≡ true → AreEntries entries bracket room
     → (wider : Entries) × AreEntries wider bracket room × ((rest : List Mark) → Seen (Byte b) ∷ print_entries entries bracket rest ≡ print_entries wider bracket rest)
 more_entries bracket room b (Empty space) e h = (Empty (b ∷ space), (e, h), λ rest. refl)
@@ -174,6 +184,7 @@ others_back bracket room opens content b marks g = elim (sides (is_space b) _ _ 
 value_back : (room : ℕ) (opens : List Bracket) (b : ℕ) (marks : List Mark) → is_space b ≡ true → BeforeValue room opens marks → BeforeValue room opens (Seen (Byte b) ∷ marks)
 value_back room opens b marks e (space, value, rest, h, v, p, a) = (b ∷ space, value, rest, (e, h), v, ap (λ m. Seen (Byte b) ∷ m) p, a)
 
+-- a value that is found stands behind no space
 value_found : (room : ℕ) (opens : List Bracket) (marks : List Mark) → Found room opens marks → BeforeValue room opens marks
 value_found room opens marks f = ([], f.value, f.rest, tt, f.is, f.printed, f.after)
 
@@ -243,6 +254,7 @@ colon_back room opens content b marks g = elim (sides (is_space b) _ _ marks g) 
     spaced : is_space b ≡ true → BeforeColon room opens marks → BeforeColon room opens (Seen (Byte b) ∷ marks)
     spaced e (space, rest, h, p, v) = (b ∷ space, rest, (e, h), ap (λ m. Seen (Byte b) ∷ m) p, v)
 
+-- before the name of a member
 name_back : (room : ℕ) (opens : List Bracket) (content : List ℕ) (b : ℕ) (marks : List Mark)
     → Goes (byte_move mode_.Name room opens content b) marks → BeforeName room opens (Seen (Byte b) ∷ marks)
 name_back room opens content b marks g = elim (sides (is_space b) _ _ marks g) [
@@ -253,6 +265,7 @@ name_back room opens content b marks g = elim (sides (is_space b) _ _ marks g) [
     spaced : is_space b ≡ true → BeforeName room opens marks → BeforeName room opens (Seen (Byte b) ∷ marks)
     spaced e (space, chars, rest, h, c, p, k) = (b ∷ space, chars, rest, (e, h), c, ap (λ m. Seen (Byte b) ∷ m) p, k)
 
+-- behind a value
 after_back : (room : ℕ) (opens : List Bracket) (content : List ℕ) (b : ℕ) (marks : List Mark)
     → Goes (byte_move mode_.After room opens content b) marks → After room opens (Seen (Byte b) ∷ marks)
 after_back room [] content b marks g = elim (sides (is_space b) _ _ marks g) [
@@ -285,6 +298,7 @@ no_end part room opens content marks g = elim (sides (may_end part) _ _ marks g)
   | inr f ↦ out_stuck f.1
 ]
 
+-- a byte more of a number
 number_back : (part : Part) (next : Option Part) (room : ℕ) (opens : List Bracket) (content : List ℕ) (b : ℕ) (marks : List Mark)
     → part_after part (kind_of b) ≡ next → Goes (number_move part next room opens content b) marks → Rest (mode_.Number part) room opens content (Seen (Byte b) ∷ marks)
 number_back part None room opens content b marks e g = absurd (no_end part room opens content marks g)
@@ -305,6 +319,7 @@ LeadSays lead_.Quote b = b ≡ 34
 LeadSays lead_.Backslash b = b ≡ 92
 LeadSays _ b = Unit {0}
 
+-- each byte that begins something between quotation marks is what it begins
 lead_says : (b : ℕ) → LeadSays (lead_of b) b
 lead_says b =
     by_cond (λ s. LeadSays s b) (nat_lt b 32) _ _ (λ e. tt) (λ n1.
@@ -320,10 +335,12 @@ lead_says b =
     by_cond (λ s. LeadSays s b) (nat_lt b 244) _ _ (λ e. tt) (λ n11.
     by_cond (λ s. LeadSays s b) (eqb b 244) _ _ (λ e. tt) (λ n12. tt))))))))))))
 
+-- the letter u
 abbrev pub EscapeSays : Escape → ℕ → Type 0
 EscapeSays escape_.Coded b = b ≡ 117
 EscapeSays _ b = Unit {0}
 
+-- each letter behind a backslash is what it stands for
 escape_says : (b : ℕ) → EscapeSays (escape_of b) b
 escape_says b =
     by_cond (λ s. EscapeSays s b) (eqb b 34) _ _ (λ e. tt) (λ n1.
@@ -403,6 +420,7 @@ tail_join tail_.BehindEd b more f t = (f, t)
 tail_join tail_.BehindF0 b more f t = (f, t)
 tail_join tail_.BehindF4 b more f t = (f, t)
 
+-- a byte more of a character
 tail_back : (role : Role) (tail : Tail) (next : Option Tail) (room : ℕ) (opens : List Bracket) (content : List ℕ) (b : ℕ) (marks : List Mark)
     → fits_tail tail b ≡ true → tail_after tail ≡ next → Goes (tail_move role next room opens (content ++ (b ∷ []))) marks → InBytes role room opens content tail (Seen (Byte b) ∷ marks)
 tail_back role tail None room opens content b marks f e g = none_at (out_reads g)

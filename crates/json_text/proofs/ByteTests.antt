@@ -19,9 +19,11 @@ chosen false x y e = inr (refl, e)
 pub zero_is : (b : ℕ) → kind_of b ≡ kind_.Zero → b ≡ 48
 zero_is b e = grind (arith, nat_tests)
 
+-- the minus is one byte
 pub minus_is : (b : ℕ) → kind_of b ≡ kind_.Minus → b ≡ 45
 minus_is b e = grind (arith, nat_tests)
 
+-- a digit that is not zero lies between one and nine
 pub digit_is : (b : ℕ) → kind_of b ≡ kind_.Digit → (49 ≤ b) × (b ≤ 57)
 digit_is b e = grind (arith, nat_tests)
 

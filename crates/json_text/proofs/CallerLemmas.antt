@@ -11,12 +11,15 @@ use Rattle.json_text.specs.Reading.{Verdict, Whole, More, BadAt, Reads}
 use Rattle.json_text.specs.Scanner.{content, most_steps, GaveStep, GaveVerdict, Answers, IsNearer, IsVerdict, Stands}
 use Rattle.json_text.specs.Tokens.{step_for, verdict_for, steps_seen}
 
+-- two values that are there are the same where they are equal as options
 some_same : {A : Type 0} {x y : A} → Some x ≡ Some y → x ≡ y
 some_same e = cc
 
+-- nothing is no value
 none_some : {A : Type 0} {x : A} → None ≡ Some x → ⊥
 none_some e = cc
 
+-- a value is not nothing
 some_none : {A : Type 0} {x : A} → Some x ≡ None → ⊥
 some_none e = cc
 
@@ -26,6 +29,7 @@ pub record IsStep (answer : JsonStep) (old new : Scanner) (bytes : List ℕ) (en
   pub is : step_for answer (content new) ≡ Some step
   pub gave : GaveStep step new bytes ended steps
 
+-- an answer that is no verdict is a step
 pub answer_step : (answer : JsonStep) (old new : Scanner) (bytes : List ℕ) (ended : Bool) (steps : List Step)
     → verdict_for answer ≡ None → Answers answer new bytes ended steps → IsStep answer old new bytes ended steps
 answer_step step_.Open old new bytes ended steps v a = record { step = _; is = refl; gave = a }
@@ -123,11 +127,13 @@ pieces_meet text at n =
     let e : (at + n) - at ≡ n = omega arith in
     ap (λ k. take at text ++ take k (drop at text)) e ∙ sym (take-add at n text)
 
+-- all of a text, taken from its front, is the text
 pub all_taken : (text : List ℕ) (n : ℕ) → length text ≤ n → take n text ≡ text
 all_taken [] zero h = refl
 all_taken [] (suc n) h = refl
 all_taken (b ∷ text) zero h = absurd (omega arith)
 all_taken (b ∷ text) (suc n) h = ap (λ xs. b ∷ xs) (all_taken text n (omega arith))
 
+-- a piece has its length
 pub length-piece : (text : List ℕ) (at n : ℕ) → at + n ≤ length text → length (take ((at + n) - at) (drop at text)) ≡ n
 length-piece text at n h = omega (arith, length-take ((at + n) - at) (drop at text), length-drop at text)

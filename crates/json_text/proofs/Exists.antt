@@ -26,6 +26,7 @@ data Comes (front : List Mark) (x : Symbol) : Type 0 where
 not_after : (part : Part) → mode_.After ≡ mode_.Number part → ⊥
 not_after part e = cc
 
+-- behind a number that ended, a symbol makes the front grow or stops it
 again : {front : List Mark} {next : List Symbol} {room : ℕ} {opens : List Bracket} {content : List ℕ} (first : List Mark) (x : Symbol)
     → IsFrontOf front next mode_.After room opens content → Begins next (x ∷ []) → symbols_of front ≡ symbols_of first → Comes first x
 again {front} {next} {room} {opens} {content} first x f n s = again_by (move_by mode_.After room opens content x) refl
@@ -41,6 +42,7 @@ again {front} {next} {room} {opens} {content} first x f n s = again_by (move_by 
     again_by Finishes e = stays front next mode_.After room opens content f n s (inl e)
     again_by Stuck e = stays front next mode_.After room opens content f n s (inr e)
 
+-- at any place, a symbol makes the front grow or stops it
 comes : {front : List Mark} {mode : Mode} {room : ℕ} {opens : List Bracket} {content : List ℕ} (x : Symbol)
     → IsFrontOf front [] mode room opens content → Comes front x
 comes {front} {mode} {room} {opens} {content} x f = comes_by (move_by mode room opens content x) refl
@@ -63,9 +65,11 @@ comes {front} {mode} {room} {opens} {content} x f = comes_by (move_by mode room 
 abbrev pub Reading : List ℕ → Bool → Type 0
 Reading bytes ended = (steps : List Step) × (verdict : Verdict) × Reads bytes ended steps verdict
 
+-- a front behind which no text goes on gives a reading
 bad_reading : (bytes : List ℕ) (ended : Bool) (front : List Mark) → IsBad bytes ended front → Reading bytes ended
 bad_reading bytes ended front b = (steps_of front, BadAt (length (symbols_of front)), record { front = front; given = refl; fits = (refl, b) })
 
+-- no byte finishes a text
 no_finish : (mode : Mode) (room : ℕ) (opens : List Bracket) (content : List ℕ) (b : ℕ) → move_by mode room opens content (Byte b) ≡ Finishes → ⊥
 no_finish mode room opens content b e = subst (ByteSays mode room opens content) e (byte_says mode room opens content b)
 
@@ -77,11 +81,13 @@ end_reading {front} bytes f n s (inl e) =
     (steps_of (front ++ (Seen End ∷ [])), Whole, record { front = front ++ (Seen End ∷ []); given = refl; fits = (refl, whole_at bytes f n s e) })
 end_reading {front} bytes f n s (inr e) = bad_reading bytes true front (bad_at bytes true End [] f n (ap (λ z. z ++ (End ∷ [])) (sym s)) e)
 
+-- the end behind a value
 end_after : {front : List Mark} {next : List Symbol} {room : ℕ} {content : List ℕ} (opens : List Bracket) (bytes : List ℕ)
     → IsFrontOf front next mode_.After room opens content → Begins next (End ∷ []) → symbols_of front ≡ symbols bytes → Reading bytes true
 end_after [] bytes f n s = end_reading bytes f n s (inl refl)
 end_after (bracket ∷ opens) bytes f n s = end_reading bytes f n s (inr refl)
 
+-- the end behind a number
 end_number : {front : List Mark} {room : ℕ} {opens : List Bracket} {content : List ℕ} (part : Part) (ends : Bool) (bytes : List ℕ)
     → may_end part ≡ ends → IsFrontOf front [] (mode_.Number part) room opens content → symbols_of front ≡ symbols bytes → Reading bytes true
 end_number {front} {room} {opens} {content} part true bytes m f s =
@@ -92,6 +98,7 @@ end_number {front} {room} {opens} {content} part false bytes m f s =
     end_reading bytes f (begins (End ∷ []) refl) s
     (inr (subst (λ t. cond t (GivesFirst (Step.Number content) mode_.After room opens []) Stuck ≡ Stuck) (sym m) refl))
 
+-- the end at any place
 at_end : {front : List Mark} {room : ℕ} {opens : List Bracket} {content : List ℕ} (mode : Mode) (bytes : List ℕ)
     → IsFrontOf front [] mode room opens content → symbols_of front ≡ symbols bytes → Reading bytes true
 at_end {opens = opens} mode_.After bytes f s = end_after opens bytes f (begins (End ∷ []) refl) s
@@ -128,5 +135,6 @@ some_left bytes ended [] front mode room opens content f s = all_seen bytes ende
 some_left bytes ended (b ∷ left) front mode room opens content f s =
     one_left bytes ended b left s (λ longer mode' room' opens' content' g e. some_left bytes ended left longer mode' room' opens' content' g e) (comes (Byte b) f)
 
+-- each beginning of a text, and each text that has ended, has a reading
 pub reading : (bytes : List ℕ) (ended : Bool) → (steps : List Step) × (verdict : Verdict) × Reads bytes ended steps verdict
 reading bytes ended = some_left bytes ended bytes [] mode_.Value 64 [] [] empty_front refl

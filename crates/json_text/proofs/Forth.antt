@@ -71,6 +71,7 @@ record Starts (room : ℕ) (opens : List Bracket) (content : List ℕ) (marks : 
   no_close : eqb byte 93 ≡ false
   goes : Goes (start_move (start_of byte) room opens content byte) others
 
+-- a number begins with its first byte
 number_starts : (room : ℕ) (opens : List Bracket) (content : List ℕ) (b : ℕ) (bytes : List ℕ) (rest : List Mark) (next : Option Part)
     → part_after part_.Nothing (kind_of b) ≡ next → OnPart next (Completes bytes) → After room opens rest
     → Starts room opens content (see (b ∷ bytes) (Given (Step.Number (b ∷ bytes)) ∷ rest))
@@ -86,11 +87,13 @@ number_starts room opens content b bytes rest (Some part) e c a =
       goes = subst (λ s. Goes (start_move s room opens content b) (see bytes (Given (Step.Number (b ∷ bytes)) ∷ rest))) (sym begins.0) (reads (bytes, rest, c, refl, a));
     }
 
+-- so do the bytes of a number
 digits_start : (room : ℕ) (opens : List Bracket) (content bytes : List ℕ) (rest : List Mark)
     → Completes bytes part_.Nothing → After room opens rest → Starts room opens content (see bytes (Given (Step.Number bytes) ∷ rest))
 digits_start room opens content [] rest c a = absurd (false≢true c)
 digits_start room opens content (b ∷ bytes) rest c a = number_starts room opens content b bytes rest _ refl c a
 
+-- each value begins so
 starts : (value : Value) (room : ℕ) (opens : List Bracket) (content : List ℕ) (rest : List Mark)
     → IsValue value room → After room opens rest → Starts room opens content (print_value value rest)
 starts (Word Yes) room opens content rest v a = record { byte = 116; others = _; printed = refl; no_space = refl; no_close = refl; goes = reads (rest, refl, a) }
@@ -177,6 +180,7 @@ pub append_nil : (xs : List ℕ) → xs ++ [] ≡ xs
 append_nil [] = refl
 append_nil (x ∷ xs) = ap (λ ys. x ∷ ys) (append_nil xs)
 
+-- a byte more of a number
 at_digit : (part : Part) (next : Option Part) (room : ℕ) (opens : List Bracket) (content : List ℕ) (b : ℕ) (bytes : List ℕ) (rest : List Mark)
     → OnPart next (Completes bytes) → After room opens rest
     → Goes (number_move part next room opens content b) (see bytes (Given (Step.Number (content ++ (b ∷ bytes))) ∷ rest))
@@ -184,6 +188,7 @@ at_digit part None room opens content b bytes rest c a = absurd c
 at_digit part (Some next) room opens content b bytes rest c a =
     reads (bytes, rest, c, ap (λ x. see bytes (Given (Step.Number x) ∷ rest)) (sym (append_assoc content (b ∷ []) bytes)), a)
 
+-- the bytes of a number
 at_number : (part : Part) (room : ℕ) (opens : List Bracket) (content bytes : List ℕ) (rest : List Mark)
     → Completes bytes part → After room opens rest
     → Follows (mode_.Number part) room opens content (see bytes (Given (Step.Number (content ++ bytes)) ∷ rest))
@@ -244,6 +249,7 @@ at_short role w room opens content b letter chars rest e h k =
     subst (λ x. Goes (escape_move role w x room opens content) (print_chars chars (close_text role (content ++ content_of w (Short b letter ∷ chars)) rest)))
     (sym e) (reads (chars, rest, h, moved_byte role content (lone w) b [] (content_of None chars) chars rest, k))
 
+-- behind a backslash stands a letter, or a code unit
 at_escape : (role : Role) (w : Option ℕ) (room : ℕ) (opens : List Bracket) (content : List ℕ) (marks : List Mark)
     → InEscape role room opens content w marks → Follows (mode_.Text role (place_.Escape w)) room opens content marks
 at_escape role w room opens content marks (inl (b, letter, (chars, rest, e, h, p, k))) =
@@ -257,6 +263,7 @@ abbrev pub OnTail : Option Tail → List ℕ → Type 0
 OnTail None bytes = bytes ≡ []
 OnTail (Some tail) bytes = AreIn (ranges_of tail) bytes
 
+-- the next byte of a character, and those behind it
 record TailBytes (tail : Tail) (bytes : List ℕ) : Type 0 where
   byte : ℕ
   more : List ℕ
@@ -264,10 +271,12 @@ record TailBytes (tail : Tail) (bytes : List ℕ) : Type 0 where
   fits : fits_tail tail byte ≡ true
   others : OnTail (tail_after tail) more
 
+-- no byte lies in no range
 no_more : (bytes : List ℕ) → AreIn [] bytes → bytes ≡ []
 no_more [] h = refl
 no_more (b ∷ bytes) h = absurd h
 
+-- the bytes that are to come of a character begin with one that is wanted
 tail_bytes : (tail : Tail) (bytes : List ℕ) → AreIn (ranges_of tail) bytes → TailBytes tail bytes
 tail_bytes tail_.One [] h = absurd h
 tail_bytes tail_.One (b ∷ bytes) h = record { byte = b; more = bytes; same = refl; fits = h.0; others = no_more bytes h.1 }
@@ -284,6 +293,7 @@ tail_bytes tail_.BehindF0 (b ∷ bytes) h = record { byte = b; more = bytes; sam
 tail_bytes tail_.BehindF4 [] h = absurd h
 tail_bytes tail_.BehindF4 (b ∷ bytes) h = record { byte = b; more = bytes; same = refl; fits = h.0; others = h.1 }
 
+-- behind a byte of a character
 at_tail_byte : (role : Role) (next : Option Tail) (room : ℕ) (opens : List Bracket) (content : List ℕ) (b : ℕ) (more : List ℕ) (chars : List Char) (rest : List Mark)
     → OnTail next more → AreChars chars → Behind role room opens rest
     → Goes (tail_move role next room opens (content ++ (b ∷ [])))
@@ -301,6 +311,7 @@ at_tail_byte role (Some tail) room opens content b more chars rest t h k =
       k,
     )
 
+-- inside a character of several bytes
 at_tail : (role : Role) (tail : Tail) (room : ℕ) (opens : List Bracket) (content bytes : List ℕ) (chars : List Char) (rest : List Mark)
     → AreIn (ranges_of tail) bytes → AreChars chars → Behind role room opens rest
     → Follows (mode_.Text role (place_.Tail tail)) room opens content

@@ -64,6 +64,7 @@ given_after room opens x more rest a s = split rest a (forth mode_.After room op
     split (Seen y ∷ others) a f s = (others, subst (λ z. After room opens (Seen z ∷ others)) (head_of s) a)
     split (Given step ∷ others) a f s = absurd f
 
+-- so the move by that symbol gives the step first
 pub given_first : (mode : Mode) (room : ℕ) (opens : List Bracket) (content : List ℕ) (x : Symbol) (more : List Symbol) (step : Step) (rest : List Mark)
     → Ends mode room opens content step rest → symbols_of rest ≡ x ∷ more → move_by mode room opens content x ≡ GivesFirst step mode_.After room opens []
 given_first (mode_.Number part) room opens content x more step rest (m, e, a) s =

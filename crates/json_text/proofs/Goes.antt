@@ -30,6 +30,7 @@ Follows mode room opens content (Given step ∷ marks) = Ends mode room opens co
 pub if_true : {t : Bool} {x : Move} {marks : List Mark} (y : Move) → t ≡ true → Goes x marks → Goes (cond t x y) marks
 if_true {t} {x} {marks} y e g = subst (λ v. Goes (cond v x y) marks) (sym e) g
 
+-- a choice whose test fails
 pub if_false : {t : Bool} {y : Move} {marks : List Mark} (x : Move) → t ≡ false → Goes y marks → Goes (cond t x y) marks
 if_false {t} {y} {marks} x e g = subst (λ v. Goes (cond v x y) marks) (sym e) g
 

@@ -32,27 +32,34 @@ goes_on part next b bytes e c = subst (λ o. OnPart o (Completes bytes)) (sym e)
 digit_goes : (part next : Part) (b : ℕ) (bytes : List ℕ) → Takes part next → is_digit b ≡ true → Completes bytes next → Completes (b ∷ bytes) part
 digit_goes part next b bytes t h c = goes_on part next b bytes (takes_kind part next (kind_of b) t h) c
 
+-- so do any digits, where they stay in their part
 digits_go : (part : Part) (digits bytes : List ℕ) → Takes part part → AreAll is_digit digits → Completes bytes part → Completes (digits ++ bytes) part
 digits_go part [] bytes t h c = c
 digits_go part (d ∷ digits) bytes t h c = digit_goes part part d (digits ++ bytes) t h.0 (digits_go part digits bytes t h.1 c)
 
+-- and digits of which there is at least one
 run_goes : (part next : Part) (digits bytes : List ℕ) → Takes part next → Takes next next → IsRun digits → Completes bytes next → Completes (digits ++ bytes) part
 run_goes part next [] bytes t u h c = absurd h
 run_goes part next (d ∷ digits) bytes t u h c = digit_goes part next d (digits ++ bytes) t h.0 (digits_go next digits bytes u h.1 c)
 
+-- what it takes that digits lead from a part to another
 takes : (part next : Part) → part_after part kind_.Zero ≡ Some next → part_after part kind_.Digit ≡ Some next → Takes part next
 takes part next z d = record { zero = z; digit = d }
 
+-- nothing behind bytes changes nothing
 append_nil : (xs : List ℕ) → xs ++ [] ≡ xs
 append_nil [] = refl
 append_nil (x ∷ xs) = ap (λ ys. x ∷ ys) (append_nil xs)
 
+-- digits may end a number
 digits_end : (part : Part) (digits : List ℕ) → Takes part part → may_end part ≡ true → AreAll is_digit digits → Completes digits part
 digits_end part digits t m h = subst (λ xs. Completes xs part) (append_nil digits) (digits_go part digits [] t h m)
 
+-- digits of which there is at least one may end a number
 run_end : (part next : Part) (digits : List ℕ) → Takes part next → Takes next next → may_end next ≡ true → IsRun digits → Completes digits part
 run_end part next digits t u m h = subst (λ xs. Completes xs part) (append_nil digits) (run_goes part next digits [] t u h m)
 
+-- a sign may follow the letter of an exponent
 sign_kind_goes : (kind : Kind) → is_sign_kind kind ≡ true → part_after part_.Letter kind ≡ Some part_.Sign
 sign_kind_goes kind_.Zero h = absurd (false≢true h)
 sign_kind_goes kind_.Digit h = absurd (false≢true h)
@@ -62,6 +69,7 @@ sign_kind_goes kind_.Plus h = refl
 sign_kind_goes kind_.Minus h = refl
 sign_kind_goes kind_.Other h = absurd (false≢true h)
 
+-- digits with a sign or without follow the letter of an exponent
 signed_goes : (bytes : List ℕ) → IsSigned bytes → Completes bytes part_.Letter
 signed_goes [] h = absurd h
 signed_goes (b ∷ bytes) (inl h) = run_end part_.Letter part_.Exponent (b ∷ bytes) (takes _ _ refl refl) (takes _ _ refl refl) refl h
@@ -82,6 +90,7 @@ frac_goes part m e p (b ∷ bytes) exp f x =
     goes_on part part_.Point b (bytes ++ exp) (subst (λ k. part_after part k ≡ Some part_.Point) (sym f.0) p)
     (run_goes part_.Point part_.Fraction bytes exp (takes _ _ refl refl) (takes _ _ refl refl) f.1 (exp_goes part_.Fraction refl refl exp x))
 
+-- the whole part with what follows it completes a number
 int_goes : (part : Part) → part_after part kind_.Zero ≡ Some part_.Zero → part_after part kind_.Digit ≡ Some part_.Whole
     → (int frac exp : List ℕ) → IsInt int → IsFrac frac → IsExp exp → Completes (int ++ (frac ++ exp)) part
 int_goes part z d [] frac exp i f x = absurd i
@@ -92,6 +101,7 @@ int_goes part z d (b ∷ bytes) frac exp (inr i) f x =
     goes_on part part_.Whole b (bytes ++ (frac ++ exp)) (subst (λ k. part_after part k ≡ Some part_.Whole) (sym i.0) d)
     (digits_go part_.Whole bytes (frac ++ exp) (takes _ _ refl refl) i.1 (frac_goes part_.Whole refl refl refl frac exp f x))
 
+-- so do all four parts
 minus_goes : (minus int frac exp : List ℕ) → IsMinus minus → IsInt int → IsFrac frac → IsExp exp → Completes (minus ++ (int ++ (frac ++ exp))) part_.Nothing
 minus_goes [] int frac exp m i f x = int_goes part_.Nothing refl refl int frac exp i f x
 minus_goes (b ∷ []) int frac exp m i f x =
@@ -131,43 +141,56 @@ ends part_.Exponent h = tt
 digit_at : (b : ℕ) (kind : Kind) → kind_of b ≡ kind → is_digit_kind kind ≡ true → is_digit b ≡ true
 digit_at b kind k h = subst (λ x. is_digit_kind x ≡ true) (sym k) h
 
+-- a digit more of the whole part
 whole_more : (b : ℕ) (bytes : List ℕ) → is_digit b ≡ true → Spelled part_.Whole bytes → Spelled part_.Whole (b ∷ bytes)
 whole_more b bytes d (digits, frac, exp, ds, f, x, e) = (b ∷ digits, frac, exp, (d, ds), f, x, ap (λ xs. b ∷ xs) e)
 
+-- a digit more of the fraction
 fraction_more : (b : ℕ) (bytes : List ℕ) → is_digit b ≡ true → Spelled part_.Fraction bytes → Spelled part_.Fraction (b ∷ bytes)
 fraction_more b bytes d (digits, exp, ds, x, e) = (b ∷ digits, exp, (d, ds), x, ap (λ xs. b ∷ xs) e)
 
+-- the first digit of the fraction
 point_more : (b : ℕ) (bytes : List ℕ) → is_digit b ≡ true → Spelled part_.Fraction bytes → Spelled part_.Point (b ∷ bytes)
 point_more b bytes d (digits, exp, ds, x, e) = (b ∷ digits, exp, (d, ds), x, ap (λ xs. b ∷ xs) e)
 
+-- a point before digits
 point_then : (b : ℕ) (bytes : List ℕ) → kind_of b ≡ kind_.Point → Spelled part_.Point bytes → Spelled part_.Zero (b ∷ bytes)
 point_then b bytes k (digits, exp, r, x, e) = (b ∷ digits, exp, (k, r), x, ap (λ xs. b ∷ xs) e)
 
+-- a letter before an exponent
 letter_then : (b : ℕ) (bytes : List ℕ) → kind_of b ≡ kind_.Letter → Spelled part_.Letter bytes → Spelled part_.Zero (b ∷ bytes)
 letter_then b bytes k s = ([], b ∷ bytes, tt, (k, s), refl)
 
+-- what may follow a zero may follow other digits
 zero_whole : (bytes : List ℕ) → Spelled part_.Zero bytes → Spelled part_.Whole bytes
 zero_whole bytes (frac, exp, f, x, e) = ([], frac, exp, tt, f, x, e)
 
+-- a letter before an exponent, behind a fraction
 letter_fraction : (b : ℕ) (bytes : List ℕ) → kind_of b ≡ kind_.Letter → Spelled part_.Letter bytes → Spelled part_.Fraction (b ∷ bytes)
 letter_fraction b bytes k s = ([], b ∷ bytes, tt, (k, s), refl)
 
+-- a zero that is the whole part
 zero_then : (b : ℕ) (bytes : List ℕ) → kind_of b ≡ kind_.Zero → Spelled part_.Zero bytes → Spelled part_.Minus (b ∷ bytes)
 zero_then b bytes k (frac, exp, f, x, e) = (b ∷ [], frac, exp, inl (k, refl), f, x, ap (λ xs. b ∷ xs) e)
 
+-- the first digit of the whole part
 whole_then : (b : ℕ) (bytes : List ℕ) → kind_of b ≡ kind_.Digit → Spelled part_.Whole bytes → Spelled part_.Minus (b ∷ bytes)
 whole_then b bytes k (digits, frac, exp, ds, f, x, e) = (b ∷ digits, frac, exp, inr (k, ds), f, x, ap (λ xs. b ∷ xs) e)
 
+-- a number without a minus
 unsigned : (bytes : List ℕ) → Spelled part_.Minus bytes → Spelled part_.Nothing bytes
 unsigned bytes (int, frac, exp, i, f, x, e) = record { minus = []; int = int; frac = frac; exp = exp; is_minus = tt; is_int = i; is_frac = f; is_exp = x; spelled = e }
 
+-- a number with one
 minus_then : (b : ℕ) (bytes : List ℕ) → kind_of b ≡ kind_.Minus → Spelled part_.Minus bytes → Spelled part_.Nothing (b ∷ bytes)
 minus_then b bytes k (int, frac, exp, i, f, x, e) = record { minus = b ∷ []; int = int; frac = frac; exp = exp; is_minus = k; is_int = i; is_frac = f; is_exp = x; spelled = ap (λ xs. b ∷ xs) e }
 
+-- digits of which there is at least one are digits
 run_of : (bytes : List ℕ) → IsRun bytes → AreAll is_digit bytes
 run_of [] r = tt
 run_of (b ∷ bytes) r = r
 
+-- a byte of a kind before what completes a number behind it
 byte_then : (part : Part) (b : ℕ) (bytes : List ℕ) (kind : Kind) → kind_of b ≡ kind
     → OnPart (part_after part kind) (λ next. Spelled next bytes) → Spelled part (b ∷ bytes)
 byte_then part_.Nothing b bytes kind_.Zero k s = unsigned _ (zero_then b bytes k s)
@@ -201,11 +224,13 @@ on_part : (next : Option Part) (P Q : Part → Type 0) → ((part : Part) → P 
 on_part None P Q f h = h
 on_part (Some part) P Q f h = f part h
 
+-- bytes that complete a number are spelled by the grammar
 spells : (part : Part) (bytes : List ℕ) → Completes bytes part → Spelled part bytes
 spells part [] c = ends part c
 spells part (b ∷ bytes) c =
     byte_then part b bytes (kind_of b) refl
     (on_part (part_after part (kind_of b)) (Completes bytes) (λ next. Spelled next bytes) (λ next. spells next bytes) c)
 
+-- what is read part by part is a number of the grammar
 pub number_spelled : (bytes : List ℕ) → Completes bytes part_.Nothing → IsNumber bytes
 number_spelled bytes c = spells part_.Nothing bytes c

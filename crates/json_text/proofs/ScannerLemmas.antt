@@ -31,6 +31,7 @@ widen : {front : List Mark} {next : List Symbol} {mode : Mode} {room : ℕ} {ope
     → IsFrontOf front next mode room opens content → Begins next wider → IsFrontOf front wider mode room opens content
 widen {front} wider f b = record { forth = f.forth; back = f.back; only = λ text t g. f.only text t (begins_trans (begins_more (symbols_of front) b) g); kin = f.kin }
 
+-- the first symbol stays the first where more follow
 first_grows : (xs ys : List Symbol) → Begins (first_of xs) (first_of (xs ++ ys))
 first_grows [] ys = begins (first_of ys) refl
 first_grows (x ∷ xs) ys = begins [] refl
@@ -193,6 +194,7 @@ length_symbols : (bytes : List ℕ) → length (symbols bytes) ≡ length bytes
 length_symbols [] = refl
 length_symbols (b ∷ bytes) = ap suc (length_symbols bytes)
 
+-- the symbols of the front are the bytes that were scanned
 front_length : (scanner : Scanner) (bytes : List ℕ) (steps : List Step) (h : Holds scanner bytes steps) → scanner.read ≤ vec_len scanner.input
     → length (symbols_of h.front) ≡ scanner.before + scanner.read
 front_length scanner bytes steps h r =
@@ -201,6 +203,7 @@ front_length scanner bytes steps h r =
     let rest : length (pending scanner) ≡ length scanner.input.items - scanner.read = length-drop scanner.read scanner.input.items in
     omega (arith, total, rest, length_symbols bytes, length_symbols (pending scanner), h.count, scanner.input.ok.0, r)
 
+-- where a symbol is stuck, no text goes on
 pub holds_bad : (scanner : Scanner) (bytes : List ℕ) (steps : List Step) (x : Symbol) (others : List Symbol) → Holds scanner bytes steps → scanner.read ≤ vec_len scanner.input
     → symbols_left scanner ≡ x ∷ others
     → move_by scanner.machine.mode (room_of scanner.machine) (opens_of scanner.machine) scanner.machine.content.items x ≡ Stuck
@@ -338,9 +341,11 @@ pub record ReadsOn (old new : Scanner) : Type 0 where
 some_same : {A : Type 0} {x y : A} → Some x ≡ Some y → x ≡ y
 some_same e = cc
 
+-- nothing is no value
 none_some : {A : Type 0} {x : A} → None ≡ Some x → ⊥
 none_some e = cc
 
+-- a step is what the caller sees of it
 answers_step : (answer : JsonStep) (step : Step) (new : Scanner) (bytes : List ℕ) (ended : Bool) (steps : List Step)
     → step_for answer (content new) ≡ Some step → GaveStep step new bytes ended steps → Answers answer new bytes ended steps
 answers_step step_.Open step new bytes ended steps e g = subst (λ s. GaveStep s new bytes ended steps) (sym (some_same e)) g
@@ -357,6 +362,7 @@ answers_step step_.Done step new bytes ended steps e g = absurd (none_some e)
 answers_step step_.More step new bytes ended steps e g = absurd (none_some e)
 answers_step (step_.Bad at) step new bytes ended steps e g = absurd (none_some e)
 
+-- so is a verdict
 answers_verdict : (answer : JsonStep) (verdict : Verdict) (new : Scanner) (bytes : List ℕ) (ended : Bool) (steps : List Step)
     → verdict_for answer ≡ Some verdict → GaveVerdict verdict new bytes ended steps → Answers answer new bytes ended steps
 answers_verdict step_.Done verdict new bytes ended steps e g = subst (λ v. GaveVerdict v new bytes ended steps) (sym (some_same e)) g
@@ -373,6 +379,7 @@ answers_verdict step_.True verdict new bytes ended steps e g = absurd (none_some
 answers_verdict step_.False verdict new bytes ended steps e g = absurd (none_some e)
 answers_verdict step_.Null verdict new bytes ended steps e g = absurd (none_some e)
 
+-- an answer that is a verdict is that verdict
 is_verdict : (answer : JsonStep) (said verdict : Verdict) → verdict_for answer ≡ Some said → verdict ≡ said → IsVerdict answer verdict
 is_verdict step_.Done said verdict e v = v ∙ sym (some_same e)
 is_verdict step_.More said verdict e v = v ∙ sym (some_same e)
@@ -396,12 +403,14 @@ pub record IsAlike (mid new : Scanner) : Type 0 where
   pub before : new.before ≡ mid.before
   pub ended : new.ended ≡ mid.ended
 
+-- they stand for the same
 pub alike_holds : (mid new : Scanner) (bytes : List ℕ) (steps : List Step) → IsAlike mid new → Holds mid bytes steps → Holds new bytes steps
 alike_holds mid new bytes steps a h =
     same_holds mid new bytes steps h (ap (λ i. drop new.read i.items) a.input ∙ ap (λ k. drop k mid.input.items) a.read)
     (ap (λ i. new.before + vec_len i) a.input ∙ ap (λ k. k + vec_len mid.input) a.before) a.ended
     (record { mode = ap (λ m. m.mode) a.machine; opens = ap (λ m. m.opens.items) a.machine; content = ap (λ m. m.content.items) a.machine })
 
+-- what was told is the answer
 pub told_answers : (mid new : Scanner) (bytes : List ℕ) (ended : Bool) (steps : List Step) (answer : JsonStep) → IsAlike mid new → mid.ended ≡ ended → new.failed ≡ false
     → Told answer mid bytes steps → Answers answer new bytes ended steps
 told_answers mid new bytes ended steps answer a t f (told_step step e h) =

@@ -98,6 +98,7 @@ not_shorter bytes ended front other b c (y ∷ m) e =
     begins m (e ∙ ap (λ z. symbols_of front ++ (z ∷ m)) (sym (head_of k)) ∙ sym (append_assoc (symbols_of front) (b.next ∷ []) m)) in
     absurd (b.longest (other ++ c.begins.0) c.begins.1 (begins_trans g (symbols_begin (begins_front other c.begins.0))))
 
+-- so both beginnings are as long
 same_length : (bytes : List ℕ) (ended : Bool) (front other : List Mark) → IsBad bytes ended front → IsBad bytes ended other → symbols_of other ≡ symbols_of front
 same_length bytes ended front other b c = elim (comparable (symbols_of front) (b.next ∷ b.others) (symbols_of other) (c.next ∷ c.others) (sym b.same ∙ c.same)) [
   | inl g ↦ not_shorter bytes ended front other b c g.rest g.same
@@ -108,20 +109,24 @@ same_length bytes ended front other b c = elim (comparable (symbols_of front) (b
 seen_more : (bytes : List ℕ) → seen bytes false ≡ symbols bytes
 seen_more bytes = append_nil (symbols bytes)
 
+-- the bytes begin a text that goes on from them
 goes_begin : (bytes : List ℕ) (front : List Mark) (m : IsMore bytes front) → Begins (symbols bytes) (symbols_of (front ++ (Seen m.goes_on.0 ∷ m.goes_on.1)))
 goes_begin bytes front m =
     begins (m.goes_on.0 ∷ symbols_of m.goes_on.1) (symbols_append front (Seen m.goes_on.0 ∷ m.goes_on.1) ∙ ap (λ s. s ++ (m.goes_on.0 ∷ symbols_of m.goes_on.1)) m.same)
 
+-- of two fronts behind which nothing is fixed, one lies within the other
 more_within : (bytes : List ℕ) (front other : List Mark) → IsMore bytes front → IsMore bytes other → Begins front other
 more_within bytes front other b c =
     within front other c.goes_on.1 c.goes_on.0 (b.only (other ++ (Seen c.goes_on.0 ∷ c.goes_on.1)) c.goes_on.2 (goes_begin bytes other c)) (begins [] (c.same ∙ sym b.same ∙ sym (append_nil (symbols_of front))))
 
+-- where more may come, no beginning is bad
 more_not_bad : (bytes : List ℕ) (front other : List Mark) → IsMore bytes front → IsBad bytes false other → ⊥
 more_not_bad bytes front other m b =
     let g : Begins (symbols_of other ++ (b.next ∷ [])) (symbols bytes) =
     begins b.others (sym (seen_more bytes) ∙ b.same ∙ sym (append_assoc (symbols_of other) (b.next ∷ []) b.others)) in
     b.longest (front ++ (Seen m.goes_on.0 ∷ m.goes_on.1)) m.goes_on.2 (begins_trans g (goes_begin bytes front m))
 
+-- where the text is whole, no beginning is bad
 whole_not_bad : (bytes : List ℕ) (front other : List Mark) → IsWhole bytes front → IsBad bytes true other → ⊥
 whole_not_bad bytes front other w b =
     b.longest front w.is_text (begins b.others (w.same ∙ b.same ∙ sym (append_assoc (symbols_of other) (b.next ∷ []) b.others)))

@@ -56,10 +56,11 @@ utf8 n =
     if nat_lt n 65536 then (224 + n / 4096) ∷ (128 + n / 64 % 64) ∷ (128 + n % 64) ∷ [] else
     (240 + n / 262144) ∷ (128 + n / 4096 % 64) ∷ (128 + n / 64 % 64) ∷ (128 + n % 64) ∷ []
 
--- the first half of a pair of surrogates, and the second
+-- the first half of a pair of surrogates
 abbrev pub is_high : ℕ → Bool
 is_high unit = is_within 55296 56319 unit
 
+-- the second half of a pair of surrogates
 abbrev pub is_low : ℕ → Bool
 is_low unit = is_within 56320 57343 unit
 

@@ -37,11 +37,12 @@ letters_of Yes = 116 ∷ 114 ∷ 117 ∷ 101 ∷ []
 letters_of No = 102 ∷ 97 ∷ 108 ∷ 115 ∷ 101 ∷ []
 letters_of Null = 110 ∷ 117 ∷ 108 ∷ 108 ∷ []
 
--- the bracket that opens, and the one that closes
+-- the bracket that opens
 abbrev pub opening : Bracket → ℕ
 opening bracket_.Square = 91
 opening bracket_.Curly = 123
 
+-- the bracket that closes
 abbrev pub closing : Bracket → ℕ
 closing bracket_.Square = 93
 closing bracket_.Curly = 125

@@ -36,7 +36,7 @@ pub data Move : Type 0 where
   Finishes : Move
   Stuck : Move
 
--- the letter that is wanted next in a word, and the letters then read
+-- the letter that is wanted next in a word
 abbrev pub letter_after : Letters → ℕ
 letter_after letters_.T = 114
 letter_after letters_.Tr = 117
@@ -49,6 +49,7 @@ letter_after letters_.N = 117
 letter_after letters_.Nu = 108
 letter_after letters_.Nul = 108
 
+-- the letters that are then read of a word, or nothing where it is whole
 abbrev pub letters_after : Letters → Option Letters
 letters_after letters_.T = Some letters_.Tr
 letters_after letters_.Tr = Some letters_.Tru
@@ -61,7 +62,7 @@ letters_after letters_.N = Some letters_.Nu
 letters_after letters_.Nu = Some letters_.Nul
 letters_after letters_.Nul = None
 
--- the byte is wanted next in a character, and what is then still to come
+-- the byte is wanted next in a character
 abbrev pub fits_tail : Tail → ℕ → Bool
 fits_tail tail b = elim tail [
   | tail_.One ↦ is_in Any b
@@ -73,6 +74,7 @@ fits_tail tail b = elim tail [
   | tail_.BehindF4 ↦ is_in To8F b
 ]
 
+-- what is then still to come of a character, or nothing where it is whole
 abbrev pub tail_after : Tail → Option Tail
 tail_after tail_.One = None
 tail_after tail_.Two = Some tail_.One
@@ -82,11 +84,12 @@ tail_after tail_.BehindEd = Some tail_.One
 tail_after tail_.BehindF0 = Some tail_.Two
 tail_after tail_.BehindF4 = Some tail_.Two
 
--- what a byte begins in a value's place
+-- a part that a byte begins
 abbrev pub start_of_number : Option Part → Start
 start_of_number None = start_.Nothing
 start_of_number (Some part) = start_.Number part
 
+-- what a byte begins in the place of a value
 abbrev pub start_of : ℕ → Start
 start_of b =
     cond (b == 34) start_.Quote
@@ -119,6 +122,7 @@ abbrev pub entry_move : Bracket → ℕ → List Bracket → List ℕ → ℕ �
 entry_move bracket_.Square room opens content b = start_move (start_of b) room opens content b
 entry_move bracket_.Curly room opens content b = name_move room opens content b
 
+-- where the next entry stands, behind a comma
 abbrev pub entry_mode : Bracket → Mode
 entry_mode bracket_.Square = mode_.Value
 entry_mode bracket_.Curly = mode_.Name
@@ -174,6 +178,7 @@ abbrev pub place_after : Option Tail → Place
 place_after None = place_.Chars None
 place_after (Some tail) = place_.Tail tail
 
+-- behind a byte of a character, by what is still to come
 abbrev pub tail_move : Role → Option Tail → ℕ → List Bracket → List ℕ → Move
 tail_move role next room opens content = Reads (mode_.Text role (place_after next)) room opens content
 
@@ -210,6 +215,7 @@ abbrev pub finish_move : List Bracket → Move
 finish_move [] = Finishes
 finish_move (bracket ∷ opens) = Stuck
 
+-- by the end of the text, at any place
 abbrev pub last_move : Mode → ℕ → List Bracket → List ℕ → Move
 last_move mode_.After room opens content = finish_move opens
 last_move (mode_.Number part) room opens content = end_move part room opens content

@@ -48,7 +48,7 @@ BeforeFirst room [] marks = BeforeValue room [] marks
 BeforeFirst room (bracket ∷ opens) marks =
     (entries : Entries) × (rest : List Mark) × AreEntries entries bracket room × (marks ≡ print_entries entries bracket rest) × After (suc room) opens rest
 
--- the word of which these letters were read, and its other letters
+-- the word of which these letters were read
 abbrev pub word_of : Letters → Literal
 word_of letters_.T = Yes
 word_of letters_.Tr = Yes
@@ -61,6 +61,7 @@ word_of letters_.N = Null
 word_of letters_.Nu = Null
 word_of letters_.Nul = Null
 
+-- the letters that are still to come of a word
 abbrev pub letters_left : Letters → List ℕ
 letters_left letters_.T = 114 ∷ 117 ∷ 101 ∷ []
 letters_left letters_.Tr = 117 ∷ 101 ∷ []

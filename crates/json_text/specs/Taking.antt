@@ -20,11 +20,12 @@ room_of machine = 64 - length machine.opens.items
 abbrev pub opens_of : Machine → List Bracket
 opens_of machine = reverse machine.opens.items
 
--- the innermost bracket, and the others
+-- the innermost bracket
 abbrev pub top_of : List Bracket → Option Bracket
 top_of [] = None
 top_of (bracket ∷ opens) = Some bracket
 
+-- the brackets round the innermost
 abbrev pub rest_of : List Bracket → List Bracket
 rest_of [] = []
 rest_of (bracket ∷ opens) = opens
@@ -73,6 +74,7 @@ pub record IsUnchanged (old new : Machine) : Type 0 where
   pub place : IsSame old new
   pub text : new.text.items ≡ old.text.items
 
+-- what the end leaves as it was
 abbrev pub EndStays : Ending → Machine → Machine → Type 0
 EndStays ending_.Number old new = Unit {0}
 EndStays _ old new = IsUnchanged old new
