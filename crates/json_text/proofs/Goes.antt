@@ -1,0 +1,40 @@
+-- Where a move leads, and what may follow there.
+use Rattle.std.proofs.Common.{◌≡◌, ℕ, ◌⊎◌, inl, inr, Bool, true, false, cond, List, [], ◌∷◌, refl, sym, subst}
+use Rattle.json_text.specs.declared.mode.Bracket.{Bracket}
+use Rattle.json_text.specs.declared.mode.Mode.{Mode}
+use Rattle.json_text.specs.declared.mode.Mode.TheVariants as mode_
+use Rattle.json_text.specs.Marks.{Step, Mark, Seen, Given}
+use Rattle.json_text.specs.Rest.{Rest, After, may_end}
+use Rattle.json_text.specs.Machine.{Move, Reads, Gives, Finishes, move_by}
+
+-- behind the symbol that made the move stand these marks
+pub data Goes : Move → List Mark → Type 0 where
+  reads : {mode : Mode} {room : ℕ} {opens : List Bracket} {content : List ℕ} {marks : List Mark}
+      → Rest mode room opens content marks → Goes (Reads mode room opens content) marks
+  gives : {step : Step} {mode : Mode} {room : ℕ} {opens : List Bracket} {content : List ℕ} {marks : List Mark}
+      → Rest mode room opens content marks → Goes (Gives step mode room opens content) (Given step ∷ marks)
+  finishes : Goes Finishes []
+
+-- a step stands first: the number that may end here
+abbrev pub Ends : Mode → ℕ → List Bracket → List ℕ → Step → List Mark → Type 0
+Ends (mode_.Number part) room opens content step marks = (may_end part ≡ true) × (step ≡ Step.Number content) × After room opens marks
+Ends _ room opens content step marks = ⊥
+
+-- what follows is what the move by its first symbol leads to
+abbrev pub Follows : Mode → ℕ → List Bracket → List ℕ → List Mark → Type 0
+Follows mode room opens content [] = ⊥
+Follows mode room opens content (Seen x ∷ marks) = Goes (move_by mode room opens content x) marks
+Follows mode room opens content (Given step ∷ marks) = Ends mode room opens content step marks
+
+-- a choice whose test passes or fails
+pub if_true : {t : Bool} {x : Move} {marks : List Mark} (y : Move) → t ≡ true → Goes x marks → Goes (cond t x y) marks
+if_true {t} {x} {marks} y e g = subst (λ v. Goes (cond v x y) marks) (sym e) g
+
+-- a choice whose test fails
+pub if_false : {t : Bool} {y : Move} {marks : List Mark} (x : Move) → t ≡ false → Goes y marks → Goes (cond t x y) marks
+if_false {t} {y} {marks} x e g = subst (λ v. Goes (cond v x y) marks) (sym e) g
+
+-- the side that a choice took
+pub sides : (t : Bool) (x y : Move) (marks : List Mark) → Goes (cond t x y) marks → ((t ≡ true) × Goes x marks) ⊎ ((t ≡ false) × Goes y marks)
+sides true x y marks g = inl (refl, g)
+sides false x y marks g = inr (refl, g)

@@ -1,0 +1,13 @@
+pub mod ByteTests
+pub mod NumberLemmas
+pub mod Goes
+pub mod Forth
+pub mod Back
+pub mod Lists
+pub mod Alive
+pub mod Stops
+pub mod Fronts
+pub mod Verdicts
+pub mod Exists
+pub mod ScannerLemmas
+pub mod CallerLemmas

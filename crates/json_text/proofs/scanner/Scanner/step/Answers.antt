@@ -1,0 +1,32 @@
+-- By what became of the byte.
+use Rattle.std.proofs.Common.{refl, arith, ◌<◌}
+use Rattle.json_text.specs.Scanner.{is_number}
+use Rattle.json_text.proofs.ScannerLemmas.{pending_byte, byte_read, byte_given, byte_first, byte_stuck, first_nearer}
+use Rattle.json_text.proofs.scanner.Scanner.step.Goals as goal
+
+pub returns-in-Read-clause-value : goal.returns-in-Read-clause-value
+returns-in-Read-clause-value c bytes steps h =
+    byte_read c.args.self.now _ bytes steps c.index-b.result.now c.in_ok-take.field-0 h c.in_ok-take.ensures.moves c.in-Read.is
+    (pending_byte c.args.self.now.input.items c.args.self.now.read c.index-b.result.now (omega (arith, c.requires, c.args.self.now.input.ok.0)) c.index-b.ensures) refl
+
+pub returns-in-Given-clause-value : goal.returns-in-Given-clause-value
+returns-in-Given-clause-value c bytes steps h =
+    byte_given c.args.self.now _ bytes steps c.index-b.result.now c.in_ok-take.field-0 h c.in_ok-take.ensures.moves c.in-Given.token _ c.in-Given.is c.json_step.ensures.value
+    (pending_byte c.args.self.now.input.items c.args.self.now.read c.index-b.result.now (omega (arith, c.requires, c.args.self.now.input.ok.0)) c.index-b.ensures) refl
+
+pub returns-in-First-clause-value : goal.returns-in-First-clause-value
+returns-in-First-clause-value c bytes steps h =
+    byte_first c.args.self.now _ bytes steps c.index-b.result.now c.in_ok-take.field-0 h c.in_ok-take.ensures.moves c.in-First.is _
+    (pending_byte c.args.self.now.input.items c.args.self.now.read c.index-b.result.now (omega (arith, c.requires, c.args.self.now.input.ok.0)) c.index-b.ensures) refl refl refl
+
+pub returns-in-Stuck-clause-value : goal.returns-in-Stuck-clause-value
+returns-in-Stuck-clause-value c bytes steps h =
+    byte_stuck c.args.self.now _ bytes steps c.index-b.result.now c.in_ok-take.field-0 _ c.at.result h c.in_ok-take.ensures.moves c.in_ok-take.ensures.stays c.in-Stuck.is
+    (pending_byte c.args.self.now.input.items c.args.self.now.read c.index-b.result.now (omega (arith, c.requires, c.args.self.now.input.ok.0)) c.index-b.ensures) refl refl refl
+    (omega (arith, c.requires)) c.at.ensures.value
+
+pub returns-in-First-clause-nearer : goal.returns-in-First-clause-nearer
+returns-in-First-clause-nearer c =
+    let fewer : is_number c.take.new.self.mode < is_number c.args.self.now.machine.mode =
+    first_nearer c.args.self.now.machine c.take.new.self c.index-b.result.now c.in_ok-take.field-0 c.in_ok-take.ensures.moves c.in-First.is in
+    omega (arith, fewer)

@@ -1,0 +1,12 @@
+pub mod Marks
+pub mod Bytes
+pub mod Numbers
+pub mod Chars
+pub mod Grammar
+pub mod Reading
+pub mod Rest
+pub mod Machine
+pub mod Tokens
+pub mod Taking
+pub mod Scanner
+pub mod Told

@@ -1,0 +1,80 @@
+-- A machine of the code as the scanner's moves see it.
+use Rattle.std.specs.Prelude.{ℕ, List, [], ◌∷◌, ◌≡◌, Option, Some, None, ◌-◌, length, reverse}
+use Rattle.json_text.specs.declared.mode.Bracket.{Bracket}
+use Rattle.json_text.specs.declared.mode.Mode.{Mode}
+use Rattle.json_text.specs.declared.mode.Mode.TheVariants as mode_
+use Rattle.json_text.specs.declared.mode.Taken.{Taken}
+use Rattle.json_text.specs.declared.mode.Taken.TheVariants as taken_
+use Rattle.json_text.specs.declared.mode.Ending.{Ending}
+use Rattle.json_text.specs.declared.mode.Ending.TheVariants as ending_
+use Rattle.json_text.specs.declared.machine.Machine.{Machine}
+use Rattle.json_text.specs.Marks.{Step}
+use Rattle.json_text.specs.Tokens.{step_of, KeepsWith}
+use Rattle.json_text.specs.Machine.{Move, Reads, Gives, GivesFirst, Finishes, Stuck}
+
+-- how many brackets may open
+abbrev pub room_of : Machine → ℕ
+room_of machine = 64 - length machine.opens.items
+
+-- the brackets that are open, the innermost first
+abbrev pub opens_of : Machine → List Bracket
+opens_of machine = reverse machine.opens.items
+
+-- the innermost bracket
+abbrev pub top_of : List Bracket → Option Bracket
+top_of [] = None
+top_of (bracket ∷ opens) = Some bracket
+
+-- the brackets round the innermost
+abbrev pub rest_of : List Bracket → List Bracket
+rest_of [] = []
+rest_of (bracket ∷ opens) = opens
+
+-- the move that was made, seen by what became of the symbol and by the machine then
+abbrev pub move_of : Taken → Machine → Move
+move_of taken_.Read new = Reads new.mode (room_of new) (opens_of new) new.content.items
+move_of (taken_.Given token) new = Gives (step_of token new.text.items) new.mode (room_of new) (opens_of new) new.content.items
+move_of taken_.First new = GivesFirst (Step.Number new.text.items) new.mode (room_of new) (opens_of new) new.content.items
+move_of taken_.Stuck new = Stuck
+
+-- the last content stays where no other is given
+abbrev pub KeepsText : Taken → Machine → Machine → Type 0
+KeepsText (taken_.Given token) old new = KeepsWith token old.text.items new.text.items
+KeepsText taken_.First old new = Unit {0}
+KeepsText _ old new = new.text.items ≡ old.text.items
+
+-- nothing but the memory in use has changed
+pub record IsSame (old new : Machine) : Type 0 where
+  pub mode : new.mode ≡ old.mode
+  pub opens : new.opens.items ≡ old.opens.items
+  pub content : new.content.items ≡ old.content.items
+
+-- where no text goes on so, nothing has changed
+abbrev pub Stays : Taken → Machine → Machine → Type 0
+Stays taken_.Stuck old new = IsSame old new
+Stays _ old new = Unit {0}
+
+-- white space may stand there
+abbrev pub MaySpace : Mode → Type 0
+MaySpace mode_.Value = Unit {0}
+MaySpace mode_.First = Unit {0}
+MaySpace mode_.After = Unit {0}
+MaySpace mode_.Name = Unit {0}
+MaySpace mode_.Colon = Unit {0}
+MaySpace _ = ⊥
+
+-- the same for the end
+abbrev pub end_move_of : Ending → Machine → Move
+end_move_of ending_.Number new = GivesFirst (Step.Number new.text.items) new.mode (room_of new) (opens_of new) new.content.items
+end_move_of ending_.Whole new = Finishes
+end_move_of ending_.Stuck new = Stuck
+
+-- but for a number that ends, nothing has changed
+pub record IsUnchanged (old new : Machine) : Type 0 where
+  pub place : IsSame old new
+  pub text : new.text.items ≡ old.text.items
+
+-- what the end leaves as it was
+abbrev pub EndStays : Ending → Machine → Machine → Type 0
+EndStays ending_.Number old new = Unit {0}
+EndStays _ old new = IsUnchanged old new

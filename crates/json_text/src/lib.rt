@@ -1,0 +1,18 @@
+//! JSON texts, in whatever pieces they come, read into steps.
+#![tactic(auto)]
+
+mod answer;
+mod bytes;
+mod content;
+mod machine;
+mod mode;
+mod quoted;
+mod reading;
+mod scanner;
+mod step;
+#[cfg(test)]
+mod tests;
+
+pub use reading::one_reading;
+pub use scanner::Scanner;
+pub use step::JsonStep;

@@ -1,0 +1,320 @@
+//! What a scanner keeps beside the bytes, and how a symbol changes it.
+
+ghost use Rattle.std.specs.Prelude.{◌≤◌, vec_len};
+
+use crate::bytes::{
+    closing, entry_mode, is_space, kind_of, letter_after, letters_after, may_end, part_after,
+    start_of,
+};
+use crate::mode::{Bracket, Ending, Letters, Mode, Part, Place, Role, Start, Taken, Token};
+use std::alloc::{AllocError, Global};
+use std::mem;
+
+/// The place in the text, the open brackets, and the content of the text or number that is read and of the last
+/// that was given.
+#[derive(Drop)]
+pub struct Machine {
+    pub opens: Vec<Bracket>,
+    pub content: Vec<u8>,
+    pub text: Vec<u8>,
+    pub mode: Mode,
+    ghost shallow: { vec_len opens ≤ 64 },
+}
+
+impl Machine {
+    ghost use Rattle.std.specs.Prelude.{◌≡◌, ◌∷◌, [], ◌==◌, suc, cond, IfOk, OnErr, Option, Some, None};
+    ghost use Rattle.json_text.specs.declared.mode.Mode.TheVariants as mode_;
+    ghost use Rattle.json_text.specs.Bytes as bytes_;
+    ghost use Rattle.json_text.specs.Rest as rest;
+    ghost use Rattle.json_text.specs.Machine as machine;
+    ghost use Rattle.json_text.specs.declared.mode.Place.TheVariants as place_;
+    ghost use Rattle.json_text.specs.Marks.{Step, Byte, End};
+    ghost use Rattle.json_text.specs.Machine.{start_move, open_move, move_by, Reads, Gives, Stuck};
+    ghost use Rattle.json_text.specs.Taking.{room_of, opens_of, top_of, rest_of, move_of, KeepsText, Stays, MaySpace, end_move_of, EndStays};
+
+    /// Before any symbol.
+    pub fn new(alloc: Global) -> Self
+        ensures mode { result.mode ≡ mode_.Value }
+        ensures opens { result.opens.items ≡ [] }
+        ensures content { result.content.items ≡ [] }
+        ensures text { result.text.items ≡ [] }
+    {
+        Machine {
+            opens: Vec::new(alloc),
+            content: Vec::new(alloc),
+            text: Vec::new(alloc),
+            mode: Mode::Value,
+        }
+    }
+
+    /// Opens a bracket where there is room.
+    fn open(&mut self, bracket: Bracket) -> Result<Taken, AllocError>
+        ensures moves { IfOk result (λ taken. move_of taken self.new ≡ open_move bracket (room_of self.old) (opens_of self.old) self.old.content.items) }
+        ensures kept { IfOk result (λ taken. KeepsText taken self.old self.new) }
+        ensures stays { IfOk result (λ taken. Stays taken self.old self.new) }
+        ensures err { OnErr result (self.new.text.items ≡ self.old.text.items) }
+    {
+        if self.opens.len() >= 64 {
+            return Ok(Taken::Stuck);
+        }
+        self.opens.push(bracket)?;
+        self.mode = Mode::First;
+        Ok(Taken::Given(Token::Open(bracket)))
+    }
+
+    /// Begins a text between quotation marks.
+    fn quote(&mut self, role: Role) -> Result<Taken, AllocError>
+        ensures moves { IfOk result (λ taken. move_of taken self.new ≡ Reads (mode_.Text role (place_.Chars None)) (room_of self.old) (opens_of self.old) []) }
+        ensures kept { IfOk result (λ taken. KeepsText taken self.old self.new) }
+        ensures stays { IfOk result (λ taken. Stays taken self.old self.new) }
+        ensures err { OnErr result (self.new.text.items ≡ self.old.text.items) }
+    {
+        self.content.clear();
+        self.mode = Mode::Text(role, Place::Chars(None));
+        Ok(Taken::Read)
+    }
+
+    /// Begins a number.
+    fn digit(&mut self, part: Part, b: u8) -> Result<Taken, AllocError>
+        ensures moves { IfOk result (λ taken. move_of taken self.new ≡ Reads (mode_.Number part) (room_of self.old) (opens_of self.old) (b ∷ [])) }
+        ensures kept { IfOk result (λ taken. KeepsText taken self.old self.new) }
+        ensures stays { IfOk result (λ taken. Stays taken self.old self.new) }
+        ensures err { OnErr result (self.new.text.items ≡ self.old.text.items) }
+    {
+        self.content.clear();
+        self.content.push(b)?;
+        self.mode = Mode::Number(part);
+        Ok(Taken::Read)
+    }
+
+    /// Begins a value.
+    fn start(&mut self, b: u8) -> Result<Taken, AllocError>
+        ensures moves { IfOk result (λ taken. move_of taken self.new ≡ start_move (machine.start_of b) (room_of self.old) (opens_of self.old) self.old.content.items b) }
+        ensures kept { IfOk result (λ taken. KeepsText taken self.old self.new) }
+        ensures stays { IfOk result (λ taken. Stays taken self.old self.new) }
+        ensures err { OnErr result (self.new.text.items ≡ self.old.text.items) }
+    {
+        match start_of(b) {
+            Start::Quote => self.quote(Role::Value),
+            Start::Open(bracket) => self.open(bracket),
+            Start::Word(letters) => {
+                self.mode = Mode::Word(letters);
+                Ok(Taken::Read)
+            }
+            Start::Number(part) => self.digit(part, b),
+            Start::Nothing => Ok(Taken::Stuck),
+        }
+    }
+
+    /// Begins the name of a member.
+    fn name(&mut self, b: u8) -> Result<Taken, AllocError>
+        ensures moves { IfOk result (λ taken. move_of taken self.new ≡ machine.name_move (room_of self.old) (opens_of self.old) self.old.content.items b) }
+        ensures kept { IfOk result (λ taken. KeepsText taken self.old self.new) }
+        ensures stays { IfOk result (λ taken. Stays taken self.old self.new) }
+        ensures err { OnErr result (self.new.text.items ≡ self.old.text.items) }
+    {
+        if b == 34 {
+            self.quote(Role::Name)
+        } else {
+            Ok(Taken::Stuck)
+        }
+    }
+
+    /// The innermost bracket that is open.
+    fn top(&self) -> Option<Bracket>
+        ensures value { result ≡ top_of (opens_of self.now) }
+    {
+        let n = self.opens.len();
+        if n == 0 {
+            None
+        } else {
+            Some(self.opens[n - 1])
+        }
+    }
+
+    /// Closes the innermost bracket.
+    fn close(&mut self, bracket: Bracket) -> Result<Taken, AllocError>
+        requires open { top_of (opens_of self.old) ≡ Some bracket }
+        ensures moves { IfOk result (λ taken. move_of taken self.new ≡ Gives (Step.Closes bracket) mode_.After (suc (room_of self.old)) (rest_of (opens_of self.old)) self.old.content.items) }
+        ensures kept { IfOk result (λ taken. KeepsText taken self.old self.new) }
+        ensures stays { IfOk result (λ taken. Stays taken self.old self.new) }
+        ensures err { OnErr result (self.new.text.items ≡ self.old.text.items) }
+    {
+        let _ = self.opens.pop();
+        self.mode = Mode::After;
+        Ok(Taken::Given(Token::Close(bracket)))
+    }
+
+    /// Begins an entry.
+    fn entry(&mut self, bracket: Bracket, b: u8) -> Result<Taken, AllocError>
+        ensures moves { IfOk result (λ taken. move_of taken self.new ≡ machine.entry_move bracket (room_of self.old) (opens_of self.old) self.old.content.items b) }
+        ensures kept { IfOk result (λ taken. KeepsText taken self.old self.new) }
+        ensures stays { IfOk result (λ taken. Stays taken self.old self.new) }
+        ensures err { OnErr result (self.new.text.items ≡ self.old.text.items) }
+    {
+        match bracket {
+            Bracket::Square => self.start(b),
+            Bracket::Curly => self.name(b),
+        }
+    }
+
+    /// Behind a bracket that opened.
+    fn first(&mut self, b: u8) -> Result<Taken, AllocError>
+        ensures moves { IfOk result (λ taken. move_of taken self.new ≡ machine.first_move (room_of self.old) (opens_of self.old) self.old.content.items b) }
+        ensures kept { IfOk result (λ taken. KeepsText taken self.old self.new) }
+        ensures stays { IfOk result (λ taken. Stays taken self.old self.new) }
+        ensures err { OnErr result (self.new.text.items ≡ self.old.text.items) }
+    {
+        match self.top() {
+            Some(bracket) => {
+                if b == closing(bracket) {
+                    self.close(bracket)
+                } else {
+                    self.entry(bracket, b)
+                }
+            }
+            None => self.start(b),
+        }
+    }
+
+    /// Behind a value.
+    fn after(&mut self, b: u8) -> Result<Taken, AllocError>
+        ensures moves { IfOk result (λ taken. move_of taken self.new ≡ machine.after_move (room_of self.old) (opens_of self.old) self.old.content.items b) }
+        ensures kept { IfOk result (λ taken. KeepsText taken self.old self.new) }
+        ensures stays { IfOk result (λ taken. Stays taken self.old self.new) }
+        ensures err { OnErr result (self.new.text.items ≡ self.old.text.items) }
+    {
+        match self.top() {
+            Some(bracket) => {
+                if b == closing(bracket) {
+                    self.close(bracket)
+                } else if b == 44 {
+                    self.mode = entry_mode(bracket);
+                    Ok(Taken::Read)
+                } else {
+                    Ok(Taken::Stuck)
+                }
+            }
+            None => Ok(Taken::Stuck),
+        }
+    }
+
+    /// In a word.
+    fn word(&mut self, letters: Letters, b: u8) -> Result<Taken, AllocError>
+        ensures moves { IfOk result (λ taken. move_of taken self.new ≡ cond (b == machine.letter_after letters) (machine.word_move letters (machine.letters_after letters) (room_of self.old) (opens_of self.old) self.old.content.items) Stuck) }
+        ensures kept { IfOk result (λ taken. KeepsText taken self.old self.new) }
+        ensures stays { IfOk result (λ taken. Stays taken self.old self.new) }
+        ensures err { OnErr result (self.new.text.items ≡ self.old.text.items) }
+    {
+        if b != letter_after(letters) {
+            return Ok(Taken::Stuck);
+        }
+        match letters_after(letters) {
+            Some(more) => {
+                self.mode = Mode::Word(more);
+                Ok(Taken::Read)
+            }
+            None => {
+                self.mode = Mode::After;
+                Ok(Taken::Given(Token::Word(letters)))
+            }
+        }
+    }
+
+    /// Gives the number that ends here.
+    fn give_number(&mut self)
+        ensures opens { self.new.opens.items ≡ self.old.opens.items }
+        ensures text { self.new.text.items ≡ self.old.content.items }
+        ensures content { self.new.content.items ≡ [] }
+        ensures mode { self.new.mode ≡ mode_.After }
+    {
+        mem::swap(&mut self.content, &mut self.text);
+        self.content.clear();
+        self.mode = Mode::After;
+    }
+
+    /// In a number.
+    fn number(&mut self, part: Part, b: u8) -> Result<Taken, AllocError>
+        ensures moves { IfOk result (λ taken. move_of taken self.new ≡ machine.number_move part (rest.part_after part (bytes_.kind_of b)) (room_of self.old) (opens_of self.old) self.old.content.items b) }
+        ensures kept { IfOk result (λ taken. KeepsText taken self.old self.new) }
+        ensures stays { IfOk result (λ taken. Stays taken self.old self.new) }
+        ensures err { OnErr result (self.new.text.items ≡ self.old.text.items) }
+    {
+        match part_after(part, kind_of(b)) {
+            Some(next) => {
+                self.content.push(b)?;
+                self.mode = Mode::Number(next);
+                Ok(Taken::Read)
+            }
+            None if may_end(part) => {
+                self.give_number();
+                Ok(Taken::First)
+            }
+            None => Ok(Taken::Stuck),
+        }
+    }
+
+    /// In a place where white space may stand.
+    fn spaced(&mut self, b: u8) -> Result<Taken, AllocError>
+        requires place { MaySpace self.old.mode }
+        ensures moves { IfOk result (λ taken. move_of taken self.new ≡ machine.byte_move self.old.mode (room_of self.old) (opens_of self.old) self.old.content.items b) }
+        ensures kept { IfOk result (λ taken. KeepsText taken self.old self.new) }
+        ensures stays { IfOk result (λ taken. Stays taken self.old self.new) }
+        ensures err { OnErr result (self.new.text.items ≡ self.old.text.items) }
+    {
+        if is_space(b) {
+            return Ok(Taken::Read);
+        }
+        match self.mode {
+            Mode::Value => self.start(b),
+            Mode::First => self.first(b),
+            Mode::After => self.after(b),
+            Mode::Name => self.name(b),
+            _ => self.colon(b),
+        }
+    }
+
+    /// Behind the name of a member.
+    fn colon(&mut self, b: u8) -> Result<Taken, AllocError>
+        ensures moves { IfOk result (λ taken. move_of taken self.new ≡ cond (b == 58) (Reads mode_.Value (room_of self.old) (opens_of self.old) self.old.content.items) Stuck) }
+        ensures kept { IfOk result (λ taken. KeepsText taken self.old self.new) }
+        ensures stays { IfOk result (λ taken. Stays taken self.old self.new) }
+        ensures err { OnErr result (self.new.text.items ≡ self.old.text.items) }
+    {
+        if b != 58 {
+            return Ok(Taken::Stuck);
+        }
+        self.mode = Mode::Value;
+        Ok(Taken::Read)
+    }
+
+    /// Takes the next byte.
+    pub fn take(&mut self, b: u8) -> Result<Taken, AllocError>
+        ensures moves { IfOk result (λ taken. move_of taken self.new ≡ move_by self.old.mode (room_of self.old) (opens_of self.old) self.old.content.items (Byte b)) }
+        ensures kept { IfOk result (λ taken. KeepsText taken self.old self.new) }
+        ensures stays { IfOk result (λ taken. Stays taken self.old self.new) }
+        ensures err { OnErr result (self.new.text.items ≡ self.old.text.items) }
+    {
+        match self.mode {
+            Mode::Text(role, place) => self.place(role, place, b),
+            Mode::Number(part) => self.number(part, b),
+            Mode::Word(letters) => self.word(letters, b),
+            Mode::Value | Mode::First | Mode::After | Mode::Name | Mode::Colon => self.spaced(b),
+        }
+    }
+
+    /// Takes the end of the text.
+    pub fn take_end(&mut self) -> Ending
+        ensures moves { end_move_of result self.new ≡ move_by self.old.mode (room_of self.old) (opens_of self.old) self.old.content.items End }
+        ensures stays { EndStays result self.old self.new }
+    {
+        match self.mode {
+            Mode::After if self.opens.is_empty() => Ending::Whole,
+            Mode::Number(part) if may_end(part) => {
+                self.give_number();
+                Ending::Number
+            }
+            _ => Ending::Stuck,
+        }
+    }
+}
