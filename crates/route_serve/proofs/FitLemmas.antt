@@ -1,10 +1,9 @@
 -- The numbers of a command that was read are within their limits, and its places in its grid.
-use Rattle.std.proofs.Common.{◌≡◌, ℕ, ◌<◌, ◌≤◌, ◌+◌, ◌⊎◌, inl, inr, Bool, true, false, cond, ◌&&◌, nat_le, nat_lt, Option, Some, None, Result, Ok, Err, List, [], ◌∷◌, ◌++◌, length, take, drop, refl, ap, arith, sym, ◌∙◌, subst}
+use Rattle.std.proofs.Common.{◌≡◌, ℕ, ◌<◌, ◌≤◌, ◌+◌, ◌⊎◌, inl, inr, Bool, true, false, cond, ◌&&◌, nat_le, Option, Some, None, Result, Ok, Err, List, [], ◌∷◌, ◌++◌, length, take, drop, refl, ap, arith, subst}
 use Rattle.std.proofs.lemmas.Bool.Decides.{nat_tests}
 use Rattle.std.specs.List.{find}
-use Rattle.grid_map.specs.Plan.{IsPlan}
-use Rattle.route_serve.specs.Command.{number_of, within, number_value, value_of, first_place, key_of, entry_by, entry_for, entry_cut, entry_of, entry_with, same_key, entries_after, lies_in, command_by, command_with, complete, grid_command, command_of, same_text, place_of}
-use Rattle.route_serve.specs.Outcome.{IsFit, plan_by}
+use Rattle.route_serve.specs.Command.{number_of, within, number_value, value_of, first_place, key_of, entry_by, entry_for, entry_cut, entry_of, entry_with, same_key, entries_after, lies_in, command_by, command_with, complete, grid_command, command_of, same_text}
+use Rattle.route_serve.specs.Outcome.{IsFit}
 use Rattle.route_serve.specs.declared.command.GridCommand.{GridCommand}
 use Rattle.route_serve.specs.declared.command.Place.{Place}
 use Rattle.route_serve.specs.declared.entry.Entry.{Entry}

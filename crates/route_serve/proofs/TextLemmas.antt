@@ -1,5 +1,5 @@
 -- The text of cells, one cell further.
-use Rattle.std.proofs.Common.{◌≡◌, ℕ, ◌+◌, ◌%◌, ◌/◌, List, [], ◌∷◌, ◌++◌, refl, ap, sym, ◌∙◌, append_assoc, append-nil, decimal}
+use Rattle.std.proofs.Common.{◌≡◌, ℕ, ◌%◌, ◌/◌, List, [], ◌∷◌, ◌++◌, append_assoc, append-nil, decimal}
 use Rattle.route_serve.specs.Lines.{cells_text}
 
 pub cells-push : (width : ℕ) (cells : List ℕ) (cell : ℕ) →

@@ -1,6 +1,6 @@
 -- The command that a list of words is, or the place of the word at fault. This project's own rule.
 use Rattle.std.specs.List.{find}
-use Rattle.std.specs.Prelude.{ℕ, ◌≡◌, ◌+◌, ◌-◌, ◌*◌, ◌==◌, Bool, true, false, cond, ◌&&◌, not, nat_lt, nat_le, nat_eq, Option, Some, None, Result, Ok, Err, List, [], ◌∷◌, ◌++◌, length, take, drop, position, codes}
+use Rattle.std.specs.Prelude.{ℕ, ◌+◌, ◌-◌, ◌*◌, ◌==◌, Bool, true, false, cond, ◌&&◌, nat_lt, nat_le, nat_eq, Option, Some, None, Result, Ok, Err, List, [], ◌∷◌, ◌++◌, length, take, drop, position, codes}
 use lib.Pointwise.{pointwise}
 use Rattle.route_serve.specs.declared.entry.Entry.{Entry}
 use Rattle.route_serve.specs.declared.entry.Key.{Key}

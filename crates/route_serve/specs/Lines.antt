@@ -1,13 +1,11 @@
 -- The lines of a status, and what the command `grid` prints. This project's own rule.
-use Rattle.std.specs.Prelude.{ℕ, ◌*◌, ◌/◌, ◌%◌, List, [], ◌∷◌, ◌++◌, length, codes, decimal}
+use Rattle.std.specs.Prelude.{ℕ, ◌/◌, ◌%◌, List, [], ◌∷◌, ◌++◌, length, codes, decimal}
 use Rattle.geo_int.specs.Texts.{metres_text}
 use Rattle.grid_map.specs.declared.plan.Plan.{Plan}
 use Rattle.grid_map.specs.Plan.{cells_of}
 use Rattle.grid_map.specs.Segments.{segments_of}
 use Rattle.route_serve.specs.declared.status.Status.{Status}
 use Rattle.route_serve.specs.declared.status.Status.TheVariants.{Done, Usage, WriteFault, NoMemory, Grid}
-use Rattle.route_serve.specs.declared.status.GridError.{GridError}
-use Rattle.route_serve.specs.declared.status.GridError.TheVariants.{NoTrack}
 
 -- the exit status of the program
 abbrev pub number_of_status : Status → ℕ

@@ -12,7 +12,6 @@ use Rattle.route_serve.specs.declared.command.GridCommand.{GridCommand}
 use Rattle.route_serve.specs.declared.command.Place.{Place}
 use Rattle.route_serve.specs.declared.status.Status.{Status}
 use Rattle.route_serve.specs.declared.status.Status.TheVariants.{Done, Usage, WriteFault, NoMemory, Grid}
-use Rattle.route_serve.specs.declared.status.GridError.{GridError}
 use Rattle.route_serve.specs.declared.status.GridError.TheVariants.{NoTrack}
 
 -- the plan of a command's grid

@@ -1,4 +1,4 @@
-use Rattle.std.proofs.Common.{◌≡◌, ◌<◌, ◌^◌, drop, ◌&&◌}
+use Rattle.std.proofs.Common.{◌≡◌, ◌<◌, ◌^◌, drop}
 use Rattle.route_serve.specs.Command.{number_from, all_digits}
 use Rattle.route_serve.proofs.entry.number_of.Given as goal
 

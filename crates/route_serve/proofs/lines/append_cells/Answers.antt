@@ -1,6 +1,5 @@
-use Rattle.std.proofs.Common.{◌≡◌, ◌+◌, ◌++◌, ◌∷◌, [], take, get_or, append_assoc}
+use Rattle.std.proofs.Common.{take, get_or, append_assoc}
 use Rattle.std.proofs.lemmas.List.{take_more}
-use Rattle.route_serve.specs.Lines.{cells_text}
 use Rattle.route_serve.proofs.TextLemmas.{cells-push}
 use Rattle.route_serve.proofs.lines.append_cells.Goals as goal
 
