@@ -1,0 +1,3 @@
+mod DigitLemmas
+mod GrammarLemmas
+mod QuotientLemmas

@@ -1,0 +1,3 @@
+pub mod Arithmetic
+pub mod Decimal
+pub mod Number
