@@ -23,7 +23,7 @@ leading_digits-all : (text : List ℕ) → nat_eq (leading_digits text) (length 
 leading_digits-all [] = refl
 leading_digits-all (c ∷ cs) =
     elim (is_ascii_digit c) as (λ v. nat_eq (cond v (1 + leading_digits cs) 0) (suc (length cs)) ≡ (v && all_ascii_digits cs)) [
-        true ↦ nat_eq-suc (leading_digits cs) (length cs) ∙ leading_digits-all cs
+      | true ↦ nat_eq-suc (leading_digits cs) (length cs) ∙ leading_digits-all cs
       | false ↦ nat_eq-zero (length cs)
     ]
 
@@ -49,13 +49,13 @@ leading_digits-other c cs other = ap (λ v. cond v (1 + leading_digits cs) 0) ot
 pub all_ascii_digits-front : (text : List ℕ) → all_ascii_digits (take (leading_digits text) text) ≡ true
 all_ascii_digits-front [] = refl
 all_ascii_digits-front (c ∷ cs) = front_of c cs (is_ascii_digit c) refl (all_ascii_digits-front cs)
-    where
-      front_of : (c : ℕ) (cs : List ℕ) (v : Bool) → is_ascii_digit c ≡ v → all_ascii_digits (take (leading_digits cs) cs) ≡ true → all_ascii_digits (take (leading_digits (c ∷ cs)) (c ∷ cs)) ≡ true
-      front_of c cs true digit rest =
-          ap (λ n. all_ascii_digits (take n (c ∷ cs))) (leading_digits-digit c cs digit)
-          ∙ ap (λ v. v && all_ascii_digits (take (leading_digits cs) cs)) digit
-          ∙ rest
-      front_of c cs false other rest = ap (λ n. all_ascii_digits (take n (c ∷ cs))) (leading_digits-other c cs other)
+  where
+    front_of : (c : ℕ) (cs : List ℕ) (v : Bool) → is_ascii_digit c ≡ v → all_ascii_digits (take (leading_digits cs) cs) ≡ true → all_ascii_digits (take (leading_digits (c ∷ cs)) (c ∷ cs)) ≡ true
+    front_of c cs true digit rest =
+        ap (λ n. all_ascii_digits (take n (c ∷ cs))) (leading_digits-digit c cs digit)
+        ∙ ap (λ v. v && all_ascii_digits (take (leading_digits cs) cs)) digit
+        ∙ rest
+    front_of c cs false other rest = ap (λ n. all_ascii_digits (take n (c ∷ cs))) (leading_digits-other c cs other)
 
 -- Digits before a text that begins with none are the digits at the front.
 leading_digits-append : (xs ys : List ℕ) → all_ascii_digits xs ≡ true → leading_digits ys ≡ 0 → leading_digits (xs ++ ys) ≡ length xs
@@ -115,14 +115,15 @@ unsigned_parts_sound : (negative : Bool) (text : List ℕ) (d : Decimal) → uns
 unsigned_parts_sound negative text d found =
     let n : ℕ = leading_digits text in
     let parts : (0 < length (take n text)) × (tail_of (drop n text) ≡ Some d.fraction) × (d.whole ≡ take n text) × (d.is_negative ≡ negative) = parts_from_sound negative (take n text) (tail_of (drop n text)) d found in
-    let tail : (drop n text ≡ fraction_text d.fraction) × (all_ascii_digits d.fraction ≡ true) = tail_of_sound (drop n text) d.fraction parts.1 in
-    ( record {
+    let tail : (drop n text ≡ fraction_text d.fraction) × (all_ascii_digits d.fraction ≡ true) = tail_of_sound (drop n text) d.fraction parts.1 in (
+      record {
         some_whole = subst (λ (w : List ℕ). 0 < length w) (sym parts.2) parts.0;
         whole_digits = ap all_ascii_digits parts.2 ∙ all_ascii_digits-front text;
         fraction_digits = tail.1;
-      }
-    , sym (take-append-drop n text) ∙ ap (λ w. w ++ drop n text) (sym parts.2) ∙ ap (λ t. d.whole ++ t) tail.0
-    , parts.3 )
+      },
+      sym (take-append-drop n text) ∙ ap (λ w. w ++ drop n text) (sym parts.2) ∙ ap (λ t. d.whole ++ t) tail.0,
+      parts.3,
+    )
 
 -- Parts are made of digits before the point and the digits after it.
 parts_from_some : (negative : Bool) (whole fraction : List ℕ) → 0 < length whole → parts_from negative whole (Some fraction) ≡ Some (record { is_negative = negative; whole = whole; fraction = fraction })
@@ -149,29 +150,29 @@ digit_is_no_minus c digit = grind (arith, nat_tests)
 pub parts_of_sound : (text : List ℕ) (d : Decimal) → parts_of text ≡ Some d → Spells text d
 parts_of_sound [] d found = cc
 parts_of_sound (c ∷ cs) d found = sound_at (nat_eq c 45) refl found
-    where
-      sound_at : (v : Bool) → nat_eq c 45 ≡ v → cond v (unsigned_parts true cs) (unsigned_parts false (c ∷ cs)) ≡ Some d → Spells (c ∷ cs) d
-      sound_at true minus found =
-          let parts : IsDecimal d × (cs ≡ d.whole ++ fraction_text d.fraction) × (d.is_negative ≡ true) = unsigned_parts_sound true cs d found in
-          record {
-            valid = parts.0;
-            text_is = ap (λ x. x ∷ cs) (same_number c 45 minus) ∙ ap (λ t. 45 ∷ t) parts.1 ∙ ap (λ s. sign_text s ++ (d.whole ++ fraction_text d.fraction)) (sym parts.2);
-          }
-      sound_at false plain found =
-          let parts : IsDecimal d × (c ∷ cs ≡ d.whole ++ fraction_text d.fraction) × (d.is_negative ≡ false) = unsigned_parts_sound false (c ∷ cs) d found in
-          record {
-            valid = parts.0;
-            text_is = parts.1 ∙ ap (λ s. sign_text s ++ (d.whole ++ fraction_text d.fraction)) (sym parts.2);
-          }
+  where
+    sound_at : (v : Bool) → nat_eq c 45 ≡ v → cond v (unsigned_parts true cs) (unsigned_parts false (c ∷ cs)) ≡ Some d → Spells (c ∷ cs) d
+    sound_at true minus found =
+        let parts : IsDecimal d × (cs ≡ d.whole ++ fraction_text d.fraction) × (d.is_negative ≡ true) = unsigned_parts_sound true cs d found in
+        record {
+          valid = parts.0;
+          text_is = ap (λ x. x ∷ cs) (same_number c 45 minus) ∙ ap (λ t. 45 ∷ t) parts.1 ∙ ap (λ s. sign_text s ++ (d.whole ++ fraction_text d.fraction)) (sym parts.2);
+        }
+    sound_at false plain found =
+        let parts : IsDecimal d × (c ∷ cs ≡ d.whole ++ fraction_text d.fraction) × (d.is_negative ≡ false) = unsigned_parts_sound false (c ∷ cs) d found in
+        record {
+          valid = parts.0;
+          text_is = parts.1 ∙ ap (λ s. sign_text s ++ (d.whole ++ fraction_text d.fraction)) (sym parts.2);
+        }
 
 -- The parts that spell a text are its parts.
 pub parts_of_whole : (text : List ℕ) (d : Decimal) → Spells text d → parts_of text ≡ Some d
 parts_of_whole text d spells =
     ap parts_of spells.text_is ∙ whole_at d.is_negative d.whole d.fraction spells.valid.some_whole spells.valid.whole_digits spells.valid.fraction_digits
-    where
-      whole_at : (negative : Bool) (whole fraction : List ℕ) → 0 < length whole → all_ascii_digits whole ≡ true → all_ascii_digits fraction ≡ true → parts_of (sign_text negative ++ (whole ++ fraction_text fraction)) ≡ Some (record { is_negative = negative; whole = whole; fraction = fraction })
-      whole_at true whole fraction some digits more = unsigned_parts_whole true whole fraction some digits more
-      whole_at false [] fraction some digits more = absurd (omega arith)
-      whole_at false (c ∷ cs) fraction some digits more =
-          ap (λ v. cond v (unsigned_parts true (cs ++ fraction_text fraction)) (unsigned_parts false (c ∷ cs ++ fraction_text fraction))) (digit_is_no_minus c (and_parts _ _ digits).0)
-          ∙ unsigned_parts_whole false (c ∷ cs) fraction some digits more
+  where
+    whole_at : (negative : Bool) (whole fraction : List ℕ) → 0 < length whole → all_ascii_digits whole ≡ true → all_ascii_digits fraction ≡ true → parts_of (sign_text negative ++ (whole ++ fraction_text fraction)) ≡ Some (record { is_negative = negative; whole = whole; fraction = fraction })
+    whole_at true whole fraction some digits more = unsigned_parts_whole true whole fraction some digits more
+    whole_at false [] fraction some digits more = absurd (omega arith)
+    whole_at false (c ∷ cs) fraction some digits more =
+        ap (λ v. cond v (unsigned_parts true (cs ++ fraction_text fraction)) (unsigned_parts false (c ∷ cs ++ fraction_text fraction))) (digit_is_no_minus c (and_parts _ _ digits).0)
+        ∙ unsigned_parts_whole false (c ∷ cs) fraction some digits more

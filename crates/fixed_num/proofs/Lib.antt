@@ -1,3 +1,4 @@
 mod DigitLemmas
 mod GrammarLemmas
 mod QuotientLemmas
+mod RoundingLemmas

@@ -1,7 +1,7 @@
 //! Decimal texts: their parts, and their digits as a number.
-ghost use Rattle.std.specs.Prelude.{◌≡◌, ◌<◌, ◌≤◌, List, [], length, take, drop, min, MatchOption, Some, None, IsTrue, ℕ};
+ghost use Rattle.std.specs.Prelude.{◌≡◌, ◌↔◌, slice_index, ◌<◌, ◌≤◌, List, [], length, take, drop, min, MatchOption, Some, None, IsTrue, ℕ};
 ghost use Rattle.std.specs.Str.{all_ascii_digits};
-ghost use Rattle.fixed_num.specs.Decimal.{leading_digits, is_fraction, tail_of, unsigned_parts, parts_of, digits_after};
+ghost use Rattle.fixed_num.specs.Decimal.{leading_digits, is_fraction, tail_of, unsigned_parts, parts_of, digits_after, cut_millionths, rounded_millionths};
 
 use std::marker::Model;
 
@@ -52,6 +52,27 @@ impl<'a> Parts<'a> {
         }
     }
 
+    /// The size in millionths, cut after the sixth decimal, or `CAP` where that is less.
+    pub(crate) fn cut(&self) -> u64
+        ensures value { result ≡ min (cut_millionths self.now) CAP }
+    {
+        let kept = self.fraction.len().min(KEPT);
+        let whole = capped_number(0, self.whole);
+        let number = capped_number(whole, &self.fraction[..kept]);
+        number.saturating_mul(POWERS[KEPT - kept]).min(CAP)
+    }
+
+    /// The size in millionths, rounded half up at the sixth decimal, or `CAP` where that is less.
+    pub(crate) fn rounded(&self) -> u64
+        ensures value { result ≡ min (rounded_millionths self.now) CAP }
+    {
+        if rounds_up(self.fraction) {
+            (self.cut() + 1).min(CAP)
+        } else {
+            self.cut()
+        }
+    }
+
     /// Whether the text begins with a `-`.
     pub(crate) fn is_negative(&self) -> bool
         ensures value { result ≡ self.now.is_negative }
@@ -76,6 +97,13 @@ fn is_all_digits(text: &[u8]) -> bool
     ensures value { result ≡ is_fraction text.now }
 {
     !text.is_empty() && leading_digits(text) == text.len()
+}
+
+/// Whether the first decimal that isn't kept is a five or more.
+fn rounds_up(fraction: &[u8]) -> bool
+    ensures value { IsTrue result ↔ ((6 < length fraction.now) × (53 ≤ slice_index fraction.now 6)) }
+{
+    fraction.len() > KEPT && fraction[KEPT] >= b'5'
 }
 
 /// The digits at the front of a text.
@@ -107,3 +135,9 @@ fn capped_number(before: u64, digits: &[u8]) -> u64
     }
     number
 }
+
+/// How many decimals a millionth has.
+const KEPT: usize = 6;
+
+/// The powers of ten up to a million.
+const POWERS: [u64; 7] = [1, 10, 100, 1_000, 10_000, 100_000, 1_000_000];
