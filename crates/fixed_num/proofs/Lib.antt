@@ -2,3 +2,5 @@ mod DigitLemmas
 mod GrammarLemmas
 mod QuotientLemmas
 mod RoundingLemmas
+mod TextLemmas
+mod ValueLemmas

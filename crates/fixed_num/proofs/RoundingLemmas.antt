@@ -230,9 +230,9 @@ rounded_down d more digits four =
 pub rounded_same : (d : Decimal) → all_ascii_digits d.fraction ≡ true → ((6 < length d.fraction) × (53 ≤ get_or d.fraction 6 0) → ◌≡◌ {A = Bool} false true) → rounded_millionths d ≡ cut_millionths d
 rounded_same d digits no_five =
     elim (cases_lt 6 (length d.fraction)) [
-        inl more ↦
+      | inl more ↦
           elim (cases_lt (get_or d.fraction 6 0) 53) [
-              inl four ↦ rounded_down d more digits four
+            | inl four ↦ rounded_down d more digits four
             | inr five ↦ let wrong : ◌≡◌ {A = Bool} false true = no_five (more, five) in cc
           ]
       | inr few ↦ rounded_short d few

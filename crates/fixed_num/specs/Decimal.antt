@@ -1,5 +1,5 @@
 -- Decimal texts, this project's own rule: an optional `-`, digits, and an optional point with digits.
-use Rattle.std.specs.Prelude.{◌≡◌, ℕ, zero, suc, ◌+◌, ◌-◌, ◌*◌, ◌/◌, ◌^◌, ◌<◌, ◌≤◌, Bool, true, false, ◌&&◌, List, [], ◌∷◌, ◌++◌, length, take, drop, ℤ, pos, neg_ℤ, nat_le, ◌==◌, if◌then◌else◌, Option, Some, None, IsTrue}
+use Rattle.std.specs.Prelude.{◌≡◌, ℕ, zero, suc, ◌+◌, ◌-◌, ◌*◌, ◌/◌, ◌^◌, ◌<◌, ◌≤◌, Bool, true, false, ◌&&◌, List, [], ◌∷◌, ◌++◌, length, take, drop, ℤ, pos, neg_ℤ, nat_le, ◌==◌, if◌then◌else◌, Option, Some, None, Result, Ok, Err, IsTrue}
 use Rattle.std.specs.Char.{is_ascii_digit}
 use Rattle.std.specs.List.{prefix_len}
 use Rattle.std.specs.Str.{all_ascii_digits}
@@ -64,6 +64,16 @@ rounded_millionths d = (2 * digits_number d * 1000000 + 10 ^ length d.fraction) 
 abbrev pub with_sign : Bool → ℕ → ℤ
 with_sign true n = neg_ℤ (pos n)
 with_sign false n = pos n
+
+-- The text spells a decimal whose size, by this measure and with its sign, is n.
+abbrev pub SpellsValue : (Decimal → ℕ) → List ℕ → ℤ → Type 0
+SpellsValue size text n = (d : Decimal) × Spells text d × (n ≡ with_sign d.is_negative (size d))
+
+-- The value of a decimal whose size is within a limit; `bad` where there is no decimal, and `large` beyond the limit.
+abbrev pub value_from : {E : Type 0} → (Decimal → ℕ) → ℕ → E → E → Option Decimal → Result ℤ E
+value_from size limit bad large None = Err bad
+value_from size limit bad large (Some d) =
+    if nat_le (size d) limit then Ok (with_sign d.is_negative (size d)) else Err large
 
 -- ---- The parts of a text
 

@@ -1,7 +1,7 @@
 //! Decimal texts: their parts, and their digits as a number.
 ghost use Rattle.std.specs.Prelude.{◌≡◌, ◌↔◌, slice_index, ◌<◌, ◌≤◌, List, [], length, take, drop, min, MatchOption, Some, None, IsTrue, ℕ};
 ghost use Rattle.std.specs.Str.{all_ascii_digits};
-ghost use Rattle.fixed_num.specs.Decimal.{leading_digits, is_fraction, tail_of, unsigned_parts, parts_of, digits_after, cut_millionths, rounded_millionths};
+ghost use Rattle.fixed_num.specs.Decimal.{leading_digits, is_fraction, tail_of, unsigned_parts, parts_of, digits_after, cut_millionths, rounded_millionths, with_sign};
 
 use std::marker::Model;
 
@@ -97,6 +97,18 @@ fn is_all_digits(text: &[u8]) -> bool
     ensures value { result ≡ is_fraction text.now }
 {
     !text.is_empty() && leading_digits(text) == text.len()
+}
+
+/// A size with its sign.
+pub(crate) fn signed(negative: bool, size: u64) -> i64
+    requires fits { size ≤ CAP }
+    ensures value { result ≡ with_sign negative size }
+{
+    if negative {
+        -(size as i64)
+    } else {
+        size as i64
+    }
 }
 
 /// Whether the first decimal that isn't kept is a five or more.

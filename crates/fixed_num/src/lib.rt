@@ -3,8 +3,12 @@
 #![tactic(auto)]
 
 mod arithmetic;
+mod coordinate;
 mod decimal;
+mod literal;
 mod number;
 
 pub use arithmetic::Arith;
+pub use coordinate::{CoordError, coord};
+pub use literal::NumError;
 pub use number::Num;

@@ -13,5 +13,5 @@ returns-then-rounds_up c =
 pub returns-else-rounds_up : goal.returns-else-rounds_up
 returns-else-rounds_up c =
     let same : rounded_millionths c.args.self.now ≡ cut_millionths c.args.self.now =
-      subst (λ (d : Decimal). rounded_millionths d ≡ cut_millionths d) c.self.view_is (rounded_same _ c.self.invariant.fraction_digits c.if-rounds_up.ensures.value.1) in
+    subst (λ (d : Decimal). rounded_millionths d ≡ cut_millionths d) c.self.view_is (rounded_same _ c.self.invariant.fraction_digits c.if-rounds_up.ensures.value.1) in
     record { value = c.cut-else-rounds_up.ensures.value ∙ ap (λ n. min n 10000000000000000) (sym same) }
