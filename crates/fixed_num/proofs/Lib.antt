@@ -1,5 +1,6 @@
 mod DigitLemmas
 mod GrammarLemmas
+mod PrintLemmas
 mod QuotientLemmas
 mod RoundingLemmas
 mod TextLemmas

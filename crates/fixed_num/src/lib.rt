@@ -7,8 +7,10 @@ mod coordinate;
 mod decimal;
 mod literal;
 mod number;
+mod text;
 
 pub use arithmetic::Arith;
 pub use coordinate::{CoordError, coord};
 pub use literal::NumError;
 pub use number::Num;
+pub use text::SixDecimals;
