@@ -1,12 +1,12 @@
 -- The parts of a text and the grammar of decimal texts agree.
-use Rattle.std.proofs.Common.{◌≡◌, ◌≢◌, ℕ, zero, suc, ◌+◌, ◌<◌, ◌≤◌, Bool, true, false, not, cond, ◌&&◌, List, [], ◌∷◌, ◌++◌, length, take, drop, nat_eq, nat_le, refl, sym, ap, ◌∙◌, subst, arith, rules, Option, Some, None, IsTrue}
+use Rattle.std.proofs.Common.{◌≡◌, ℕ, suc, ◌+◌, ◌<◌, Bool, true, false, cond, ◌&&◌, List, [], ◌∷◌, ◌++◌, length, take, drop, nat_eq, refl, sym, ap, ◌∙◌, subst, arith, Option, Some, None}
 use Rattle.std.proofs.lemmas.Bool.{and_parts}
 use Rattle.std.proofs.lemmas.Bool.Decides.{nat_tests}
 use Rattle.std.proofs.lemmas.List.{take-append-drop}
 use Rattle.std.proofs.Math.Seq.{take-append_seam, drop-append_seam}
 use Rattle.std.specs.Char.{is_ascii_digit}
 use Rattle.std.specs.Str.{all_ascii_digits}
-use Rattle.fixed_num.specs.Decimal.{Decimal, leading_digits, is_fraction, tail_of, parts_from, unsigned_parts, parts_of, sign_text, fraction_text, decimal_text, IsDecimal, Spells}
+use Rattle.fixed_num.specs.Decimal.{Decimal, leading_digits, is_fraction, tail_of, parts_from, unsigned_parts, parts_of, sign_text, fraction_text, IsDecimal, Spells}
 
 -- ---- Digits at the front
 

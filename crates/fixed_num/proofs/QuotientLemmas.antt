@@ -1,6 +1,6 @@
 -- Quotients of signed numbers that are cut toward zero.
-use Rattle.std.proofs.Common.{◌≡◌, ◌≢◌, ℕ, zero, suc, ◌+◌, ◌*◌, ◌/◌, ◌^◌, ◌<◌, ◌≤◌, ℤ, pos, negsuc, ◌*ℤ◌, neg_ℤ, refl, sym, ap, ◌∙◌, arith, unsigned_abs, int_div, FitsSigned, of_z, to_z, lit<, true}
-use Rattle.std.proofs.lemmas.Int.{fits_signed_from_abs, fits_signed_mul, unsigned_abs-mul, to_z-of_z, ints}
+use Rattle.std.proofs.Common.{◌≡◌, ◌≢◌, ℕ, zero, suc, ◌*◌, ◌/◌, ◌^◌, ◌<◌, ◌≤◌, ℤ, pos, negsuc, ◌*ℤ◌, neg_ℤ, refl, ap, ◌∙◌, arith, unsigned_abs, int_div, FitsSigned, of_z, to_z, lit<, true}
+use Rattle.std.proofs.lemmas.Int.{fits_signed_from_abs, unsigned_abs-mul, to_z-of_z}
 use Rattle.std.proofs.lemmas.Nat.{mul-le}
 use Rattle.std.proofs.Math.Nat.{div-le_self}
 use Rattle.fixed_num.specs.Number.{IsNumber}

@@ -1,5 +1,5 @@
 -- What is cut and what is rounded, by the digits that are kept.
-use Rattle.std.proofs.Common.{◌≡◌, ℕ, zero, suc, ◌+◌, ◌-◌, ◌*◌, ◌/◌, ◌^◌, ◌<◌, ◌≤◌, min, Bool, true, false, cond, List, [], ◌∷◌, ◌++◌, length, get_or, take, drop, nat_le, refl, sym, ap, ◌∙◌, subst, arith, rules, IsTrue, inl, inr, lit<, if◌then◌else◌}
+use Rattle.std.proofs.Common.{◌≡◌, ℕ, zero, suc, ◌+◌, ◌-◌, ◌*◌, ◌/◌, ◌^◌, ◌<◌, ◌≤◌, min, Bool, true, false, List, [], ◌∷◌, ◌++◌, length, get_or, take, drop, refl, sym, ap, ◌∙◌, subst, arith, inl, inr, lit<}
 use Rattle.std.proofs.Math.Nat.{mul_assoc, mul-div_cancel, mul-div-mul_right, mul-add-div_right, div-eq_of_lt-le, pow-suc, one-le-pow, mul-le-mul_right, mul-one}
 use Rattle.std.proofs.lemmas.Bool.{and_parts, cases_lt}
 use Rattle.std.proofs.lemmas.Bool.Decides.{nat_tests}
@@ -8,7 +8,7 @@ use Rattle.std.specs.Char.{is_ascii_digit}
 use Rattle.std.specs.Str.{all_ascii_digits}
 use Rattle.std.proofs.Math.Seq.{take-length}
 use Rattle.std.proofs.Common.{add-zero}
-use Rattle.std.proofs.lemmas.List.{drop_more, take-append-drop, length-drop, length-take}
+use Rattle.std.proofs.lemmas.List.{drop_more, take-append-drop, length-drop}
 use Rattle.std.proofs.Common.{◌&&◌, append_assoc}
 use Rattle.fixed_num.specs.Decimal.{Decimal, digits_after, cut_millionths, rounded_millionths}
 use Rattle.fixed_num.proofs.DigitLemmas.{min-digits_after}

@@ -1,17 +1,16 @@
 -- The texts of millionths, written and read again.
-use Rattle.std.proofs.Common.{◌≡◌, ◌≢◌, ℕ, zero, suc, ◌+◌, ◌-◌, ◌*◌, ◌/◌, ◌%◌, ◌^◌, ◌<◌, ◌≤◌, Bool, true, false, ◌&&◌, List, [], ◌∷◌, ◌++◌, length, take, drop, ℤ, pos, negsuc, neg_ℤ, ◌≤ℤ◌, unsigned_abs, refl, sym, ap, ◌∙◌, subst, arith, rules, IsTrue, lit<}
+use Rattle.std.proofs.Common.{◌≡◌, ℕ, zero, suc, ◌+◌, ◌-◌, ◌*◌, ◌/◌, ◌%◌, ◌^◌, ◌<◌, ◌≤◌, true, false, ◌&&◌, List, ◌++◌, length, ℤ, pos, negsuc, ◌≤ℤ◌, unsigned_abs, refl, sym, ap, ◌∙◌, arith, rules, lit<}
 use Rattle.std.proofs.Math.Arith.{mod-mul}
-use Rattle.std.proofs.Math.Nat.{pow-succ', one-le-pow, mul-div_cancel, mod-lt}
+use Rattle.std.proofs.Math.Nat.{pow-succ', one-le-pow, mul-div_cancel}
 use Rattle.std.proofs.lemmas.Bool.Decides.{nat_tests}
 use Rattle.std.proofs.lemmas.Fmt.{digits_decimal, digits_value-decimal, decimal_nonempty}
 use Rattle.std.proofs.lemmas.Int.{ints}
-use Rattle.std.proofs.lemmas.Nat.{div-mul-add, div-add-mod'}
 use Rattle.std.proofs.lemmas.Str.Parse.{IsNumeralModel, numerals_by_fold, tells_all_ascii_digits}
 use Rattle.std.specs.Char.{is_ascii_digit}
 use Rattle.std.specs.Fmt.{decimal}
 use Rattle.std.specs.Int.{is_negative}
 use Rattle.std.specs.Str.{all_ascii_digits}
-use Rattle.fixed_num.specs.Decimal.{Decimal, IsDecimal, Spells, SpellsValue, sign_text, fraction_text, decimal_text, digits_after, cut_millionths, rounded_millionths, with_sign}
+use Rattle.fixed_num.specs.Decimal.{Decimal, Spells, SpellsValue, digits_after, cut_millionths, rounded_millionths, with_sign}
 use Rattle.fixed_num.specs.Text.{last_digits, mil6}
 use Rattle.fixed_num.proofs.RoundingLemmas.{digits_after-append, rounded_short}
 

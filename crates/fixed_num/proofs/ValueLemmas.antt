@@ -1,6 +1,5 @@
 -- What a reader of decimals accepts and refuses, for any measure of their size.
-use Rattle.std.proofs.Common.{◌≡◌, ◌≢◌, ◌↔◌, ℕ, zero, suc, ◌<◌, ◌≤◌, Bool, true, false, cond, List, ℤ, pos, neg_ℤ, unsigned_abs, nat_le, refl, sym, ap, ◌∙◌, subst, arith, Option, Some, None, Result, Ok, Err, IfOk}
-use Rattle.std.proofs.lemmas.Bool.{cases_lt}
+use Rattle.std.proofs.Common.{◌≡◌, ◌≢◌, ◌↔◌, ℕ, zero, suc, ◌<◌, ◌≤◌, Bool, true, false, cond, List, ℤ, unsigned_abs, nat_le, refl, sym, ap, ◌∙◌, arith, Option, Some, None, Result, Ok, Err, IfOk}
 use Rattle.std.proofs.lemmas.Bool.Decides.{nat_tests}
 use Rattle.fixed_num.specs.Decimal.{Decimal, Spells, IsSpelled, SpellsValue, with_sign, value_from, parts_of}
 use Rattle.fixed_num.proofs.GrammarLemmas.{parts_of_sound, parts_of_whole}

@@ -2,7 +2,7 @@
 use Rattle.std.specs.Prelude.{List, ℕ, ℤ, Result}
 use Rattle.fixed_num.specs.declared.literal.NumError.{NumError}
 use Rattle.fixed_num.specs.declared.literal.NumError.TheVariants.{NotNumber, TooLarge}
-use Rattle.fixed_num.specs.Decimal.{Spells, cut_millionths, SpellsValue, value_from, parts_of}
+use Rattle.fixed_num.specs.Decimal.{cut_millionths, SpellsValue, value_from, parts_of}
 
 -- The text spells a literal whose number has so many millionths.
 abbrev pub IsLiteral : List ℕ → ℤ → Type 0

@@ -13,4 +13,7 @@ pub use arithmetic::Arith;
 pub use coordinate::{CoordError, coord};
 pub use literal::NumError;
 pub use number::Num;
-pub use text::SixDecimals;
+pub use text::{SixDecimals, append_mil6};
+
+#[cfg(test)]
+mod tests;

@@ -1,5 +1,5 @@
 //! The text of a count of millionths.
-ghost use Rattle.std.specs.Prelude.{◌≡◌, ℕ, ◌+◌, ◌-◌, ◌*◌, ◌/◌, ◌%◌, ◌^◌, ◌<◌, ◌≤◌, List, [], ◌∷◌, ◌++◌, length, drop};
+ghost use Rattle.std.specs.Prelude.{◌≡◌, ℕ, ◌+◌, ◌-◌, ◌*◌, ◌/◌, ◌%◌, ◌^◌, ◌<◌, ◌≤◌, List, [], ◌∷◌, ◌++◌, length, take, drop};
 ghost use Rattle.std.specs.Fmt.{decimal};
 ghost use Rattle.fixed_num.specs.Text.{last_digits, mil6};
 
@@ -117,4 +117,19 @@ impl SixDecimals {
         }
         self.prepend(b'0' + rest as u8);
     }
+}
+
+/// Appends the text of so many millionths to the first `at` bytes of `out`, and returns where it ends.
+/// It takes no memory.
+pub fn append_mil6(out: &mut [u8], at: usize, millionths: i128) -> usize
+    requires room { at + 47 ≤ length out.old }
+    ensures value { result ≡ at + length (mil6 millionths) }
+    ensures text { take result out.new ≡ take at out.old ++ mil6 millionths }
+    ensures kept { drop result out.new ≡ drop result out.old }
+{
+    let text = SixDecimals::of(millionths);
+    let bytes = text.as_slice();
+    let end = at + bytes.len();
+    out[at..end].copy_from_slice(bytes);
+    end
 }

@@ -1,5 +1,4 @@
-use Rattle.std.proofs.Common.{◌≡◌, sym, ap, ◌∙◌, length, nat_eq}
-use Rattle.fixed_num.specs.Decimal.{is_fraction}
+use Rattle.std.proofs.Common.{sym, ap, ◌∙◌, length, nat_eq}
 use Rattle.fixed_num.proofs.GrammarLemmas.{is_fraction_is}
 use Rattle.fixed_num.proofs.decimal.is_all_digits.Goals as goal
 

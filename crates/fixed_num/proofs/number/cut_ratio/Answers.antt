@@ -1,4 +1,3 @@
-use Rattle.std.proofs.Common.{rules, ◌≡◌, ◌≢◌, ℤ, pos, ◌+ℤ◌, ◌-ℤ◌, ◌*ℤ◌, ◌<◌, ◌≤◌, ◌↔◌, unsigned_abs, int_div, FitsSigned, to_z, of_z}
 use Rattle.fixed_num.proofs.QuotientLemmas.{narrow_ratio_is, wide_ratio_safe, wide_ratio_is}
 use Rattle.fixed_num.proofs.number.cut_ratio.Goals as goal
 

@@ -1,5 +1,5 @@
-use Rattle.std.proofs.Common.{◌≡◌, ◌∙◌, ◌*◌, ◌-◌, ℕ, ap, arith, min, get_or, take}
-use Rattle.fixed_num.specs.Decimal.{digits_after, cut_millionths}
+use Rattle.std.proofs.Common.{◌∙◌, ◌*◌, ◌-◌, ℕ, ap, arith, min, get_or, take}
+use Rattle.fixed_num.specs.Decimal.{cut_millionths}
 use Rattle.fixed_num.specs.declared.decimal.TheConstants.{POWERS as powers}
 use Rattle.fixed_num.proofs.RoundingLemmas.{cut_is, held_digits, held_product, power_left-ge}
 use Rattle.fixed_num.proofs.decimal.Parts.cut.Goals as goal

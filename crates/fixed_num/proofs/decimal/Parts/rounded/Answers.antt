@@ -1,5 +1,4 @@
-use Rattle.std.proofs.Common.{◌≡◌, ◌+◌, ◌<◌, ◌≤◌, ◌∙◌, ap, sym, subst, refl, arith, min, length, get_or, inl, inr}
-use Rattle.std.proofs.lemmas.Bool.{cases_lt}
+use Rattle.std.proofs.Common.{◌≡◌, ◌+◌, ◌<◌, ◌≤◌, ◌∙◌, ap, sym, subst, refl, arith, min, length, get_or}
 use Rattle.fixed_num.specs.Decimal.{Decimal, cut_millionths, rounded_millionths}
 use Rattle.fixed_num.proofs.RoundingLemmas.{rounded_up, rounded_same}
 use Rattle.fixed_num.proofs.decimal.Parts.rounded.Goals as goal

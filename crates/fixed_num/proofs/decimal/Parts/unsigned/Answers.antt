@@ -1,5 +1,4 @@
-use Rattle.std.proofs.Common.{◌≡◌, ◌∙◌, ap, arith, length, take, nat_eq, subst}
-use Rattle.std.proofs.lemmas.Bool.Decides.{nat_tests}
+use Rattle.std.proofs.Common.{◌∙◌, ap, take}
 use Rattle.std.specs.Str.{all_ascii_digits}
 use Rattle.fixed_num.proofs.GrammarLemmas.{some_from_test, all_ascii_digits-front, tail_of_sound}
 use Rattle.fixed_num.proofs.decimal.Parts.unsigned.Goals as goal

@@ -1,4 +1,4 @@
-use Rattle.std.proofs.Common.{◌≡◌, ◌≢◌, ℤ, ◌<◌, ◌≤◌, unsigned_abs, Result, sym, subst, arith, inl, inr}
+use Rattle.std.proofs.Common.{◌≡◌, ◌≢◌, ℤ, unsigned_abs, Result, sym, subst, arith, inl, inr}
 use Rattle.std.proofs.lemmas.Bool.{cases_lt}
 use Rattle.fixed_num.specs.declared.literal.NumError.{NumError}
 use Rattle.fixed_num.specs.declared.literal.NumError.TheVariants.{NotNumber, TooLarge}

@@ -1,4 +1,4 @@
-use Rattle.std.proofs.Common.{◌≡◌, ◌∙◌, true, false}
+use Rattle.std.proofs.Common.{◌∙◌, true, false}
 use Rattle.std.proofs.lemmas.Int.{to_z-of_z}
 use Rattle.fixed_num.proofs.PrintLemmas.{mil6_is}
 use Rattle.fixed_num.proofs.text.SixDecimals.of.Goals as goal

@@ -1,6 +1,5 @@
-use Rattle.std.proofs.Common.{◌<◌, ◌^◌, ◌++◌, arith}
-use Rattle.std.specs.Fmt.{decimal}
-use Rattle.fixed_num.proofs.PrintLemmas.{WritesOn-start, WritesOn-step, WritesOn-room, WritesOn-last}
+use Rattle.std.proofs.Common.{arith}
+use Rattle.fixed_num.proofs.PrintLemmas.{WritesOn-start, WritesOn-step, WritesOn-room}
 use Rattle.fixed_num.proofs.text.SixDecimals.prepend_number.Goals as goal
 
 pub prepend-requires : goal.prepend-requires
