@@ -8,19 +8,19 @@ abbrev pub within_range : ℤ → Result ℤ Arith
 within_range n = if nat_le (unsigned_abs n) 1000000000000000 then Ok n else Err TooLarge
 
 -- The sum of two numbers.
-abbrev pub sum_of : ℤ → ℤ → Result ℤ Arith
+unfoldable pub sum_of : ℤ → ℤ → Result ℤ Arith
 sum_of a b = within_range (a +ℤ b)
 
 -- The difference of two numbers.
-abbrev pub difference_of : ℤ → ℤ → Result ℤ Arith
+unfoldable pub difference_of : ℤ → ℤ → Result ℤ Arith
 difference_of a b = within_range (a -ℤ b)
 
 -- The product of two numbers, cut toward zero to a whole millionth.
-abbrev pub product_of : ℤ → ℤ → Result ℤ Arith
+unfoldable pub product_of : ℤ → ℤ → Result ℤ Arith
 product_of a b = within_range (int_div (a *ℤ b) (pos 1000000))
 
 -- The quotient of two numbers, cut toward zero to a whole millionth; `DivZero` where the divisor is 0.
-abbrev pub quotient_of : ℤ → ℤ → Result ℤ Arith
+unfoldable pub quotient_of : ℤ → ℤ → Result ℤ Arith
 quotient_of a (pos zero) = Err DivZero
 quotient_of a (pos (suc n)) = within_range (int_div (a *ℤ pos 1000000) (pos (suc n)))
 quotient_of a (negsuc n) = within_range (int_div (a *ℤ pos 1000000) (negsuc n))

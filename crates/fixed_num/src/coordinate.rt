@@ -1,5 +1,5 @@
 //! Coordinates in microdegrees.
-ghost use Rattle.std.specs.Prelude.{◌≡◌, ℕ, ℤ, pos, ◌≤◌, ◌≤ℤ◌, ◌<◌, ◌↔◌, IfOk, unsigned_abs};
+ghost use Rattle.std.specs.Prelude.{◌≡◌, ℤ, pos, ◌≤◌, ◌≤ℤ◌, ◌<◌, ◌↔◌, IfOk, unsigned_abs};
 ghost use Rattle.fixed_num.specs.Coordinate.{IsCoordinate, coordinate_of};
 ghost use Rattle.fixed_num.specs.Decimal.{IsSpelled, rounded_millionths, value_from};
 ghost use Rattle.fixed_num.specs.Text.{mil6};
@@ -24,6 +24,7 @@ pub fn coord(text: &[u8], most: i64) -> Result<i64, CoordError>
     ensures exact { result ≡ coordinate_of most text.now }
     ensures found { IfOk result (λ n. IsCoordinate text.now n × (unsigned_abs n ≤ unsigned_abs most)) }
     ensures only { (n : ℤ) → IsCoordinate text.now n → unsigned_abs n ≤ unsigned_abs most → result ≡ Ok n }
+    // The text that is printed of a coordinate is read as that coordinate.
     ensures reread { (n : ℤ) → unsigned_abs n ≤ unsigned_abs most → text.now ≡ mil6 n → result ≡ Ok n }
 
     ensures not_decimal { (result ≡ Err CoordError.NotDecimal) ↔ ¬ IsSpelled text.now }
@@ -49,7 +50,10 @@ fn coordinate(text: &[u8], most: i64) -> Result<i64, CoordError>
 fn place_of(parts: &Parts, most: i64) -> Result<i64, CoordError>
     requires positive { pos 0 ≤ℤ most }
     requires fits { most ≤ℤ pos 180000000 }
-    ensures exact { result ≡ value_from rounded_millionths (unsigned_abs most) CoordError.NotDecimal CoordError.OutOfRange (Some parts.now) }
+    ensures exact { let limit = unsigned_abs most in
+        result
+        ≡ value_from rounded_millionths limit CoordError.NotDecimal CoordError.OutOfRange
+        (Some parts.now) }
 {
     let size = parts.rounded();
     if size <= most as u64 {

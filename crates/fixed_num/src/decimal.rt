@@ -1,9 +1,18 @@
 //! Decimal texts: their parts, and their digits as a number.
-ghost use Rattle.std.specs.Prelude.{◌≡◌, ◌↔◌, slice_index, ◌<◌, ◌≤◌, List, [], length, take, drop, min, MatchOption, Some, None, IsTrue, ℕ};
+ghost use Rattle.std.specs.Prelude.{◌≡◌, ◌↔◌, slice_index, ◌<◌, ◌≤◌, length, min, MatchOption, IsTrue};
 ghost use Rattle.std.specs.Str.{all_ascii_digits};
 ghost use Rattle.fixed_num.specs.Decimal.{leading_digits, is_fraction, tail_of, unsigned_parts, parts_of, digits_after, cut_millionths, rounded_millionths, with_sign};
 
 use std::marker::Model;
+
+/// The most that the digits of a text are counted to, above any number that is accepted.
+pub(crate) const CAP: u64 = 10_000_000_000_000_000;
+
+/// How many decimals a millionth has.
+const KEPT: usize = 6;
+
+/// The powers of ten up to a million.
+const POWERS: [u64; 7] = [1, 10, 100, 1_000, 10_000, 100_000, 1_000_000];
 
 /// The parts of a text that is spelled as a decimal number.
 #[derive(Drop)]
@@ -20,7 +29,8 @@ impl<'a> Model for Parts<'a> {
 
     ghost view = { λ p. record { is_negative = p.negative; whole = p.whole.now; fraction = p.fraction.now } };
 
-    ghost invariant = { λ p. IsDecimal (record { is_negative = p.negative; whole = p.whole.now; fraction = p.fraction.now }) };
+    ghost invariant = { λ p. IsDecimal
+        (record { is_negative = p.negative; whole = p.whole.now; fraction = p.fraction.now }) };
 }
 
 impl<'a> Parts<'a> {
@@ -131,9 +141,6 @@ fn leading_digits(text: &[u8]) -> usize
     text.len()
 }
 
-/// The most that the digits of a text are counted to, above any number that is accepted.
-pub(crate) const CAP: u64 = 10_000_000_000_000_000;
-
 /// The whole number that digits spell after the number that the digits before them spell, or `CAP`
 /// where that is less. So texts of any length are read.
 fn capped_number(before: u64, digits: &[u8]) -> u64
@@ -147,9 +154,3 @@ fn capped_number(before: u64, digits: &[u8]) -> u64
     }
     number
 }
-
-/// How many decimals a millionth has.
-const KEPT: usize = 6;
-
-/// The powers of ten up to a million.
-const POWERS: [u64; 7] = [1, 10, 100, 1_000, 10_000, 100_000, 1_000_000];

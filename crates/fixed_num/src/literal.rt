@@ -1,5 +1,5 @@
 //! Number literals.
-ghost use Rattle.std.specs.Prelude.{◌≡◌, ℕ, ℤ, ◌≤◌, ◌<◌, ◌^◌, ◌↔◌, IfOk, unsigned_abs};
+ghost use Rattle.std.specs.Prelude.{◌≡◌, ℤ, ◌↔◌, IfOk};
 ghost use Rattle.fixed_num.specs.Decimal.{IsSpelled, cut_millionths, value_from};
 ghost use Rattle.fixed_num.specs.Literal.{IsLiteral, literal_of};
 ghost use Rattle.fixed_num.specs.Number.{IsNumber};
@@ -24,10 +24,12 @@ impl Num {
         ensures exact { result ≡ literal_of text.now }
         ensures found { IfOk result (λ n. IsLiteral text.now n × IsNumber n) }
         ensures only { (n : ℤ) → IsLiteral text.now n → IsNumber n → result ≡ Ok n }
+        // The text that is printed of a number is read as that number.
         ensures reread { (n : ℤ) → IsNumber n → text.now ≡ mil6 n → result ≡ Ok n }
 
         ensures not_number { (result ≡ Err NumError.NotNumber) ↔ ¬ IsSpelled text.now }
-        ensures too_large { (result ≡ Err NumError.TooLarge) ↔ ((n : ℤ) × IsLiteral text.now n × ¬ IsNumber n) }
+        ensures too_large { (result ≡ Err NumError.TooLarge)
+            ↔ ((n : ℤ) × IsLiteral text.now n × ¬ IsNumber n) }
     {
         literal(text)
     }
@@ -45,7 +47,9 @@ fn literal(text: &[u8]) -> Result<Num, NumError>
 
 /// The number of a literal's parts.
 fn number_of(parts: &Parts) -> Result<Num, NumError>
-    ensures exact { result ≡ value_from cut_millionths 1000000000000000 NumError.NotNumber NumError.TooLarge (Some parts.now) }
+    ensures exact { result
+        ≡ value_from cut_millionths 1000000000000000 NumError.NotNumber NumError.TooLarge
+        (Some parts.now) }
 {
     match Num::of(signed(parts.is_negative(), parts.cut())) {
         Some(number) => Ok(number),

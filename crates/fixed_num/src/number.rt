@@ -1,5 +1,5 @@
 //! The fixed-point number and its arithmetic.
-ghost use Rattle.std.specs.Prelude.{◌≡◌, ◌≢◌, ℤ, pos, ◌+ℤ◌, ◌-ℤ◌, ◌*ℤ◌, ◌<◌, ◌≤◌, ◌↔◌, unsigned_abs, int_div, IsSome, IfSome};
+ghost use Rattle.std.specs.Prelude.{◌≡◌, ◌≢◌, pos, ◌+ℤ◌, ◌-ℤ◌, ◌*ℤ◌, ◌↔◌, int_div, IsSome, IfSome};
 ghost use Rattle.std.specs.Int.{int_max, int_min};
 ghost use Rattle.fixed_num.specs.Arithmetic.{within_range, sum_of, difference_of, product_of, quotient_of};
 ghost use Rattle.fixed_num.specs.Number.{IsNumber};
@@ -56,36 +56,43 @@ impl Num {
     }
 
     /// The sum.
+    #[tactic(auto, unfolding(crate::specs::Arithmetic::sum_of))]
     pub fn add(self, other: Num) -> Result<Num, Arith>
         ensures exact { result ≡ sum_of self other }
 
-        ensures refused { (result ≡ Err Arith.TooLarge) ↔ ¬ IsNumber (self +ℤ other) }
+        ensures refused { (result ≡ Err Arith.TooLarge)
+            ↔ ¬ IsNumber (self +ℤ other) }
         ensures only { result ≢ Err Arith.DivZero }
     {
         fitted(i128::from(self.millionths + other.millionths))
     }
 
     /// The difference.
+    #[tactic(auto, unfolding(crate::specs::Arithmetic::difference_of))]
     pub fn sub(self, other: Num) -> Result<Num, Arith>
         ensures exact { result ≡ difference_of self other }
 
-        ensures refused { (result ≡ Err Arith.TooLarge) ↔ ¬ IsNumber (self -ℤ other) }
+        ensures refused { (result ≡ Err Arith.TooLarge)
+            ↔ ¬ IsNumber (self -ℤ other) }
         ensures only { result ≢ Err Arith.DivZero }
     {
         fitted(i128::from(self.millionths - other.millionths))
     }
 
     /// The product, cut toward zero to a whole millionth.
+    #[tactic(auto, unfolding(crate::specs::Arithmetic::product_of))]
     pub fn mul(self, other: Num) -> Result<Num, Arith>
         ensures exact { result ≡ product_of self other }
 
-        ensures refused { (result ≡ Err Arith.TooLarge) ↔ ¬ IsNumber (int_div (self *ℤ other) (pos 1000000)) }
+        ensures refused { (result ≡ Err Arith.TooLarge)
+            ↔ ¬ IsNumber (int_div (self *ℤ other) (pos 1000000)) }
         ensures only { result ≢ Err Arith.DivZero }
     {
         fitted(cut_ratio(self.millionths, other.millionths, ONE))
     }
 
     /// The quotient, cut toward zero to a whole millionth.
+    #[tactic(auto, unfolding(crate::specs::Arithmetic::quotient_of))]
     pub fn div(self, other: Num) -> Result<Num, Arith>
         ensures exact { result ≡ quotient_of self other }
 
