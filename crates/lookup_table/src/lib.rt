@@ -1,0 +1,17 @@
+//! The tag table: which tags and values a map's tags are numbered by, read from its text.
+#![tactic(auto)]
+
+mod error;
+mod part;
+mod tag;
+mod words;
+
+pub use error::LookupError;
+use item_list::Items;
+pub use part::Part;
+
+/// A name as a list of bytes.
+pub type Name = Items<u8>;
+
+/// The tags of a way or a node: names with their values.
+pub type Tags = Items<(Name, Name)>;
