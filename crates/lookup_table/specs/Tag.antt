@@ -1,6 +1,7 @@
 -- The tags of a part with their listed values, after `lookups.dat`.
-use Rattle.std.specs.Prelude.{ℕ, ◌+◌, Bool, List, [], ◌∷◌, ◌++◌, length, map, position, nat_lt, is_some, Option, Some, None, unwrap_or, if◌then◌else◌}
+use Rattle.std.specs.Prelude.{◌≡◌, ℕ, suc, ◌+◌, Bool, List, [], ◌∷◌, ◌++◌, length, map, nat_lt, is_some, Option, Some, None, unwrap_or, if◌then◌else◌}
 use Rattle.std.specs.Map.{lookup}
+use Rattle.std.specs.Option.{option_map}
 use Rattle.std.specs.Str.{bytes_eq}
 
 -- A tag: its name, the first spelling of each listed value in order, and each spelling once with its value's number.
@@ -42,9 +43,23 @@ empty_tag name = record { name = name; firsts = []; numbers = [] }
 
 -- ---- The tags of a part
 
+-- The place of a name in a list of names.
+abbrev pub name_place : List (List ℕ) → List ℕ → Option ℕ
+name_place [] name = None
+name_place (x ∷ xs) name = if bytes_eq name x then Some 0 else option_map suc (name_place xs name)
+
+-- No name comes twice.
+abbrev pub AreDistinct : List (List ℕ) → Type 0
+AreDistinct [] = Unit {0}
+AreDistinct (x ∷ xs) = (name_place xs x ≡ None) × AreDistinct xs
+
+-- The names of a part's tags.
+abbrev pub names_of : List TagRow → List (List ℕ)
+names_of rows = map (λ t. t.name) rows
+
 -- The place of a tag in its part.
 abbrev pub place_of : List TagRow → List ℕ → Option ℕ
-place_of rows name = position (bytes_eq name) (map (λ t. t.name) rows)
+place_of rows name = name_place (names_of rows) name
 
 -- A line of a part adds its value to the tag that it names, or adds that tag at the end.
 abbrev pub add_line : List TagRow → List ℕ → List (List ℕ) → List TagRow

@@ -3,6 +3,7 @@
 
 mod error;
 mod part;
+mod rows;
 mod tag;
 mod words;
 

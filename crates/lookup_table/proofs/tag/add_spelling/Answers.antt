@@ -10,7 +10,7 @@ returns-in_ok-insert c =
     let key = c.in_ok-from_slice.field-0 in
     let none : lookup (λ k. bytes_eq c.args.spelling.now k.items) c.args.numbers.now.entries ≡ None = absent _ c.if-not-contains_key.ensures in
     let own : lookup (λ k. bytes_eq key.items k.items) c.args.numbers.now.entries ≡ None =
-      subst (λ (s : List ℕ). lookup (λ k. bytes_eq s k.items) c.args.numbers.now.entries ≡ None) (sym c.in_ok-from_slice.ensures.items) none in
+    subst (λ (s : List ℕ). lookup (λ k. bytes_eq s k.items) c.args.numbers.now.entries ≡ None) (sym c.in_ok-from_slice.ensures.items) none in
     record {
       value =
           new_spelling c.args.spelling.now c.args.number c.args.numbers.now.entries c.insert.new.self.entries key c.in_ok-from_slice.ensures.items
