@@ -1,3 +1,5 @@
+mod LineLemmas
+mod ReadLemmas
 mod RowLemmas
 mod TagLemmas
 mod WordLemmas

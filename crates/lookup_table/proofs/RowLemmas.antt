@@ -73,29 +73,30 @@ found_first len = let test : nat_lt 0 (suc len) ≡ true = grind (arith, nat_tes
 -- What it answers where the first doesn't.
 found_later : (n len : ℕ) → cond {A = Option ℕ} (nat_lt (1 + n) (suc len)) (Some (1 + n)) None ≡ option_map suc (cond (nat_lt n len) (Some n) None)
 found_later n len = by_test (nat_lt n len) refl
-    where
-      one : 1 + n ≡ suc n
-      one = omega arith
-      by_test : (b : Bool) → nat_lt n len ≡ b → cond (nat_lt (1 + n) (suc len)) (Some (1 + n)) None ≡ option_map suc (cond b (Some n) None)
-      by_test true below =
-          let test : nat_lt (1 + n) (suc len) ≡ true = grind (arith, nat_tests) in
-          ap (λ b. cond b (Some (1 + n)) None) test ∙ ap Some one
-      by_test false above =
-          let test : nat_lt (1 + n) (suc len) ≡ false = grind (arith, nat_tests) in
-          ap (λ b. cond b (Some (1 + n)) None) test
+  where
+    one : 1 + n ≡ suc n
+    one = omega arith
+
+    by_test : (b : Bool) → nat_lt n len ≡ b → cond (nat_lt (1 + n) (suc len)) (Some (1 + n)) None ≡ option_map suc (cond b (Some n) None)
+    by_test true below =
+        let test : nat_lt (1 + n) (suc len) ≡ true = grind (arith, nat_tests) in
+        ap (λ b. cond b (Some (1 + n)) None) test ∙ ap Some one
+    by_test false above =
+        let test : nat_lt (1 + n) (suc len) ≡ false = grind (arith, nat_tests) in
+        ap (λ b. cond b (Some (1 + n)) None) test
 
 -- The index finds the place of a name.
 pub position-name_place : (name : List ℕ) (keys : List (Vec ℕ Global)) → position (λ k. bytes_eq name k.items) keys ≡ name_place (map (λ k. k.items) keys) name
 position-name_place name [] = refl
 position-name_place name (k ∷ ks) = by_test (bytes_eq name k.items) refl (position-name_place name ks)
-    where
-      by_test : (b : Bool) → bytes_eq name k.items ≡ b → position (λ k. bytes_eq name k.items) ks ≡ name_place (map (λ k. k.items) ks) name → position (λ k. bytes_eq name k.items) (k ∷ ks) ≡ cond b (Some 0) (option_map suc (name_place (map (λ k. k.items) ks) name))
-      by_test true test rest =
-          ap (λ b. cond (nat_lt (cond (not b) (1 + prefix_len (λ x. not (bytes_eq name x.items)) ks) 0) (suc (length ks))) (Some (cond (not b) (1 + prefix_len (λ x. not (bytes_eq name x.items)) ks) 0)) None) test ∙ found_first (length ks)
-      by_test false test rest =
-          ap (λ b. cond (nat_lt (cond (not b) (1 + prefix_len (λ x. not (bytes_eq name x.items)) ks) 0) (suc (length ks))) (Some (cond (not b) (1 + prefix_len (λ x. not (bytes_eq name x.items)) ks) 0)) None) test
-          ∙ found_later (prefix_len (λ x. not (bytes_eq name x.items)) ks) (length ks)
-          ∙ ap (option_map suc) rest
+  where
+    by_test : (b : Bool) → bytes_eq name k.items ≡ b → position (λ k. bytes_eq name k.items) ks ≡ name_place (map (λ k. k.items) ks) name → position (λ k. bytes_eq name k.items) (k ∷ ks) ≡ cond b (Some 0) (option_map suc (name_place (map (λ k. k.items) ks) name))
+    by_test true test rest =
+        ap (λ b. cond (nat_lt (cond (not b) (1 + prefix_len (λ x. not (bytes_eq name x.items)) ks) 0) (suc (length ks))) (Some (cond (not b) (1 + prefix_len (λ x. not (bytes_eq name x.items)) ks) 0)) None) test ∙ found_first (length ks)
+    by_test false test rest =
+        ap (λ b. cond (nat_lt (cond (not b) (1 + prefix_len (λ x. not (bytes_eq name x.items)) ks) 0) (suc (length ks))) (Some (cond (not b) (1 + prefix_len (λ x. not (bytes_eq name x.items)) ks) 0)) None) test
+        ∙ found_later (prefix_len (λ x. not (bytes_eq name x.items)) ks) (length ks)
+        ∙ ap (option_map suc) rest
 
 -- A place that is found is within the part.
 pub within_rows : (rows : List TagRow) (name : List ℕ) (r : Option ℕ) → r ≡ place_of rows name → IfSome r (λ i. i < length rows)
@@ -158,10 +159,11 @@ none_passes name (k ∷ ks) none =
 pub names_more : (keys new : List (Vec ℕ Global)) (key : Vec ℕ Global) (rows : List TagRow) (tag : TagRow) → map (λ k. k.items) keys ≡ names_of rows → AreDistinct (names_of rows) → place_of rows tag.name ≡ None → key.items ≡ tag.name → new ≡ insert_key (λ x y. bytes_eq x.items y.items) keys key → (map (λ k. k.items) new ≡ names_of (rows ++ tag ∷ [])) × AreDistinct (names_of (rows ++ tag ∷ []))
 names_more keys new key rows tag same apart none key_is new_is =
     let absent : list_any (λ k. bytes_eq key.items k.items) keys ≡ false = none_passes key.items keys (ap (name_place (map (λ k. k.items) keys)) key_is ∙ ap (λ names. name_place names tag.name) same ∙ none) in
-    let last : names_of (rows ++ tag ∷ []) ≡ names_of rows ++ tag.name ∷ [] = map-append (λ t. t.name) rows (tag ∷ []) in
-    ( ap (map (λ k. k.items)) (new_is ∙ ap (λ b. cond b keys (keys ++ key ∷ [])) absent)
-      ∙ map-append (λ k. k.items) keys (key ∷ [])
-      ∙ ap (λ names. names ++ key.items ∷ []) same
-      ∙ ap (λ name. names_of rows ++ name ∷ []) key_is
-      ∙ sym last
-    , subst AreDistinct (sym last) (AreDistinct-append (names_of rows) tag.name apart none) )
+    let last : names_of (rows ++ tag ∷ []) ≡ names_of rows ++ tag.name ∷ [] = map-append (λ t. t.name) rows (tag ∷ []) in (
+      ap (map (λ k. k.items)) (new_is ∙ ap (λ b. cond b keys (keys ++ key ∷ [])) absent)
+          ∙ map-append (λ k. k.items) keys (key ∷ [])
+          ∙ ap (λ names. names ++ key.items ∷ []) same
+          ∙ ap (λ name. names_of rows ++ name ∷ []) key_is
+          ∙ sym last,
+      subst AreDistinct (sym last) (AreDistinct-append (names_of rows) tag.name apart none),
+    )

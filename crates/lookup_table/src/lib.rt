@@ -1,15 +1,20 @@
 //! The tag table: which tags and values a map's tags are numbered by, read from its text.
 #![tactic(auto)]
 
+mod draft;
 mod error;
+mod line;
+mod lines;
 mod part;
 mod rows;
+mod table;
 mod tag;
 mod words;
 
 pub use error::LookupError;
 use item_list::Items;
 pub use part::Part;
+pub use table::Table;
 
 /// A name as a list of bytes.
 pub type Name = Items<u8>;

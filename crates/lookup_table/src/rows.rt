@@ -1,5 +1,5 @@
 //! The tags of a part, in the order of the file.
-ghost use Rattle.std.specs.Prelude.{◌≡◌, ◌≢◌, ◌<◌, IfSome, ◌∷◌, ◌++◌, length, [], None, Some, OnOk, IsTrue, slice_get, slice_index_or, slice_set};
+ghost use Rattle.std.specs.Prelude.{◌≡◌, ◌≢◌, ◌<◌, ◌≤◌, IfSome, ◌∷◌, ◌++◌, length, [], None, Some, OnOk, IsTrue, slice_get, slice_index_or, slice_set};
 ghost use Rattle.lookup_table.specs.Tag.{AreDistinct, add_line, add_value, empty_tag, has_room, names_of, place_of};
 ghost use Rattle.lookup_table.specs.Words.{words_of};
 
@@ -22,14 +22,16 @@ pub struct Rows {
 }
 
 impl Model for Rows {
-    ghost use Rattle.std.specs.Prelude.{◌≡◌, List, map};
+    ghost use Rattle.std.specs.Prelude.{◌≡◌, ◌≤◌, List, length, map};
     ghost use Rattle.lookup_table.specs.Tag.{AreDistinct, TagRow, names_of};
 
     ghost Value = { List TagRow };
 
     ghost view = { λ r. r.tags.items };
 
-    ghost invariant = { λ r. (map (λ k. k.items) r.names.keys ≡ names_of r.tags.items) × AreDistinct (names_of r.tags.items) };
+    ghost invariant = { λ r. (map (λ k. k.items) r.names.keys ≡ names_of r.tags.items)
+        × AreDistinct (names_of r.tags.items)
+        × (length r.tags.items ≤ 1024) };
 }
 
 impl Rows {
@@ -46,6 +48,7 @@ impl Rows {
     /// How many tags there are.
     pub(crate) fn len(&self) -> usize
         ensures value { result ≡ length self.now }
+        ensures fits { length self.now ≤ 1024 }
         ensures sound { AreDistinct (names_of self.now) }
     {
         self.tags.len()
@@ -107,6 +110,7 @@ impl Rows {
 
     /// Adds a tag at the end.
     fn add_tag(&mut self, alloc: Global, name: &[u8], spellings: &[u8]) -> Result<(), AllocError>
+        requires room { length self.old < 1024 }
         requires new { place_of self.old name.now ≡ None }
         requires some { words_of spellings.now ≢ [] }
         ensures value { OnOk result (self.new ≡ self.old ++ add_value (empty_tag name.now) (words_of spellings.now) ∷ []) }
