@@ -71,11 +71,11 @@ taken text number rest draft line after n next reads n_is line_is after_is ok =
 pub ReadsOn-last : (text : List ℕ) (number : ℕ) (rest : List ℕ) (draft : Draft) (line after : List ℕ) (n : ℕ) (next : Draft) → ReadsOn text number rest draft → n ≡ prefix_len is_in_line rest → line ≡ take n rest → after ≡ drop n rest → take_line number (line_form line) draft ≡ Ok next → length after ≤ 1 → take_lines 1 (lines_of text) empty_draft ≡ Ok next
 ReadsOn-last text number rest draft line after n next reads n_is line_is after_is ok few =
     sym (taken text number rest draft line after n next reads n_is line_is after_is ok) ∙ nothing_left after few
-    where
-      nothing_left : (after : List ℕ) → length after ≤ 1 → take_lines (suc number) (lines_after after) next ≡ Ok next
-      nothing_left [] few = refl
-      nothing_left (c ∷ []) few = ap (λ f. and_then (take_line (suc number) f next) (take_lines (suc (suc number)) [])) line_form-empty
-      nothing_left (c ∷ d ∷ ds) few = absurd (omega arith)
+  where
+    nothing_left : (after : List ℕ) → length after ≤ 1 → take_lines (suc number) (lines_after after) next ≡ Ok next
+    nothing_left [] few = refl
+    nothing_left (c ∷ []) few = ap (λ f. and_then (take_line (suc number) f next) (take_lines (suc (suc number)) [])) line_form-empty
+    nothing_left (c ∷ d ∷ ds) few = absurd (omega arith)
 
 -- Else reading goes on after the end of the line.
 pub ReadsOn-more : (text : List ℕ) (number : ℕ) (rest : List ℕ) (draft : Draft) (line after : List ℕ) (n : ℕ) (next : Draft) → ReadsOn text number rest draft → n ≡ prefix_len is_in_line rest → line ≡ take n rest → after ≡ drop n rest → take_line number (line_form line) draft ≡ Ok next → 1 < length after → ReadsOn text (number + 1) (drop 1 after) next
@@ -86,10 +86,10 @@ ReadsOn-more text number rest draft line after n next reads n_is line_is after_i
       ∙ taken text number rest draft line after n next reads n_is line_is after_is ok;
   few = omega (arith, reads.few, ap length after_is, length-drop n rest, length-drop 1 after);
 }
-    where
-      goes_on : (after : List ℕ) → 1 < length after → take_lines (suc number) (lines_of (drop 1 after)) next ≡ take_lines (suc number) (lines_after after) next
-      goes_on [] more = absurd (omega arith)
-      goes_on (c ∷ cs) more = refl
+  where
+    goes_on : (after : List ℕ) → 1 < length after → take_lines (suc number) (lines_of (drop 1 after)) next ≡ take_lines (suc number) (lines_after after) next
+    goes_on [] more = absurd (omega arith)
+    goes_on (c ∷ cs) more = refl
 
 -- ---- The table
 

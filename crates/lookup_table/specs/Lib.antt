@@ -1,5 +1,7 @@
 pub mod Form
 pub mod Line
+pub mod Noted
+pub mod Numbers
 pub mod Spelled
 pub mod Table
 pub mod Tag

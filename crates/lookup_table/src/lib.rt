@@ -2,10 +2,12 @@
 #![tactic(auto)]
 
 mod draft;
+mod encode;
 mod error;
 mod line;
 mod lines;
 mod part;
+mod print;
 mod rows;
 mod table;
 mod tag;

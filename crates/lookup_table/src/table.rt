@@ -86,10 +86,8 @@ fn finished(draft: Draft) -> Result<Table, LookupError>
 
 /// Why a draft is no table.
 fn refusal(draft: &Draft) -> Option<LookupError>
-    ensures value {
-        MatchOption result (finish draft.now ≡ Ok (record { way = draft.now.way; node = draft.now.node }))
-            (λ e. finish draft.now ≡ Err e)
-    }
+    ensures value { MatchOption result (finish draft.now ≡ Ok (record { way = draft.now.way; node = draft.now.node }))
+        (λ e. finish draft.now ≡ Err e) }
 {
     if !has_versions(draft) {
         Some(LookupError::Version)
