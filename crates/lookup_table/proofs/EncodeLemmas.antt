@@ -7,7 +7,8 @@ use Rattle.std.specs.Option.{option_map}
 use Rattle.std.specs.Str.{bytes_eq}
 use Rattle.lookup_table.specs.Noted.{noted_at, noted}
 use Rattle.lookup_table.specs.Numbers.{value_number_of, tag_number_of, tag_numbers, value_text, printed_tags, AreNumbersOf, IsFirstSpelling, AreFirstSpellings}
-use Rattle.lookup_table.specs.Tag.{TagRow, name_place, AreDistinct, names_of, place_of, empty_tag, number_in}
+use Rattle.lookup_table.specs.Tag.{TagRow, AreSound, name_place, AreDistinct, names_of, place_of, empty_tag, number_in}
+use Rattle.lookup_table.proofs.TagLemmas.{AreWithin-number}
 use Rattle.lookup_table.proofs.RowLemmas.{name_place-none, bytes_eq-turned, bytes_eq-refl, same_name}
 
 -- A list of tags: names with their values.
@@ -155,3 +156,16 @@ tag_numbers-printed rows numbers apart fits firsts = printed_after [] rows numbe
 -- A slice of a whole list that was written to is that list as it is now.
 pub whole_written : (len : ℕ) (new old : List ℕ) → len ≡ length new → take len (new ++ drop (length new) old) ≡ new
 whole_written len new old len_is = ap (λ n. take n (new ++ drop (length new) old)) len_is ∙ take-append_seam new (drop (length new) old)
+
+-- The numbers of tags are of the part.
+pub AreNumbersOf-tag_numbers : (rows : List TagRow) (tags : TagList) → AreSound rows → AreNumbersOf rows (tag_numbers rows tags)
+AreNumbersOf-tag_numbers [] tags sound = tt
+AreNumbersOf-tag_numbers (r ∷ rs) tags sound = (within tags, AreNumbersOf-tag_numbers rs tags sound.1)
+  where
+    by_test : (b : Bool) (value : List ℕ) (rest : ℕ) → rest ≤ length r.firsts + 1 → cond b (value_number_of r value) rest ≤ length r.firsts + 1
+    by_test true value rest below = AreWithin-number (length r.firsts) r.numbers value sound.0
+    by_test false value rest below = below
+
+    within : (tags : TagList) → tag_number_of r tags ≤ length r.firsts + 1
+    within [] = omega arith
+    within (t ∷ ts) = by_test (bytes_eq t.0 r.name) t.1 (tag_number_of r ts) (within ts)

@@ -32,11 +32,11 @@ PrintsOn-start rows numbers fits = record { fits = fits; text = sym (join_is_glu
 pub PrintsOn-end : (rows : List TagRow) (numbers out : List ℕ) (first : Bool) (place : ℕ) → PrintsOn rows numbers out first place → length numbers ≤ place → out ≡ tag_text rows numbers
 PrintsOn-end rows numbers out first place on over =
     sym (append-nil out) ∙ ap (λ t. out ++ t) (sym (nothing_left (drop place rows) (drop place numbers) (omega (arith, length-drop place numbers)))) ∙ on.text
-    where
-      nothing_left : (rs : List TagRow) (ns : List ℕ) → length ns ≤ 0 → glued first (map item_text (printed_tags rs ns)) ≡ []
-      nothing_left [] ns none = refl
-      nothing_left (r ∷ rs) [] none = refl
-      nothing_left (r ∷ rs) (n ∷ ns) none = absurd (omega arith)
+  where
+    nothing_left : (rs : List TagRow) (ns : List ℕ) → length ns ≤ 0 → glued first (map item_text (printed_tags rs ns)) ≡ []
+    nothing_left [] ns none = refl
+    nothing_left (r ∷ rs) [] none = refl
+    nothing_left (r ∷ rs) (n ∷ ns) none = absurd (omega arith)
 
 -- The numbers of a part are as many as its tags.
 same_length : (rows : List TagRow) (numbers : List ℕ) → AreNumbersOf rows numbers → length rows ≡ length numbers
@@ -61,7 +61,7 @@ has_tag rows numbers out first place on more =
     let rows_are : drop place rows ≡ get_or rows place (empty_tag []) ∷ drop (place + 1) rows = drop_more rows place (empty_tag []) within in
     let numbers_are : drop place numbers ≡ get_or numbers place 0 ∷ drop (place + 1) numbers = drop_more numbers place 0 more in
     let split : AreNumbersOf (get_or rows place (empty_tag []) ∷ drop (place + 1) rows) (get_or numbers place 0 ∷ drop (place + 1) numbers) =
-      subst (λ (ns : List ℕ). AreNumbersOf (get_or rows place (empty_tag []) ∷ drop (place + 1) rows) ns) numbers_are (subst (λ (rs : List TagRow). AreNumbersOf rs (drop place numbers)) rows_are on.fits) in
+    subst (λ (ns : List ℕ). AreNumbersOf (get_or rows place (empty_tag []) ∷ drop (place + 1) rows) ns) numbers_are (subst (λ (rs : List TagRow). AreNumbersOf rs (drop place numbers)) rows_are on.fits) in
     record { within = within; rows_are = rows_are; numbers_are = numbers_are; fits = split.0; rest = split.1 }
 
 -- What is printed from a place on, by its number.
@@ -75,7 +75,7 @@ PrintsOn-zero rows numbers out first place on more zero_is =
     let has : HasTag rows numbers place = has_tag rows numbers out first place on more in
     let test : nat_eq (get_or numbers place 0) 0 ≡ true = grind (arith, nat_tests) in
     let left : printed_tags (drop place rows) (drop place numbers) ≡ printed_tags (drop (place + 1) rows) (drop (place + 1) numbers) =
-      printed_from rows numbers place has ∙ ap (λ b. cond b (printed_tags (drop (place + 1) rows) (drop (place + 1) numbers)) (((get_or rows place (empty_tag [])).name, value_text (get_or rows place (empty_tag [])) (get_or numbers place 0)) ∷ printed_tags (drop (place + 1) rows) (drop (place + 1) numbers))) test in
+    printed_from rows numbers place has ∙ ap (λ b. cond b (printed_tags (drop (place + 1) rows) (drop (place + 1) numbers)) (((get_or rows place (empty_tag [])).name, value_text (get_or rows place (empty_tag [])) (get_or numbers place 0)) ∷ printed_tags (drop (place + 1) rows) (drop (place + 1) numbers))) test in
     record { fits = has.rest; text = ap (λ ts. out ++ glued first (map item_text ts)) (sym left) ∙ on.text }
 
 -- Another is written.
@@ -86,9 +86,9 @@ PrintsOn-item rows numbers out new first place tag on more some tag_is new_is =
     let rest : List (List ℕ × List ℕ) = printed_tags (drop (place + 1) rows) (drop (place + 1) numbers) in
     let item : TagRow → List ℕ × List ℕ = λ t. (t.name, value_text t (get_or numbers place 0)) in
     let left : printed_tags (drop place rows) (drop place numbers) ≡ item tag ∷ rest =
-      printed_from rows numbers place has
-      ∙ ap (λ b. cond b rest (item (get_or rows place (empty_tag [])) ∷ rest)) test
-      ∙ ap (λ t. item t ∷ rest) (sym tag_is) in
+    printed_from rows numbers place has
+    ∙ ap (λ b. cond b rest (item (get_or rows place (empty_tag [])) ∷ rest)) test
+    ∙ ap (λ t. item t ∷ rest) (sym tag_is) in
     record {
       fits = has.rest;
       text =

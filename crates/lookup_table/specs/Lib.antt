@@ -1,5 +1,7 @@
 pub mod Form
+pub mod Index
 pub mod Line
+pub mod Lines
 pub mod Noted
 pub mod Numbers
 pub mod Spelled

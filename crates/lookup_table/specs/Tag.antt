@@ -1,5 +1,5 @@
 -- The tags of a part with their listed values, after `lookups.dat`.
-use Rattle.std.specs.Prelude.{◌≡◌, ℕ, suc, ◌+◌, Bool, List, [], ◌∷◌, ◌++◌, length, map, nat_lt, is_some, Option, Some, None, unwrap_or, if◌then◌else◌}
+use Rattle.std.specs.Prelude.{◌≡◌, ℕ, suc, ◌+◌, ◌≤◌, Bool, List, [], ◌∷◌, ◌++◌, length, map, nat_lt, is_some, Option, Some, None, unwrap_or, if◌then◌else◌}
 use Rattle.std.specs.Map.{lookup}
 use Rattle.std.specs.Option.{option_map}
 use Rattle.std.specs.Str.{bytes_eq}
@@ -41,7 +41,25 @@ add_value tag spellings = record {
 abbrev pub empty_tag : List ℕ → TagRow
 empty_tag name = record { name = name; firsts = []; numbers = [] }
 
+-- Each number is that of one of so many listed values.
+abbrev pub AreWithin : ℕ → List (List ℕ × ℕ) → Type 0
+AreWithin values [] = Unit {0}
+AreWithin values (e ∷ es) = (2 ≤ e.1) × (e.1 ≤ values + 1) × AreWithin values es
+
+-- Numbers of so many listed values stay so, where the number that may be added is that of one of them.
+abbrev pub KeepWithin : ℕ → List (List ℕ × ℕ) → List (List ℕ × ℕ) → Type 0
+KeepWithin number old new = (values : ℕ) → 2 ≤ number → number ≤ values + 1 → AreWithin values old → AreWithin values new
+
+-- The numbers of a tag are those of its listed values.
+abbrev pub IsSound : TagRow → Type 0
+IsSound tag = AreWithin (length tag.firsts) tag.numbers
+
 -- ---- The tags of a part
+
+-- So are those of each tag.
+abbrev pub AreSound : List TagRow → Type 0
+AreSound [] = Unit {0}
+AreSound (t ∷ ts) = IsSound t × AreSound ts
 
 -- The place of a name in a list of names.
 abbrev pub name_place : List (List ℕ) → List ℕ → Option ℕ

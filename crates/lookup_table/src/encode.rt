@@ -15,6 +15,7 @@ impl Table {
     /// Where a name comes twice the first pair counts.
     pub fn encode(&self, alloc: Global, part: Part, tags: &Tags) -> Result<Vec<u16>, AllocError>
         ensures value { IfOk result (λ v. v.items ≡ tag_numbers (rows_of self.now part) tags.now) }
+        ensures fits { IfOk result (λ v. AreNumbersOf (rows_of self.now part) v.items) }
         // What is printed of numbers has these numbers, where each is written by a first spelling.
         ensures reread { let rows = rows_of self.now part in
             (numbers : List ℕ)
@@ -30,6 +31,7 @@ impl Table {
 /// The numbers of tags.
 fn encoded(alloc: Global, rows: &Rows, tags: &[(Name, Name)]) -> Result<Vec<u16>, AllocError>
     ensures value { IfOk result (λ v. v.items ≡ tag_numbers rows.now tags.now) }
+    ensures fits { IfOk result (λ v. AreNumbersOf rows.now v.items) }
     ensures reread { (numbers : List ℕ)
         → AreNumbersOf rows.now numbers
         → AreFirstSpellings rows.now numbers

@@ -3,7 +3,7 @@ ghost use Rattle.std.specs.Prelude.{◌≡◌};
 ghost use Rattle.lookup_table.specs.declared.error.LookupError.TheVariants.{NoMemory};
 
 use crate::part::Part;
-use std::alloc::AllocError;
+use std::alloc::{AllocError, Global};
 use thiserror::Error;
 
 /// Why a text is no tag table, in the order in which it is found out.
@@ -32,5 +32,29 @@ impl From<AllocError> for LookupError {
 
     fn from(_error: AllocError) -> LookupError {
         LookupError::NoMemory
+    }
+}
+
+impl LookupError {
+    ghost use Rattle.std.specs.Prelude.{IfOk};
+    ghost use Rattle.std.specs.String.{string_bytes};
+    ghost use Rattle.lookup_table.specs.Lines.{lookup_line};
+
+    /// The line that is printed of it, without an end of line.
+    pub fn line(&self, alloc: Global) -> Result<String, AllocError>
+        ensures value { IfOk result (λ s. string_bytes s ≡ lookup_line self.now) }
+    {
+        match self {
+            LookupError::Line { line } => format!(in alloc; "lookup line {line}"),
+            LookupError::TooMany { line } => format!(in alloc; "too many at line {line}"),
+            LookupError::Version => String::from_str(alloc, "lookup version"),
+            LookupError::FirstTag { part: Part::Way } => {
+                String::from_str(alloc, "first tag of way part")
+            }
+            LookupError::FirstTag { part: Part::Node } => {
+                String::from_str(alloc, "first tag of node part")
+            }
+            LookupError::NoMemory => String::from_str(alloc, "out of memory"),
+        }
     }
 }

@@ -1,6 +1,6 @@
 //! The tags of a part, in the order of the file.
 ghost use Rattle.std.specs.Prelude.{◌≡◌, ◌≢◌, ◌<◌, ◌≤◌, IfSome, ◌∷◌, ◌++◌, length, [], None, Some, OnOk, IsTrue, slice_get, slice_index_or, slice_set};
-ghost use Rattle.lookup_table.specs.Tag.{AreDistinct, add_line, add_value, empty_tag, has_room, names_of, place_of};
+ghost use Rattle.lookup_table.specs.Tag.{AreDistinct, AreSound, add_line, add_value, empty_tag, has_room, names_of, place_of};
 ghost use Rattle.lookup_table.specs.Words.{words_of};
 
 use crate::tag::Tag;
@@ -22,16 +22,15 @@ pub struct Rows {
 }
 
 impl Model for Rows {
-    ghost use Rattle.std.specs.Prelude.{◌≡◌, ◌≤◌, List, length, map};
-    ghost use Rattle.lookup_table.specs.Tag.{AreDistinct, TagRow, names_of};
+    ghost use Rattle.std.specs.Prelude.{List};
+    ghost use Rattle.lookup_table.specs.Index.{IsIndexed};
+    ghost use Rattle.lookup_table.specs.Tag.{TagRow};
 
     ghost Value = { List TagRow };
 
     ghost view = { λ r. r.tags.items };
 
-    ghost invariant = { λ r. (map (λ k. k.items) r.names.keys ≡ names_of r.tags.items)
-        × AreDistinct (names_of r.tags.items)
-        × (length r.tags.items ≤ 1024) };
+    ghost invariant = { λ r. IsIndexed r.names.keys r.tags.items };
 }
 
 impl Rows {
@@ -49,7 +48,8 @@ impl Rows {
     pub(crate) fn len(&self) -> usize
         ensures value { result ≡ length self.now }
         ensures fits { length self.now ≤ 1024 }
-        ensures sound { AreDistinct (names_of self.now) }
+        ensures distinct { AreDistinct (names_of self.now) }
+        ensures sound { AreSound self.now }
     {
         self.tags.len()
     }

@@ -1,5 +1,5 @@
 //! The tag table and its look-ups.
-ghost use Rattle.std.specs.Prelude.{◌≡◌, ◌⊎◌, ◌<◌, ◌^◌, [], Ok, Err, IfOk, IfErr, MatchOption, length, slice_index_or};
+ghost use Rattle.std.specs.Prelude.{◌≡◌, ◌⊎◌, ◌<◌, ◌^◌, [], Ok, Err, IfOk, IfErr, IfSome, MatchOption, length, slice_index_or};
 ghost use Rattle.lookup_table.specs.declared.error.LookupError.TheVariants.{NoMemory};
 ghost use Rattle.lookup_table.specs.Table.{begins_with, finish, has_versions};
 ghost use Rattle.lookup_table.specs.Tag.{empty_tag, number_in, place_of};
@@ -42,6 +42,7 @@ impl Table {
     /// The place of a tag in its part, from 0.
     pub fn tag_place(&self, part: Part, name: &[u8]) -> Option<u32>
         ensures value { result ≡ place_of (rows_of self.now part) name.now }
+        ensures fits { IfSome result (λ place. place < length (rows_of self.now part)) }
     {
         let rows = self.rows(part);
         let _ = rows.len();

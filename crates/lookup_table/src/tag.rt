@@ -1,7 +1,7 @@
 //! A tag of a part with its listed values.
-ghost use Rattle.std.specs.Prelude.{◌≡◌, ◌≢◌, ◌<◌, ◌≤◌, ◌+◌, length, [], ◌∷◌, map, OnOk, IfOk, slice_get, Some, slice_index_or};
+ghost use Rattle.std.specs.Prelude.{◌≡◌, ◌≢◌, ◌<◌, ◌≤◌, ◌+◌, length, [], ◌∷◌, ◌++◌, map, OnOk, OnErr, IfOk, slice_get, Some, slice_index_or};
 ghost use Rattle.lookup_table.specs.Spelled.{spelled};
-ghost use Rattle.lookup_table.specs.Tag.{TagRow, number_in, add_spelling, add_spellings, add_value, empty_tag};
+ghost use Rattle.lookup_table.specs.Tag.{KeepWithin, IsSound, TagRow, first_of, number_in, add_spelling, add_spellings, add_value, empty_tag};
 ghost use Rattle.lookup_table.specs.Words.{words_of};
 
 use crate::Name;
@@ -22,11 +22,14 @@ pub(crate) struct Tag {
 impl Model for Tag {
     ghost use Rattle.std.specs.Prelude.{map};
     ghost use Rattle.lookup_table.specs.Spelled.{spelled};
-    ghost use Rattle.lookup_table.specs.Tag.{TagRow};
+    ghost use Rattle.std.specs.Prelude.{length};
+    ghost use Rattle.lookup_table.specs.Tag.{AreWithin, TagRow};
 
     ghost Value = { TagRow };
 
     ghost view = { λ t. record { name = t.name; firsts = t.firsts.items; numbers = spelled t.numbers } };
+
+    ghost invariant = { λ t. AreWithin (length t.firsts.items) (spelled t.numbers) };
 }
 
 impl Tag {
@@ -87,12 +90,27 @@ impl Tag {
         requires some { words_of spellings.now ≢ [] }
         ensures value { OnOk result (self.new ≡ add_value self.old (words_of spellings.now)) }
         ensures same { self.new.name ≡ self.old.name }
+        ensures sound { IsSound self.new }
     {
         let number = self.firsts.len() as u16 + 2;
-        if let Some((first, _)) = next_word(spellings) {
-            self.firsts.push(copied(alloc, first)?)?;
-        }
+        add_first(alloc, &mut self.firsts, spellings)?;
         add_spellings(alloc, &mut self.numbers, spellings, number)
+    }
+}
+
+/// Adds the first of a value's spellings.
+fn add_first(alloc: Global, firsts: &mut Vec<Name>, spellings: &[u8]) -> Result<(), AllocError>
+    requires some { words_of spellings.now ≢ [] }
+    ensures value { OnOk result (firsts.new.items ≡ firsts.old.items ++ first_of (words_of spellings.now) ∷ []) }
+    ensures same { OnErr result (firsts.new.items ≡ firsts.old.items) }
+{
+    match next_word(spellings) {
+        None => Ok(()),
+        Some(found) => {
+            let (first, _) = found;
+            firsts.push(copied(alloc, first)?)?;
+            Ok(())
+        }
     }
 }
 
@@ -103,7 +121,9 @@ fn add_spellings(
     spellings: &[u8],
     number: u16,
 ) -> Result<(), AllocError>
-    ensures value { OnOk result (spelled numbers.new ≡ add_spellings (spelled numbers.old) number (words_of spellings.now)) }
+    ensures value { OnOk result
+        (spelled numbers.new ≡ add_spellings (spelled numbers.old) number (words_of spellings.now)) }
+    ensures sound { KeepWithin number (spelled numbers.old) (spelled numbers.new) }
 {
     let mut rest = spellings;
     while let Some(found) = next_word(rest) {
@@ -121,7 +141,9 @@ fn add_spelling(
     spelling: &[u8],
     number: u16,
 ) -> Result<(), AllocError>
-    ensures value { OnOk result (spelled numbers.new ≡ add_spelling (spelled numbers.old) number spelling.now) }
+    ensures value { OnOk result
+        (spelled numbers.new ≡ add_spelling (spelled numbers.old) number spelling.now) }
+    ensures sound { KeepWithin number (spelled numbers.old) (spelled numbers.new) }
 {
     if !numbers.contains_key(spelling) {
         numbers.insert(Vec::from_slice(alloc, spelling)?, number)?;

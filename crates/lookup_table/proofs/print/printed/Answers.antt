@@ -19,7 +19,7 @@ append_item-requires-clause-fits c =
 pub loop-place-preserved : goal.loop-place-preserved
 loop-place-preserved c =
     elim c.if-number-ne0.branch [
-        then-number-ne0+in_ok-append_item w ↦
+      | then-number-ne0+in_ok-append_item w ↦
           let tag = get_or_from_slice_get c.args.rows.now c.loop-place.place w.tag.result.now (empty_tag []) w.tag.ensures.value in
           let out = ap (λ v. v.items) w.out-is in
           let first = w.is_first-is in

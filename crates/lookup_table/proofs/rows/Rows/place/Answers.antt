@@ -8,6 +8,6 @@ returns c =
     let found : c.get_index_of.result ≡ place_of c.args.self.now c.args.name.now =
     c.get_index_of.ensures.index
     ∙ position-name_place c.args.name.now c.self.inside.names.keys
-    ∙ ap (λ names. name_place names c.args.name.now) c.self.invariant.0
+    ∙ ap (λ names. name_place names c.args.name.now) c.self.invariant.names
     ∙ ap (λ rows. place_of rows c.args.name.now) c.self.view_is in
     record { value = found; fits = within_rows c.args.self.now c.args.name.now c.get_index_of.result found }
