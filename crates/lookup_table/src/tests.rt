@@ -1,5 +1,5 @@
 //! The table of a bicycle router, its malformed lines, and tags as numbers and text.
-use crate::{LookupError, Name, Part, Table, Tags};
+use crate::{Name, Part, Table, Tags};
 use item_list::Items;
 use std::alloc::{AllocError, Global};
 use std::process::Abort;
@@ -32,6 +32,7 @@ bicycle;0000000010 no
 
 /// The table of a text that is accepted.
 fn table(rt: &impl Abort, alloc: Global, text: &str) -> Table {
+    assert!(rt; text.len() < 1_000_000);
     Table::read(alloc, text.as_bytes()).expect(rt, "a table")
 }
 
@@ -43,8 +44,12 @@ fn number(table: &Table, part: Part, tag: &str, value: &str) -> Option<u16> {
 
 /// The line of the refusal of a text.
 fn refusal(rt: &impl Abort, alloc: Global, text: &[u8]) -> String {
-    let error = Table::read(alloc, text).expect_err(rt, "a refusal");
-    error.line(alloc).expect(rt, "memory for the line")
+    assert!(rt; text.len() < 1_000_000);
+    let line = match Table::read(alloc, text) {
+        Ok(_) => String::from_str(alloc, "accepted"),
+        Err(error) => error.line(alloc),
+    };
+    line.expect(rt, "memory for the line")
 }
 
 /// A name with these bytes.
@@ -128,7 +133,11 @@ nodeaccessgranted;0 yes";
         ("b", "v", Some(2)),
     ];
     for (tag, value, want) in rows {
-        assert_eq!(rt; number(&table, Part::Way, tag, value), want, "{tag}={value}");
+        assert_eq!(rt;
+            number(&table, Part::Way, tag, value),
+            want,
+            "{tag}={value}"
+        );
     }
 }
 
@@ -140,7 +149,10 @@ fn malformed_lines_are_refused(rt: HostRuntime) {
         ("---lookupversion:1x\n", "lookup line 1"),
         ("---minorversion: 1\n", "lookup line 1"),
         ("a;1 v\n", "lookup line 1"),
-        ("---context:way\n---context:node\n---context:way\n", "lookup line 3"),
+        (
+            "---context:way\n---context:node\n---context:way\n",
+            "lookup line 3",
+        ),
         (" ---context:way\n", "lookup line 1"),
         ("---context:way\na v\n", "lookup line 2"),
         ("---context:way\na;1\n", "lookup line 2"),
@@ -152,10 +164,22 @@ fn malformed_lines_are_refused(rt: HostRuntime) {
         ("---context:way\na|b;1 v\n", "lookup line 2"),
         ("---lookupversion:10", "lookup version"),
         ("", "lookup version"),
-        ("---lookupversion:10\n---lookupversion:10\n---minorversion:1\n", "lookup version"),
-        ("---lookupversion:10\n---context:way\n---minorversion:1\n", "lookup version"),
-        ("---lookupversion:10\n---minorversion:1\n", "first tag of way part"),
-        ("---lookupversion:10\n---minorversion:1\n---context:way\n", "first tag of way part"),
+        (
+            "---lookupversion:10\n---lookupversion:10\n---minorversion:1\n",
+            "lookup version",
+        ),
+        (
+            "---lookupversion:10\n---context:way\n---minorversion:1\n",
+            "lookup version",
+        ),
+        (
+            "---lookupversion:10\n---minorversion:1\n",
+            "first tag of way part",
+        ),
+        (
+            "---lookupversion:10\n---minorversion:1\n---context:way\n",
+            "first tag of way part",
+        ),
         (
             "---lookupversion:10\n---minorversion:1\n---context:way\nreversedirection;0 true yes\n",
             "first tag of way part",
@@ -166,7 +190,11 @@ fn malformed_lines_are_refused(rt: HostRuntime) {
         ),
     ];
     for (text, want) in rows {
-        assert_eq!(rt; refusal(&rt, rt.alloc(), text.as_bytes()).as_str(), want, "{text}");
+        assert_eq!(rt;
+            refusal(&rt, rt.alloc(), text.as_bytes()).as_str(),
+            want,
+            "{text}"
+        );
     }
     let latin = b"---lookupversion:10\n# caf\xe9\n";
     assert_eq!(rt; refusal(&rt, rt.alloc(), latin).as_str(), "lookup line 2");
@@ -178,19 +206,34 @@ fn tag_1025_and_value_4097_are_too_many(rt: HostRuntime) -> Result<(), Fail> {
     for i in 0..1024 {
         write!(text, "t{i};0 v\n")?;
     }
-    assert_eq!(rt; refusal(&rt, rt.alloc(), text.as_bytes()).as_str(), "lookup version");
+    assert_eq!(rt;
+        refusal(&rt, rt.alloc(), text.as_bytes()).as_str(),
+        "lookup version"
+    );
     text.push_str("t7;0 w\n")?;
-    assert_eq!(rt; refusal(&rt, rt.alloc(), text.as_bytes()).as_str(), "lookup version");
+    assert_eq!(rt;
+        refusal(&rt, rt.alloc(), text.as_bytes()).as_str(),
+        "lookup version"
+    );
     text.push_str("t1024;0 v\n")?;
-    assert_eq!(rt; refusal(&rt, rt.alloc(), text.as_bytes()).as_str(), "too many at line 1027");
+    assert_eq!(rt;
+        refusal(&rt, rt.alloc(), text.as_bytes()).as_str(),
+        "too many at line 1027"
+    );
 
     let mut text = String::from_str(rt.alloc(), "---context:node\n")?;
     for i in 0..4096 {
         write!(text, "t;0 v{i}\n")?;
     }
-    assert_eq!(rt; refusal(&rt, rt.alloc(), text.as_bytes()).as_str(), "lookup version");
+    assert_eq!(rt;
+        refusal(&rt, rt.alloc(), text.as_bytes()).as_str(),
+        "lookup version"
+    );
     text.push_str("t;0 v\n")?;
-    assert_eq!(rt; refusal(&rt, rt.alloc(), text.as_bytes()).as_str(), "too many at line 4098");
+    assert_eq!(rt;
+        refusal(&rt, rt.alloc(), text.as_bytes()).as_str(),
+        "too many at line 4098"
+    );
     Ok(())
 }
 
@@ -199,7 +242,11 @@ fn tags_become_numbers_and_text(rt: HostRuntime) -> Result<(), Fail> {
     let table = table(&rt, rt.alloc(), LOOK);
     let rows = [
         (
-            [("surface", "asphalt"), ("highway", "track"), ("oneway", "1")],
+            [
+                ("surface", "asphalt"),
+                ("highway", "track"),
+                ("oneway", "1"),
+            ],
             [0, 4, 2, 0, 0, 0],
             "highway=track oneway=yes",
         ),
@@ -209,7 +256,11 @@ fn tags_become_numbers_and_text(rt: HostRuntime) -> Result<(), Fail> {
             "highway=unknown oneway=no",
         ),
         (
-            [("reversedirection", "yes"), ("highway", ""), ("route_bicycle_rcn", "yes")],
+            [
+                ("reversedirection", "yes"),
+                ("highway", ""),
+                ("route_bicycle_rcn", "yes"),
+            ],
             [2, 1, 0, 0, 0, 2],
             "reversedirection=yes highway=unknown route_bicycle_rcn=yes",
         ),
@@ -218,7 +269,11 @@ fn tags_become_numbers_and_text(rt: HostRuntime) -> Result<(), Fail> {
     for (pairs, want, text) in rows {
         let numbers = table.encode(rt.alloc(), Part::Way, &tags(rt.alloc(), &pairs)?)?;
         let printed = table.print(rt.alloc(), Part::Way, &numbers)?;
-        assert_eq!(rt; numbers.as_slice(), want.as_slice(), "the numbers of {text}");
+        assert_eq!(rt;
+            numbers.as_slice(),
+            want.as_slice(),
+            "the numbers of {text}"
+        );
         assert_eq!(rt; printed.as_slice(), text.as_bytes());
     }
     Ok(())
