@@ -1,5 +1,5 @@
 -- Tag numbers, noted from the last tag to the first, and read again from what is printed.
-use Rattle.std.proofs.Common.{◌≡◌, ◌≢◌, ℕ, zero, suc, ◌+◌, ◌-◌, ◌<◌, ◌≤◌, Bool, true, false, not, cond, ◌==◌, List, [], ◌∷◌, ◌++◌, length, get_or, set, take, drop, map, replicate, nat_eq, Option, Some, None, unwrap_or, refl, sym, ap, ◌∙◌, subst, arith, rules, append_assoc}
+use Rattle.std.proofs.Common.{◌≡◌, ℕ, zero, suc, ◌+◌, ◌-◌, ◌<◌, ◌≤◌, Bool, true, false, cond, List, [], ◌∷◌, ◌++◌, length, get_or, take, drop, replicate, nat_eq, Option, Some, None, unwrap_or, refl, sym, ap, ◌∙◌, arith, append_assoc}
 use Rattle.std.proofs.lemmas.Bool.Decides.{nat_tests}
 use Rattle.std.proofs.lemmas.List.{drop_more, length-map}
 use Rattle.std.proofs.Math.Seq.{take-append_seam}
@@ -7,7 +7,7 @@ use Rattle.std.specs.Option.{option_map}
 use Rattle.std.specs.Str.{bytes_eq}
 use Rattle.lookup_table.specs.Noted.{noted_at, noted}
 use Rattle.lookup_table.specs.Numbers.{value_number_of, tag_number_of, tag_numbers, value_text, printed_tags, AreNumbersOf, IsFirstSpelling, AreFirstSpellings}
-use Rattle.lookup_table.specs.Tag.{TagRow, AreSound, name_place, AreDistinct, names_of, place_of, empty_tag, number_in}
+use Rattle.lookup_table.specs.Tag.{TagRow, AreSound, AreDistinct, names_of, place_of}
 use Rattle.lookup_table.proofs.TagLemmas.{AreWithin-number}
 use Rattle.lookup_table.proofs.RowLemmas.{name_place-none, bytes_eq-turned, bytes_eq-refl, same_name}
 

@@ -1,14 +1,13 @@
 -- Lines that are read one after the other.
-use Rattle.std.proofs.Common.{◌≡◌, ◌≢◌, ℕ, zero, suc, ◌+◌, ◌-◌, ◌<◌, ◌≤◌, Bool, true, false, not, cond, ◌==◌, List, [], ◌∷◌, ◌++◌, length, take, drop, Result, Ok, Err, refl, sym, ap, ◌∙◌, subst, arith, rules, add-one, ◌⊎◌, inl, inr, IfOk, IfErr}
+use Rattle.std.proofs.Common.{◌≡◌, ℕ, suc, ◌+◌, ◌<◌, ◌≤◌, Bool, true, false, not, cond, ◌==◌, List, [], ◌∷◌, length, take, drop, Result, Ok, Err, refl, sym, ap, ◌∙◌, arith, add-one, ◌⊎◌, inl, inr, IfOk, IfErr}
 use Rattle.std.proofs.lemmas.List.{length-drop}
 use Rattle.std.proofs.lemmas.Str.{is_utf8-from_IsUtf8}
-use Rattle.std.specs.List.{prefix_len, slice_split, onto_first}
-use Rattle.std.specs.Str.{is_utf8}
+use Rattle.std.specs.List.{prefix_len, onto_first}
 use Rattle.lookup_table.specs.declared.draft.Draft.{Draft}
 use Rattle.lookup_table.specs.declared.error.LookupError.{LookupError}
 use Rattle.lookup_table.specs.declared.error.LookupError.TheVariants.{NoMemory}
-use Rattle.lookup_table.specs.declared.table.Table.{Table}
-use Rattle.lookup_table.specs.Line.{LineForm, Skipped, Malformed, is_in_line, line_form, lines_of, text_form}
+use Rattle.lookup_table.specs.First.{TagTable}
+use Rattle.lookup_table.specs.Line.{Skipped, Malformed, is_in_line, line_form, lines_of, text_form}
 use Rattle.lookup_table.specs.Table.{empty_draft, and_then, take_line, take_lines, finish, table_of}
 
 -- What follows the first line: nothing, or more lines after its end.
@@ -94,7 +93,7 @@ ReadsOn-more text number rest draft line after n next reads n_is line_is after_i
 -- ---- The table
 
 -- What the end of the reading answers is the answer of the text.
-pub table_of-finished : (text : List ℕ) (draft : Draft) (r : Result Table LookupError) → take_lines 1 (lines_of text) empty_draft ≡ Ok draft → r ≡ finish draft → r ≡ table_of text
+pub table_of-finished : (text : List ℕ) (draft : Draft) (r : Result TagTable LookupError) → take_lines 1 (lines_of text) empty_draft ≡ Ok draft → r ≡ finish draft → r ≡ table_of text
 unfolding table_of
 table_of-finished text draft r read r_is = r_is ∙ sym (ap (λ d. and_then d finish) read)
 
@@ -105,6 +104,6 @@ table_of-refused text e (inl memory) = inl memory
 table_of-refused text e (inr refused) = inr (ap (λ d. and_then d finish) refused)
 
 -- An answer that is the text's says so, whichever it is.
-pub answers : (text : List ℕ) (r : Result Table LookupError) → r ≡ table_of text → IfOk r (λ t. table_of text ≡ Ok t) × IfErr r (λ e. (e ≡ NoMemory) ⊎ (table_of text ≡ Err e))
+pub answers : (text : List ℕ) (r : Result TagTable LookupError) → r ≡ table_of text → IfOk r (λ t. table_of text ≡ Ok t) × IfErr r (λ e. (e ≡ NoMemory) ⊎ (table_of text ≡ Err e))
 answers text (Ok t) same = (sym same, tt)
 answers text (Err e) same = (tt, inr (sym same))

@@ -1,9 +1,9 @@
 -- Numbers that an index keeps, and lists of tags.
-use Rattle.std.proofs.Common.{◌≡◌, ◌≢◌, ℕ, zero, suc, ◌+◌, ◌-◌, ◌<◌, ◌≤◌, Bool, true, false, not, cond, List, [], ◌∷◌, ◌++◌, length, length-append, get_or, set, map, Option, Some, None, refl, sym, ap, ◌∙◌, subst, arith, rules, is_some, unwrap_or, Vec, Global}
+use Rattle.std.proofs.Common.{◌≡◌, ℕ, zero, suc, ◌+◌, ◌≤◌, Bool, true, false, cond, List, [], ◌∷◌, ◌++◌, length, length-append, set, map, Option, Some, None, refl, sym, ap, ◌∙◌, subst, arith, is_some, unwrap_or, Vec, Global}
 use Rattle.std.proofs.lemmas.List.{map-append}
 use Rattle.std.specs.Map.{lookup}
 use Rattle.std.specs.Str.{bytes_eq}
-use Rattle.lookup_table.specs.Tag.{TagRow, IsSound, AreSound, AreWithin, KeepWithin, number_in, add_spelling, add_spellings, add_value}
+use Rattle.lookup_table.specs.Tag.{TagRow, IsSound, AreSound, AreWithin, KeepWithin, number_in, add_spelling}
 
 -- The entries of the index, by the bytes of their keys.
 abbrev pub by_bytes : List (Vec ℕ Global × ℕ) → List (List ℕ × ℕ)

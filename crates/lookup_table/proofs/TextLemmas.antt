@@ -1,8 +1,7 @@
 -- Items that are written one after the other.
-use Rattle.std.proofs.Common.{◌≡◌, ◌≢◌, ℕ, zero, suc, ◌+◌, ◌-◌, ◌<◌, ◌≤◌, Bool, true, false, not, cond, ◌==◌, List, [], ◌∷◌, ◌++◌, length, get_or, take, drop, map, nat_eq, refl, sym, ap, ◌∙◌, subst, arith, rules, append_assoc, append-nil, slice_get, Some}
+use Rattle.std.proofs.Common.{◌≡◌, ◌≢◌, ℕ, suc, ◌+◌, ◌<◌, ◌≤◌, Bool, true, false, cond, List, [], ◌∷◌, ◌++◌, length, get_or, drop, map, nat_eq, refl, sym, ap, ◌∙◌, subst, arith, append_assoc, append-nil}
 use Rattle.std.proofs.lemmas.Bool.Decides.{nat_tests}
 use Rattle.std.proofs.lemmas.List.{drop_more, length-drop}
-use Rattle.std.proofs.lemmas.Option.{slice_get-get_or, get_or_from_slice_get}
 use Rattle.std.specs.List.{join_with_byte}
 use Rattle.lookup_table.specs.Noted.{parted}
 use Rattle.lookup_table.specs.Numbers.{value_text, printed_tags, item_text, tag_text, AreNumbersOf}

@@ -1,5 +1,4 @@
 -- What a line that was read stands for.
-use Rattle.std.specs.Prelude.{List, ℕ}
 use Rattle.lookup_table.specs.declared.line.Line.{Line}
 use Rattle.lookup_table.specs.declared.line.Line.TheVariants.{Skip, LookupVersion, MinorVersion, Open, Tag, Fault}
 use Rattle.lookup_table.specs.Line.{LineForm}

@@ -1,3 +1,4 @@
+pub mod First
 pub mod Form
 pub mod Index
 pub mod Line

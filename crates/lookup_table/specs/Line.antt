@@ -1,5 +1,5 @@
 -- The lines of a tag table: this project's own rule, after `lookups.dat`.
-use Rattle.std.specs.Prelude.{ℕ, ◌+◌, Bool, true, false, not, ◌&&◌, List, [], ◌∷◌, length, take, drop, nat_eq, nat_le, nat_lt, ◌==◌, Option, Some, None, if◌then◌else◌}
+use Rattle.std.specs.Prelude.{ℕ, Bool, false, not, ◌&&◌, List, [], ◌∷◌, length, take, drop, nat_eq, nat_le, nat_lt, ◌==◌, Option, Some, None, if◌then◌else◌}
 use Rattle.std.specs.List.{prefix_len, slice_split, starts_with}
 use Rattle.std.specs.Str.{all_ascii_digits, bytes_eq, is_utf8}
 use lib.Chars.{codes}

@@ -1,8 +1,6 @@
 -- What an index of spellings says: each spelling with its number, in the order in which they came.
 use Rattle.std.specs.Prelude.{ℕ, List, map, Vec}
 use Rattle.indexmap.specs.IndexMap.{IndexMap}
-use Rattle.std.specs.declared.hash.FoldHasher.{FoldHasher}
-use Rattle.std.specs.declared.hash.BuildHasherDefault.{BuildHasherDefault}
 use Rattle.std.specs.declared.alloc.Global.{Global}
 
 -- The spellings of an index with their numbers.

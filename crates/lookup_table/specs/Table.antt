@@ -1,16 +1,14 @@
 -- The table of a text: this project's own rule, after `lookups.dat`.
-use Rattle.std.specs.Prelude.{ℕ, suc, Bool, true, false, not, ◌&&◌, ◌||◌, List, [], ◌∷◌, length, is_some, ◌==◌, Option, Some, None, Result, Ok, Err, if◌then◌else◌}
-use Rattle.std.specs.Str.{bytes_eq}
-use lib.Chars.{codes}
+use Rattle.std.specs.Prelude.{ℕ, suc, Bool, true, false, not, ◌&&◌, ◌||◌, List, [], ◌∷◌, is_some, ◌==◌, Option, Some, None, Result, Ok, Err, if◌then◌else◌}
 use Rattle.lookup_table.specs.declared.draft.Draft.{Draft}
 use Rattle.lookup_table.specs.declared.error.LookupError.{LookupError}
 use Rattle.lookup_table.specs.declared.error.LookupError.TheVariants.{Line, TooMany, Version, FirstTag}
 use Rattle.lookup_table.specs.declared.part.Part.{Part}
 use Rattle.lookup_table.specs.declared.part.Part.TheVariants.{Way, Node}
-use Rattle.lookup_table.specs.declared.table.Table.{Table}
+use Rattle.lookup_table.specs.First.{TagTable, begins_as}
 use Rattle.lookup_table.specs.Line.{LineForm, Skipped, LookupVersion, MinorVersion, Opens, TagLine, Malformed, line_form, lines_of}
 use Rattle.lookup_table.specs.Version.{one_more}
-use Rattle.lookup_table.specs.Tag.{TagRow, add_line, has_room}
+use Rattle.lookup_table.specs.Tag.{add_line, has_room}
 
 -- ---- One line after the other
 
@@ -58,34 +56,19 @@ take_lines line (l ∷ ls) d = and_then (take_line line (line_form l) d) (take_l
 abbrev pub has_versions : Draft → Bool
 has_versions d = (d.lookups == 1) && ((d.minors == 1) && not d.late)
 
--- The first value's first spelling is `yes`.
-abbrev pub begins_with_yes : List (List ℕ) → Bool
-begins_with_yes [] = false
-begins_with_yes (s ∷ ss) = bytes_eq s (codes "yes")
-
--- A part begins with the tag of this name, whose first value is `yes`.
-abbrev pub begins_with : List TagRow → List ℕ → Bool
-begins_with [] name = false
-begins_with (t ∷ ts) name = bytes_eq t.name name && begins_with_yes t.firsts
-
 -- The table of a draft, or why it is none.
-abbrev pub finish : Draft → Result Table LookupError
+abbrev pub finish : Draft → Result TagTable LookupError
 finish d =
     if has_versions d
-    then (if begins_with d.way (codes "reversedirection")
-    then (if begins_with d.node (codes "nodeaccessgranted") then Ok (record { way = d.way; node = d.node }) else Err (FirstTag Node))
+    then (if begins_as Way d.way
+    then (if begins_as Node d.node then Ok (record { way = d.way; node = d.node }) else Err (FirstTag Node))
     else Err (FirstTag Way))
     else Err Version
 
 -- The table of these lines after a draft.
-abbrev pub finish_lines : ℕ → List (List ℕ) → Draft → Result Table LookupError
+abbrev pub finish_lines : ℕ → List (List ℕ) → Draft → Result TagTable LookupError
 finish_lines line lines d = and_then (take_lines line lines d) finish
 
 -- The table of a text, or the first refusal in order: that of the first line that is refused, then that of the whole.
-unfoldable pub table_of : List ℕ → Result Table LookupError
+unfoldable pub table_of : List ℕ → Result TagTable LookupError
 table_of text = finish_lines 1 (lines_of text) empty_draft
-
--- The tags of a part of a table.
-abbrev pub rows_of : Table → Part → List TagRow
-rows_of t Way = t.way
-rows_of t Node = t.node

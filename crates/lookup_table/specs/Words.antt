@@ -1,5 +1,5 @@
 -- The words of a line: what stands between white space.
-use Rattle.std.specs.Prelude.{ℕ, Bool, true, false, not, ◌&&◌, ◌||◌, List, [], ◌∷◌, length, filter, nat_le, nat_lt, ◌==◌, if◌then◌else◌}
+use Rattle.std.specs.Prelude.{ℕ, Bool, true, false, not, ◌&&◌, ◌||◌, List, [], ◌∷◌, filter, nat_le, ◌==◌, if◌then◌else◌}
 use Rattle.std.specs.List.{slice_split}
 
 -- White space: the bytes 9, 10, 11, 12, 13 and 32.

@@ -2,7 +2,7 @@
 ghost use Rattle.std.specs.Prelude.{◌≡◌, ℕ, List, length, IfOk};
 ghost use Rattle.lookup_table.specs.Numbers.{AreFirstSpellings, AreNumbersOf, printed_tags, tag_numbers};
 ghost use Rattle.lookup_table.specs.Noted.{noted};
-ghost use Rattle.lookup_table.specs.Table.{rows_of};
+ghost use Rattle.lookup_table.specs.First.{rows_of};
 
 use crate::part::Part;
 use crate::rows::Rows;

@@ -4,6 +4,7 @@
 mod draft;
 mod encode;
 mod error;
+mod finish;
 mod line;
 mod lines;
 mod part;

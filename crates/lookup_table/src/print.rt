@@ -1,7 +1,7 @@
 //! The text of tag numbers.
 ghost use Rattle.std.specs.Prelude.{◌≡◌, ◌≢◌, ◌<◌, ◌≤◌, ◌+◌, ◌∷◌, ◌++◌, length, IfOk, OnOk};
 ghost use Rattle.lookup_table.specs.Numbers.{AreNumbersOf, item_text, tag_text, value_text};
-ghost use Rattle.lookup_table.specs.Table.{rows_of};
+ghost use Rattle.lookup_table.specs.First.{rows_of};
 ghost use Rattle.lookup_table.specs.Noted.{parted};
 
 use crate::part::Part;

@@ -1,26 +1,40 @@
 //! The tag table and its look-ups.
-ghost use Rattle.std.specs.Prelude.{◌≡◌, ◌⊎◌, ◌<◌, ◌^◌, [], Ok, Err, IfOk, IfErr, IfSome, MatchOption, length, slice_index_or};
+ghost use Rattle.std.specs.Prelude.{◌≡◌, ◌⊎◌, ◌<◌, ◌^◌, [], Ok, Err, IfOk, IfErr, IfSome, IsTrue, length, slice_index_or};
 ghost use Rattle.lookup_table.specs.declared.error.LookupError.TheVariants.{NoMemory};
-ghost use Rattle.lookup_table.specs.Table.{begins_with, finish, has_versions};
-ghost use Rattle.lookup_table.specs.Tag.{empty_tag, number_in, place_of};
+ghost use Rattle.lookup_table.specs.First.{begins_as, rows_of};
+ghost use Rattle.lookup_table.specs.Table.{table_of};
+ghost use Rattle.lookup_table.specs.Tag.{AreDistinct, AreSound, empty_tag, names_of, number_in, place_of};
 
-use crate::draft::Draft;
 use crate::error::LookupError;
+use crate::finish::finished;
 use crate::lines::draft_of;
 use crate::part::Part;
 use crate::rows::Rows;
 use std::alloc::Global;
+use std::marker::Model;
 
 /// A tag table: the tags of ways and of nodes with their listed values.
+///
+/// Contracts see it as the two lists of tags.
 #[derive(Drop)]
 pub struct Table {
     pub(crate) way: Rows,
     pub(crate) node: Rows,
 }
 
-impl Table {
-    ghost use Rattle.lookup_table.specs.Table.{rows_of, table_of};
+impl Model for Table {
+    ghost use Rattle.std.specs.Prelude.{IsTrue};
+    ghost use Rattle.lookup_table.specs.declared.part.Part.TheVariants.{Node, Way};
+    ghost use Rattle.lookup_table.specs.First.{TagTable, begins_as};
 
+    ghost Value = { TagTable };
+
+    ghost view = { λ t. record { way = t.way; node = t.node } };
+
+    ghost invariant = { λ t. IsTrue (begins_as Way t.way) × IsTrue (begins_as Node t.node) };
+}
+
+impl Table {
     /// The table of a text of fewer than 2^32 bytes, or the first refusal: that of the first line that
     /// is refused, then that of the whole.
     pub fn read(alloc: Global, text: &[u8]) -> Result<Table, LookupError>
@@ -35,6 +49,9 @@ impl Table {
     /// How many tags a part has.
     pub fn tags(&self, part: Part) -> u32
         ensures value { result ≡ length (rows_of self.now part) }
+        ensures first { IsTrue (begins_as part (rows_of self.now part)) }
+        ensures distinct { AreDistinct (names_of (rows_of self.now part)) }
+        ensures sound { AreSound (rows_of self.now part) }
     {
         self.rows(part).len() as u32
     }
@@ -64,57 +81,11 @@ impl Table {
     /// The tags of a part.
     pub(crate) fn rows(&self, part: Part) -> &Rows
         ensures value { result.now ≡ rows_of self.now part }
+        ensures first { IsTrue (begins_as part result.now) }
     {
         match part {
             Part::Way => &self.way,
             Part::Node => &self.node,
         }
     }
-}
-
-/// The table of a draft.
-fn finished(draft: Draft) -> Result<Table, LookupError>
-    ensures exact { result ≡ finish draft }
-{
-    match refusal(&draft) {
-        Some(error) => Err(error),
-        None => {
-            let Draft { way, node, .. } = draft;
-            Ok(Table { way, node })
-        }
-    }
-}
-
-/// Why a draft is no table.
-fn refusal(draft: &Draft) -> Option<LookupError>
-    ensures value { MatchOption result (finish draft.now ≡ Ok (record { way = draft.now.way; node = draft.now.node }))
-        (λ e. finish draft.now ≡ Err e) }
-{
-    if !has_versions(draft) {
-        Some(LookupError::Version)
-    } else if !begins_with(&draft.way, b"reversedirection") {
-        Some(LookupError::FirstTag { part: Part::Way })
-    } else if !begins_with(&draft.node, b"nodeaccessgranted") {
-        Some(LookupError::FirstTag { part: Part::Node })
-    } else {
-        None
-    }
-}
-
-/// Whether there was exactly one line of each version kind, both before the first part.
-fn has_versions(draft: &Draft) -> bool
-    ensures value { result ≡ has_versions draft.now }
-{
-    draft.lookups == 1 && draft.minors == 1 && !draft.late
-}
-
-/// Whether a part begins with the tag of a name, whose first value is `yes`.
-fn begins_with(rows: &Rows, name: &[u8]) -> bool
-    ensures value { result ≡ begins_with rows.now name.now }
-{
-    if rows.len() == 0 {
-        return false;
-    }
-    let tag = rows.tag(0);
-    tag.name() == name && tag.len() > 0 && tag.first(0) == b"yes".as_slice()
 }

@@ -1,9 +1,5 @@
-use Rattle.std.proofs.Common.{◌≡◌, ◌⊎◌, Err, inl, inr, arith, sym, subst, IfErr}
+use Rattle.std.proofs.Common.{arith}
 use Rattle.std.proofs.lemmas.Result.{err_from_is_err_and}
-use Rattle.lookup_table.specs.declared.error.LookupError.{LookupError}
-use Rattle.lookup_table.specs.declared.error.LookupError.TheVariants.{NoMemory}
-use Rattle.lookup_table.specs.Line.{lines_of}
-use Rattle.lookup_table.specs.Table.{empty_draft, take_lines}
 use Rattle.lookup_table.proofs.ReadLemmas.{ReadsOn-exit, ReadsOn-last, ReadsOn-more}
 use Rattle.lookup_table.proofs.lines.draft_of.Goals as goal
 

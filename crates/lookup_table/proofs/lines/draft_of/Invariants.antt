@@ -1,6 +1,4 @@
-use Rattle.std.proofs.Common.{◌≡◌, ◌+◌, ◌≤◌, length}
-use Rattle.lookup_table.specs.Line.{lines_of}
-use Rattle.lookup_table.specs.Table.{empty_draft, take_lines}
+use Rattle.std.proofs.Common.{length}
 use Rattle.lookup_table.proofs.ReadLemmas.{ReadsOn}
 use Rattle.lookup_table.proofs.lines.draft_of.Given as goal
 

@@ -1,4 +1,4 @@
-use Rattle.std.proofs.Common.{◌≡◌, ◌∙◌, ap, sym}
+use Rattle.std.proofs.Common.{◌∙◌, ap, sym}
 use Rattle.lookup_table.specs.Spelled.{spelled}
 use Rattle.lookup_table.specs.Tag.{add_spellings}
 use Rattle.lookup_table.specs.Words.{words_of}

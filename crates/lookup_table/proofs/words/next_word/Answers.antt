@@ -1,4 +1,4 @@
-use Rattle.std.proofs.Common.{◌≡◌, ◌∙◌, ◌∷◌, ◌<◌, sym, ap, drop, take, length, arith}
+use Rattle.std.proofs.Common.{◌∙◌, ◌∷◌, sym, ap, drop, arith}
 use Rattle.lookup_table.specs.Words.{words_of}
 use Rattle.lookup_table.proofs.WordLemmas.{no_word, next_word_is}
 use Rattle.lookup_table.proofs.words.next_word.Goals as goal

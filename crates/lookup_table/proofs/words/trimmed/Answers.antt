@@ -1,4 +1,4 @@
-use Rattle.std.proofs.Common.{◌≡◌, ◌∙◌, sym, not, arith}
+use Rattle.std.proofs.Common.{◌∙◌, sym, arith}
 use Rattle.lookup_table.proofs.WordLemmas.{trimmed_at_space, trimmed_at_ink}
 use Rattle.lookup_table.proofs.words.trimmed.Goals as goal
 

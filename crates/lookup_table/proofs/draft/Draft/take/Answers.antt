@@ -1,4 +1,3 @@
-use Rattle.std.proofs.Common.{◌≡◌}
 use Rattle.lookup_table.proofs.LineLemmas.{some_spelling}
 use Rattle.lookup_table.specs.Words.{words_of}
 use Rattle.lookup_table.proofs.draft.Draft.take.Goals as goal

@@ -1,4 +1,4 @@
-use Rattle.std.proofs.Common.{◌≡◌, ◌∙◌, sym}
+use Rattle.std.proofs.Common.{◌∙◌, sym}
 use Rattle.lookup_table.proofs.LineLemmas.{dashes_form-context}
 use Rattle.lookup_table.proofs.line.Line.of_dashes.Goals as goal
 

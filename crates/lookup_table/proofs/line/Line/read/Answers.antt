@@ -1,6 +1,5 @@
-use Rattle.std.proofs.Common.{◌≡◌, ◌∙◌, sym, ap, cond}
-use Rattle.lookup_table.specs.Line.{LineForm, Malformed, text_form, line_form}
-use Rattle.lookup_table.specs.Words.{trimmed}
+use Rattle.std.proofs.Common.{◌∙◌, sym, ap}
+use Rattle.lookup_table.specs.Line.{text_form}
 use Rattle.lookup_table.proofs.LineLemmas.{line_form-utf8, line_form-other}
 use Rattle.lookup_table.proofs.line.Line.read.Goals as goal
 

@@ -1,4 +1,4 @@
-use Rattle.std.proofs.Common.{◌≡◌, ◌∙◌, ◌∷◌, ◌++◌, ◌≤◌, [], length, arith, length-append, List, None, ap, map, sym, subst}
+use Rattle.std.proofs.Common.{◌≡◌, ◌∙◌, ◌∷◌, ◌++◌, ◌≤◌, [], length, arith, length-append, None, ap, sym, subst}
 use Rattle.lookup_table.specs.Index.{IsIndexed}
 use Rattle.lookup_table.specs.Tag.{place_of}
 use Rattle.lookup_table.proofs.TagLemmas.{AreSound-append}

@@ -1,4 +1,4 @@
-use Rattle.std.proofs.Common.{[], ◌≡◌, ◌∙◌, ap, sym, length, nat_lt}
+use Rattle.std.proofs.Common.{[], ◌∙◌, ap, sym, length, nat_lt}
 use Rattle.std.proofs.lemmas.Option.{get_or_from_slice_get}
 use Rattle.lookup_table.specs.Tag.{empty_tag}
 use Rattle.lookup_table.proofs.RowLemmas.{has_room-new, has_room-old}

@@ -1,4 +1,4 @@
-use Rattle.std.proofs.Common.{◌≡◌, ◌∙◌, ap, map}
+use Rattle.std.proofs.Common.{◌≡◌, ◌∙◌, ap}
 use Rattle.lookup_table.specs.Tag.{name_place, place_of}
 use Rattle.lookup_table.proofs.RowLemmas.{position-name_place, within_rows}
 use Rattle.lookup_table.proofs.rows.Rows.place.Goals as goal

@@ -1,6 +1,5 @@
-use Rattle.std.proofs.Common.{◌≡◌, ◌≤◌, ◌+◌, length, arith}
+use Rattle.std.proofs.Common.{◌≡◌, ◌+◌, length, arith}
 use Rattle.lookup_table.specs.Spelled.{spelled}
-use Rattle.lookup_table.specs.Tag.{AreWithin}
 use Rattle.lookup_table.proofs.TagLemmas.{AreWithin-more, length_push}
 use Rattle.lookup_table.proofs.tag.Tag.add_value.Goals as goal
 

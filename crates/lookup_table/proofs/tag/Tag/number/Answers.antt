@@ -1,4 +1,4 @@
-use Rattle.std.proofs.Common.{◌≡◌, ◌∙◌, ap}
+use Rattle.std.proofs.Common.{◌∙◌, ap}
 use Rattle.lookup_table.specs.Tag.{number_in}
 use Rattle.lookup_table.proofs.TagLemmas.{lookup-by_bytes}
 use Rattle.lookup_table.proofs.tag.Tag.number.Goals as goal
