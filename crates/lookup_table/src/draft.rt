@@ -52,7 +52,8 @@ impl Draft {
         text: &[u8],
     ) -> Result<(), LookupError>
         ensures value { OnOk result (take_line number (line_form text.now) self.old ≡ Ok self.new) }
-        ensures refused { IfErr result (λ e. (e ≡ NoMemory) ⊎ (take_line number (line_form text.now) self.old ≡ Err e)) }
+        ensures refused { let taken = take_line number (line_form text.now) self.old in
+            IfErr result (λ e. (e ≡ NoMemory) ⊎ (taken ≡ Err e)) }
     {
         match Line::read(text) {
             Line::Skip => Ok(()),
@@ -106,9 +107,11 @@ impl Draft {
         spellings: &[u8],
     ) -> Result<(), LookupError>
         requires some { words_of spellings.now ≢ [] }
-        ensures value { let line = add_tag_line number name.now (words_of spellings.now) self.old.part self.old in
+        ensures value { let words = words_of spellings.now in
+            let line = add_tag_line number name.now words self.old.part self.old in
             OnOk result (line ≡ Ok self.new) }
-        ensures refused { let line = add_tag_line number name.now (words_of spellings.now) self.old.part self.old in
+        ensures refused { let words = words_of spellings.now in
+            let line = add_tag_line number name.now words self.old.part self.old in
             IfErr result (λ e. (e ≡ NoMemory) ⊎ (line ≡ Err e)) }
     {
         match self.part {

@@ -41,7 +41,8 @@ fn printed(alloc: Global, rows: &Rows, numbers: &[u16]) -> Result<Vec<u8>, Alloc
 fn append_item(out: &mut Vec<u8>, is_first: bool, tag: &Tag, number: u16) -> Result<(), AllocError>
     requires some { number ≢ 0 }
     requires fits { number ≤ length tag.now.firsts + 1 }
-    ensures value { OnOk result (out.new.items ≡ out.old.items ++ parted is_first (item_text (tag.now.name, value_text tag.now number))) }
+    ensures value { let item = item_text (tag.now.name, value_text tag.now number) in
+        OnOk result (out.new.items ≡ out.old.items ++ parted is_first item) }
 {
     if !is_first {
         out.push(b' ')?;

@@ -89,7 +89,8 @@ impl Rows {
     ) -> Result<(), AllocError>
         requires room { IsTrue (has_room self.old name.now) }
         requires some { words_of spellings.now ≢ [] }
-        ensures value { OnOk result (self.new ≡ add_line self.old name.now (words_of spellings.now)) }
+        ensures value { OnOk result
+            (self.new ≡ add_line self.old name.now (words_of spellings.now)) }
     {
         match self.place(name) {
             None => self.add_tag(alloc, name, spellings),
@@ -103,7 +104,8 @@ impl Rows {
         requires room { length (slice_index_or self.old place (empty_tag [])).firsts < 4096 }
         requires some { words_of spellings.now ≢ [] }
         ensures value { let tag = slice_index_or self.old place (empty_tag []) in
-            OnOk result (self.new ≡ slice_set self.old place (add_value tag (words_of spellings.now))) }
+            let new = add_value tag (words_of spellings.now) in
+            OnOk result (self.new ≡ slice_set self.old place new) }
     {
         self.tags[place].add_value(alloc, spellings)
     }
@@ -113,7 +115,8 @@ impl Rows {
         requires room { length self.old < 1024 }
         requires new { place_of self.old name.now ≡ None }
         requires some { words_of spellings.now ≢ [] }
-        ensures value { OnOk result (self.new ≡ self.old ++ add_value (empty_tag name.now) (words_of spellings.now) ∷ []) }
+        ensures value { let tag = add_value (empty_tag name.now) (words_of spellings.now) in
+            OnOk result (self.new ≡ self.old ++ tag ∷ []) }
     {
         let mut tag = Tag::new(alloc, name)?;
         tag.add_value(alloc, spellings)?;

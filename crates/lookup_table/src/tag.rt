@@ -101,7 +101,8 @@ impl Tag {
 /// Adds the first of a value's spellings.
 fn add_first(alloc: Global, firsts: &mut Vec<Name>, spellings: &[u8]) -> Result<(), AllocError>
     requires some { words_of spellings.now ≢ [] }
-    ensures value { OnOk result (firsts.new.items ≡ firsts.old.items ++ first_of (words_of spellings.now) ∷ []) }
+    ensures value { let first = first_of (words_of spellings.now) in
+        OnOk result (firsts.new.items ≡ firsts.old.items ++ first ∷ []) }
     ensures same { OnErr result (firsts.new.items ≡ firsts.old.items) }
 {
     match next_word(spellings) {
