@@ -1,14 +1,26 @@
-#!/bin/sh
-# A shortest walk across grids of 100, 300 and 1,000 cells a side, corner to corner: the median of three runs in
-# seconds, and cells per second. A grid without a walk counts too (status 3).
+#!/bin/bash
+# The program over grids of seed 2, from corner to corner: for each size the median of three runs, in seconds
+# of the clock and of the processor, the cells per second of each, the peak of the memory, and the status (3
+# where there is no way). Its words are the cells of a side: 100, 300 and 1,000 where there is none.
 cd "$(dirname "$0")/../crates/route_serve" || exit 1
 rt run -- grid seed=2 w=2 h=2 from=0,0 to=1,1 >/dev/null 2>&1
 [ -x out/route_serve ] || exit 1
-for side in 100 300 1000; do
-  last=$((side - 1))
-  for run in 1 2 3; do
-    /usr/bin/time -o /tmp/grid-seconds.$$ -f '%e' ./out/route_serve grid seed=2 w=$side h=$side from=0,0 to=$last,$last >/dev/null 2>&1
-    tail -n 1 /tmp/grid-seconds.$$
-  done | sort -n | awk -v cells=$((side * side)) 'NR == 2 { printf "%d cells: %s s, %.0f cells/s\n", cells, $1, cells / ($1 > 0 ? $1 : 0.005) }'
+TIMEFORMAT='%3R %3U'
+
+# One run over a grid of so many cells a side: KB, status, seconds of the clock and of the processor.
+once() {
+  local end="$(($1 - 1)),$(($1 - 1))"
+  { time /usr/bin/time -q -f '%M %x' ./out/route_serve grid seed=2 w="$1" h="$1" from=0,0 to="$end" 2>&1 >/dev/null; } 2>&1 |
+    tail -n 2 | tr '\n' ' '
+  echo
+}
+
+[ $# -gt 0 ] || set -- 100 300 1000
+for side; do
+  for _ in 1 2 3; do once "$side"; done | sort -n -k 4 | awk -v cells="$((side * side))" '
+    function per(seconds) { return seconds > 0 ? sprintf("%.0f", cells / seconds) : "no time," }
+    NR == 2 {
+      printf "%d cells: %s s, %s cells/s; %s s of the processor, %s cells/s; %d KB; status %s\n",
+        cells, $3, per($3), $4, per($4), $1, $2
+    }'
 done
-rm -f /tmp/grid-seconds.$$
