@@ -49,7 +49,9 @@ impl Machine {
 
     /// Opens a bracket where there is room.
     fn open(&mut self, bracket: Bracket) -> Result<Taken, AllocError>
-        ensures moves { IfOk result (λ taken. move_of taken self.new ≡ open_move bracket (room_of self.old) (opens_of self.old) self.old.content.items) }
+        ensures moves { IfOk result (λ taken.
+            move_of taken self.new ≡ open_move bracket (room_of self.old)
+            (opens_of self.old) self.old.content.items) }
         ensures kept { IfOk result (λ taken. KeepsText taken self.old self.new) }
         ensures stays { IfOk result (λ taken. Stays taken self.old self.new) }
         ensures err { OnErr result (self.new.text.items ≡ self.old.text.items) }
@@ -64,7 +66,9 @@ impl Machine {
 
     /// Begins a text between quotation marks.
     fn quote(&mut self, role: Role) -> Result<Taken, AllocError>
-        ensures moves { IfOk result (λ taken. move_of taken self.new ≡ Reads (mode_.Text role (place_.Chars None)) (room_of self.old) (opens_of self.old) []) }
+        ensures moves { IfOk result (λ taken.
+            move_of taken self.new ≡ Reads (mode_.Text role (place_.Chars None)) (room_of self.old)
+            (opens_of self.old) []) }
         ensures kept { IfOk result (λ taken. KeepsText taken self.old self.new) }
         ensures stays { IfOk result (λ taken. Stays taken self.old self.new) }
         ensures err { OnErr result (self.new.text.items ≡ self.old.text.items) }
@@ -76,7 +80,9 @@ impl Machine {
 
     /// Begins a number.
     fn digit(&mut self, part: Part, b: u8) -> Result<Taken, AllocError>
-        ensures moves { IfOk result (λ taken. move_of taken self.new ≡ Reads (mode_.Number part) (room_of self.old) (opens_of self.old) (b ∷ [])) }
+        ensures moves { IfOk result (λ taken.
+            move_of taken self.new ≡ Reads (mode_.Number part) (room_of self.old)
+            (opens_of self.old) (b ∷ [])) }
         ensures kept { IfOk result (λ taken. KeepsText taken self.old self.new) }
         ensures stays { IfOk result (λ taken. Stays taken self.old self.new) }
         ensures err { OnErr result (self.new.text.items ≡ self.old.text.items) }
@@ -89,7 +95,9 @@ impl Machine {
 
     /// Begins a value.
     fn start(&mut self, b: u8) -> Result<Taken, AllocError>
-        ensures moves { IfOk result (λ taken. move_of taken self.new ≡ start_move (machine.start_of b) (room_of self.old) (opens_of self.old) self.old.content.items b) }
+        ensures moves { IfOk result (λ taken.
+            move_of taken self.new ≡ start_move (machine.start_of b) (room_of self.old)
+            (opens_of self.old) self.old.content.items b) }
         ensures kept { IfOk result (λ taken. KeepsText taken self.old self.new) }
         ensures stays { IfOk result (λ taken. Stays taken self.old self.new) }
         ensures err { OnErr result (self.new.text.items ≡ self.old.text.items) }
@@ -108,7 +116,9 @@ impl Machine {
 
     /// Begins the name of a member.
     fn name(&mut self, b: u8) -> Result<Taken, AllocError>
-        ensures moves { IfOk result (λ taken. move_of taken self.new ≡ machine.name_move (room_of self.old) (opens_of self.old) self.old.content.items b) }
+        ensures moves { IfOk result (λ taken.
+            move_of taken self.new ≡ machine.name_move (room_of self.old)
+            (opens_of self.old) self.old.content.items b) }
         ensures kept { IfOk result (λ taken. KeepsText taken self.old self.new) }
         ensures stays { IfOk result (λ taken. Stays taken self.old self.new) }
         ensures err { OnErr result (self.new.text.items ≡ self.old.text.items) }
@@ -135,7 +145,9 @@ impl Machine {
     /// Closes the innermost bracket.
     fn close(&mut self, bracket: Bracket) -> Result<Taken, AllocError>
         requires open { top_of (opens_of self.old) ≡ Some bracket }
-        ensures moves { IfOk result (λ taken. move_of taken self.new ≡ Gives (Step.Closes bracket) mode_.After (suc (room_of self.old)) (rest_of (opens_of self.old)) self.old.content.items) }
+        ensures moves { IfOk result (λ taken.
+            move_of taken self.new ≡ Gives (Step.Closes bracket) mode_.After
+            (suc (room_of self.old)) (rest_of (opens_of self.old)) self.old.content.items) }
         ensures kept { IfOk result (λ taken. KeepsText taken self.old self.new) }
         ensures stays { IfOk result (λ taken. Stays taken self.old self.new) }
         ensures err { OnErr result (self.new.text.items ≡ self.old.text.items) }
@@ -147,7 +159,9 @@ impl Machine {
 
     /// Begins an entry.
     fn entry(&mut self, bracket: Bracket, b: u8) -> Result<Taken, AllocError>
-        ensures moves { IfOk result (λ taken. move_of taken self.new ≡ machine.entry_move bracket (room_of self.old) (opens_of self.old) self.old.content.items b) }
+        ensures moves { IfOk result (λ taken.
+            move_of taken self.new ≡ machine.entry_move bracket (room_of self.old)
+            (opens_of self.old) self.old.content.items b) }
         ensures kept { IfOk result (λ taken. KeepsText taken self.old self.new) }
         ensures stays { IfOk result (λ taken. Stays taken self.old self.new) }
         ensures err { OnErr result (self.new.text.items ≡ self.old.text.items) }
@@ -160,7 +174,9 @@ impl Machine {
 
     /// Behind a bracket that opened.
     fn first(&mut self, b: u8) -> Result<Taken, AllocError>
-        ensures moves { IfOk result (λ taken. move_of taken self.new ≡ machine.first_move (room_of self.old) (opens_of self.old) self.old.content.items b) }
+        ensures moves { IfOk result (λ taken.
+            move_of taken self.new ≡ machine.first_move (room_of self.old)
+            (opens_of self.old) self.old.content.items b) }
         ensures kept { IfOk result (λ taken. KeepsText taken self.old self.new) }
         ensures stays { IfOk result (λ taken. Stays taken self.old self.new) }
         ensures err { OnErr result (self.new.text.items ≡ self.old.text.items) }
@@ -179,7 +195,9 @@ impl Machine {
 
     /// Behind a value.
     fn after(&mut self, b: u8) -> Result<Taken, AllocError>
-        ensures moves { IfOk result (λ taken. move_of taken self.new ≡ machine.after_move (room_of self.old) (opens_of self.old) self.old.content.items b) }
+        ensures moves { IfOk result (λ taken.
+            move_of taken self.new ≡ machine.after_move (room_of self.old)
+            (opens_of self.old) self.old.content.items b) }
         ensures kept { IfOk result (λ taken. KeepsText taken self.old self.new) }
         ensures stays { IfOk result (λ taken. Stays taken self.old self.new) }
         ensures err { OnErr result (self.new.text.items ≡ self.old.text.items) }
@@ -201,7 +219,10 @@ impl Machine {
 
     /// In a word.
     fn word(&mut self, letters: Letters, b: u8) -> Result<Taken, AllocError>
-        ensures moves { IfOk result (λ taken. move_of taken self.new ≡ cond (b == machine.letter_after letters) (machine.word_move letters (machine.letters_after letters) (room_of self.old) (opens_of self.old) self.old.content.items) Stuck) }
+        ensures moves { IfOk result (λ taken.
+            move_of taken self.new ≡ cond (b == machine.letter_after letters)
+            (machine.word_move letters (machine.letters_after letters) (room_of self.old)
+            (opens_of self.old) self.old.content.items) Stuck) }
         ensures kept { IfOk result (λ taken. KeepsText taken self.old self.new) }
         ensures stays { IfOk result (λ taken. Stays taken self.old self.new) }
         ensures err { OnErr result (self.new.text.items ≡ self.old.text.items) }
@@ -235,7 +256,10 @@ impl Machine {
 
     /// In a number.
     fn number(&mut self, part: Part, b: u8) -> Result<Taken, AllocError>
-        ensures moves { IfOk result (λ taken. move_of taken self.new ≡ machine.number_move part (rest.part_after part (bytes_.kind_of b)) (room_of self.old) (opens_of self.old) self.old.content.items b) }
+        ensures moves { IfOk result (λ taken.
+            move_of taken self.new ≡ machine.number_move part
+            (rest.part_after part (bytes_.kind_of b)) (room_of self.old)
+            (opens_of self.old) self.old.content.items b) }
         ensures kept { IfOk result (λ taken. KeepsText taken self.old self.new) }
         ensures stays { IfOk result (λ taken. Stays taken self.old self.new) }
         ensures err { OnErr result (self.new.text.items ≡ self.old.text.items) }
@@ -257,7 +281,9 @@ impl Machine {
     /// In a place where white space may stand.
     fn spaced(&mut self, b: u8) -> Result<Taken, AllocError>
         requires place { MaySpace self.old.mode }
-        ensures moves { IfOk result (λ taken. move_of taken self.new ≡ machine.byte_move self.old.mode (room_of self.old) (opens_of self.old) self.old.content.items b) }
+        ensures moves { IfOk result (λ taken.
+            move_of taken self.new ≡ machine.byte_move self.old.mode (room_of self.old)
+            (opens_of self.old) self.old.content.items b) }
         ensures kept { IfOk result (λ taken. KeepsText taken self.old self.new) }
         ensures stays { IfOk result (λ taken. Stays taken self.old self.new) }
         ensures err { OnErr result (self.new.text.items ≡ self.old.text.items) }
@@ -276,7 +302,10 @@ impl Machine {
 
     /// Behind the name of a member.
     fn colon(&mut self, b: u8) -> Result<Taken, AllocError>
-        ensures moves { IfOk result (λ taken. move_of taken self.new ≡ cond (b == 58) (Reads mode_.Value (room_of self.old) (opens_of self.old) self.old.content.items) Stuck) }
+        ensures moves { IfOk result (λ taken.
+            move_of taken self.new ≡ cond (b == 58)
+            (Reads mode_.Value (room_of self.old)
+            (opens_of self.old) self.old.content.items) Stuck) }
         ensures kept { IfOk result (λ taken. KeepsText taken self.old self.new) }
         ensures stays { IfOk result (λ taken. Stays taken self.old self.new) }
         ensures err { OnErr result (self.new.text.items ≡ self.old.text.items) }
@@ -290,7 +319,9 @@ impl Machine {
 
     /// Takes the next byte.
     pub fn take(&mut self, b: u8) -> Result<Taken, AllocError>
-        ensures moves { IfOk result (λ taken. move_of taken self.new ≡ move_by self.old.mode (room_of self.old) (opens_of self.old) self.old.content.items (Byte b)) }
+        ensures moves { IfOk result (λ taken.
+            move_of taken self.new ≡ move_by self.old.mode (room_of self.old)
+            (opens_of self.old) self.old.content.items (Byte b)) }
         ensures kept { IfOk result (λ taken. KeepsText taken self.old self.new) }
         ensures stays { IfOk result (λ taken. Stays taken self.old self.new) }
         ensures err { OnErr result (self.new.text.items ≡ self.old.text.items) }
@@ -305,7 +336,9 @@ impl Machine {
 
     /// Takes the end of the text.
     pub fn take_end(&mut self) -> Ending
-        ensures moves { end_move_of result self.new ≡ move_by self.old.mode (room_of self.old) (opens_of self.old) self.old.content.items End }
+        ensures moves { end_move_of result self.new ≡
+            move_by self.old.mode (room_of self.old)
+            (opens_of self.old) self.old.content.items End }
         ensures stays { EndStays result self.old self.new }
     {
         match self.mode {

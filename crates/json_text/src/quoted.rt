@@ -20,7 +20,9 @@ impl Machine {
 
     /// Ends a text between quotation marks.
     fn unquote(&mut self, role: Role, waiting: Option<u16>) -> Result<Taken, AllocError>
-        ensures moves { IfOk result (λ taken. move_of taken self.new ≡ machine.lead_move role waiting lead_.Quote (room_of self.old) (opens_of self.old) self.old.content.items 34) }
+        ensures moves { IfOk result (λ taken.
+            move_of taken self.new ≡ machine.lead_move role waiting lead_.Quote (room_of self.old)
+            (opens_of self.old) self.old.content.items 34) }
         ensures kept { IfOk result (λ taken. KeepsText taken self.old self.new) }
         ensures stays { IfOk result (λ taken. Stays taken self.old self.new) }
         ensures err { OnErr result (self.new.text.items ≡ self.old.text.items) }
@@ -40,7 +42,9 @@ impl Machine {
         place: Place,
         b: u8,
     ) -> Result<Taken, AllocError>
-        ensures moves { IfOk result (λ taken. move_of taken self.new ≡ Reads (mode_.Text role place) (room_of self.old) (opens_of self.old) ((self.old.content.items ++ chars.lone waiting) ++ (b ∷ []))) }
+        ensures moves { IfOk result (λ taken.
+            move_of taken self.new ≡ Reads (mode_.Text role place) (room_of self.old)
+            (opens_of self.old) ((self.old.content.items ++ chars.lone waiting) ++ (b ∷ []))) }
         ensures kept { IfOk result (λ taken. KeepsText taken self.old self.new) }
         ensures stays { IfOk result (λ taken. Stays taken self.old self.new) }
         ensures err { OnErr result (self.new.text.items ≡ self.old.text.items) }
@@ -53,7 +57,9 @@ impl Machine {
 
     /// Where a character may begin.
     fn lead(&mut self, role: Role, waiting: Option<u16>, b: u8) -> Result<Taken, AllocError>
-        ensures moves { IfOk result (λ taken. move_of taken self.new ≡ machine.lead_move role waiting (bytes_.lead_of b) (room_of self.old) (opens_of self.old) self.old.content.items b) }
+        ensures moves { IfOk result (λ taken.
+            move_of taken self.new ≡ machine.lead_move role waiting (bytes_.lead_of b)
+            (room_of self.old) (opens_of self.old) self.old.content.items b) }
         ensures kept { IfOk result (λ taken. KeepsText taken self.old self.new) }
         ensures stays { IfOk result (λ taken. Stays taken self.old self.new) }
         ensures err { OnErr result (self.new.text.items ≡ self.old.text.items) }
@@ -72,7 +78,9 @@ impl Machine {
 
     /// Behind a backslash.
     fn escape(&mut self, role: Role, waiting: Option<u16>, b: u8) -> Result<Taken, AllocError>
-        ensures moves { IfOk result (λ taken. move_of taken self.new ≡ machine.escape_move role waiting (bytes_.escape_of b) (room_of self.old) (opens_of self.old) self.old.content.items) }
+        ensures moves { IfOk result (λ taken.
+            move_of taken self.new ≡ machine.escape_move role waiting (bytes_.escape_of b)
+            (room_of self.old) (opens_of self.old) self.old.content.items) }
         ensures kept { IfOk result (λ taken. KeepsText taken self.old self.new) }
         ensures stays { IfOk result (λ taken. Stays taken self.old self.new) }
         ensures err { OnErr result (self.new.text.items ≡ self.old.text.items) }
@@ -89,7 +97,10 @@ impl Machine {
 
     /// Behind three digits of a code unit.
     fn last_hex(&mut self, role: Role, waiting: Option<u16>, unit: u16) -> Result<Taken, AllocError>
-        ensures moves { IfOk result (λ taken. move_of taken self.new ≡ Reads (mode_.Text role (place_.Chars (chars.waits unit))) (room_of self.old) (opens_of self.old) (self.old.content.items ++ chars.unit_bytes waiting unit)) }
+        ensures moves { IfOk result (λ taken.
+            move_of taken self.new ≡ Reads (mode_.Text role (place_.Chars (chars.waits unit)))
+            (room_of self.old) (opens_of self.old)
+            (self.old.content.items ++ chars.unit_bytes waiting unit)) }
         ensures kept { IfOk result (λ taken. KeepsText taken self.old self.new) }
         ensures stays { IfOk result (λ taken. Stays taken self.old self.new) }
         ensures err { OnErr result (self.new.text.items ≡ self.old.text.items) }
@@ -101,7 +112,10 @@ impl Machine {
 
     /// At a digit of a code unit.
     fn hex(&mut self, role: Role, place: Place, b: u8) -> Result<Taken, AllocError>
-        ensures moves { IfOk result (λ taken. move_of taken self.new ≡ cond (bytes_.is_hex b) (Reads (mode_.Text role place) (room_of self.old) (opens_of self.old) self.old.content.items) Stuck) }
+        ensures moves { IfOk result (λ taken.
+            move_of taken self.new ≡ cond (bytes_.is_hex b)
+            (Reads (mode_.Text role place) (room_of self.old)
+            (opens_of self.old) self.old.content.items) Stuck) }
         ensures kept { IfOk result (λ taken. KeepsText taken self.old self.new) }
         ensures stays { IfOk result (λ taken. Stays taken self.old self.new) }
         ensures err { OnErr result (self.new.text.items ≡ self.old.text.items) }
@@ -115,7 +129,9 @@ impl Machine {
 
     /// Inside a character of several bytes.
     fn tail(&mut self, role: Role, tail: Tail, b: u8) -> Result<Taken, AllocError>
-        ensures moves { IfOk result (λ taken. move_of taken self.new ≡ machine.text_move role (place_.Tail tail) (room_of self.old) (opens_of self.old) self.old.content.items b) }
+        ensures moves { IfOk result (λ taken.
+            move_of taken self.new ≡ machine.text_move role (place_.Tail tail) (room_of self.old)
+            (opens_of self.old) self.old.content.items b) }
         ensures kept { IfOk result (λ taken. KeepsText taken self.old self.new) }
         ensures stays { IfOk result (λ taken. Stays taken self.old self.new) }
         ensures err { OnErr result (self.new.text.items ≡ self.old.text.items) }
@@ -130,7 +146,9 @@ impl Machine {
 
     /// Between quotation marks.
     pub fn place(&mut self, role: Role, place: Place, b: u8) -> Result<Taken, AllocError>
-        ensures moves { IfOk result (λ taken. move_of taken self.new ≡ machine.text_move role place (room_of self.old) (opens_of self.old) self.old.content.items b) }
+        ensures moves { IfOk result (λ taken.
+            move_of taken self.new ≡ machine.text_move role place (room_of self.old)
+            (opens_of self.old) self.old.content.items b) }
         ensures kept { IfOk result (λ taken. KeepsText taken self.old self.new) }
         ensures stays { IfOk result (λ taken. Stays taken self.old self.new) }
         ensures err { OnErr result (self.new.text.items ≡ self.old.text.items) }

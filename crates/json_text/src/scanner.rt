@@ -57,7 +57,8 @@ impl Scanner {
 
     /// Says that no more comes.
     pub fn end(&mut self)
-        ensures value { (bytes : List ℕ) (ended : Bool) (steps : List Step) → Stands self.old bytes ended steps → Stands self.new bytes true steps }
+        ensures value { (bytes : List ℕ) (ended : Bool) (steps : List Step) →
+            Stands self.old bytes ended steps → Stands self.new bytes true steps }
         ensures fed { fed self.new ≡ fed self.old }
         ensures ended { has_ended self.new ≡ true }
         ensures works { has_failed self.new ≡ has_failed self.old }
@@ -93,7 +94,8 @@ impl Scanner {
     pub fn feed(&mut self, piece: &[u8]) -> Result<(), AllocError>
         requires open { has_ended self.old ≡ false }
         requires few { fed self.old + length piece.now < 2 ^ 63 }
-        ensures value { (bytes : List ℕ) (steps : List Step) → Stands self.old bytes false steps → OnOk result (Stands self.new (bytes ++ piece.now) false steps) }
+        ensures value { (bytes : List ℕ) (steps : List Step) → Stands self.old bytes false steps →
+            OnOk result (Stands self.new (bytes ++ piece.now) false steps) }
         ensures fed { OnOk result (fed self.new ≡ fed self.old + length piece.now) }
         ensures ended { has_ended self.new ≡ false }
         ensures content { scanner.content self.new ≡ scanner.content self.old }
@@ -122,14 +124,16 @@ impl Scanner {
     /// Reads the next byte, or gives a step or a verdict.
     fn step(&mut self) -> Result<Option<JsonStep>, AllocError>
         requires left { self.old.read < vec_len self.old.input }
-        ensures value { (bytes : List ℕ) (steps : List Step) → Holds self.old bytes steps → IfOk result (λ found. Found found self.new bytes steps) }
+        ensures value { (bytes : List ℕ) (steps : List Step) → Holds self.old bytes steps →
+            IfOk result (λ found. Found found self.new bytes steps) }
         ensures read { IfOk result (λ found. IsNone found → self.new.read ≡ self.old.read + 1) }
         ensures nearer { IfOk result (λ found. IsNearerBy found self.old self.new) }
         ensures input { self.new.input ≡ self.old.input }
         ensures before { self.new.before ≡ self.old.before }
         ensures ended { has_ended self.new ≡ has_ended self.old }
         ensures failed { has_failed self.new ≡ has_failed self.old }
-        ensures kept { IfOk result (λ found. KeepsFound found (scanner.content self.old) (scanner.content self.new)) }
+        ensures kept { IfOk result (λ found.
+            KeepsFound found (scanner.content self.old) (scanner.content self.new)) }
         ensures err { OnErr result (scanner.content self.new ≡ scanner.content self.old) }
     {
         let b = self.input[self.read];
@@ -150,7 +154,8 @@ impl Scanner {
     /// Where nothing is left, takes the end or wants more.
     fn last(&mut self) -> JsonStep
         requires none { self.old.read ≡ vec_len self.old.input }
-        ensures value { (bytes : List ℕ) (steps : List Step) → Holds self.old bytes steps → Told result self.new bytes steps }
+        ensures value { (bytes : List ℕ) (steps : List Step) → Holds self.old bytes steps →
+            Told result self.new bytes steps }
         ensures fed { fed self.new ≡ fed self.old }
         ensures ended { has_ended self.new ≡ has_ended self.old }
         ensures failed { has_failed self.new ≡ has_failed self.old }
@@ -169,12 +174,14 @@ impl Scanner {
 
     /// Reads on to the next step, or to the verdict.
     fn scan(&mut self) -> Result<JsonStep, AllocError>
-        ensures value { (bytes : List ℕ) (steps : List Step) → Holds self.old bytes steps → IfOk result (λ answer. Told answer self.new bytes steps) }
+        ensures value { (bytes : List ℕ) (steps : List Step) → Holds self.old bytes steps →
+            IfOk result (λ answer. Told answer self.new bytes steps) }
         ensures fed { fed self.new ≡ fed self.old }
         ensures ended { has_ended self.new ≡ has_ended self.old }
         ensures failed { has_failed self.new ≡ has_failed self.old }
         ensures nearer { IfOk result (λ answer. IsNearer answer self.old self.new) }
-        ensures kept { IfOk result (λ answer. KeepsContent answer (scanner.content self.old) (scanner.content self.new)) }
+        ensures kept { IfOk result (λ answer.
+            KeepsContent answer (scanner.content self.old) (scanner.content self.new)) }
         ensures err { OnErr result (scanner.content self.new ≡ scanner.content self.old) }
     {
         'symbols: while self.read < self.input.len() {
@@ -189,16 +196,21 @@ impl Scanner {
     /// call says so too.
     pub fn next(&mut self) -> Result<JsonStep, AllocError>
         // Either the next step, which is fixed, or the verdict behind all fixed steps.
-        ensures value { (bytes : List ℕ) (ended : Bool) (steps : List Step) → Stands self.old bytes ended steps → IfOk result (λ answer. Answers answer self.new bytes ended steps) }
+        ensures value { (bytes : List ℕ) (ended : Bool) (steps : List Step) →
+            Stands self.old bytes ended steps →
+            IfOk result (λ answer. Answers answer self.new bytes ended steps) }
         // Once all fixed steps were given, the verdict and nothing else, at this call and at each later one.
-        ensures exact { (bytes : List ℕ) (ended : Bool) (steps : List Step) (verdict : Verdict) → Stands self.old bytes ended steps → Reads bytes ended steps verdict → IfOk result (λ answer. IsVerdict answer verdict) }
+        ensures exact { (bytes : List ℕ) (ended : Bool) (steps : List Step) (verdict : Verdict) →
+            Stands self.old bytes ended steps → Reads bytes ended steps verdict →
+            IfOk result (λ answer. IsVerdict answer verdict) }
 
         // So the steps that come before more is fed are few, and a loop over them ends.
         ensures nearer { IfOk result (λ answer. IsNearer answer self.old self.new) }
 
         ensures fed { fed self.new ≡ fed self.old }
         ensures ended { has_ended self.new ≡ has_ended self.old }
-        ensures content { IfOk result (λ answer. KeepsContent answer (scanner.content self.old) (scanner.content self.new)) }
+        ensures content { IfOk result (λ answer.
+            KeepsContent answer (scanner.content self.old) (scanner.content self.new)) }
         ensures kept { OnErr result (scanner.content self.new ≡ scanner.content self.old) }
 
         ensures works { OnOk result (has_failed self.new ≡ false) }

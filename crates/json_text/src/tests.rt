@@ -26,9 +26,12 @@ fn take_steps(
     scanner: &mut Scanner,
     given: &mut Vec<(JsonStep, Vec<u8>)>,
 ) -> Result<JsonStep, AllocError>
-    ensures value { (bytes : List ℕ) (ended : Bool) → Stands scanner.old bytes ended (steps_seen (map (λ g. (g.0, g.1.items)) given.old.items))
-        → IfOk result (λ answer. Stands scanner.new bytes ended (steps_seen (map (λ g. (g.0, g.1.items)) given.new.items))
-        × (verdict : Verdict) × IsVerdict answer verdict × Reads bytes ended (steps_seen (map (λ g. (g.0, g.1.items)) given.new.items)) verdict) }
+    ensures value { (bytes : List ℕ) (ended : Bool) →
+        Stands scanner.old bytes ended (steps_seen (map (λ g. (g.0, g.1.items)) given.old.items)) →
+        IfOk result (λ answer.
+        Stands scanner.new bytes ended (steps_seen (map (λ g. (g.0, g.1.items)) given.new.items)) ×
+        (verdict : Verdict) × IsVerdict answer verdict ×
+        Reads bytes ended (steps_seen (map (λ g. (g.0, g.1.items)) given.new.items)) verdict) }
     ensures fed { fed scanner.new ≡ fed scanner.old }
     ensures ended { has_ended scanner.new ≡ has_ended scanner.old }
 {
@@ -50,7 +53,9 @@ fn collect(
 ) -> Result<(Vec<(JsonStep, Vec<u8>)>, JsonStep), AllocError>
     requires size { 0 < size }
     requires few { length text.now < 2 ^ 63 }
-    ensures exact { IfOk result (λ told. (verdict : Verdict) × IsVerdict told.1 verdict × Reads text.now true (steps_seen (map (λ g. (g.0, g.1.items)) told.0.items)) verdict) }
+    ensures exact { IfOk result (λ told.
+        (verdict : Verdict) × IsVerdict told.1 verdict ×
+        Reads text.now true (steps_seen (map (λ g. (g.0, g.1.items)) told.0.items)) verdict) }
 {
     let mut scanner = Scanner::new(alloc);
     let mut given = Vec::new(alloc);

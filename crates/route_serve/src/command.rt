@@ -35,7 +35,9 @@ pub enum Refusal {
 
 /// The command of the words; `Usage` with the place of the first word at fault.
 pub fn command_of(alloc: Global, words: &[String]) -> Result<GridCommand, Refusal>
-    ensures exact { MatchResult result (λ command. command_of (texts_of words.now) ≡ Ok command) (λ refusal. OnUsage refusal (λ word. command_of (texts_of words.now) ≡ Err word)) }
+    ensures exact { MatchResult result (λ command.
+        command_of (texts_of words.now) ≡ Ok command) (λ refusal.
+        OnUsage refusal (λ word. command_of (texts_of words.now) ≡ Err word)) }
 {
     let [name, rest @ ..] = words else {
         return Err(Refusal::Usage(0));
@@ -48,7 +50,9 @@ pub fn command_of(alloc: Global, words: &[String]) -> Result<GridCommand, Refusa
 
 /// The command of the words after `grid`.
 fn grid_command(alloc: Global, words: &[String]) -> Result<GridCommand, Refusal>
-    ensures exact { MatchResult result (λ command. grid_command (texts_of words.now) ≡ Ok command) (λ refusal. OnUsage refusal (λ word. grid_command (texts_of words.now) ≡ Err word)) }
+    ensures exact { MatchResult result (λ command.
+        grid_command (texts_of words.now) ≡ Ok command) (λ refusal.
+        OnUsage refusal (λ word. grid_command (texts_of words.now) ≡ Err word)) }
 {
     let entries = read_entries(alloc, words)?;
     match complete(entries.as_slice(), words.len() as u64 + 1) {
@@ -59,7 +63,9 @@ fn grid_command(alloc: Global, words: &[String]) -> Result<GridCommand, Refusal>
 
 /// The entries of the words after `grid`.
 fn read_entries(alloc: Global, words: &[String]) -> Result<Vec<Entry>, Refusal>
-    ensures exact { MatchResult result (λ entries. entries_after [] (texts_of words.now) ≡ Ok entries.items) (λ refusal. OnUsage refusal (λ word. entries_after [] (texts_of words.now) ≡ Err word)) }
+    ensures exact { MatchResult result (λ entries.
+        entries_after [] (texts_of words.now) ≡ Ok entries.items) (λ refusal.
+        OnUsage refusal (λ word. entries_after [] (texts_of words.now) ≡ Err word)) }
 {
     let mut entries = Vec::new(alloc);
     'words: for word in words {

@@ -21,7 +21,8 @@ pub fn grid_lines(
     requires width { grid.now.width ≡ w }
     requires height { grid.now.height ≡ h }
     requires lawful { IsPlan grid.now }
-    ensures value { IfOk result (λ text. text.items ≡ grid_lines grid.now walk.now.cells walk.now.cost) }
+    ensures value { IfOk result (λ text.
+        text.items ≡ grid_lines grid.now walk.now.cells walk.now.cost) }
 {
     let mut text = bytes_of(alloc, b"nodes ")?;
     append_number(&mut text, w as u64 * h as u64)?;

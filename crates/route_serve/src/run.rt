@@ -19,7 +19,8 @@ use std::alloc::{AllocError, Global};
 pub fn run<O: Sink>(alloc: Global, words: &[String], out: &mut O) -> Status
     ensures outcome { IsOutcome (texts_of words.now) result (O.held out.old) (O.held out.new) }
     ensures cause { HasCause result (O.faults out.old) (O.faults out.new) }
-    ensures complete { (command : TheCommand) → command_of (texts_of words.now) ≡ Ok command → (CountRose (O.faults out.old) (O.faults out.new) → ⊥) → IsComplete result }
+    ensures complete { (command : TheCommand) → command_of (texts_of words.now) ≡ Ok command →
+        (CountRose (O.faults out.old) (O.faults out.new) → ⊥) → IsComplete result }
 {
     match command_of(alloc, words) {
         Ok(command) => run_grid(alloc, &command, out),
@@ -50,7 +51,8 @@ fn run_grid<O: Sink>(alloc: Global, command: &GridCommand, out: &mut O) -> Statu
 /// The lines of a shortest walk, or `None` where there is no walk.
 fn grid_answer(alloc: Global, command: &GridCommand) -> Result<Option<Vec<u8>>, AllocError>
     requires fit { IsFit command.now }
-    ensures exact { IfOk result (λ answer. MatchOption answer (HasNoWalk command.now) (λ text. ShowsWalk command.now text.items)) }
+    ensures exact { IfOk result (λ answer.
+        MatchOption answer (HasNoWalk command.now) (λ text. ShowsWalk command.now text.items)) }
 {
     let w = command.w as u32;
     let h = command.h as u32;

@@ -18,8 +18,11 @@ pub(crate) fn choices_of<T: Copy + Drop>(
     label: Label<T>,
     below: u32,
 ) -> Result<Items<u32>, AllocError>
-    requires reads { (rules : Rules T) × Reads rules (books lists.now) × Follows rules (books lists.now) below label }
-    ensures run { IfOk result (λ choices. (rules : Rules T) → Reads rules (books lists.now) → Follows rules (books lists.now) below label → IsRun rules choices label.state label.cost) }
+    requires reads { (rules : Rules T) × Reads rules (books lists.now) ×
+        Follows rules (books lists.now) below label }
+    ensures run { IfOk result (λ choices.
+        (rules : Rules T) → Reads rules (books lists.now) →
+        Follows rules (books lists.now) below label → IsRun rules choices label.state label.cost) }
     ensures short { IfOk result (λ choices. length choices ≤ below + 1) }
 {
     let mut below = below;

@@ -18,7 +18,8 @@ const QUOTA: u32 = 1048576;
 pub fn least<S: Space>(alloc: Global, space: &S, limit: u64) -> Result<Outcome, AllocError>
     requires small { limit < 2 ^ 32 }
     ensures answers { IfOk result (λ outcome. Answers (S.rules space.now) limit outcome) }
-    ensures enough { (most : ℕ) → HasFewPerCell (S.rules space.now) most → (S.rules space.now).cells * most ≤ limit → IfOk result IsUnspent }
+    ensures enough { (most : ℕ) → HasFewPerCell (S.rules space.now) most →
+        (S.rules space.now).cells * most ≤ limit → IfOk result IsUnspent }
 {
     least_in_turns(alloc, space, limit, QUOTA)
 }
@@ -33,7 +34,8 @@ pub(crate) fn least_in_turns<S: Space>(
     requires small { limit < 2 ^ 32 }
     requires some { 1 ≤ quota }
     ensures answers { IfOk result (λ outcome. Answers (S.rules space.now) limit outcome) }
-    ensures enough { (most : ℕ) → HasFewPerCell (S.rules space.now) most → (S.rules space.now).cells * most ≤ limit → IfOk result IsUnspent }
+    ensures enough { (most : ℕ) → HasFewPerCell (S.rules space.now) most →
+        (S.rules space.now).cells * most ≤ limit → IfOk result IsUnspent }
 {
     let mut search: Search<S::State> = Search::new(alloc, limit);
     'search: loop {

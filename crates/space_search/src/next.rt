@@ -14,7 +14,8 @@ pub(crate) fn next<T: Copy + Drop, S: Space<State = T>>(
     lists: &Lists<T>,
 ) -> Option<(u32, Label<T>)>
     requires kept { IsSearch (S.rules _space.now) (books lists.now) }
-    ensures next { MatchOption result ((books lists.now).queue ≡ []) (λ found. IsNext (S.rules _space.now) (books lists.now) found.0 found.1) }
+    ensures next { MatchOption result ((books lists.now).queue ≡ []) (λ found.
+        IsNext (S.rules _space.now) (books lists.now) found.0 found.1) }
 {
     let entry = lists.queue.peek()?;
     let (_rank, number) = entry.0;

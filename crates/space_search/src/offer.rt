@@ -22,8 +22,10 @@ pub(crate) fn is_covered<T: Copy + Drop, S: Space<State = T>>(
     requires valid { IsTrue ((S.rules space.now).is_valid state.now) }
     requires small { cost < LOW_BOUND }
     requires kept { IsSearch (S.rules space.now) (books lists.now) }
-    ensures covered { IsTrue result → IsCovered (S.rules space.now) (books lists.now) state.now cost }
-    ensures uncovered { result ≡ false → IsUncovered (S.rules space.now) (books lists.now) state.now cost }
+    ensures covered { IsTrue result →
+        IsCovered (S.rules space.now) (books lists.now) state.now cost }
+    ensures uncovered { result ≡ false →
+        IsUncovered (S.rules space.now) (books lists.now) state.now cost }
 {
     let cell = space.cell(state);
     let mut cursor = lists.newest[cell as usize];
@@ -45,9 +47,11 @@ pub(crate) fn offer<T: Copy + Drop, S: Space<State = T>>(
     label: Label<T>,
 ) -> Result<(), AllocError>
     requires kept { IsSearch (S.rules space.now) (books lists.old) }
-    requires follows { let kept = books lists.old in Follows (S.rules space.now) kept (length kept.settled) label }
+    requires follows { let kept = books lists.old in
+        Follows (S.rules space.now) kept (length kept.settled) label }
     requires above { RanksAbove (S.rules space.now) (books lists.old) label.state label.cost }
-    ensures offers { OnOk result (Offers (S.rules space.now) (books lists.old) (books lists.new) label) }
+    ensures offers { OnOk result (Offers (S.rules space.now) (books lists.old)
+        (books lists.new) label) }
     ensures leaves { Leaves (S.rules space.now) (books lists.old) (books lists.new) }
     ensures settled { (books lists.new).settled ≡ (books lists.old).settled }
 {
@@ -68,10 +72,12 @@ fn enqueue<T: Copy + Drop, S: Space<State = T>>(
     rank: u128,
 ) -> Result<(), AllocError>
     requires kept { IsSearch (S.rules _space.now) (books lists.old) }
-    requires follows { let kept = books lists.old in Follows (S.rules _space.now) kept (length kept.settled) label }
+    requires follows { let kept = books lists.old in
+        Follows (S.rules _space.now) kept (length kept.settled) label }
     requires above { RanksAbove (S.rules _space.now) (books lists.old) label.state label.cost }
     requires ranked { HasRank (S.rules _space.now) label.state label.cost rank }
-    ensures offers { OnOk result (Offers (S.rules _space.now) (books lists.old) (books lists.new) label) }
+    ensures offers { OnOk result (Offers (S.rules _space.now) (books lists.old)
+        (books lists.new) label) }
     ensures leaves { Leaves (S.rules _space.now) (books lists.old) (books lists.new) }
     ensures settled { (books lists.new).settled ≡ (books lists.old).settled }
 {

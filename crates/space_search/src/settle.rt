@@ -39,7 +39,8 @@ pub(crate) fn settle_next<T: Copy + Drop, S: Space<State = T>>(
     requires no_goal { (S.rules space.now).is_goal label.state ≡ false }
     requires uncovered { IsUncovered (S.rules space.now) (books lists.old) label.state label.cost }
     requires room { length (books lists.old).settled + 1 < 2 ^ 32 }
-    ensures settles { OnOk result (Settles (S.rules space.now) (books lists.old) (books lists.new) number label) }
+    ensures settles { OnOk result (Settles (S.rules space.now) (books lists.old)
+        (books lists.new) number label) }
     ensures leaves { Leaves (S.rules space.now) (books lists.old) (books lists.new) }
     ensures most { length (books lists.new).settled ≤ length (books lists.old).settled + 1 }
 {
@@ -66,9 +67,11 @@ pub(crate) fn advance<T: Copy + Drop, S: Space<State = T>>(
 ) -> Result<(), AllocError>
     requires kept { IsSearch (S.rules space.now) (books lists.old) }
     requires starts { HasStarts (S.rules space.now) (books lists.old) (S.rules space.now).starts }
-    requires steps { HasStepsBelow (S.rules space.now) (books lists.old) (length (books lists.old).settled - 1) }
+    requires steps { HasStepsBelow (S.rules space.now) (books lists.old)
+        (length (books lists.old).settled - 1) }
     requires now { IsSettled (books lists.old) (length (books lists.old).settled - 1) label }
-    ensures advances { OnOk result (Advances (S.rules space.now) (books lists.old) (books lists.new)) }
+    ensures advances { OnOk result
+        (Advances (S.rules space.now) (books lists.old) (books lists.new)) }
     ensures leaves { Leaves (S.rules space.now) (books lists.old) (books lists.new) }
     ensures settled { (books lists.new).settled ≡ (books lists.old).settled }
 {

@@ -39,7 +39,8 @@ pub(crate) fn take<T: Copy + Drop, S: Space<State = T>>(
     requires closed { IsClosed (S.rules space.now) (books lists.old) }
     requires small { limit < 2 ^ 32 }
     requires within { length (books lists.old).settled ≤ limit }
-    ensures takes { IfOk result (λ taken. Takes (S.rules space.now) limit (books lists.old) (books lists.new) taken) }
+    ensures takes { IfOk result (λ taken.
+        Takes (S.rules space.now) limit (books lists.old) (books lists.new) taken) }
     ensures leaves { Leaves (S.rules space.now) (books lists.old) (books lists.new) }
     ensures fits { length (books lists.new).settled ≤ limit }
 {
@@ -74,7 +75,9 @@ pub(crate) fn take_many<T: Copy + Drop, S: Space<State = T>>(
     requires closed { IsClosed (S.rules space.now) (books lists.old) }
     requires small { limit < 2 ^ 32 }
     requires within { length (books lists.old).settled ≤ limit }
-    ensures turns { IfOk result (λ answer. Turns (S.rules space.now) limit quota (books lists.old) (books lists.new) answer.0 answer.1) }
+    ensures turns { IfOk result (λ answer.
+        Turns (S.rules space.now) limit quota (books lists.old)
+        (books lists.new) answer.0 answer.1) }
     ensures leaves { Leaves (S.rules space.now) (books lists.old) (books lists.new) }
     ensures fits { length (books lists.new).settled ≤ limit }
 {

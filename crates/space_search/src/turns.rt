@@ -47,14 +47,18 @@ impl<T: Copy + Drop> Search<T> {
         requires some { 1 ≤ quota }
 
         ensures of { IsSearchOf (S.rules space.now) self.new }
-        ensures ends { IfOk result (λ turn. Ends (S.rules space.now) self.new.limit (books self.new.lists) self.new.found turn) }
-        ensures counts { IfOk result (λ turn. Counts quota (books self.old.lists) (books self.new.lists) turn) }
+        ensures ends { IfOk result (λ turn.
+            Ends (S.rules space.now) self.new.limit (books self.new.lists) self.new.found turn) }
+        ensures counts { IfOk result (λ turn.
+            Counts quota (books self.old.lists) (books self.new.lists) turn) }
         ensures last { IfOk result (λ turn. EndsWith self.new.phase turn) }
-        ensures enough { (most : ℕ) → HasFewPerCell (S.rules space.now) most → (S.rules space.now).cells * most ≤ self.old.limit → IfOk result IsUnspentTurn }
+        ensures enough { (most : ℕ) → HasFewPerCell (S.rules space.now) most →
+            (S.rules space.now).cells * most ≤ self.old.limit → IfOk result IsUnspentTurn }
 
         ensures limit { self.new.limit ≡ self.old.limit }
         ensures kept { KeepsLabels (books self.old.lists) (books self.new.lists) }
-        ensures again { (turn : _) → self.old.phase ≡ Phase.Ended turn → (result ≡ Ok turn) × (self.new ≡ self.old) }
+        ensures again { (turn : _) → self.old.phase ≡ Phase.Ended turn → (result ≡ Ok turn) ×
+            (self.new ≡ self.old) }
         ensures failed { OnErr result (self.new.phase ≡ Phase.Failed) }
         ensures fails_again { self.old.phase ≡ Phase.Failed → result ≡ Err alloc_error }
         ensures same { self.old.phase ≡ Phase.Failed → self.new ≡ self.old }
@@ -123,7 +127,9 @@ impl<T: Copy + Drop> Search<T> {
     pub fn choices(&self, alloc: Global, label: u32) -> Result<Items<u32>, AllocError>
         requires of { (rules : Rules T) × IsSearchOf rules self.now }
         requires readable { IsReadable self.now label }
-        ensures run { IfOk result (λ choices. (rules : Rules T) (one : TheLabel T) → IsSearchOf rules self.now → LabelOf self.now label one → IsRun rules choices one.state one.cost) }
+        ensures run { IfOk result (λ choices.
+            (rules : Rules T) (one : TheLabel T) → IsSearchOf rules self.now →
+            LabelOf self.now label one → IsRun rules choices one.state one.cost) }
         ensures short { IfOk result (λ choices. length choices ≤ label + 1) }
     {
         choices_of(alloc, &self.lists, self.label_of(label), label)
