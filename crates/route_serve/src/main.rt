@@ -10,6 +10,9 @@ mod status;
 mod tests;
 mod text;
 
+ghost use Rattle.route_serve.specs.Lines.{number_of_status};
+ghost use Rattle.std.specs.Prelude.{◌≡◌, ◌⊎◌, ◌↔◌, IsSome, IfSome, codes, take};
+
 use crate::run::run;
 use crate::status::Status;
 use edge_io::StdSink;
@@ -54,7 +57,13 @@ fn words_of(rt: &HostRuntime) -> io::Result<Vec<String>> {
 }
 
 /// What a lone word asks to be told, instead of a command.
-fn told(word: &str) -> Option<&'static str> {
+fn told(word: &str) -> Option<&'static str>
+    ensures found { IsSome result ↔ ((word.now ≡ codes "--help") ⊎ (word.now ≡ codes "--version")) }
+    ensures version { word.now ≡ codes "--version" →
+        IfSome result (λ text. text.now ≡ codes "route_serve 0.1.0") }
+    ensures help { word.now ≡ codes "--help" →
+        IfSome result (λ text. take 18 text.now ≡ codes "usage: route_serve") }
+{
     match word {
         "--help" => Some(HELP),
         "--version" => Some(VERSION),
@@ -63,7 +72,9 @@ fn told(word: &str) -> Option<&'static str> {
 }
 
 /// Tells the line of a status that isn't success on standard error, and gives its number.
-fn ended(rt: &HostRuntime, status: Status) -> ExitCode {
+fn ended(rt: &HostRuntime, status: Status) -> ExitCode
+    ensures status { result.status ≡ number_of_status status }
+{
     let number = status.number();
     if number != 0
         && let Ok(line) = status.line(rt.alloc())
