@@ -2,3 +2,8 @@ pub mod Faults
 pub mod Sink
 pub mod Memory
 pub mod MemoryView
+pub mod Files
+pub mod MemoryFiles
+pub mod MemoryFilesView
+pub mod SystemFiles
+pub mod Whole
