@@ -1,0 +1,12 @@
+pub mod First
+pub mod Form
+pub mod Index
+pub mod Line
+pub mod Lines
+pub mod Noted
+pub mod Numbers
+pub mod Spelled
+pub mod Table
+pub mod Tag
+pub mod Version
+pub mod Words

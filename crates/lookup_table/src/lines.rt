@@ -1,0 +1,45 @@
+//! The lines of a table, one after the other.
+ghost use Rattle.std.specs.Prelude.{◌≡◌, ◌⊎◌, ◌<◌, ◌≤◌, ◌^◌, length, Ok, Err, IfOk, IfErr};
+ghost use Rattle.std.specs.List.{prefix_len};
+ghost use Rattle.lookup_table.specs.declared.error.LookupError.TheVariants.{NoMemory};
+ghost use Rattle.lookup_table.specs.Line.{is_in_line, lines_of};
+ghost use Rattle.lookup_table.specs.Table.{empty_draft, take_lines};
+
+use crate::draft::Draft;
+use crate::error::LookupError;
+use std::alloc::Global;
+
+/// What all lines of a text say.
+pub(crate) fn draft_of(alloc: Global, text: &[u8]) -> Result<Draft, LookupError>
+    requires fits { length text.now < 2 ^ 32 }
+    ensures value { IfOk result (λ d. take_lines 1 (lines_of text.now) empty_draft ≡ Ok d) }
+    ensures refused { IfErr result
+        (λ e. (e ≡ NoMemory) ⊎ (take_lines 1 (lines_of text.now) empty_draft ≡ Err e)) }
+{
+    let mut draft = Draft::new(alloc);
+    let mut rest = text;
+    let mut number = 1u32;
+    'lines: loop {
+        let (line, after) = rest.split_at(line_len(rest));
+        draft.take(alloc, number, line)?;
+        if after.len() <= 1 {
+            return Ok(draft);
+        }
+        let (_, next) = after.split_at(1);
+        rest = next;
+        number += 1;
+    }
+}
+
+/// How long the line at the front is.
+fn line_len(text: &[u8]) -> usize
+    ensures value { result ≡ prefix_len is_in_line text.now }
+    ensures fits { result ≤ length text.now }
+{
+    for (i, c) in text.iter().enumerate() {
+        if *c == b'\n' {
+            return i;
+        }
+    }
+    text.len()
+}
