@@ -1,3 +1,4 @@
 pub mod LookLemmas
+pub mod PartLemmas
 pub mod ReadLemmas
 pub mod TokenLemmas

@@ -12,6 +12,7 @@ mod parts;
 mod profile;
 mod read_expr;
 mod read_part;
+mod read_profile;
 mod source;
 mod take;
 
