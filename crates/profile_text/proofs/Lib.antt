@@ -1,3 +1,4 @@
+pub mod GrammarLemmas
 pub mod LookLemmas
 pub mod PartLemmas
 pub mod ReadLemmas

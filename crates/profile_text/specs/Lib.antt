@@ -1,4 +1,5 @@
 pub mod Expr
+pub mod Grammar
 pub mod Kind
 pub mod Look
 pub mod Part
