@@ -39,6 +39,7 @@ went_on (Err e) go b h = cc
 -- A token was taken: it is the first, and may stand there.
 pub record TakenFirst (expected : Expected) (p : Place) (t : Token) (q : Place) : Type 0 where
   pub tokens : p.tokens ≡ t ∷ q.tokens
+  pub last : q.last ≡ t.line
   pub fits : fault_of expected (kind_of t.text) ≡ None
 
 -- A token that is allowed may stand there, and is what was asked for.
@@ -53,7 +54,7 @@ taken_is_first expected last [] t q h = cc
 taken_is_first expected last (u ∷ us) t q h =
     let f = allowed_fits (fault_of expected (kind_of u.text)) u t (record { last = u.line; tokens = us }) q h in
     let P : Read Token → Type 0 = λ r. TakenFirst expected (record { last = last; tokens = u ∷ us }) r.value r.place in
-    subst P f.1 (record { tokens = refl; fits = f.0 })
+    subst P f.1 (record { tokens = refl; last = refl; fits = f.0 })
 
 -- A token that may stand where `then` is expected is the word.
 pub then_word : (k : Kind) → then_fault k ≡ None → k ≡ Then

@@ -3,4 +3,5 @@ pub mod GrammarLemmas
 pub mod LookLemmas
 pub mod PartLemmas
 pub mod ReadLemmas
+pub mod SectionLemmas
 pub mod TokenLemmas

@@ -20,13 +20,13 @@ pub record ReadsOn (text : List ℕ) (so_far : Sections) (current : Option Secti
   pub whole : profile_of text ≡ onto so_far (sections_within parts current spot.last (tokens_left text spot))
 
 -- No part is left where no token is.
-no_part : (parts : ℕ) (current : Option Section) (last : ℕ) → sections_within parts current last [] ≡ Ok no_sections
+pub no_part : (parts : ℕ) (current : Option Section) (last : ℕ) → sections_within parts current last [] ≡ Ok no_sections
 unfolding sections_within
 no_part zero current last = refl
 no_part (suc n) current last = refl
 
 -- A part begins with the first token.
-one_part : (parts : ℕ) (current : Option Section) (last : ℕ) (t : Token) (ts : List Token) → sections_within (suc parts) current last (t ∷ ts) ≡ from_front (kind_of t.text) current (λ section p. sections_within parts section p.last p.tokens) t (record { last = t.line; tokens = ts })
+pub one_part : (parts : ℕ) (current : Option Section) (last : ℕ) (t : Token) (ts : List Token) → sections_within (suc parts) current last (t ∷ ts) ≡ from_front (kind_of t.text) current (λ section p. sections_within parts section p.last p.tokens) t (record { last = t.line; tokens = ts })
 unfolding sections_within
 one_part parts current last t ts = refl
 
