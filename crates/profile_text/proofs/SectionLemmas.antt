@@ -1,7 +1,7 @@
 -- Sections: what is spelled so is read, and what is read is spelled so.
-use Rattle.std.proofs.Common.{◌≡◌, ℕ, zero, suc, ◌+◌, ◌<◌, ◌≤◌, Bool, true, false, cond, List, [], ◌∷◌, length, refl, sym, ◌∙◌, ap, subst, Option, Some, None, Result, Ok, Err, arith}
+use Rattle.std.proofs.Common.{◌≡◌, ℕ, zero, suc, ◌+◌, ◌<◌, ◌≤◌, Bool, true, false, cond, List, [], ◌∷◌, length, refl, sym, ◌∙◌, ap, subst, inl, inr, ◌⊎◌, Option, Some, None, Result, Ok, Err, arith}
 use Rattle.profile_text.specs.declared.error.TextError.{TextError}
-use Rattle.profile_text.specs.declared.error.TextError.TheVariants.{At}
+use Rattle.profile_text.specs.declared.error.TextError.TheVariants.{At, NoMemory}
 use Rattle.profile_text.specs.declared.expected.Expected.TheVariants.{Variable}
 use Rattle.profile_text.specs.declared.kind.Section.{Section}
 use Rattle.profile_text.specs.declared.kind.Kind.{Kind}
@@ -205,3 +205,13 @@ read_sections (suc n) current last (t ∷ ts) s enough h =
 pub read_profile : (text : List ℕ) (s : Sections) → profile_of text ≡ Ok s → Spells text s
 unfolding profile_of
 read_profile text s h = read_sections (length text) None 1 (tokens_from false 1 text) s (few_tokens false 1 text) h
+
+-- No other profile is spelled so.
+pub only_read : (text : List ℕ) (s p : Sections) → profile_of text ≡ Ok s → Spells text p → s ≡ p
+only_read text s p h spells = same_value s p (sym h ∙ spelled_profile text p spells)
+
+-- A text that spells a profile is refused for want of memory alone.
+pub only_memory : (text : List ℕ) (e : TextError) (p : Sections) → (e ≡ NoMemory) ⊎ (profile_of text ≡ Err e) → Spells text p → e ≡ NoMemory
+only_memory text e p (inl memory) spells = memory
+only_memory text e p (inr h) spells =
+    let clash : ◌≡◌ {A = Result Sections TextError} (Err e) (Ok p) = sym h ∙ spelled_profile text p spells in cc

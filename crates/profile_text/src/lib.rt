@@ -19,3 +19,6 @@ mod take;
 pub use error::{TextError, TextKind};
 pub use expr::{Expr, Op};
 pub use profile::{Assign, Profile};
+
+#[cfg(test)]
+mod tests;

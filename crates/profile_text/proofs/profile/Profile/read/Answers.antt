@@ -3,6 +3,7 @@ use Rattle.std.proofs.lemmas.Result.{err_from_is_err_and}
 use Rattle.profile_text.specs.Expr.{sections_in}
 use Rattle.profile_text.specs.Source.{token_of}
 use Rattle.profile_text.proofs.PartLemmas.{reads_first, reads_all, reads_part, reads_refusal}
+use Rattle.profile_text.proofs.SectionLemmas.{read_profile, only_read, only_memory}
 use Rattle.profile_text.proofs.profile.Profile.read.Goals as goal
 
 pub parts-init : goal.parts-init
@@ -29,3 +30,16 @@ parts-preserved c =
 
 pub returns-clause-exact : goal.returns-clause-exact
 returns-clause-exact c = reads_all c.args.text.now (sections_in c.parts.profile) c.parts.current c.parts.spot c.parts.invariant.0 c.in_default.ensures.value
+
+pub returns-clause-found : goal.returns-clause-found
+returns-clause-found c = read_profile c.args.text.now (sections_in c.parts.profile) (reads_all c.args.text.now (sections_in c.parts.profile) c.parts.current c.parts.spot c.parts.invariant.0 c.in_default.ensures.value)
+
+pub returns-clause-only : goal.returns-clause-only
+returns-clause-only c = λ p spells. only_read c.args.text.now (sections_in c.parts.profile) p (reads_all c.args.text.now (sections_in c.parts.profile) c.parts.current c.parts.spot c.parts.invariant.0 c.in_default.ensures.value) spells
+
+pub returns-in_err-taken-clause-only : goal.returns-in_err-taken-clause-only
+returns-in_err-taken-clause-only c = λ p spells.
+    let q = err_from_is_err_and c.from_residual.result c.from_residual.ensures.1 in
+    let gives = c.in-Some.ensures.value in
+    rw (q.1, q.2)
+    (only_memory c.args.text.now _ p (reads_refusal c.args.text.now (sections_in c.parts.profile) c.parts.current c.parts.spot c.in-Some.found.1 (token_of c.args.text.now c.in-Some.found.0) _ c.parts.invariant.0 gives.tokens gives.last gives.more gives.within.place c.in_err-taken.ensures.refused) spells)
