@@ -1,16 +1,12 @@
 -- What is spelled so is read, and what is read is spelled so.
-use Rattle.std.proofs.Common.{◌≡◌, ℕ, zero, suc, List, [], ◌∷◌, refl, sym, ◌∙◌, ap, subst, Option, Some, None, Result, Ok, Err, ℤ}
-use Rattle.profile_text.specs.declared.error.TextError.{TextError}
-use Rattle.profile_text.specs.declared.error.TextKind.{TextKind}
+use Rattle.std.proofs.Common.{◌≡◌, ℕ, suc, List, ◌∷◌, refl, ◌∙◌, ap, None}
 use Rattle.profile_text.specs.declared.expected.Expected.{Expected}
-use Rattle.profile_text.specs.declared.expected.Expected.TheVariants.{Expression, Closing, Variable, ThenWord, ElseWord}
-use Rattle.profile_text.specs.declared.expr.Op.{Op}
-use Rattle.profile_text.specs.declared.kind.Section.{Section}
+use Rattle.profile_text.specs.declared.expected.Expected.TheVariants.{Expression, Closing, ThenWord, ElseWord}
 use Rattle.profile_text.specs.declared.kind.Kind.{Kind}
-use Rattle.profile_text.specs.declared.kind.Kind.TheVariants.{Open, Close, Opens, Assign, Equals, Then, Else, True, False, Not, Switch, If, Two, Number, BadNumber, Look, Name, Other}
+use Rattle.profile_text.specs.declared.kind.Kind.TheVariants.{Open, Close, Then, Else, True, False, Not, Switch, If, Two, Number, Look, Name}
 use Rattle.profile_text.specs.Grammar.{SpellsExpr, a_number, a_true, a_false, a_name, a_look, a_not, a_two, a_switch, an_if, a_bracket}
 use Rattle.profile_text.specs.Kind.{kind_of}
-use Rattle.profile_text.specs.Read.{Read, read, and_then, first_of, allowed, fault_of, expression_fault, taken, not_of, two_of, switch_of, if_of, bracket_of, form_of, expr_of}
+use Rattle.profile_text.specs.Read.{read, and_then, allowed, fault_of, expression_fault, taken, form_of, expr_of}
 use Rattle.profile_text.specs.Token.{Token, Place}
 use Rattle.profile_text.specs.Tree.{Tree, Negation, Operation, Choice}
 

@@ -1,11 +1,9 @@
 -- Reading an expression, one step at a time.
-use Rattle.std.proofs.Common.{◌≡◌, ℕ, zero, suc, ◌+◌, ◌-◌, refl, sym, ◌∙◌, ap, Result, Ok, Err, arith}
-use Rattle.profile_text.specs.declared.error.TextError.{TextError}
+use Rattle.std.proofs.Common.{◌≡◌, ℕ, zero, suc, ◌-◌, refl, sym, ◌∙◌, ap, arith}
 use Rattle.profile_text.specs.declared.expected.Expected.TheVariants.{Expression}
 use Rattle.profile_text.specs.Kind.{kind_of}
-use Rattle.profile_text.specs.Read.{Read, read, and_then, taken, form_of, expr_of}
+use Rattle.profile_text.specs.Read.{read, and_then, taken, form_of, expr_of}
 use Rattle.profile_text.specs.Token.{Token, Place}
-use Rattle.profile_text.specs.Tree.{Tree}
 
 -- Where one more expression may be open, a token's form decides, and its operands have one less.
 pub expr_more : (room : ℕ) (p q : Place) (t : Token) → (room ≡ 0 → ⊥) → taken Expression p ≡ read t q → expr_of room p ≡ form_of (expr_of (room - 1)) t (kind_of t.text) q

@@ -1,15 +1,14 @@
 -- Sections: what is spelled so is read, and what is read is spelled so.
-use Rattle.std.proofs.Common.{◌≡◌, ℕ, zero, suc, ◌+◌, ◌<◌, ◌≤◌, Bool, true, false, cond, List, [], ◌∷◌, length, refl, sym, ◌∙◌, ap, subst, inl, inr, ◌⊎◌, Option, Some, None, Result, Ok, Err, arith}
+use Rattle.std.proofs.Common.{◌≡◌, ℕ, zero, suc, ◌<◌, ◌≤◌, Bool, true, false, cond, List, [], ◌∷◌, length, refl, sym, ◌∙◌, ap, subst, inl, inr, ◌⊎◌, Option, Some, None, Result, Ok, Err, arith}
 use Rattle.profile_text.specs.declared.error.TextError.{TextError}
-use Rattle.profile_text.specs.declared.error.TextError.TheVariants.{At, NoMemory}
+use Rattle.profile_text.specs.declared.error.TextError.TheVariants.{NoMemory}
 use Rattle.profile_text.specs.declared.expected.Expected.TheVariants.{Variable}
 use Rattle.profile_text.specs.declared.kind.Section.{Section}
 use Rattle.profile_text.specs.declared.kind.Kind.{Kind}
-use Rattle.profile_text.specs.declared.kind.Kind.TheVariants.{Open, Close, Opens, Assign, Equals, Then, Else, True, False, Not, Switch, If, Two, Number, BadNumber, Look, Name, Other}
+use Rattle.profile_text.specs.declared.kind.Kind.TheVariants.{Opens, Assign, Equals, Name}
 use Rattle.profile_text.specs.Grammar.{SpellsExpr, a_number, a_true, a_false, a_name, a_look, a_not, a_two, a_switch, an_if, a_bracket, SpellsSections, the_end, a_section, assigned, assigned_by, Spells}
 use Rattle.profile_text.specs.Kind.{kind_of}
-use Rattle.profile_text.specs.Read.{Read, read, and_then, fault_of, name_fault, taken, expr_of, most_depth, after_equals, past_equals, assignment_of, put_first, with_first, no_sections, from_front, sections_within, profile_of}
-use Rattle.profile_text.specs.Read as R
+use Rattle.profile_text.specs.Read.{Read, read, and_then, name_fault, taken, expr_of, most_depth, after_equals, past_equals, assignment_of, put_first, with_first, no_sections, from_front, sections_within, profile_of}
 use Rattle.profile_text.specs.Token.{Token, Place, is_ink, is_joined, prepend, comment_after, line_after, tokens_from}
 use Rattle.profile_text.specs.Tree.{Tree, Assignment, Sections}
 use Rattle.profile_text.proofs.FoundLemmas.{went_on, taken_is_first, read_is_spelled, same_value}

@@ -1,5 +1,5 @@
 -- The trees that the code's expressions and profiles stand for.
-use Rattle.std.specs.Prelude.{List, map}
+use Rattle.std.specs.Prelude.{map}
 use Rattle.profile_text.specs.declared.expr.Expr.{Expr}
 use Rattle.profile_text.specs.declared.expr.Expr.TheVariants.{Number, Var, Look, Not', Two', Pick'}
 use Rattle.profile_text.specs.declared.profile.Assign.{Assign}

@@ -1,5 +1,5 @@
 -- What reading one section line or assignment does to the profile that was read so far.
-use Rattle.std.specs.Prelude.{◌≡◌, ◌++◌, ℕ, List, Option, Some, None, Result, Ok, Err}
+use Rattle.std.specs.Prelude.{◌≡◌, ◌++◌, Option, Some, Result, Ok, Err}
 use Rattle.profile_text.specs.declared.error.TextError.{TextError}
 use Rattle.profile_text.specs.declared.kind.Section.{Section}
 use Rattle.profile_text.specs.Read.{from_front}

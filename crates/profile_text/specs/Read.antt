@@ -1,5 +1,5 @@
 -- What is read at a place of the tokens: the first token that can't stand where it is refuses.
-use Rattle.std.specs.Prelude.{ℕ, zero, suc, List, [], ◌∷◌, length, Bool, true, false, if◌then◌else◌, Option, Some, None, Result, Ok, Err, ℤ, pos}
+use Rattle.std.specs.Prelude.{ℕ, zero, suc, List, [], ◌∷◌, length, Bool, true, false, Option, Some, None, Result, Ok, Err, pos}
 use Rattle.profile_text.specs.declared.error.TextError.{TextError}
 use Rattle.profile_text.specs.declared.error.TextError.TheVariants.{At}
 use Rattle.profile_text.specs.declared.error.TextKind.{TextKind}

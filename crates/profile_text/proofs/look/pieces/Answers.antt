@@ -1,4 +1,4 @@
-use Rattle.std.proofs.Common.{◌≡◌, ◌∙◌, ◌++◌, ◌∷◌, [], List, ℕ, sym, ap, append_assoc, arith}
+use Rattle.std.proofs.Common.{◌≡◌, ◌∙◌, ◌++◌, ◌∷◌, [], sym, ap, append_assoc}
 use Rattle.profile_text.specs.Look.{pieces}
 use Rattle.profile_text.proofs.LookLemmas.{last_piece, next_piece}
 use Rattle.profile_text.proofs.look.pieces.Goals as goal
