@@ -1,0 +1,50 @@
+//! Why a text is no profile.
+ghost use Rattle.std.specs.Prelude.{◌≡◌};
+ghost use Rattle.profile_text.specs.declared.error.TextError.TheVariants.{NoMemory};
+
+use std::alloc::{AllocError, AllocFailed};
+use thiserror::Error;
+
+/// Why a token can't stand where it is.
+#[derive(Clone, Copy, Debug, PartialEq, Eq)]
+pub enum TextKind {
+    /// The text ends inside an assignment.
+    End,
+    /// None of the others.
+    Token,
+    /// A `)` where an expression or an assignment is expected, or another token where `)` is.
+    Bracket,
+    /// A token that begins with `---` and opens no section, or an assignment before any section.
+    Section,
+    /// A token that must be a number and isn't one, or is too large.
+    Number,
+    /// An expression at depth 1,001.
+    Deep,
+}
+
+/// Why a text is no profile.
+#[derive(Debug, Drop, Error)]
+pub enum TextError {
+    /// The first token that can't stand where it is, by its line from 1; at the text's end, the last token.
+    #[error("profile line {line}")]
+    At { line: u32, kind: TextKind },
+    /// Memory ran out.
+    #[error("out of memory")]
+    NoMemory,
+}
+
+impl From<AllocError> for TextError {
+    ghost from_gives = { λ _ e. e ≡ NoMemory };
+
+    fn from(_error: AllocError) -> TextError {
+        TextError::NoMemory
+    }
+}
+
+impl<T: Drop> From<AllocFailed<T>> for TextError {
+    ghost from_gives = { λ _ e. e ≡ NoMemory };
+
+    fn from(_error: AllocFailed<T>) -> TextError {
+        TextError::NoMemory
+    }
+}

@@ -1,0 +1,24 @@
+//! The routing profile: its text is read into a tree, and the tree has values for the tag numbers of a way or a node.
+#![tactic(auto)]
+
+mod bytes;
+mod error;
+mod expected;
+mod expr;
+mod kind;
+mod look;
+mod next;
+mod parts;
+mod profile;
+mod read_expr;
+mod read_part;
+mod read_profile;
+mod source;
+mod take;
+
+pub use error::{TextError, TextKind};
+pub use expr::{Expr, Op};
+pub use profile::{Assign, Profile};
+
+#[cfg(test)]
+mod tests;
