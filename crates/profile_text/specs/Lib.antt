@@ -2,6 +2,8 @@ pub mod Expr
 pub mod Grammar
 pub mod Kind
 pub mod Look
+pub mod Meaning
+pub mod Names
 pub mod Part
 pub mod Read
 pub mod Source

@@ -10,7 +10,7 @@ use fixed_num::Num;
 
 /// A section of a profile.
 #[derive(Clone, Copy)]
-pub(crate) enum Section {
+pub enum Section {
     Global,
     Way,
     Node,

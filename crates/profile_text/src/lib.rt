@@ -18,6 +18,7 @@ mod take;
 
 pub use error::{TextError, TextKind};
 pub use expr::{Expr, Op};
+pub use kind::Section;
 pub use profile::{Assign, Profile};
 
 #[cfg(test)]

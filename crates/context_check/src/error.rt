@@ -1,0 +1,40 @@
+//! Why a profile may not be used.
+ghost use Rattle.std.specs.Prelude.{◌≡◌};
+ghost use Rattle.context_check.specs.declared.error.CheckError.TheVariants.{NoMemory};
+
+use std::alloc::{AllocError, AllocFailed};
+
+/// Why a profile may not be used, in the order in which it is tried. Lines are counted from 1.
+#[derive(Clone, Copy, Debug, PartialEq, Eq)]
+pub enum CheckError {
+    /// The override at this place, from 0, has a name that the global section doesn't assign.
+    UnknownOverride { place: u32 },
+    /// The way section assigns a name of the global section, or the global section has a look.
+    WrongSection { line: u32 },
+    /// A variable isn't assigned earlier in its section, nor in the global one.
+    UnknownName { line: u32 },
+    /// A tag isn't in the section's part of the tag table.
+    UnknownTag { line: u32 },
+    /// A value isn't listed for its tag.
+    UnknownValue { line: u32 },
+    /// The way section doesn't assign `costfactor`.
+    NoCostfactor,
+    /// Memory ran out.
+    NoMemory,
+}
+
+impl From<AllocError> for CheckError {
+    ghost from_gives = { λ _ e. e ≡ NoMemory };
+
+    fn from(_error: AllocError) -> CheckError {
+        CheckError::NoMemory
+    }
+}
+
+impl<T: Drop> From<AllocFailed<T>> for CheckError {
+    ghost from_gives = { λ _ e. e ≡ NoMemory };
+
+    fn from(_error: AllocFailed<T>) -> CheckError {
+        CheckError::NoMemory
+    }
+}

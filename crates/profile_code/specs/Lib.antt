@@ -1,0 +1,4 @@
+pub mod Correct
+pub mod Emit
+pub mod Flat
+pub mod Machine
