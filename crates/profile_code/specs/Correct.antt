@@ -3,7 +3,7 @@ use Rattle.std.specs.Prelude.{◌≡◌, ℕ, List, ℤ, map, length, Result, Ok
 use Rattle.context_check.specs.Checked.{Subject}
 use Rattle.lookup_table.specs.First.{rows_of}
 use Rattle.lookup_table.specs.declared.part.Part.{Part}
-use Rattle.profile_code.specs.Flat.{Flat, global_run, own_run}
+use Rattle.profile_code.specs.Flat.{Flat, flat_of, global_run, own_run}
 use Rattle.profile_code.specs.Machine.{Ended, Finished, Faulted, Stuck}
 use Rattle.profile_text.specs.Meaning.{Fault, Unknown, Faulty, SectionFault, global_values, own_values}
 
@@ -26,3 +26,8 @@ pub record Behaves (subject : Subject) (flat : Flat) : Type 0 where
       global_values subject.overrides subject.sections ≡ Ok values →
       own_run flat part numbers (map (λ v. v.1) values)
       ≡ end_of (own_values subject.table subject.sections part numbers values)
+
+-- The code is that of a checked profile, and does what the profile says.
+pub record IsCodeOf (subject : Subject) (flat : Flat) : Type 0 where
+  pub is : flat ≡ flat_of subject
+  pub behaves : Behaves subject flat
