@@ -1,6 +1,8 @@
+pub mod AssignedLemmas
 pub mod FoundLemmas
 pub mod GrammarLemmas
 pub mod LookLemmas
+pub mod NameLemmas
 pub mod PartLemmas
 pub mod ReadLemmas
 pub mod SectionLemmas

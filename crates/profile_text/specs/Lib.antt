@@ -4,8 +4,10 @@ pub mod Kind
 pub mod Look
 pub mod Meaning
 pub mod Names
+pub mod Numbered
 pub mod Part
 pub mod Read
+pub mod Scope
 pub mod Source
 pub mod Token
 pub mod Tree
