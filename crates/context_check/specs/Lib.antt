@@ -2,4 +2,5 @@ pub mod Checked
 pub mod Effects
 pub mod Overrides
 pub mod Refusal
+pub mod Rows
 pub mod Subject

@@ -9,9 +9,9 @@ use profile_text::Profile;
 
 /// A profile with the tag table and the overrides that it was checked with, in which nothing is at fault.
 pub struct Checked<'a> {
-    profile: &'a Profile,
-    table: &'a Table,
-    overrides: &'a Overrides,
+    pub(crate) profile: &'a Profile,
+    pub(crate) table: &'a Table,
+    pub(crate) overrides: &'a Overrides,
     ghost accepted: { refusal_of table.now (sections_in profile.now) overrides.now ≡ None },
 }
 
