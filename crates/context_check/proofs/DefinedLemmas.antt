@@ -1,18 +1,18 @@
 -- What isn't at fault never meets what isn't known.
-use Rattle.std.proofs.Common.{◌≡◌, ◌∙◌, ℕ, suc, Bool, true, false, ◌||◌, cond, List, [], ◌∷◌, ◌++◌, map, ℤ, Option, Some, None, Result, Ok, Err, is_some, refl, sym, ap, subst}
+use Rattle.std.proofs.Common.{◌≡◌, ◌∙◌, ℕ, suc, Bool, true, false, ◌||◌, cond, List, [], ◌∷◌, ◌++◌, map, ℤ, Option, Some, None, Result, Ok, Err, is_some, refl, sym, ap, subst, append_assoc, append-nil}
 use Rattle.std.proofs.lemmas.List.{map-append}
 use Rattle.std.specs.Option.{option_map}
 use Rattle.std.specs.Map.{lookup}
 use Rattle.std.specs.Str.{bytes_eq}
 use Rattle.context_check.specs.Checked.{IsArithmetic, IsDefined}
-use Rattle.context_check.specs.Refusal.{value_refusal, tag_refusal, look_refusal, variable_refusal, expr_refusal, name_refusal, section_refusal, names_in, override_refusal, sections_refusal, refusal_of}
+use Rattle.context_check.specs.Refusal.{value_refusal, tag_refusal, look_refusal, variable_refusal, expr_refusal, name_refusal, section_refusal, names_in, costfactor_refusal, sections_refusal}
 use Rattle.context_check.specs.declared.error.CheckError.{CheckError}
 use Rattle.context_check.specs.declared.error.CheckError.TheVariants.{UnknownName}
 use Rattle.fixed_num.specs.declared.arithmetic.Arith.{Arith}
 use Rattle.lookup_table.specs.First.{TagTable, rows_of}
 use Rattle.lookup_table.specs.Tag.{TagRow, place_of}
 use Rattle.lookup_table.specs.declared.part.Part.{Part}
-use Rattle.lookup_table.specs.declared.part.Part.TheVariants as part
+use Rattle.lookup_table.specs.declared.part.Part.TheVariants as parts
 use Rattle.profile_text.specs.Meaning.{Fault, and_then, known, truth, is_true, decided_by, result_of, arithmetic, operation, value_of, look_numbers, row_at, look_at, is_found, looks_in, no_looks, later_value, last_value, or_else, variable_in, SectionFault, with_value, values_from, replaced_by, overridden, global_values, own_values, assignments_of}
 use Rattle.profile_text.specs.Names.{later_place, last_place, is_among}
 use Rattle.profile_text.specs.Tree.{Tree, Constant, Variable, TagLook, Negation, Operation, Choice, Assignment, Sections}
@@ -114,6 +114,7 @@ AreKnown-rows rows numbers tag values line none = by_place (place_of rows tag) n
     by_numbers : (place : ℕ) (found : Option (List ℕ)) → value_refusal found line ≡ None → is_some (option_map (is_found numbers) (option_map (λ (ns : List ℕ). (place, ns)) found)) ≡ true
     by_numbers place None none = cc
     by_numbers place (Some ns) none = refl
+
     by_place : (place : Option ℕ) → tag_refusal rows place values line ≡ None → is_some (option_map (is_found numbers) (look_at rows place values)) ≡ true
     by_place None none = cc
     by_place (Some place) none = by_numbers place (look_numbers (row_at rows place) values) none
@@ -205,12 +206,56 @@ overridden_refusal overrides rows global own (a ∷ rest) none =
 
 -- ---- The whole
 
+-- The values of a section, or others where there are none.
+value_in : List (List ℕ × ℤ) → Result (List (List ℕ × ℤ)) SectionFault → List (List ℕ × ℤ)
+value_in other (Ok values) = values
+value_in other (Err fault) = other
+
 -- The values of a section are those of its names.
-pub values_names : (looks : List ℕ → List (List ℕ) → Option Bool) (global own values : List (List ℕ × ℤ)) (assigned : List Assignment) → values_from looks global own assigned ≡ Ok values → names_of values ≡ names_of own ++ names_in assigned
-values_names looks global own values [] is = ?
-values_names looks global own values (a ∷ rest) is = ?
+values_names : (looks : List ℕ → List (List ℕ) → Option Bool) (global own values : List (List ℕ × ℤ)) (assigned : List Assignment) → values_from looks global own assigned ≡ Ok values → names_of values ≡ names_of own ++ names_in assigned
+unfolding value_in
+values_names looks global own values [] is = sym (ap (λ r. names_of (value_in own r)) is) ∙ sym (append-nil (names_of own))
+values_names looks global own values (a ∷ rest) is =
+    go_on (value_of (variable_in global own) looks a.value) (λ n. values_names looks global (own ++ (a.name, n) ∷ []) values rest) is
+  where
+    go_on : (r : Result ℤ Fault) → ((n : ℤ) → values_from looks global (own ++ (a.name, n) ∷ []) rest ≡ Ok values → names_of values ≡ names_of (own ++ (a.name, n) ∷ []) ++ names_in rest) → and_then (with_value own a.name r) (λ values. values_from looks global values rest) ≡ Ok values → names_of values ≡ names_of own ++ a.name ∷ names_in rest
+    go_on (Ok n) next is =
+        next n is
+        ∙ ap (λ names. names ++ names_in rest) (names_more own a.name n)
+        ∙ append_assoc (names_of own) (a.name ∷ []) (names_in rest)
+    go_on (Err fault) next is = cc
+
+-- The section of a part has its values after those of the global one, but for a fault of arithmetic.
+AreThere-part : (table : TagTable) (s : Sections) → sections_refusal table s ≡ None → (part : Part) (numbers : List ℕ) (values : List (List ℕ × ℤ)) → names_of values ≡ names_in s.global → AreThere (values_from (looks_in (rows_of table part) numbers) values [] (assignments_of s part))
+AreThere-part table s none part numbers values are = by_part part
+  where
+    after : (or_else (section_refusal Way (Some table.way) (names_in s.global) [] s.way) (or_else (section_refusal Node (Some table.node) (names_in s.global) [] s.node) (costfactor_refusal s.way))) ≡ None
+    after = (or_else-none (section_refusal Global None [] [] s.global) _ none).1
+
+    by_part : (part : Part) → AreThere (values_from (looks_in (rows_of table part) numbers) values [] (assignments_of s part))
+    by_part parts.Way =
+        let way = or_else-none (section_refusal Way (Some table.way) (names_in s.global) [] s.way) _ after in
+        AreThere-section Way (Some table.way) (looks_in table.way numbers) values [] s.way (AreKnown-rows table.way numbers)
+        (ap (λ names. section_refusal Way (Some table.way) names [] s.way) are ∙ way.0)
+    by_part parts.Node =
+        let way = or_else-none (section_refusal Way (Some table.way) (names_in s.global) [] s.way) _ after in
+        let node = or_else-none (section_refusal Node (Some table.node) (names_in s.global) [] s.node) _ way.1 in
+        AreThere-section Node (Some table.node) (looks_in table.node numbers) values [] s.node (AreKnown-rows table.node numbers)
+        (ap (λ names. section_refusal Node (Some table.node) names [] s.node) are ∙ node.0)
 
 -- A profile that isn't at fault has all its values under all overrides and for all tag numbers, but for faults of arithmetic.
 pub IsDefined-accepted : (table : TagTable) (s : Sections) → sections_refusal table s ≡ None → IsDefined table s
 unfolding global_values own_values
-IsDefined-accepted table s none = ?
+IsDefined-accepted table s none =
+    let first = or_else-none (section_refusal Global None [] [] s.global) _ none in
+    record {
+      global = λ overrides fault known is.
+          fault_found (values_from no_looks [] [] (map (overridden overrides) s.global)) fault
+          (AreThere-section Global None no_looks [] [] (map (overridden overrides) s.global) AreKnown-global (overridden_refusal overrides None [] [] s.global first.0))
+          is;
+      own = λ overrides part numbers values fault known there is.
+          let names : names_of values ≡ names_in s.global =
+          values_names no_looks [] [] values (map (overridden overrides) s.global) there ∙ overridden_names overrides s.global in
+          fault_found (values_from (looks_in (rows_of table part) numbers) values [] (assignments_of s part)) fault
+          (AreThere-part table s none part numbers values names) is;
+    }

@@ -6,9 +6,8 @@ ghost use Rattle.profile_text.specs.Expr.{tree_of};
 
 use crate::error::CheckError;
 use crate::look::look_fault;
-use crate::names::Names;
 use lookup_table::Table;
-use profile_text::{Expr, Section};
+use profile_text::{Expr, Names, Section};
 
 /// The first thing at fault in an expression of a section, from the left, after these names of the global section and
 /// its own.

@@ -5,7 +5,6 @@ mod checked;
 mod error;
 mod expr;
 mod look;
-mod names;
 mod overrides;
 mod profile;
 mod section;

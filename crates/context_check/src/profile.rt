@@ -8,12 +8,11 @@ ghost use Rattle.profile_text.specs.Expr.{assignment_in, sections_in};
 
 use crate::checked::Checked;
 use crate::error::CheckError;
-use crate::names::Names;
 use crate::overrides::Overrides;
 use crate::section::section_names;
 use fixed_num::Num;
 use lookup_table::{Name, Table};
-use profile_text::{Assign, Profile, Section};
+use profile_text::{Assign, Names, Profile, Section};
 use std::alloc::{AllocError, Global};
 
 /// The profile with the tag table and the overrides, or the first thing at fault: in the overrides, then in the global
@@ -86,7 +85,13 @@ fn check_sections(
         ⊎ (sections_refusal table.now (sections_in profile.now) ≡ Some e)) }
 {
     let none = Names::new(alloc);
-    let _ = section_names(alloc, table, Section::Global, &none, profile.global.as_slice())?;
+    let _ = section_names(
+        alloc,
+        table,
+        Section::Global,
+        &none,
+        profile.global.as_slice(),
+    )?;
     let way = section_names(alloc, table, Section::Way, global, profile.way.as_slice())?;
     let _ = section_names(alloc, table, Section::Node, global, profile.node.as_slice())?;
     match way.last(b"costfactor".as_slice()) {

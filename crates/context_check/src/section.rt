@@ -10,9 +10,8 @@ ghost use Rattle.profile_text.specs.Names.{is_among};
 
 use crate::error::CheckError;
 use crate::expr::expr_fault;
-use crate::names::Names;
 use lookup_table::Table;
-use profile_text::{Assign, Section};
+use profile_text::{Assign, Names, Section};
 use std::alloc::Global;
 
 /// The names that a section assigns, where nothing is at fault in it after these names of the global section.
@@ -28,7 +27,7 @@ pub(crate) fn section_names(
         IfOk result (λ _. section_refusal section (rows_in table.now section) global.now [] assigned ≡ None) }
     ensures refused { let assigned = map assignment_in assignments.now in
         IfErr result (λ e. (e ≡ NoMemory)
-            ⊎ (section_refusal section (rows_in table.now section) global.now [] assigned ≡ Some e)) }
+        ⊎ (section_refusal section (rows_in table.now section) global.now [] assigned ≡ Some e)) }
 {
     let mut own = Names::new(alloc);
     'assignments: for assign in assignments {
