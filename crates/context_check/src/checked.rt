@@ -8,6 +8,7 @@ use lookup_table::Table;
 use profile_text::Profile;
 
 /// A profile with the tag table and the overrides that it was checked with, in which nothing is at fault.
+#[derive(Clone, Copy)]
 pub struct Checked<'a> {
     pub(crate) profile: &'a Profile,
     pub(crate) table: &'a Table,

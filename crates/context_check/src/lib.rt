@@ -13,3 +13,6 @@ pub use checked::Checked;
 pub use error::CheckError;
 pub use overrides::Overrides;
 pub use profile::check;
+
+#[cfg(test)]
+mod tests;
