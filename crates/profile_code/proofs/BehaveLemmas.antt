@@ -1,0 +1,1 @@
+-- The code of a checked profile does what the profile says, and is never stuck.
