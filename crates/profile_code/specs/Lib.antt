@@ -2,3 +2,5 @@ pub mod Correct
 pub mod Emit
 pub mod Flat
 pub mod Machine
+pub mod Operands
+pub mod Scope

@@ -2,7 +2,14 @@
 #![tactic(auto)]
 
 mod code;
+mod compiler;
+mod emit;
 mod instr;
+mod look;
+mod operands;
+mod scope;
+mod section;
 
 pub use code::Code;
+pub use compiler::compile;
 pub use profile_text::Section;
