@@ -18,5 +18,5 @@ kind_word Deep = codes "deep"
 
 -- The line, without an end of line.
 abbrev pub text_line : TextError → List ℕ
-text_line (At line kind) = codes "profile line " ++ decimal line ++ codes ": " ++ kind_word kind
+text_line (At line kind) = codes "profile line " ++ (decimal line ++ (codes ": " ++ kind_word kind))
 text_line NoMemory = codes "out of memory"
