@@ -36,3 +36,7 @@ pub use vars::Vars;
 
 #[cfg(test)]
 mod tests;
+#[cfg(test)]
+mod tests_data;
+#[cfg(test)]
+mod tests_values;
