@@ -61,7 +61,8 @@ fn known_number(line: u32, value: Option<Num>) -> Result<Num, Fault>
 
 /// The number of what a look is known to come to.
 fn known_truth(line: u32, value: Option<bool>) -> Result<Num, Fault>
-    ensures value { outcome_in result ≡ and_then (known line value) (λ found. Ok (meaning.truth found)) }
+    ensures value { outcome_in result
+        ≡ and_then (known line value) (λ found. Ok (meaning.truth found)) }
 {
     match value {
         Some(found) => Ok(truth(found)),

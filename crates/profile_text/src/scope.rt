@@ -58,8 +58,8 @@ impl<'a> Tagged<'a> {
     /// Whether a number is that of one of these values of the tag at a place, if each of them is known.
     fn has_one_of(&self, place: u32, number: u16, values: &[Name]) -> Option<bool>
         requires fits { place < length self.now.rows }
-        ensures value { result
-            ≡ option_map (is_listed number) (value_numbers (row_at self.now.rows place) values.now) }
+        ensures value { let row = row_at self.now.rows place in
+            result ≡ option_map (is_listed number) (value_numbers row values.now) }
     {
         let mut found = false;
         'values: for value in values {
@@ -105,7 +105,8 @@ impl<'s, 't> Scope<'s, 't> {
 
     /// What a look comes to, if its tag and each value are known.
     pub(crate) fn look(&self, tag: &[u8], values: &[Name]) -> Option<bool>
-        ensures value { result ≡ looks_among self.now.has_looks self.now.tagged.now tag.now values.now }
+        ensures value { result
+            ≡ looks_among self.now.has_looks self.now.tagged.now tag.now values.now }
     {
         if self.has_looks {
             self.tagged.look(tag, values)

@@ -26,25 +26,37 @@ fn each_refusal_is_at_its_line(rt: HostRuntime) {
         ("---context:way\nassign", "profile line 2: end"),
         ("---context:way\nassign x\n\n", "profile line 2: end"),
         ("---context:way\nassign x\n= # 1\n\n", "profile line 3: end"),
-        ("---context:way\nassign x add 1\n\n# 2\n", "profile line 2: end"),
+        (
+            "---context:way\nassign x add 1\n\n# 2\n",
+            "profile line 2: end",
+        ),
         ("---context:way assign\n)", "profile line 2: token"),
         ("---context:way assign then 1", "profile line 1: token"),
         ("---context:way assign x 1\n2", "profile line 2: token"),
         ("---context:way assign x if 1\n2", "profile line 2: token"),
-        ("---context:way assign x if 1 then 2\n3", "profile line 2: token"),
+        (
+            "---context:way assign x if 1 then 2\n3",
+            "profile line 2: token",
+        ),
         ("---context:way assign x\na=b||c", "profile line 2: token"),
         ("---context:way assign x\n=b", "profile line 2: token"),
         ("\n)", "profile line 2: bracket"),
         ("---context:way\n)", "profile line 2: bracket"),
         ("---context:way assign x\n)", "profile line 2: bracket"),
-        ("---context:way assign x ( 1 # )\n2", "profile line 2: bracket"),
+        (
+            "---context:way assign x ( 1 # )\n2",
+            "profile line 2: bracket",
+        ),
         ("---context:way assign x (1\n5x", "profile line 2: bracket"),
         ("assign x 1", "profile line 1: section"),
         ("---foo", "profile line 1: section"),
         ("\n---context:ways", "profile line 2: section"),
         ("---context:way assign\n5x 1", "profile line 2: number"),
         ("---context:way assign x\n-", "profile line 2: number"),
-        ("---context:way assign x\n1000000001", "profile line 2: number"),
+        (
+            "---context:way assign x\n1000000001",
+            "profile line 2: number",
+        ),
         ("---context:way\n5x", "profile line 2: number"),
     ];
     for (text, want) in rows {
@@ -179,7 +191,12 @@ fn a_whole_profile_is_read_as_its_trees(rt: HostRuntime) -> Result<(), Fail> {
         "5 uphillcost 0",
         "6 stick_to_cycleroutes 0",
     ];
-    compare(&rt, rt.alloc(), profile.global.as_slice(), global.as_slice())?;
+    compare(
+        &rt,
+        rt.alloc(),
+        profile.global.as_slice(),
+        global.as_slice(),
+    )?;
     let way = [
         "8 any_cycleroute route_bicycle_rcn=yes",
         "9 nodeaccessgranted any_cycleroute",

@@ -54,7 +54,10 @@ fn outcome(
     let profile = Profile::read(alloc, text).expect(rt, "a profile");
     let table = Table::read(alloc, LOOK.as_bytes()).expect(rt, "a table");
     assert!(rt; numbers.len() == table.tags(part) as usize);
-    written(alloc, &section_values(alloc, &profile, &table, part, numbers))
+    written(
+        alloc,
+        &section_values(alloc, &profile, &table, part, numbers),
+    )
 }
 
 #[test]
@@ -110,7 +113,13 @@ fn each_operator_has_its_values(rt: HostRuntime) -> Result<(), Fail> {
     for (expr, want) in rows {
         let text = format!(in rt.alloc(); "---context:way assign x {expr}")?;
         let numbers = [0u16, 3, 0, 0, 1, 0];
-        let got = outcome(&rt, rt.alloc(), text.as_bytes(), Part::Way, numbers.as_slice())?;
+        let got = outcome(
+            &rt,
+            rt.alloc(),
+            text.as_bytes(),
+            Part::Way,
+            numbers.as_slice(),
+        )?;
         assert_eq!(rt; got.as_slice(), want.as_bytes(), "{expr}");
     }
     Ok(())
@@ -136,12 +145,21 @@ fn the_first_fault_that_is_met_is_told(rt: HostRuntime) -> Result<(), Fail> {
         ("barrier=gate", "unbound at 1"),
         ("highway=path", "unbound at 1"),
         ("highway=primary|path", "unbound at 1"),
-        ("1 assign y x assign z divide y 0 assign w v", "zero divides in z"),
+        (
+            "1 assign y x assign z divide y 0 assign w v",
+            "zero divides in z",
+        ),
     ];
     for (expr, want) in rows {
         let text = format!(in rt.alloc(); "---context:way assign x {expr}")?;
         let numbers = [0u16, 3, 0, 0, 1, 0];
-        let got = outcome(&rt, rt.alloc(), text.as_bytes(), Part::Way, numbers.as_slice())?;
+        let got = outcome(
+            &rt,
+            rt.alloc(),
+            text.as_bytes(),
+            Part::Way,
+            numbers.as_slice(),
+        )?;
         assert_eq!(rt; got.as_slice(), want.as_bytes(), "{expr}");
     }
     Ok(())
@@ -160,21 +178,58 @@ switch and barrier=gate not nodeaccessgranted=yes 1000000 0";
         (gate, [0, 2, 0], "initialcost=1000000000000"),
         (gate, [2, 2, 0], "initialcost=0"),
         (gate, [0, 3, 0], "initialcost=0"),
-        ("---context:node assign n divide 1 barrier=", [0, 2, 0], "zero divides in n"),
+        (
+            "---context:node assign n divide 1 barrier=",
+            [0, 2, 0],
+            "zero divides in n",
+        ),
         ("---context:way assign w divide 1 0", [0, 2, 0], ""),
-        ("---context:way assign w 1\n---context:node assign n w", [0, 2, 0], "unbound at 2"),
-        ("---context:global assign g divide 1 0 ---context:node assign n m", [0, 2, 0], "zero divides in g"),
-        ("---context:node assign n m\n---context:global assign g barrier=", [0, 2, 0], "unbound at 2"),
+        (
+            "---context:way assign w 1\n---context:node assign n w",
+            [0, 2, 0],
+            "unbound at 2",
+        ),
+        (
+            "---context:global assign g divide 1 0 ---context:node assign n m",
+            [0, 2, 0],
+            "zero divides in g",
+        ),
+        (
+            "---context:node assign n m\n---context:global assign g barrier=",
+            [0, 2, 0],
+            "unbound at 2",
+        ),
     ];
     for (text, numbers, want) in rows {
-        let got = outcome(&rt, rt.alloc(), text.as_bytes(), Part::Node, numbers.as_slice())?;
+        let got = outcome(
+            &rt,
+            rt.alloc(),
+            text.as_bytes(),
+            Part::Node,
+            numbers.as_slice(),
+        )?;
         assert_eq!(rt; got.as_slice(), want.as_bytes(), "{text}");
     }
     let numbers = [0u16, 0, 0, 0, 0, 0];
-    let way = outcome(&rt, rt.alloc(), twice.as_bytes(), Part::Way, numbers.as_slice())?;
-    assert_eq!(rt; way.as_slice(), b"a=3000000 b=8000000 c=3000000 d=8000000".as_slice());
+    let way = outcome(
+        &rt,
+        rt.alloc(),
+        twice.as_bytes(),
+        Part::Way,
+        numbers.as_slice(),
+    )?;
+    assert_eq!(rt;
+        way.as_slice(),
+        b"a=3000000 b=8000000 c=3000000 d=8000000".as_slice()
+    );
     let deep = deep_text(rt.alloc(), 999, "1")?;
-    let value = outcome(&rt, rt.alloc(), deep.as_slice(), Part::Way, numbers.as_slice())?;
+    let value = outcome(
+        &rt,
+        rt.alloc(),
+        deep.as_slice(),
+        Part::Way,
+        numbers.as_slice(),
+    )?;
     assert_eq!(rt; value.as_slice(), b"x=0".as_slice());
     Ok(())
 }
@@ -192,7 +247,13 @@ fn ways_have_their_cost_factors(rt: HostRuntime) -> Result<(), Fail> {
         ([0, 5, 2, 1, 0, 0], " costfactor=1000000"),
     ];
     for (numbers, want) in rows {
-        let got = outcome(&rt, rt.alloc(), TREK.as_bytes(), Part::Way, numbers.as_slice())?;
+        let got = outcome(
+            &rt,
+            rt.alloc(),
+            TREK.as_bytes(),
+            Part::Way,
+            numbers.as_slice(),
+        )?;
         assert!(rt; got.as_slice().ends_with(want.as_bytes()), "{want}");
     }
     Ok(())

@@ -29,11 +29,11 @@ pub fn section_values<'a>(
     numbers: &'a [u16],
 ) -> Result<Vars, ValueError>
     requires fits { length numbers.now ≡ length (rows_of table.now part) }
-    ensures value { IfOk result
-        (λ vars. AreVarsOf (both_values table.now (sections_in profile.now) part numbers.now) vars) }
+    ensures value { let values = both_values table.now (sections_in profile.now) part numbers.now in
+        IfOk result (λ vars. AreVarsOf values vars) }
 
-    ensures refused { IfErr result
-        (λ e. (e ≡ NoMemory) ⊎ IsRefusedBy (both_values table.now (sections_in profile.now) part numbers.now) e) }
+    ensures refused { let values = both_values table.now (sections_in profile.now) part numbers.now in
+        IfErr result (λ e. (e ≡ NoMemory) ⊎ IsRefusedBy values e) }
 {
     let tagged = Tagged::new(table, part, numbers);
     let none = Assigned::new(alloc);
@@ -91,7 +91,7 @@ fn number_of(alloc: Global, assign: &Assign, scope: &Scope) -> Result<Num, Value
     ensures refused { let variables = variable_in scope.now.global.now scope.now.own.now in
         let looks = looks_among scope.now.has_looks scope.now.tagged.now in
         IfErr result (λ e. (e ≡ NoMemory)
-            ⊎ IsSaidOf assign.now.name (value_of variables looks (tree_of assign.now.value)) e) }
+        ⊎ IsSaidOf assign.now.name (value_of variables looks (tree_of assign.now.value)) e) }
 {
     match evaluate(&assign.value, scope) {
         Ok(number) => Ok(number),

@@ -1,8 +1,8 @@
-use Rattle.std.proofs.Common.{◌≡◌, ◌∙◌, [], sym, ap, subst, map, List, ℕ, ℤ, Result, Ok}
+use Rattle.std.proofs.Common.{◌∙◌, sym, ap, subst, map, List, ℕ, ℤ, Result}
 use Rattle.std.proofs.lemmas.Result.{err_from_is_err_and}
 use Rattle.profile_text.specs.declared.profile.Assign.{Assign}
 use Rattle.profile_text.specs.Expr.{assignment_in, sections_in}
-use Rattle.profile_text.specs.Meaning.{SectionFault, looks_in, no_looks, values_from}
+use Rattle.profile_text.specs.Meaning.{SectionFault}
 use Rattle.profile_text.specs.Vars.{IsRefusedBy, both_values}
 use Rattle.profile_text.proofs.SectionValueLemmas.{global_is, own_is, refused_global, refused_own, refused_or, vars_both}
 use Rattle.profile_text.proofs.values.section_values.Goals as goal
