@@ -1,4 +1,5 @@
 pub mod AssignedLemmas
+pub mod CallerLemmas
 pub mod FoundLemmas
 pub mod GrammarLemmas
 pub mod LookLemmas
@@ -6,4 +7,6 @@ pub mod NameLemmas
 pub mod PartLemmas
 pub mod ReadLemmas
 pub mod SectionLemmas
+pub mod SectionValueLemmas
 pub mod TokenLemmas
+pub mod VarLemmas

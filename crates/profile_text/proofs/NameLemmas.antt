@@ -35,9 +35,9 @@ last_place-lt (n ∷ ns) name = by_rest (bytes_eq name n) (last_place ns name) (
     by_rest false None below = tt
 
 -- A look-up after a key was put in finds its value by its name, and for every other name what it found.
-lookup-insert : (name : List ℕ) (entries : List (Vec ℕ Global × ℕ)) (key : Vec ℕ Global) (place : ℕ) → lookup (λ k. bytes_eq name k.items) (insert_entry (λ x y. bytes_eq x.items y.items) entries key place) ≡ cond (bytes_eq name key.items) (Some place) (lookup (λ k. bytes_eq name k.items) entries)
-lookup-insert name [] key place = refl
-lookup-insert name (e ∷ es) key place = by_test (bytes_eq key.items e.0.items) refl (lookup-insert name es key place)
+pub lookup-insert : {X : Type 0} (name : List ℕ) (entries : List (Vec ℕ Global × X)) (key : Vec ℕ Global) (place : X) → lookup (λ k. bytes_eq name k.items) (insert_entry (λ x y. bytes_eq x.items y.items) entries key place) ≡ cond (bytes_eq name key.items) (Some place) (lookup (λ k. bytes_eq name k.items) entries)
+lookup-insert {X} name [] key place = refl
+lookup-insert {X} name (e ∷ es) key place = by_test (bytes_eq key.items e.0.items) refl (lookup-insert name es key place)
   where
     by_test : (b : Bool) → bytes_eq key.items e.0.items ≡ b → lookup (λ k. bytes_eq name k.items) (insert_entry (λ x y. bytes_eq x.items y.items) es key place) ≡ cond (bytes_eq name key.items) (Some place) (lookup (λ k. bytes_eq name k.items) es) → lookup (λ k. bytes_eq name k.items) (cond b ((e.0, place) ∷ es) (e ∷ insert_entry (λ x y. bytes_eq x.items y.items) es key place)) ≡ cond (bytes_eq name key.items) (Some place) (cond (bytes_eq name e.0.items) (Some e.1) (lookup (λ k. bytes_eq name k.items) es))
     by_test true test rest = let same : bytes_eq name key.items ≡ bytes_eq name e.0.items = bytes_eq-same name key.items e.0.items test in ap (λ b. cond b (Some place) (lookup (λ k. bytes_eq name k.items) es)) (sym same) ∙ by_key (bytes_eq name key.items) (bytes_eq name e.0.items) same

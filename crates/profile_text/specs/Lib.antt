@@ -1,6 +1,7 @@
 pub mod Expr
 pub mod Grammar
 pub mod Kind
+pub mod Lines
 pub mod Look
 pub mod Meaning
 pub mod Names
@@ -11,3 +12,4 @@ pub mod Scope
 pub mod Source
 pub mod Token
 pub mod Tree
+pub mod Vars

@@ -1,5 +1,5 @@
 -- What the code's evaluation gives, as the meaning of expressions has it.
-use Rattle.std.specs.Prelude.{ℕ, Bool, List, ℤ, Option, Some, None, Result, Ok, Err}
+use Rattle.std.specs.Prelude.{ℕ, Bool, true, false, List, ℤ, Option, Result, Ok, Err}
 use Rattle.lookup_table.specs.Tag.{TagRow}
 use Rattle.profile_text.specs.Meaning.{Fault, Unknown, Faulty, looks_in, no_looks}
 use Rattle.profile_text.specs.declared.fault.Fault as Code
@@ -9,10 +9,10 @@ pub record TagNumbers : Type 0 where
   pub rows : List TagRow
   pub numbers : List ℕ
 
--- What looks come to among them; the global section has none.
-abbrev pub looks_among : Option TagNumbers → List ℕ → List (List ℕ) → Option Bool
-looks_among None tag values = no_looks tag values
-looks_among (Some t) tag values = looks_in t.rows t.numbers tag values
+-- What looks come to among them; the global section has no looks.
+abbrev pub looks_among : Bool → TagNumbers → List ℕ → List (List ℕ) → Option Bool
+looks_among true t = looks_in t.rows t.numbers
+looks_among false t = no_looks
 
 -- The fault that the code's one stands for.
 abbrev pub fault_in : Code.Fault → Fault

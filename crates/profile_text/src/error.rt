@@ -2,7 +2,7 @@
 ghost use Rattle.std.specs.Prelude.{◌≡◌};
 ghost use Rattle.profile_text.specs.declared.error.TextError.TheVariants.{NoMemory};
 
-use std::alloc::{AllocError, AllocFailed};
+use std::alloc::{AllocError, AllocFailed, Global};
 use thiserror::Error;
 
 /// Why a token can't stand where it is.
@@ -46,5 +46,42 @@ impl<T: Drop> From<AllocFailed<T>> for TextError {
 
     fn from(_error: AllocFailed<T>) -> TextError {
         TextError::NoMemory
+    }
+}
+
+impl TextKind {
+    ghost use Rattle.profile_text.specs.Lines.{kind_word};
+
+    /// The word for it.
+    fn word(self) -> &'static str
+        ensures value { result.now ≡ kind_word self }
+    {
+        match self {
+            TextKind::End => "end",
+            TextKind::Token => "token",
+            TextKind::Bracket => "bracket",
+            TextKind::Section => "section",
+            TextKind::Number => "number",
+            TextKind::Deep => "deep",
+        }
+    }
+}
+
+impl TextError {
+    ghost use Rattle.std.specs.Prelude.{IfOk};
+    ghost use Rattle.std.specs.String.{string_bytes};
+    ghost use Rattle.profile_text.specs.Lines.{text_line};
+
+    /// The line that is printed of it, without an end of line.
+    pub fn line(&self, alloc: Global) -> Result<String, AllocError>
+        ensures value { IfOk result (λ s. string_bytes s ≡ text_line self.now) }
+    {
+        match self {
+            TextError::At { line, kind } => {
+                let word = kind.word();
+                format!(in alloc; "profile line {line}: {word}")
+            }
+            TextError::NoMemory => String::from_str(alloc, "out of memory"),
+        }
     }
 }

@@ -1,5 +1,5 @@
 //! The value of an expression.
-ghost use Rattle.std.specs.Prelude.{◌≡◌, Ok, option_copied};
+ghost use Rattle.std.specs.Prelude.{◌≡◌, Ok};
 ghost use Rattle.profile_text.specs.Expr.{tree_of};
 ghost use Rattle.profile_text.specs.Meaning.{and_then, arithmetic, known, value_of, variable_in};
 ghost use Rattle.profile_text.specs.Meaning as meaning;
@@ -15,7 +15,7 @@ use fixed_num::Num;
 /// The value of an expression, or the first fault that its evaluation meets.
 pub(crate) fn evaluate(expr: &Expr, scope: &Scope) -> Result<Num, Fault>
     ensures value { let variables = variable_in scope.now.global.now scope.now.own.now in
-        let looks = looks_among (option_copied scope.now.tags) in
+        let looks = looks_among scope.now.has_looks scope.now.tagged.now in
         outcome_in result ≡ value_of variables looks (tree_of expr.now) }
 {
     match expr {
@@ -61,7 +61,8 @@ fn known_number(line: u32, value: Option<Num>) -> Result<Num, Fault>
 
 /// The number of what a look is known to come to.
 fn known_truth(line: u32, value: Option<bool>) -> Result<Num, Fault>
-    ensures value { outcome_in result ≡ and_then (known line value) (λ found. Ok (meaning.truth found)) }
+    ensures value { outcome_in result
+        ≡ and_then (known line value) (λ found. Ok (meaning.truth found)) }
 {
     match value {
         Some(found) => Ok(truth(found)),

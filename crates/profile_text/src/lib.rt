@@ -21,12 +21,22 @@ mod read_profile;
 mod scope;
 mod source;
 mod take;
+mod value_error;
+mod values;
+mod vars;
 
 pub use error::{TextError, TextKind};
 pub use expr::{Expr, Op};
 pub use kind::Section;
 pub use names::Names;
 pub use profile::{Assign, Profile};
+pub use value_error::ValueError;
+pub use values::section_values;
+pub use vars::Vars;
 
 #[cfg(test)]
 mod tests;
+#[cfg(test)]
+mod tests_data;
+#[cfg(test)]
+mod tests_values;

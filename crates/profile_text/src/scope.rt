@@ -1,5 +1,5 @@
 //! What the variables and looks of an expression come to.
-ghost use Rattle.std.specs.Prelude.{◌≡◌, ◌<◌, length, option_copied, option_map};
+ghost use Rattle.std.specs.Prelude.{◌≡◌, ◌<◌, length, option_map};
 ghost use Rattle.lookup_table.specs.First.{rows_of};
 ghost use Rattle.profile_text.specs.Meaning.{is_listed, look_number, looks_in, row_at, value_numbers, variable_in};
 ghost use Rattle.profile_text.specs.Scope.{looks_among};
@@ -58,8 +58,8 @@ impl<'a> Tagged<'a> {
     /// Whether a number is that of one of these values of the tag at a place, if each of them is known.
     fn has_one_of(&self, place: u32, number: u16, values: &[Name]) -> Option<bool>
         requires fits { place < length self.now.rows }
-        ensures value { result
-            ≡ option_map (is_listed number) (value_numbers (row_at self.now.rows place) values.now) }
+        ensures value { let row = row_at self.now.rows place in
+            result ≡ option_map (is_listed number) (value_numbers row values.now) }
     {
         let mut found = false;
         'values: for value in values {
@@ -82,15 +82,17 @@ impl<'a> Tagged<'a> {
     }
 }
 
-/// What an expression may name: the values of the global section, those of its own section so far, and the tags of its part.
+/// What an expression may name: the values of the global section, those of its own section so far, and, unless that is
+/// the global one, the tags of a part.
 #[derive(Drop)]
-pub(crate) struct Scope<'a> {
-    pub(crate) global: &'a Assigned,
-    pub(crate) own: &'a Assigned,
-    pub(crate) tags: Option<&'a Tagged<'a>>,
+pub(crate) struct Scope<'s, 't> {
+    pub(crate) global: &'s Assigned,
+    pub(crate) own: &'s Assigned,
+    pub(crate) tagged: &'s Tagged<'t>,
+    pub(crate) has_looks: bool,
 }
 
-impl<'a> Scope<'a> {
+impl<'s, 't> Scope<'s, 't> {
     /// The value of a variable, if it is known.
     pub(crate) fn variable(&self, name: &[u8]) -> Option<Num>
         ensures value { result ≡ variable_in self.now.global.now self.now.own.now name.now }
@@ -103,11 +105,13 @@ impl<'a> Scope<'a> {
 
     /// What a look comes to, if its tag and each value are known.
     pub(crate) fn look(&self, tag: &[u8], values: &[Name]) -> Option<bool>
-        ensures value { result ≡ looks_among (option_copied self.now.tags) tag.now values.now }
+        ensures value { result
+            ≡ looks_among self.now.has_looks self.now.tagged.now tag.now values.now }
     {
-        match self.tags {
-            None => None,
-            Some(tags) => tags.look(tag, values),
+        if self.has_looks {
+            self.tagged.look(tag, values)
+        } else {
+            None
         }
     }
 }

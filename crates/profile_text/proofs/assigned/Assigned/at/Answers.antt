@@ -1,4 +1,4 @@
-use Rattle.std.proofs.Common.{◌≡◌, ◌∙◌, ap, sym, length, arith, slice_get, Some, subst, List, ℕ, ℤ}
+use Rattle.std.proofs.Common.{◌≡◌, ◌∙◌, ap, sym, length, arith, slice_get, List, ℕ, ℤ}
 use Rattle.profile_text.proofs.AssignedLemmas.{zip-length, zip-get}
 use Rattle.profile_text.proofs.assigned.Assigned.at.Goals as goal
 

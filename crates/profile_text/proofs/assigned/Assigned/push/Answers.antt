@@ -1,4 +1,4 @@
-use Rattle.std.proofs.Common.{◌≡◌, ◌∙◌, ◌++◌, ◌∷◌, [], ap, sym, List, ℕ, ℤ}
+use Rattle.std.proofs.Common.{◌∙◌, ◌++◌, ◌∷◌, [], ap, List, ℕ, ℤ}
 use Rattle.std.specs.List.{zip}
 use Rattle.profile_text.proofs.AssignedLemmas.{zip-push}
 use Rattle.profile_text.proofs.assigned.Assigned.push.Goals as goal
