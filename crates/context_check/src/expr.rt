@@ -9,8 +9,8 @@ use crate::look::look_fault;
 use lookup_table::Table;
 use profile_text::{Expr, Names, Section};
 
-/// The first thing at fault in an expression of a section, from the left, after these names of the global section and
-/// its own.
+/// The first thing at fault in an expression of a section, from the left, after these names of the global
+/// section and its own.
 pub(crate) fn expr_fault(
     table: &Table,
     section: Section,

@@ -53,7 +53,8 @@ fn tag_fault(
 /// Whether the tag at a place lists each of these values.
 fn are_listed(table: &Table, part: Part, place: u32, values: &[Name]) -> bool
     requires fits { place < length (rows_of table.now part) }
-    ensures value { result ≡ is_some (look_numbers (row_at (rows_of table.now part) place) values.now) }
+    ensures value { let row = row_at (rows_of table.now part) place in
+        result ≡ is_some (look_numbers row values.now) }
 {
     'values: for value in values {
         if !is_listed(table, part, place, value.as_slice()) {
@@ -66,7 +67,8 @@ fn are_listed(table: &Table, part: Part, place: u32, values: &[Name]) -> bool
 /// Whether the tag at a place lists a value; `unknown` may always stand.
 fn is_listed(table: &Table, part: Part, place: u32, value: &[u8]) -> bool
     requires fits { place < length (rows_of table.now part) }
-    ensures value { result ≡ is_some (look_number (row_at (rows_of table.now part) place) value.now) }
+    ensures value { let row = row_at (rows_of table.now part) place in
+        result ≡ is_some (look_number row value.now) }
 {
     value == b"unknown".as_slice() || table.value_number(part, place, value).is_some()
 }

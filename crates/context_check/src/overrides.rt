@@ -63,7 +63,8 @@ impl Overrides {
         found(self.items.as_slice(), name)
     }
 
-    /// Puts an override at the end. Where memory runs out, nothing changes; so too where 2^32 - 1 are there already.
+    /// Puts an override at the end. Where memory runs out, nothing changes; 2^32 - 1 are the most, and one
+    /// more is answered as want of memory.
     pub fn push(&mut self, item: (Name, Num)) -> Result<(), AllocError>
         requires new { is_overridden self.old item.0 ≡ false }
         ensures value { OnOk result (self.new ≡ self.old ++ item ∷ []) }

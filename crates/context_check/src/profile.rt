@@ -15,8 +15,8 @@ use lookup_table::{Name, Table};
 use profile_text::{Assign, Names, Profile, Section};
 use std::alloc::{AllocError, Global};
 
-/// The profile with the tag table and the overrides, or the first thing at fault: in the overrides, then in the global
-/// section, that of the ways and that of the nodes.
+/// The profile with the tag table and the overrides, or the first thing at fault: in the overrides, then
+/// in the global section, that of the ways and that of the nodes.
 #[tactic(auto, unfolding(crate::specs::Refusal::refusal_of))]
 pub fn check<'a>(
     alloc: Global,
@@ -24,8 +24,11 @@ pub fn check<'a>(
     table: &'a Table,
     overrides: &'a Overrides,
 ) -> Result<Checked<'a>, CheckError>
-    ensures value { let sections = sections_in profile.now in
-        let subject : Subject = record { table = table.now; sections = sections; overrides = overrides.now } in
+    ensures value { let subject : Subject = record {
+      table = table.now;
+      sections = sections_in profile.now;
+      overrides = overrides.now;
+    } in
         IfOk result (λ c. subject_of c ≡ subject) }
     ensures exact { IfOk result
         (λ _. refusal_of table.now (sections_in profile.now) overrides.now ≡ None) }

@@ -14,7 +14,8 @@ use lookup_table::Table;
 use profile_text::{Assign, Names, Section};
 use std::alloc::Global;
 
-/// The names that a section assigns, where nothing is at fault in it after these names of the global section.
+/// The names that a section assigns, where nothing is at fault in it after these names of the global
+/// section.
 pub(crate) fn section_names(
     alloc: Global,
     table: &Table,
@@ -24,10 +25,11 @@ pub(crate) fn section_names(
 ) -> Result<Names, CheckError>
     ensures value { IfOk result (λ names. names ≡ names_in (map assignment_in assignments.now)) }
     ensures exact { let assigned = map assignment_in assignments.now in
-        IfOk result (λ _. section_refusal section (rows_in table.now section) global.now [] assigned ≡ None) }
+        let refusal = section_refusal section (rows_in table.now section) global.now [] assigned in
+        IfOk result (λ _. refusal ≡ None) }
     ensures refused { let assigned = map assignment_in assignments.now in
-        IfErr result (λ e. (e ≡ NoMemory)
-        ⊎ (section_refusal section (rows_in table.now section) global.now [] assigned ≡ Some e)) }
+        let refusal = section_refusal section (rows_in table.now section) global.now [] assigned in
+        IfErr result (λ e. (e ≡ NoMemory) ⊎ (refusal ≡ Some e)) }
 {
     let mut own = Names::new(alloc);
     'assignments: for assign in assignments {

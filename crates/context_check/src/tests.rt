@@ -1,116 +1,15 @@
 //! Profiles that are accepted and refused, by the printed line of the answer.
+mod fixtures;
+
 use super::*;
 use fixed_num::Num;
-use item_list::{Items, TryClone};
-use lookup_table::{Name, Table};
-use profile_text::Profile;
+use fixtures::{TREK, TWICE, answer, assert_answers, overrides, profile, table};
+use item_list::TryClone;
 use std::alloc::{AllocError, Global};
-use std::process::Abort;
 use std::test::Fail;
-
-/// A table of two parts.
-const LOOK: &str = "---lookupversion:10
----minorversion:1
-
----context:way
-reversedirection;0000000000 yes
-highway;0000000400 residential
-highway;0000000300 primary
-highway;0000000200 track
-highway;0000000100 cycleway
-oneway;0000000020 yes true 1
-oneway;0000000010 no
-bicycle;0000000020 yes
-bicycle;0000000010 no
-junction;0000000010 roundabout
-route_bicycle_rcn;0000000000 yes
-
----context:node
-nodeaccessgranted;0000000000 yes
-barrier;0000000020 gate
-barrier;0000000010 bollard
-bicycle;0000000020 yes
-bicycle;0000000010 no
-";
-
-/// A profile for trekking.
-const TREK: &str = "---context:global   # numbers are this project's own
-assign consider_elevation   true
-assign downhillcost   = if consider_elevation then 60 else 0
-assign downhillcutoff = 1.5
-assign uphillcost     0
-assign stick_to_cycleroutes 0
----context:way
-assign any_cycleroute    = route_bicycle_rcn=yes
-assign nodeaccessgranted = any_cycleroute
-assign turncost    = if junction=roundabout then 0 else 90
-assign initialcost = if highway=track then 50 else 0
-assign wrongway    = and oneway=yes reversedirection=yes
-assign bikeaccess  = switch bicycle= true not bicycle=no
-assign costfactor =
-  if wrongway then 10000
-  else if ( not bikeaccess ) then 10000
-  else if highway= then 10000
-  else if and any_cycleroute stick_to_cycleroutes then 0.5
-  else if any_cycleroute then 1
-  else switch highway=cycleway 1
-       switch highway=residential 1.1
-       switch highway=primary 1.6 2
----context:node
-assign nodeaccess  = or nodeaccessgranted=yes barrier=
-assign initialcost = if nodeaccess then 0 else 20
-";
-
-/// A profile with a name that is assigned twice.
-const TWICE: &str = "---context:global assign g 1 assign g 2 ---context:way assign costfactor g";
-
-/// The table of the text above.
-fn table(rt: &impl Abort, alloc: Global) -> Table {
-    Table::read(alloc, LOOK.as_bytes()).expect(rt, "a table")
-}
-
-/// The profile of a text that is one.
-fn profile(rt: &impl Abort, alloc: Global, text: &[u8]) -> Profile {
-    assert!(rt; text.len() < 1_000_000);
-    Profile::read(alloc, text).expect(rt, "a profile")
-}
-
-/// A name with these bytes.
-fn name(alloc: Global, text: &str) -> Result<Name, AllocError> {
-    Ok(Items::from_vec(Vec::from_slice(alloc, text.as_bytes())?))
-}
-
-/// Overrides of these names, each by 1.
-fn overrides(rt: &impl Abort, alloc: Global, names: &[&str]) -> Result<Overrides, AllocError> {
-    let one = Num::of(1_000_000).expect(rt, "a number");
-    let mut overrides = Overrides::new(alloc);
-    for other in names {
-        let item = (name(alloc, other)?, one);
-        assert!(rt; overrides.find(item.0.as_slice()).is_none());
-        overrides.push(item)?;
-    }
-    Ok(overrides)
-}
-
-/// The answer to a profile: `accepted`, or the printed line.
-fn answer(
-    rt: &impl Abort,
-    alloc: Global,
-    table: &Table,
-    text: &[u8],
-    overrides: &Overrides,
-) -> String {
-    let profile = profile(rt, alloc, text);
-    let line = match check(alloc, &profile, table, overrides) {
-        Ok(_) => String::from_str(alloc, "accepted"),
-        Err(fault) => fault.line(alloc),
-    };
-    line.expect(rt, "memory for the line")
-}
 
 #[test]
 fn a_profile_is_accepted_or_its_fault_is_named(rt: HostRuntime) -> Result<(), Fail> {
-    let table = table(&rt, rt.alloc());
     let none = Overrides::new(rt.alloc());
     let rows = [
         (
@@ -176,16 +75,12 @@ fn a_profile_is_accepted_or_its_fault_is_named(rt: HostRuntime) -> Result<(), Fa
             "profile line 1: unknown tag",
         ),
     ];
-    for (text, want) in rows {
-        let found = answer(&rt, rt.alloc(), &table, text.as_bytes(), &none);
-        assert_eq!(rt; found.as_str(), want, "{text}");
-    }
+    assert_answers(&rt, rt.alloc(), &none, rows.as_slice());
     Ok(())
 }
 
 #[test]
 fn the_first_fault_counts(rt: HostRuntime) -> Result<(), Fail> {
-    let table = table(&rt, rt.alloc());
     let none = Overrides::new(rt.alloc());
     let rows = [
         // Kinds in an assignment.
@@ -277,48 +172,36 @@ fn the_first_fault_counts(rt: HostRuntime) -> Result<(), Fail> {
             "accepted",
         ),
     ];
-    for (text, want) in rows {
-        let found = answer(&rt, rt.alloc(), &table, text.as_bytes(), &none);
-        assert_eq!(rt; found.as_str(), want, "{text}");
-    }
+    assert_answers(&rt, rt.alloc(), &none, rows.as_slice());
     Ok(())
 }
 
 #[test]
 fn overrides_are_of_names_of_the_global_section(rt: HostRuntime) -> Result<(), Fail> {
-    let table = table(&rt, rt.alloc());
-    let one = overrides(&rt, rt.alloc(), &["x"])?;
-    let two = overrides(&rt, rt.alloc(), &["g", "x"])?;
-    let twice = overrides(&rt, rt.alloc(), &["g"])?;
+    let first = "override 0: unknown name";
+    let second = "override 1: unknown name";
+    let unknown = overrides(&rt, rt.alloc(), &["x"])?;
     let rows = [
-        (
-            "---context:way assign costfactor 1",
-            &one,
-            "override 0: unknown name",
-        ),
-        (
-            "---context:way assign x 1 assign costfactor 1",
-            &one,
-            "override 0: unknown name",
-        ),
-        (
-            "---context:global assign g highway=track",
-            &two,
-            "override 1: unknown name",
-        ),
-        (TWICE, &one, "override 0: unknown name"),
-        (TWICE, &two, "override 1: unknown name"),
-        (TWICE, &twice, "accepted"),
+        ("---context:way assign costfactor 1", first),
+        ("---context:way assign x 1 assign costfactor 1", first),
+        (TWICE, first),
+    ];
+    assert_answers(&rt, rt.alloc(), &unknown, rows.as_slice());
+    let later = overrides(&rt, rt.alloc(), &["g", "x"])?;
+    let rows = [
+        ("---context:global assign g highway=track", second),
+        (TWICE, second),
+    ];
+    assert_answers(&rt, rt.alloc(), &later, rows.as_slice());
+    let known = overrides(&rt, rt.alloc(), &["g"])?;
+    let rows = [
+        (TWICE, "accepted"),
         (
             "---context:global assign g h ---context:way assign costfactor 1",
-            &twice,
             "profile line 1: unknown name",
         ),
     ];
-    for (text, overrides, want) in rows {
-        let found = answer(&rt, rt.alloc(), &table, text.as_bytes(), overrides);
-        assert_eq!(rt; found.as_str(), want, "{text}");
-    }
+    assert_answers(&rt, rt.alloc(), &known, rows.as_slice());
     Ok(())
 }
 
