@@ -49,7 +49,7 @@ flat_of subject = record {
   way_tags = length subject.table.way;
   node_tags = length subject.table.node;
   room = max (section_height (global_assignments subject))
-    (max (section_height subject.sections.way) (section_height subject.sections.node));
+      (max (section_height subject.sections.way) (section_height subject.sections.node));
 }
 
 -- ---- The runs

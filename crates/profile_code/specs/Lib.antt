@@ -1,4 +1,7 @@
 pub mod Correct
 pub mod Emit
 pub mod Flat
+pub mod Held
 pub mod Machine
+pub mod Runs
+pub mod Step

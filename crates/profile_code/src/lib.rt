@@ -2,7 +2,14 @@
 #![tactic(auto)]
 
 mod code;
+mod fault;
 mod instr;
+mod operators;
+mod run;
+mod stack;
+mod step;
+mod values;
 
 pub use code::Code;
+pub use fault::Fault;
 pub use profile_text::Section;
