@@ -9,6 +9,8 @@ use Rattle.profile_code.specs.declared.instr.Instr.{Instr}
 use Rattle.profile_code.specs.Emit.{section_code, section_height}
 use Rattle.profile_code.specs.Machine.{Given, Ended, Finished, Stuck, run_of}
 use Rattle.profile_text.specs.Meaning.{overridden}
+use Rattle.profile_text.specs.declared.kind.Section.{Section}
+use Rattle.profile_text.specs.declared.kind.Section.TheVariants as section
 use Rattle.profile_text.specs.Tree.{Assignment}
 
 -- The code of a section, and the names that its assignments set, in order.
@@ -58,6 +60,12 @@ flat_of subject = record {
 abbrev pub own_section : Flat → Part → FlatSection
 own_section flat Way = flat.way
 own_section flat Node = flat.node
+
+-- The code of a section.
+abbrev pub section_of : Flat → Section → FlatSection
+section_of flat section.Global = flat.global
+section_of flat section.Way = flat.way
+section_of flat section.Node = flat.node
 
 -- How many tags a part has.
 abbrev pub tags_of : Flat → Part → ℕ

@@ -1,25 +1,121 @@
 //! The flat code of a profile.
 ghost use Rattle.std.specs.Prelude.{◌≡◌};
+ghost use Rattle.profile_code.specs.Flat.{FlatSection, IsSafe, own_section, section_of, tags_of};
 
 use crate::instr::Instr;
 use item_list::Items;
-use lookup_table::Name;
+use lookup_table::{Name, Part};
+use profile_text::Section;
 use std::marker::Model;
 
 /// The code of a section, with the names that its assignments set, in order.
+///
+/// Contracts see it as the list of operations and the list of names.
 #[derive(Drop)]
 pub(crate) struct SectionCode {
     pub(crate) instrs: Items<Instr>,
     pub(crate) names: Items<Name>,
 }
 
+impl Model for SectionCode {
+    ghost use Rattle.profile_code.specs.Flat.{FlatSection};
+
+    ghost Value = { FlatSection };
+
+    ghost view = { λ s. record { instrs = s.instrs; names = s.names } };
+}
+
+impl SectionCode {
+    /// The operations in order.
+    pub(crate) fn instrs(&self) -> &[Instr]
+        ensures value { result.now ≡ self.now.instrs }
+    {
+        self.instrs.as_slice()
+    }
+
+    /// The names of the assignments in order.
+    pub(crate) fn names(&self) -> &Items<Name>
+        ensures value { result.now ≡ self.now.names }
+    {
+        &self.names
+    }
+}
+
 /// The flat code of a profile.
+///
+/// Contracts see it as the code of its three sections, with what a run needs to know before it starts.
 #[derive(Drop)]
 pub struct Code {
     global: SectionCode,
     way: SectionCode,
     node: SectionCode,
+    room: usize,
     way_tags: u32,
     node_tags: u32,
-    room: usize,
+}
+
+impl Model for Code {
+    ghost use Rattle.profile_code.specs.Flat.{Flat, IsSafe};
+
+    ghost Value = { Flat };
+
+    ghost view = { λ c. record {
+        global = c.global;
+        way = c.way;
+        node = c.node;
+        way_tags = c.way_tags;
+        node_tags = c.node_tags;
+        room = c.room;
+    } };
+
+    ghost invariant = { λ c. IsSafe (record {
+        global = c.global;
+        way = c.way;
+        node = c.node;
+        way_tags = c.way_tags;
+        node_tags = c.node_tags;
+        room = c.room;
+    }) };
+}
+
+impl Code {
+    /// The code of a section.
+    pub(crate) fn section(&self, section: Section) -> &SectionCode
+        ensures value { result.now ≡ section_of self.now section }
+        ensures sound { IsSafe self.now }
+    {
+        match section {
+            Section::Global => &self.global,
+            Section::Way => &self.way,
+            Section::Node => &self.node,
+        }
+    }
+
+    /// The code of a part's section.
+    pub(crate) fn own(&self, part: Part) -> &SectionCode
+        ensures value { result.now ≡ own_section self.now part }
+        ensures sound { IsSafe self.now }
+    {
+        match part {
+            Part::Way => &self.way,
+            Part::Node => &self.node,
+        }
+    }
+
+    /// How many tags a part has.
+    pub(crate) fn tags(&self, part: Part) -> u32
+        ensures value { result ≡ tags_of self.now part }
+    {
+        match part {
+            Part::Way => self.way_tags,
+            Part::Node => self.node_tags,
+        }
+    }
+
+    /// How many numbers a run has on the stack at most.
+    pub(crate) fn room(&self) -> usize
+        ensures value { result ≡ self.now.room }
+    {
+        self.room
+    }
 }
