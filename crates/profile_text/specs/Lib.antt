@@ -4,6 +4,7 @@ pub mod Kind
 pub mod Look
 pub mod Meaning
 pub mod Names
+pub mod Numbered
 pub mod Part
 pub mod Read
 pub mod Source

@@ -7,6 +7,7 @@ mod expected;
 mod expr;
 mod kind;
 mod look;
+mod names;
 mod next;
 mod parts;
 mod profile;
@@ -19,6 +20,7 @@ mod take;
 pub use error::{TextError, TextKind};
 pub use expr::{Expr, Op};
 pub use kind::Section;
+pub use names::Names;
 pub use profile::{Assign, Profile};
 
 #[cfg(test)]
