@@ -1,2 +1,3 @@
-mod StepLemmas
+mod EffectLemmas
 mod RunLemmas
+mod StepLemmas

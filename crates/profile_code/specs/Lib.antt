@@ -1,4 +1,5 @@
 pub mod Correct
+pub mod Effects
 pub mod Emit
 pub mod Flat
 pub mod Held

@@ -4,8 +4,8 @@ ghost use Rattle.profile_code.specs.Flat.{FlatSection, IsSafe, own_section, sect
 
 use crate::instr::Instr;
 use item_list::Items;
-use lookup_table::{Name, Part};
-use profile_text::Section;
+use lookup_table::Part;
+use profile_text::{Names, Section};
 use std::marker::Model;
 
 /// The code of a section, with the names that its assignments set, in order.
@@ -14,7 +14,7 @@ use std::marker::Model;
 #[derive(Drop)]
 pub(crate) struct SectionCode {
     pub(crate) instrs: Items<Instr>,
-    pub(crate) names: Items<Name>,
+    pub(crate) names: Names,
 }
 
 impl Model for SectionCode {
@@ -34,7 +34,7 @@ impl SectionCode {
     }
 
     /// The names of the assignments in order.
-    pub(crate) fn names(&self) -> &Items<Name>
+    pub(crate) fn names(&self) -> &Names
         ensures value { result.now ≡ self.now.names }
     {
         &self.names

@@ -2,6 +2,7 @@
 #![tactic(auto)]
 
 mod code;
+mod effects;
 mod fault;
 mod instr;
 mod operators;
@@ -11,5 +12,6 @@ mod step;
 mod values;
 
 pub use code::Code;
+pub use effects::WayValues;
 pub use fault::Fault;
 pub use profile_text::Section;
