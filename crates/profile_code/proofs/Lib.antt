@@ -1,3 +1,4 @@
+mod AnswerLemmas
 mod EffectLemmas
 mod RunLemmas
 mod StepLemmas

@@ -2,8 +2,9 @@
 use Rattle.std.specs.Prelude.{ℕ, List, map, slice_get, ℤ, pos, Option, Some, None, unwrap_or}
 use lib.Chars.{codes}
 use Rattle.context_check.specs.Effects.{global_effects}
-use Rattle.profile_code.specs.declared.effects.WayPlaces.{WayPlaces}
-use Rattle.profile_code.specs.declared.effects.WayValues.{WayValues}
+use Rattle.profile_code.specs.declared.global_effects.GlobalPlaces.{GlobalPlaces}
+use Rattle.profile_code.specs.declared.way_effects.WayPlaces.{WayPlaces}
+use Rattle.profile_code.specs.declared.way_effects.WayValues.{WayValues}
 use Rattle.profile_text.specs.Meaning.{last_value}
 use Rattle.profile_text.specs.Names.{last_place}
 
@@ -47,8 +48,16 @@ node_number number = number (codes "initialcost") (pos 0)
 -- ---- Their places
 
 -- Where the names of the global section stand last among these.
-abbrev pub global_places : List (List ℕ) → List (Option ℕ)
-global_places names = map (λ e. last_place names e.0) global_effects
+abbrev pub global_places : List (List ℕ) → GlobalPlaces
+global_places names = record {
+  uphillcost = last_place names (codes "uphillcost");
+  downhillcost = last_place names (codes "downhillcost");
+  uphillcutoff = last_place names (codes "uphillcutoff");
+  downhillcutoff = last_place names (codes "downhillcutoff");
+  elevationpenaltybuffer = last_place names (codes "elevationpenaltybuffer");
+  elevationmaxbuffer = last_place names (codes "elevationmaxbuffer");
+  elevationbufferreduce = last_place names (codes "elevationbufferreduce");
+}
 
 -- Where those of the way section do.
 abbrev pub way_places : List (List ℕ) → WayPlaces
@@ -61,3 +70,7 @@ way_places names = record {
   uphillcostfactor = last_place names (codes "uphillcostfactor");
   downhillcostfactor = last_place names (codes "downhillcostfactor");
 }
+
+-- Where that of the node section does.
+abbrev pub node_place : List (List ℕ) → Option ℕ
+node_place names = last_place names (codes "initialcost")

@@ -5,4 +5,5 @@ pub mod Flat
 pub mod Held
 pub mod Machine
 pub mod Runs
+pub mod Scratch
 pub mod Step

@@ -60,21 +60,21 @@ impl Model for Code {
     ghost Value = { Flat };
 
     ghost view = { λ c. record {
-        global = c.global;
-        way = c.way;
-        node = c.node;
-        way_tags = c.way_tags;
-        node_tags = c.node_tags;
-        room = c.room;
+      global = c.global;
+      way = c.way;
+      node = c.node;
+      way_tags = c.way_tags;
+      node_tags = c.node_tags;
+      room = c.room;
     } };
 
     ghost invariant = { λ c. IsSafe (record {
-        global = c.global;
-        way = c.way;
-        node = c.node;
-        way_tags = c.way_tags;
-        node_tags = c.node_tags;
-        room = c.room;
+      global = c.global;
+      way = c.way;
+      node = c.node;
+      way_tags = c.way_tags;
+      node_tags = c.node_tags;
+      room = c.room;
     }) };
 }
 

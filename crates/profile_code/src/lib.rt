@@ -4,14 +4,19 @@
 mod code;
 mod effects;
 mod fault;
+mod global_effects;
 mod instr;
 mod operators;
 mod run;
+mod runs;
+mod scratch;
 mod stack;
 mod step;
 mod values;
+mod way_effects;
 
 pub use code::Code;
-pub use effects::WayValues;
 pub use fault::Fault;
 pub use profile_text::Section;
+pub use scratch::Scratch;
+pub use way_effects::WayValues;

@@ -1,7 +1,0 @@
-use Rattle.profile_code.proofs.EffectLemmas.{places_found}
-use Rattle.profile_code.proofs.effects.WayPlaces.of.Goals as goal
-
-pub returns : goal.returns
-returns c = record {
-  value = places_found c.args.names.now _ _ _ _ _ _ _ c.last.ensures.value c.last-2.ensures.value c.last-3.ensures.value c.last-4.ensures.value c.last-5.ensures.value c.last-6.ensures.value c.last-7.ensures.value;
-}
