@@ -1,4 +1,6 @@
 mod AnswerLemmas
 mod EffectLemmas
+mod MeaningLemmas
+mod NameLemmas
 mod RunLemmas
 mod StepLemmas

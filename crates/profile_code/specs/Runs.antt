@@ -1,11 +1,11 @@
 -- The answer of a run. This project's own rule.
-use Rattle.std.specs.Prelude.{◌≡◌, ℕ, List, ℤ, Result, Ok, Err}
+use Rattle.std.specs.Prelude.{◌≡◌, ℕ, List, ℤ, Option, Result, Ok, Err}
 use Rattle.context_check.specs.Checked.{Subject}
 use Rattle.fixed_num.specs.declared.arithmetic.Arith.{Arith}
 use Rattle.lookup_table.specs.declared.part.Part.{Part}
 use Rattle.profile_code.specs.Machine.{Ended, Finished, Faulted, Stuck}
 use Rattle.profile_code.specs.declared.fault.Fault.{Fault}
-use Rattle.profile_text.specs.Meaning.{SectionFault, Faulty, global_values, own_values}
+use Rattle.profile_text.specs.Meaning.{SectionFault, Faulty, global_values, last_value, own_values}
 
 -- The end of a run that answers so and leaves these values.
 abbrev pub ended : Result (Unit {0}) Fault → List ℤ → Ended
@@ -29,3 +29,9 @@ pub record AnswersOwn {A : Type 0} (effects : List (List ℕ × ℤ) → A) (sub
   pub values : List (List ℕ × ℤ)
   pub global : global_values subject.overrides subject.sections ≡ Ok values
   pub answer_is : AnswersSection effects (own_values subject.table subject.sections part numbers values) answer
+
+-- The number is the value that the global section, which meets no fault, gave the name last.
+pub record IsValueOf (subject : Subject) (name : List ℕ) (number : Option ℤ) : Type 0 where
+  pub values : List (List ℕ × ℤ)
+  pub global : global_values subject.overrides subject.sections ≡ Ok values
+  pub value_is : number ≡ last_value values name

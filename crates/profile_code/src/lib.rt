@@ -1,6 +1,7 @@
 //! Profiles as flat code: operations with jumps on a stack, which give what the profile's expressions give.
 #![tactic(auto)]
 
+mod answers;
 mod code;
 mod effects;
 mod fault;
@@ -18,5 +19,6 @@ mod way_effects;
 pub use code::Code;
 pub use fault::Fault;
 pub use profile_text::Section;
+pub use runs::{global_value, run_global, run_node, run_way};
 pub use scratch::Scratch;
 pub use way_effects::WayValues;

@@ -1,6 +1,6 @@
 use Rattle.lookup_table.specs.declared.part.Part.TheVariants.{Way, Node}
 use Rattle.profile_code.proofs.AnswerLemmas.{own_ready}
-use Rattle.profile_code.proofs.runs.node_answer.Goals as goal
+use Rattle.profile_code.proofs.answers.node_answer.Goals as goal
 
 pub run_section-requires-clause-ready : goal.run_section-requires-clause-ready
 run_section-requires-clause-ready c =
