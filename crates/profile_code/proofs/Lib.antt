@@ -1,6 +1,12 @@
-mod AnswerLemmas
-mod EffectLemmas
-mod MeaningLemmas
-mod NameLemmas
-mod RunLemmas
-mod StepLemmas
+pub mod AnswerLemmas
+pub mod AscendingLemmas
+pub mod AssignmentLemmas
+pub mod BehaveLemmas
+pub mod EffectLemmas
+pub mod KnownLemmas
+pub mod MeaningLemmas
+pub mod NameLemmas
+pub mod OperatorLemmas
+pub mod RunLemmas
+pub mod StepLemmas
+pub mod TreeLemmas

@@ -46,12 +46,12 @@ impl SectionCode {
 /// Contracts see it as the code of its three sections, with what a run needs to know before it starts.
 #[derive(Drop)]
 pub struct Code {
-    global: SectionCode,
-    way: SectionCode,
-    node: SectionCode,
-    room: usize,
-    way_tags: u32,
-    node_tags: u32,
+    pub(crate) global: SectionCode,
+    pub(crate) way: SectionCode,
+    pub(crate) node: SectionCode,
+    pub(crate) room: usize,
+    pub(crate) way_tags: u32,
+    pub(crate) node_tags: u32,
 }
 
 impl Model for Code {
