@@ -21,7 +21,7 @@ pub(crate) fn global_answer(code: &Code, scratch: &mut Scratch) -> Result<[Num; 
     ensures exact { let names = code.now.global.names in
         AnswersRun (λ values. global_numbers (placed_or names values)) (global_run code.now) result }
     ensures kept { IsScratchOf code.now scratch.new }
-    ensures held { OnOk result (HoldsGlobals code.now scratch.new) }
+    ensures sound { OnOk result (HoldsGlobals code.now scratch.new) }
 {
     let instrs = code.section(Section::Global).instrs();
     run_section(instrs, &[], &[], &mut scratch.stack, &mut scratch.global)?;

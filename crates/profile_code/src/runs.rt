@@ -32,7 +32,7 @@ pub fn run_global(code: &Code, scratch: &mut Scratch) -> Result<[Num; 7], Fault>
         (global_values subject.overrides subject.sections) result }
 
     ensures kept { IsScratchOf code.now scratch.new }
-    ensures held { OnOk result (HoldsGlobals code.now scratch.new) }
+    ensures sound { OnOk result (HoldsGlobals code.now scratch.new) }
 {
     global_answer(code, scratch)
 }
@@ -51,7 +51,7 @@ pub fn run_way(code: &Code, numbers: &[u16], scratch: &mut Scratch) -> Result<Wa
         AnswersOwn (λ values. way_numbers (last_or values)) subject Part.Way numbers.now result }
 
     ensures kept { IsScratchOf code.now scratch.new }
-    ensures held { HoldsGlobals code.now scratch.new }
+    ensures same { HoldsGlobals code.now scratch.new }
 {
     way_answer(code, numbers, scratch)
 }
@@ -69,7 +69,7 @@ pub fn run_node(code: &Code, numbers: &[u16], scratch: &mut Scratch) -> Result<N
         AnswersOwn (λ values. node_number (last_or values)) subject Part.Node numbers.now result }
 
     ensures kept { IsScratchOf code.now scratch.new }
-    ensures held { HoldsGlobals code.now scratch.new }
+    ensures same { HoldsGlobals code.now scratch.new }
 {
     node_answer(code, numbers, scratch)
 }
