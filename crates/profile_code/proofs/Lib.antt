@@ -1,5 +1,6 @@
 pub mod AnswerLemmas
 pub mod AscendingLemmas
+pub mod AskedLemmas
 pub mod AssignmentLemmas
 pub mod BehaveLemmas
 pub mod EffectLemmas
@@ -7,6 +8,7 @@ pub mod KnownLemmas
 pub mod MeaningLemmas
 pub mod NameLemmas
 pub mod OperatorLemmas
+pub mod PatchLemmas
 pub mod RunLemmas
 pub mod StepLemmas
 pub mod TreeLemmas

@@ -4,6 +4,8 @@ pub mod Emit
 pub mod Flat
 pub mod Held
 pub mod Machine
+pub mod Operands
 pub mod Runs
+pub mod Scope
 pub mod Scratch
 pub mod Step

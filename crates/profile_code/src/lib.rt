@@ -3,20 +3,27 @@
 
 mod answers;
 mod code;
+mod compiler;
 mod effects;
+mod emit;
 mod fault;
 mod global_effects;
 mod instr;
+mod look;
+mod operands;
 mod operators;
 mod run;
 mod runs;
+mod scope;
 mod scratch;
+mod section;
 mod stack;
 mod step;
 mod values;
 mod way_effects;
 
 pub use code::Code;
+pub use compiler::compile;
 pub use fault::Fault;
 pub use profile_text::Section;
 pub use runs::{global_value, run_global, run_node, run_way};
