@@ -2,7 +2,9 @@ pub mod AscendingLemmas
 pub mod AskedLemmas
 pub mod AssignmentLemmas
 pub mod BehaveLemmas
+pub mod CompileLemmas
 pub mod KnownLemmas
 pub mod OperatorLemmas
 pub mod PatchLemmas
+pub mod SectionLemmas
 pub mod TreeLemmas
