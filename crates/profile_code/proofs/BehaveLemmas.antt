@@ -25,12 +25,12 @@ use Rattle.std.specs.Str.{bytes_eq}
 -- ---- Overrides
 
 -- An override keeps the name.
-replaced_name : (o : Option ℤ) (a : Assignment) → (replaced_by o a).name ≡ a.name
+pub replaced_name : (o : Option ℤ) (a : Assignment) → (replaced_by o a).name ≡ a.name
 replaced_name None a = refl
 replaced_name (Some n) a = refl
 
 -- Overrides keep the names.
-overridden_names : (overrides : List (List ℕ × ℤ)) (assignments : List Assignment) → names_in (map (overridden overrides) assignments) ≡ names_in assignments
+pub overridden_names : (overrides : List (List ℕ × ℤ)) (assignments : List Assignment) → names_in (map (overridden overrides) assignments) ≡ names_in assignments
 overridden_names overrides [] = refl
 overridden_names overrides (a ∷ rest) =
     ap (λ n. n ∷ names_in (map (overridden overrides) rest)) (replaced_name (lookup (bytes_eq a.name) overrides) a)

@@ -3,6 +3,7 @@ pub mod AscendingLemmas
 pub mod AskedLemmas
 pub mod AssignmentLemmas
 pub mod BehaveLemmas
+pub mod CompileLemmas
 pub mod EffectLemmas
 pub mod KnownLemmas
 pub mod MeaningLemmas
@@ -10,5 +11,6 @@ pub mod NameLemmas
 pub mod OperatorLemmas
 pub mod PatchLemmas
 pub mod RunLemmas
+pub mod SectionLemmas
 pub mod StepLemmas
 pub mod TreeLemmas
