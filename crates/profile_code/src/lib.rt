@@ -19,6 +19,8 @@ mod scratch;
 mod section;
 mod stack;
 mod step;
+#[cfg(test)]
+mod tests_runs;
 mod values;
 mod way_effects;
 
