@@ -1,1 +1,3 @@
+pub mod DefinedLemmas
+pub mod FaultLemmas
 pub mod OverrideLemmas

@@ -8,10 +8,11 @@ use lookup_table::Table;
 use profile_text::Profile;
 
 /// A profile with the tag table and the overrides that it was checked with, in which nothing is at fault.
+#[derive(Clone, Copy)]
 pub struct Checked<'a> {
-    profile: &'a Profile,
-    table: &'a Table,
-    overrides: &'a Overrides,
+    pub(crate) profile: &'a Profile,
+    pub(crate) table: &'a Table,
+    pub(crate) overrides: &'a Overrides,
     ghost accepted: { refusal_of table.now (sections_in profile.now) overrides.now ≡ None },
 }
 

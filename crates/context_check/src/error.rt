@@ -2,7 +2,7 @@
 ghost use Rattle.std.specs.Prelude.{◌≡◌};
 ghost use Rattle.context_check.specs.declared.error.CheckError.TheVariants.{NoMemory};
 
-use std::alloc::{AllocError, AllocFailed};
+use std::alloc::{AllocError, AllocFailed, Global};
 
 /// Why a profile may not be used, in the order in which it is tried. Lines are counted from 1.
 #[derive(Clone, Copy, Debug, PartialEq, Eq)]
@@ -36,5 +36,36 @@ impl<T: Drop> From<AllocFailed<T>> for CheckError {
 
     fn from(_error: AllocFailed<T>) -> CheckError {
         CheckError::NoMemory
+    }
+}
+
+impl CheckError {
+    ghost use Rattle.std.specs.Prelude.{IfOk};
+    ghost use Rattle.std.specs.String.{string_bytes};
+    ghost use Rattle.context_check.specs.Lines.{check_line};
+
+    /// The line that is printed of it, without an end of line.
+    pub fn line(&self, alloc: Global) -> Result<String, AllocError>
+        ensures value { IfOk result (λ s. string_bytes s ≡ check_line self.now) }
+    {
+        match self {
+            CheckError::UnknownOverride { place } => {
+                format!(in alloc; "override {place}: unknown name")
+            }
+            CheckError::WrongSection { line } => {
+                format!(in alloc; "profile line {line}: wrong section")
+            }
+            CheckError::UnknownName { line } => {
+                format!(in alloc; "profile line {line}: unknown name")
+            }
+            CheckError::UnknownTag { line } => {
+                format!(in alloc; "profile line {line}: unknown tag")
+            }
+            CheckError::UnknownValue { line } => {
+                format!(in alloc; "profile line {line}: unknown value")
+            }
+            CheckError::NoCostfactor => String::from_str(alloc, "profile: no costfactor"),
+            CheckError::NoMemory => String::from_str(alloc, "out of memory"),
+        }
     }
 }

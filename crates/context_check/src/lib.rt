@@ -3,8 +3,16 @@
 
 mod checked;
 mod error;
+mod expr;
+mod look;
 mod overrides;
+mod profile;
+mod section;
 
 pub use checked::Checked;
 pub use error::CheckError;
 pub use overrides::Overrides;
+pub use profile::check;
+
+#[cfg(test)]
+mod tests;

@@ -1,3 +1,4 @@
+pub mod AssignedLemmas
 pub mod FoundLemmas
 pub mod GrammarLemmas
 pub mod LookLemmas

@@ -7,6 +7,7 @@ pub mod Names
 pub mod Numbered
 pub mod Part
 pub mod Read
+pub mod Scope
 pub mod Source
 pub mod Token
 pub mod Tree

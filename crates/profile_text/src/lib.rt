@@ -1,19 +1,24 @@
 //! The routing profile: its text is read into a tree, and the tree has values for the tag numbers of a way or a node.
 #![tactic(auto)]
 
+mod assigned;
 mod bytes;
 mod error;
+mod evaluate;
 mod expected;
 mod expr;
+mod fault;
 mod kind;
 mod look;
 mod names;
 mod next;
+mod operate;
 mod parts;
 mod profile;
 mod read_expr;
 mod read_part;
 mod read_profile;
+mod scope;
 mod source;
 mod take;
 

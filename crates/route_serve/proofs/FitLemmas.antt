@@ -1,14 +1,21 @@
--- The numbers of a command that was read are within their limits, and its places in its grid.
-use Rattle.std.proofs.Common.{◌≡◌, ℕ, ◌<◌, ◌≤◌, ◌+◌, ◌⊎◌, inl, inr, Bool, true, false, cond, ◌&&◌, nat_le, Option, Some, None, Result, Ok, Err, List, [], ◌∷◌, ◌++◌, length, take, drop, refl, ap, arith, subst}
+-- The numbers of a command that was read are within their limits, its places in its grid, and its words among the words.
+use Rattle.std.proofs.Common.{◌≡◌, ℕ, ◌<◌, ◌≤◌, ◌+◌, ◌⊎◌, inl, inr, Bool, true, false, cond, ◌&&◌, nat_le, nat_lt, Option, Some, None, Result, Ok, Err, List, [], ◌∷◌, ◌++◌, length, take, drop, refl, ap, arith, subst}
 use Rattle.std.proofs.lemmas.Bool.Decides.{nat_tests}
 use Rattle.std.specs.List.{find}
-use Rattle.route_serve.specs.Command.{number_of, within, number_value, value_of, first_place, key_of, entry_by, entry_for, entry_cut, entry_of, entry_with, same_key, entries_after, lies_in, command_by, command_with, complete, grid_command, command_of, same_text}
-use Rattle.route_serve.specs.Outcome.{IsFit}
+use Rattle.route_serve.specs.Command.{number_of, within, number_value, place_value, file_value, value_of, key_of, entry_by, entry_for, entry_cut, cut_word, entry_of, entry_with, same_key, count_of, most_of, entries_after, lies_in, number_in, place_in, grid_by, grid_with, code_with, complete, command_with, command_by, command_named, command_of}
+use Rattle.route_serve.specs.Outcome.{IsFit, IsCodeFit, IsCommandFit}
+use Rattle.route_serve.specs.declared.command.Command.{Command}
+use Rattle.route_serve.specs.declared.command.Command as Form
+use Rattle.route_serve.specs.declared.command.CommandName.{CommandName}
+use Rattle.route_serve.specs.declared.command.CommandName.TheVariants as Name
 use Rattle.route_serve.specs.declared.command.GridCommand.{GridCommand}
+use Rattle.route_serve.specs.declared.command.CodeCommand.{CodeCommand}
 use Rattle.route_serve.specs.declared.command.Place.{Place}
 use Rattle.route_serve.specs.declared.entry.Entry.{Entry}
 use Rattle.route_serve.specs.declared.entry.Key.{Key}
-use Rattle.route_serve.specs.declared.entry.Key.TheVariants.{Seed, Width, Height, From, To}
+use Rattle.route_serve.specs.declared.entry.Key.TheVariants.{Seed, Width, Height, From, To, Lookups, Profile}
+use Rattle.route_serve.specs.declared.entry.Value.{Value}
+use Rattle.route_serve.specs.declared.entry.Value.TheVariants.{Number, At, File}
 
 -- a number is within the limits of its key
 abbrev FitBy : Key → ℕ → Type 0
@@ -17,6 +24,8 @@ FitBy Width x = (1 ≤ x) × (x ≤ 1000)
 FitBy Height x = (1 ≤ x) × (x ≤ 1000)
 FitBy From x = Unit {0}
 FitBy To x = Unit {0}
+FitBy Lookups x = Unit {0}
+FitBy Profile x = Unit {0}
 
 -- a test decides: where it is true the first of two answers is given, else the second
 split : {A : Type 0} (b : Bool) (x y z : A) → cond b x y ≡ z → ((b ≡ true) × (x ≡ z)) ⊎ ((b ≡ false) × (y ≡ z))
@@ -26,89 +35,100 @@ split false x y z e = inr (refl, e)
 in_limits : (low high number : ℕ) → (nat_le low number && nat_le number high) ≡ true → (low ≤ number) × (number ≤ high)
 in_limits low high number h = (grind (arith, nat_tests), grind (arith, nat_tests))
 
-number-fit : (low high : ℕ) (r : Option ℕ) (place : Place) → number_value (within low high r) ≡ Some place → (low ≤ place.x) × (place.x ≤ high)
-number-fit low high None place e = cc
-number-fit low high (Some number) place e = go (nat_le low number && nat_le number high) refl e where
+-- the number of a value that may be none
+abbrev number_or : Option Value → ℕ
+number_or None = 0
+number_or (Some value) = number_in value
+
+number-fit : (low high : ℕ) (r : Option ℕ) (value : Value) → number_value (within low high r) ≡ Some value → (low ≤ number_in value) × (number_in value ≤ high)
+number-fit low high None value e = cc
+number-fit low high (Some number) value e = go (nat_le low number && nat_le number high) refl e where
   go :
-      (b : Bool) → (nat_le low number && nat_le number high) ≡ b → number_value (cond b (Some number) None) ≡ Some place →
-      (low ≤ place.x) × (place.x ≤ high)
+      (b : Bool) → (nat_le low number && nat_le number high) ≡ b → number_value (cond b (Some number) None) ≡ Some value →
+      (low ≤ number_in value) × (number_in value ≤ high)
   go true is e =
-      let x_is : number ≡ place.x = ap (λ (o : Option Place). elim o [ None ↦ 0 | Some p ↦ p.x ]) e in
+      let x_is : number ≡ number_in value = ap number_or e in
       subst (λ x. (low ≤ x) × (x ≤ high)) x_is (in_limits low high number is)
   go false is e = cc
 
-value-fit : (key : Key) (text : List ℕ) (place : Place) → value_of key text ≡ Some place → FitBy key place.x
+value-fit : (key : Key) (text : List ℕ) (value : Value) → value_of key text ≡ Some value → FitBy key (number_in value)
 unfolding value_of
-value-fit Seed text place e = (number-fit 0 65535 (number_of text) place e).1
-value-fit Width text place e = number-fit 1 1000 (number_of text) place e
-value-fit Height text place e = number-fit 1 1000 (number_of text) place e
-value-fit From text place e = tt
-value-fit To text place e = tt
+value-fit Seed text value e = (number-fit 0 65535 (number_of text) value e).1
+value-fit Width text value e = number-fit 1 1000 (number_of text) value e
+value-fit Height text value e = number-fit 1 1000 (number_of text) value e
+value-fit From text value e = tt
+value-fit To text value e = tt
+value-fit Lookups text value e = tt
+value-fit Profile text value e = tt
 
--- an entry whose number is within the limits of its key
-abbrev FitEntry : Entry → Type 0
-FitEntry entry = FitBy entry.key entry.place.x
+-- an entry whose number is within the limits of its key, and whose word is one of so many words after the first
+record FitEntry (words : ℕ) (entry : Entry) : Type 0 where
+  number : FitBy entry.key (number_in entry.value)
+  word : entry.word ≤ words
 
-by-fit : (word : ℕ) (key : Key) (r : Option Place) (entry : Entry) → ((place : Place) → r ≡ Some place → FitBy key place.x) → entry_by word key r ≡ Some entry → FitEntry entry
-by-fit word key None entry fit e = cc
-by-fit word key (Some place) entry fit e =
-    let made : Entry = record { place = place; word = word; key = key } in
+by-fit : (words word : ℕ) (key : Key) (r : Option Value) (entry : Entry) → word ≤ words → ((value : Value) → r ≡ Some value → FitBy key (number_in value)) → entry_by word key r ≡ Some entry → FitEntry words entry
+by-fit words word key None entry within fit e = cc
+by-fit words word key (Some value) entry within fit e =
+    let made : Entry = record { value = value; word = word; key = key } in
     let same : made ≡ entry = cc in
-    subst FitEntry same (fit place refl)
+    subst (FitEntry words) same (record { number = fit value refl; word = within })
 
-for-fit : (word : ℕ) (text : List ℕ) (r : Option Key) (entry : Entry) → entry_for word text r ≡ Some entry → FitEntry entry
-for-fit word text None entry e = cc
-for-fit word text (Some key) entry e = by-fit word key (value_of key text) entry (λ place is. value-fit key text place is) e
+for-fit : (words word : ℕ) (text : List ℕ) (r : Option Key) (entry : Entry) → word ≤ words → entry_for word text r ≡ Some entry → FitEntry words entry
+for-fit words word text None entry within e = cc
+for-fit words word text (Some key) entry within e =
+    by-fit words word key (value_of key text) entry within (λ value is. value-fit key text value is) e
 
-cut-fit : (word : ℕ) (text : List ℕ) (r : Option ℕ) (entry : Entry) → entry_cut word text r ≡ Some entry → FitEntry entry
-cut-fit word text None entry e = cc
-cut-fit word text (Some at) entry e = for-fit word (drop (at + 1) text) (key_of (take at text)) entry e
+cut-fit : (words word : ℕ) (r : Option (List ℕ × List ℕ)) (entry : Entry) → word ≤ words → entry_cut word r ≡ Some entry → FitEntry words entry
+cut-fit words word None entry within e = cc
+cut-fit words word (Some parts) entry within e = for-fit words word parts.1 (key_of parts.0) entry within e
 
-entry-fit : (word : ℕ) (text : List ℕ) (entry : Entry) → entry_of word text ≡ Some entry → FitEntry entry
+entry-fit : (words word : ℕ) (text : List ℕ) (entry : Entry) → word ≤ words → entry_of word text ≡ Some entry → FitEntry words entry
 unfolding entry_of
-entry-fit word text entry e = cut-fit word text (first_place 61 text) entry e
+entry-fit words word text entry within e = cut-fit words word (cut_word text) entry within e
 
 -- all entries fit
-abbrev AllFit : List Entry → Type 0
-AllFit [] = Unit {0}
-AllFit (entry ∷ entries) = FitEntry entry × AllFit entries
+abbrev AllFit : ℕ → List Entry → Type 0
+AllFit words [] = Unit {0}
+AllFit words (entry ∷ entries) = FitEntry words entry × AllFit words entries
 
-all-push : (entries : List Entry) (entry : Entry) → AllFit entries → FitEntry entry → AllFit (entries ++ entry ∷ [])
-all-push [] entry all fit = (fit, tt)
-all-push (first ∷ rest) entry all fit = (all.0, all-push rest entry all.1 fit)
+all-push : (words : ℕ) (entries : List Entry) (entry : Entry) → AllFit words entries → FitEntry words entry → AllFit words (entries ++ entry ∷ [])
+all-push words [] entry all fit = (fit, tt)
+all-push words (first ∷ rest) entry all fit = (all.0, all-push words rest entry all.1 fit)
 
 -- an error is no success
 err-not_ok : {A : Type 0} (n : ℕ) (x : A) → ◌≡◌ {A = Result A ℕ} (Err n) (Ok x) → ⊥
 err-not_ok n x h = cc
 
-after-fit : (texts : List (List ℕ)) (before entries : List Entry) → AllFit before → entries_after before texts ≡ Ok entries → AllFit entries
-after-fit [] before entries all e =
-    let same : before ≡ entries = cc in subst AllFit same all
-after-fit (text ∷ texts) before entries all e =
+-- one more entry
+length-push : (entries : List Entry) (entry : Entry) → length (entries ++ entry ∷ []) ≡ length entries + 1
+length-push [] entry = refl
+length-push (first ∷ rest) entry = let e = length-push rest entry in omega (arith, e)
+
+after-fit : (command : CommandName) (words : ℕ) (texts : List (List ℕ)) (before entries : List Entry) → length before + length texts ≤ words → AllFit words before → entries_after command before texts ≡ Ok entries → AllFit words entries
+after-fit command words [] before entries within all e =
+    let same : before ≡ entries = cc in subst (AllFit words) same all
+after-fit command words (text ∷ texts) before entries within all e =
     elim (entry_of (length before + 1) text) as
     (λ r. entry_of (length before + 1) text ≡ r →
     ◌≡◌ {A = Result (List Entry) ℕ}
     (elim r [
       | None ↦ Err (length before + 1)
       | Some entry ↦
-          elim (entry_with entry.key before) [
-            | None ↦ entries_after (before ++ entry ∷ []) texts
-            | Some _ ↦ Err (length before + 1)
-          ]
+          cond (nat_lt (count_of entry.key before) (most_of command entry.key))
+          (entries_after command (before ++ entry ∷ []) texts) (Err (length before + 1))
     ])
-    (Ok entries) → AllFit entries) [
+    (Ok entries) → AllFit words entries) [
       | None ↦ λ is f. absurd (err-not_ok (length before + 1) entries f)
       | Some entry ↦ λ is f.
-          (elim (entry_with entry.key before) as
-          (λ r. ◌≡◌ {A = Result (List Entry) ℕ}
-          (elim r [
-            | None ↦ entries_after (before ++ entry ∷ []) texts
-            | Some _ ↦ Err (length before + 1)
-          ])
-          (Ok entries) → AllFit entries) [
-            | None ↦ λ h. after-fit texts (before ++ entry ∷ []) entries (all-push before entry all (entry-fit (length before + 1) text entry is)) h
-            | Some other ↦ λ h. absurd (err-not_ok (length before + 1) entries h)
-          ]) f
+          let some : length before + 1 ≤ words = omega (arith, within) in
+          let longer = length-push before entry in
+          let still : length (before ++ entry ∷ []) + length texts ≤ words = omega (arith, within, longer) in
+          elim (split (nat_lt (count_of entry.key before) (most_of command entry.key)) (entries_after command (before ++ entry ∷ []) texts) (Err (length before + 1)) (Ok entries) f) [
+            | inl (free, h) ↦
+                after-fit command words texts (before ++ entry ∷ []) entries still
+                (all-push words before entry all (entry-fit words (length before + 1) text entry some is)) h
+            | inr (full, h) ↦ absurd (err-not_ok (length before + 1) entries h)
+          ]
     ] refl e
 
 key-is : (key : Key) (wanted : Key) → same_key key wanted ≡ true → key ≡ wanted
@@ -117,56 +137,81 @@ key-is Seed Width e = cc
 key-is Seed Height e = cc
 key-is Seed From e = cc
 key-is Seed To e = cc
+key-is Seed Lookups e = cc
+key-is Seed Profile e = cc
 key-is Width Seed e = cc
 key-is Width Width e = refl
 key-is Width Height e = cc
 key-is Width From e = cc
 key-is Width To e = cc
+key-is Width Lookups e = cc
+key-is Width Profile e = cc
 key-is Height Seed e = cc
 key-is Height Width e = cc
 key-is Height Height e = refl
 key-is Height From e = cc
 key-is Height To e = cc
+key-is Height Lookups e = cc
+key-is Height Profile e = cc
 key-is From Seed e = cc
 key-is From Width e = cc
 key-is From Height e = cc
 key-is From From e = refl
 key-is From To e = cc
+key-is From Lookups e = cc
+key-is From Profile e = cc
 key-is To Seed e = cc
 key-is To Width e = cc
 key-is To Height e = cc
 key-is To From e = cc
 key-is To To e = refl
+key-is To Lookups e = cc
+key-is To Profile e = cc
+key-is Lookups Seed e = cc
+key-is Lookups Width e = cc
+key-is Lookups Height e = cc
+key-is Lookups From e = cc
+key-is Lookups To e = cc
+key-is Lookups Lookups e = refl
+key-is Lookups Profile e = cc
+key-is Profile Seed e = cc
+key-is Profile Width e = cc
+key-is Profile Height e = cc
+key-is Profile From e = cc
+key-is Profile To e = cc
+key-is Profile Lookups e = cc
+key-is Profile Profile e = refl
 
 -- the entry that is found fits its key
-with-fit : (key : Key) (entries : List Entry) (entry : Entry) → AllFit entries → entry_with key entries ≡ Some entry → FitBy key entry.place.x
-with-fit key [] entry all e = cc
-with-fit key (first ∷ rest) entry all e =
+with-fit : (words : ℕ) (key : Key) (entries : List Entry) (entry : Entry) → AllFit words entries → entry_with key entries ≡ Some entry → FitBy key (number_in entry.value) × (entry.word ≤ words)
+with-fit words key [] entry all e = cc
+with-fit words key (first ∷ rest) entry all e =
     elim (split (same_key first.key key) (Some first) (find (λ (x : Entry). same_key x.key key) rest) (Some entry) e) [
       | inl (is, here) ↦
           let same : first ≡ entry = cc in
-          subst (λ (x : Entry). FitBy key x.place.x) same (subst (λ k. FitBy k first.place.x) (key-is first.key key is) all.0)
-      | inr (is, later) ↦ with-fit key rest entry all.1 later
+          let fit = subst (λ k. FitBy k (number_in first.value)) (key-is first.key key is) all.0.number in
+          subst (λ (x : Entry). FitBy key (number_in x.value) × (x.word ≤ words)) same (fit, all.0.word)
+      | inr (is, later) ↦ with-fit words key rest entry all.1 later
     ]
 
 in_grid : (w h : ℕ) (place : Place) → lies_in w h place ≡ true → (place.x < w) × (place.y < h)
 in_grid w h place e = (grind (arith, nat_tests), grind (arith, nat_tests))
 
-command-fit : (seed w h from to : Entry) (command : GridCommand) →
-    FitBy Seed seed.place.x → FitBy Width w.place.x → FitBy Height h.place.x →
-    command_by seed w h from to ≡ Ok command → IsFit command
-command-fit seed w h from to command fit_seed fit_w fit_h e =
-    elim (split (lies_in w.place.x h.place.x from.place) _ (Err from.word) (Ok command) e) [
+grid_by-fit : (words : ℕ) (seed w h : ℕ) (from to : Entry) (command : Command) →
+    FitBy Seed seed → FitBy Width w → FitBy Height h →
+    grid_by seed w h from to ≡ Ok command → IsCommandFit words command
+grid_by-fit words seed w h from to command fit_seed fit_w fit_h e =
+    elim (split (lies_in w h (place_in from.value)) _ (Err from.word) (Ok command) e) [
       | inr (out, f) ↦ cc
       | inl (inside_from, f) ↦
-          elim (split (lies_in w.place.x h.place.x to.place) _ (Err to.word) (Ok command) f) [
+          elim (split (lies_in w h (place_in to.value)) _ (Err to.word) (Ok command) f) [
             | inr (out, f') ↦ cc
             | inl (inside_to, f') ↦
-                let made : GridCommand = record { from = from.place; to = to.place; seed = seed.place.x; w = w.place.x; h = h.place.x } in
-                let same : made ≡ command = cc in
-                let a = in_grid w.place.x h.place.x from.place inside_from in
-                let b = in_grid w.place.x h.place.x to.place inside_to in
-                subst IsFit same
+                let made : GridCommand = record { from = place_in from.value; to = place_in to.value; seed = seed; w = w; h = h } in
+                let same : Form.TheVariants.Grid made ≡ command = cc in
+                let a = in_grid w h (place_in from.value) inside_from in
+                let b = in_grid w h (place_in to.value) inside_to in
+                subst (IsCommandFit words) same
                 (
                 record {
                   lawful =
@@ -186,41 +231,62 @@ command-fit seed w h from to command fit_seed fit_w fit_h e =
           ]
     ]
 
-options-fit : (after : ℕ) (seed w h from to : Option Entry) (command : GridCommand) →
-    ((e : Entry) → seed ≡ Some e → FitBy Seed e.place.x) →
-    ((e : Entry) → w ≡ Some e → FitBy Width e.place.x) →
-    ((e : Entry) → h ≡ Some e → FitBy Height e.place.x) →
-    command_with after seed w h from to ≡ Ok command → IsFit command
-options-fit after (Some seed) (Some w) (Some h) (Some from) (Some to) command a b c e =
-    command-fit seed w h from to command (a seed refl) (b w refl) (c h refl) e
-options-fit after None w h from to command a b c e = cc
-options-fit after (Some seed) None h from to command a b c e = cc
-options-fit after (Some seed) (Some w) None from to command a b c e = cc
-options-fit after (Some seed) (Some w) (Some h) None to command a b c e = cc
-options-fit after (Some seed) (Some w) (Some h) (Some from) None command a b c e = cc
+grid_with-fit : (words after : ℕ) (seed w h from to : Option Entry) (command : Command) →
+    ((e : Entry) → seed ≡ Some e → FitBy Seed (number_in e.value)) →
+    ((e : Entry) → w ≡ Some e → FitBy Width (number_in e.value)) →
+    ((e : Entry) → h ≡ Some e → FitBy Height (number_in e.value)) →
+    grid_with after seed w h from to ≡ Ok command → IsCommandFit words command
+grid_with-fit words after (Some seed) (Some w) (Some h) (Some from) (Some to) command a b c e =
+    grid_by-fit words (number_in seed.value) (number_in w.value) (number_in h.value) from to command (a seed refl) (b w refl) (c h refl) e
+grid_with-fit words after None w h from to command a b c e = cc
+grid_with-fit words after (Some seed) None h from to command a b c e = cc
+grid_with-fit words after (Some seed) (Some w) None from to command a b c e = cc
+grid_with-fit words after (Some seed) (Some w) (Some h) None to command a b c e = cc
+grid_with-fit words after (Some seed) (Some w) (Some h) (Some from) None command a b c e = cc
 
-complete-fit : (entries : List Entry) (after : ℕ) (command : GridCommand) → AllFit entries → complete entries after ≡ Ok command → IsFit command
+code_with-fit : (words after : ℕ) (lookups profile : Option Entry) (command : Command) →
+    ((e : Entry) → lookups ≡ Some e → e.word ≤ words) →
+    ((e : Entry) → profile ≡ Some e → e.word ≤ words) →
+    code_with after lookups profile ≡ Ok command → IsCommandFit words command
+code_with-fit words after (Some lookups) (Some profile) command a b e =
+    let made : CodeCommand = record { lookups = lookups.word; profile = profile.word } in
+    let same : Form.TheVariants.Code made ≡ command = cc in
+    subst (IsCommandFit words) same (record { lookups = a lookups refl; profile = b profile refl })
+code_with-fit words after None profile command a b e = cc
+code_with-fit words after (Some lookups) None command a b e = cc
+
+complete-fit : (name : CommandName) (words : ℕ) (entries : List Entry) (after : ℕ) (command : Command) → AllFit words entries → complete name entries after ≡ Ok command → IsCommandFit words command
 unfolding complete
-complete-fit entries after command all e =
-    options-fit after (entry_with Seed entries) (entry_with Width entries) (entry_with Height entries)
+complete-fit Name.Grid words entries after command all e =
+    grid_with-fit words after (entry_with Seed entries) (entry_with Width entries) (entry_with Height entries)
     (entry_with From entries) (entry_with To entries) command
-    (λ x is. with-fit Seed entries x all is) (λ x is. with-fit Width entries x all is)
-    (λ x is. with-fit Height entries x all is) e
+    (λ x is. (with-fit words Seed entries x all is).0) (λ x is. (with-fit words Width entries x all is).0)
+    (λ x is. (with-fit words Height entries x all is).0) e
+complete-fit Name.Code words entries after command all e =
+    code_with-fit words after (entry_with Lookups entries) (entry_with Profile entries) command
+    (λ x is. (with-fit words Lookups entries x all is).1) (λ x is. (with-fit words Profile entries x all is).1) e
 
-grid-fit : (texts : List (List ℕ)) (command : GridCommand) → grid_command texts ≡ Ok command → IsFit command
-grid-fit texts command e =
-    elim (entries_after [] texts) as
-    (λ r. entries_after [] texts ≡ r →
-    elim r [ Err word ↦ Err word | Ok entries ↦ complete entries (length texts + 1) ] ≡ Ok command → IsFit command) [
+with_words-fit : (name : CommandName) (texts : List (List ℕ)) (command : Command) → command_with name texts ≡ Ok command → IsCommandFit (length texts) command
+with_words-fit name texts command e =
+    elim (entries_after name [] texts) as
+    (λ r. entries_after name [] texts ≡ r →
+    elim r [ Err word ↦ Err word | Ok entries ↦ complete name entries (length texts + 1) ] ≡ Ok command → IsCommandFit (length texts) command) [
       | Err word ↦ λ is f. absurd (err-not_ok word command f)
-      | Ok entries ↦ λ is f. complete-fit entries (length texts + 1) command (after-fit texts [] entries tt is) f
+      | Ok entries ↦ λ is f.
+          complete-fit name (length texts) entries (length texts + 1) command
+          (after-fit name (length texts) texts [] entries (omega arith) tt is) f
     ] refl e
 
+named-fit : (name : Option CommandName) (texts : List (List ℕ)) (command : Command) → command_by name texts ≡ Ok command → IsCommandFit (length texts) command
+named-fit None texts command e = cc
+named-fit (Some name) texts command e = with_words-fit name texts command e
+
+-- so many words after the first
+abbrev words_after : List (List ℕ) → ℕ
+words_after [] = 0
+words_after (name ∷ texts) = length texts
+
 -- a command that was read fits
-pub command-is_fit : (words : List (List ℕ)) (command : GridCommand) → command_of words ≡ Ok command → IsFit command
+pub command-is_fit : (words : List (List ℕ)) (command : Command) → command_of words ≡ Ok command → IsCommandFit (words_after words) command
 command-is_fit [] command e = cc
-command-is_fit (name ∷ texts) command e =
-    elim (split (same_text name _) (grid_command texts) (Err 0) (Ok command) e) [
-      | inl (is, f) ↦ grid-fit texts command f
-      | inr (is, f) ↦ cc
-    ]
+command-is_fit (name ∷ texts) command e = named-fit (command_named name) texts command e

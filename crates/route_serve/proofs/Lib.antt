@@ -1,2 +1,3 @@
 pub mod FitLemmas
+pub mod PathLemmas
 pub mod TextLemmas

@@ -1,11 +1,19 @@
 -- The command that a list of words is, or the place of the word at fault. This project's own rule.
-use Rattle.std.specs.List.{find}
-use Rattle.std.specs.Prelude.{ℕ, ◌+◌, ◌-◌, ◌*◌, ◌==◌, Bool, true, false, cond, ◌&&◌, nat_lt, nat_le, nat_eq, Option, Some, None, Result, Ok, Err, List, [], ◌∷◌, ◌++◌, length, take, drop, position, codes}
+use Rattle.std.specs.List.{filter, find, before_first, after_first, position_or_len}
+use Rattle.std.specs.Prelude.{ℕ, ◌+◌, ◌-◌, ◌*◌, ◌==◌, Bool, true, false, cond, ◌&&◌, nat_lt, nat_le, nat_eq, Option, Some, None, Result, Ok, Err, List, [], ◌∷◌, ◌++◌, length, take, drop, position, codes, slice_index_or}
 use lib.Pointwise.{pointwise}
+use Rattle.route_serve.specs.FileNames.{is_file_name, is_profile_file}
 use Rattle.route_serve.specs.declared.entry.Entry.{Entry}
 use Rattle.route_serve.specs.declared.entry.Key.{Key}
-use Rattle.route_serve.specs.declared.entry.Key.TheVariants.{Seed, Width, Height, From, To}
+use Rattle.route_serve.specs.declared.entry.Key.TheVariants.{Seed, Width, Height, From, To, Lookups, Profile}
+use Rattle.route_serve.specs.declared.entry.Value.{Value}
+use Rattle.route_serve.specs.declared.entry.Value.TheVariants.{Number, At, File}
+use Rattle.route_serve.specs.declared.command.CommandName.{CommandName}
+use Rattle.route_serve.specs.declared.command.CommandName.TheVariants.{Grid, Code}
+use Rattle.route_serve.specs.declared.command.Command.{Command}
+use Rattle.route_serve.specs.declared.command.Command as Form
 use Rattle.route_serve.specs.declared.command.GridCommand.{GridCommand}
+use Rattle.route_serve.specs.declared.command.CodeCommand.{CodeCommand}
 use Rattle.route_serve.specs.declared.command.Place.{Place}
 
 -- two texts have the same bytes
@@ -19,7 +27,9 @@ key_of text =
     (cond (same_text text (codes "w")) (Some Width)
     (cond (same_text text (codes "h")) (Some Height)
     (cond (same_text text (codes "from")) (Some From)
-    (cond (same_text text (codes "to")) (Some To) None))))
+    (cond (same_text text (codes "to")) (Some To)
+    (cond (same_text text (codes "lookups")) (Some Lookups)
+    (cond (same_text text (codes "profile")) (Some Profile) None))))))
 
 -- two keys are one
 abbrev pub same_key : Key → Key → Bool
@@ -28,6 +38,8 @@ same_key Width Width = true
 same_key Height Height = true
 same_key From From = true
 same_key To To = true
+same_key Lookups Lookups = true
+same_key Profile Profile = true
 same_key a b = false
 
 -- a byte is a decimal digit
@@ -74,90 +86,155 @@ unfoldable pub place_of : List ℕ → Option Place
 place_of text = place_cut text (first_place 44 text)
 
 -- a number as a value
-abbrev pub number_value : Option ℕ → Option Place
+abbrev pub number_value : Option ℕ → Option Value
 number_value None = None
-number_value (Some number) = Some (record { x = number; y = 0 })
+number_value (Some number) = Some (Number number)
 
--- the value of a key: a seed to 65,535, a width or a height from 1 to 1,000, or a place
-unfoldable pub value_of : Key → List ℕ → Option Place
+-- a place as a value
+abbrev pub place_value : Option Place → Option Value
+place_value None = None
+place_value (Some place) = Some (At place)
+
+-- a name of a file as a value
+abbrev pub file_value : Bool → Option Value
+file_value false = None
+file_value true = Some File
+
+-- the value of a key: a seed to 65,535, a width or a height from 1 to 1,000, a place, or a name of a file
+unfoldable pub value_of : Key → List ℕ → Option Value
 value_of Seed text = number_value (within 0 65535 (number_of text))
 value_of Width text = number_value (within 1 1000 (number_of text))
 value_of Height text = number_value (within 1 1000 (number_of text))
-value_of From text = place_of text
-value_of To text = place_of text
+value_of From text = place_value (place_of text)
+value_of To text = place_value (place_of text)
+value_of Lookups text = file_value (is_file_name text)
+value_of Profile text = file_value (is_profile_file text)
 
 -- an entry of a key and its value
-abbrev pub entry_by : ℕ → Key → Option Place → Option Entry
+abbrev pub entry_by : ℕ → Key → Option Value → Option Entry
 entry_by word key None = None
-entry_by word key (Some place) = Some (record { place = place; word = word; key = key })
+entry_by word key (Some value) = Some (record { value = value; word = word; key = key })
 
 -- an entry of a key and the text of its value
 abbrev pub entry_for : ℕ → List ℕ → Option Key → Option Entry
 entry_for word text None = None
 entry_for word text (Some key) = entry_by word key (value_of key text)
 
--- a word cut at its first equals sign
-abbrev pub entry_cut : ℕ → List ℕ → Option ℕ → Option Entry
-entry_cut word text None = None
-entry_cut word text (Some at) = entry_for word (drop (at + 1) text) (key_of (take at text))
+-- a byte is an equals sign
+abbrev pub is_equals : ℕ → Bool
+is_equals byte = byte == 61
+
+-- what a word has before its first equals sign and after it, if there is one
+abbrev pub cut_word : List ℕ → Option (List ℕ × List ℕ)
+cut_word text =
+    cond (nat_lt (position_or_len is_equals text) (length text))
+    (Some (before_first is_equals text, after_first is_equals text)) None
+
+-- an entry of what a word has before its first equals sign and after it
+abbrev pub entry_cut : ℕ → Option (List ℕ × List ℕ) → Option Entry
+entry_cut word None = None
+entry_cut word (Some parts) = entry_for word parts.1 (key_of parts.0)
 
 -- the entry of the word at this place, none where it is at fault by itself
 unfoldable pub entry_of : ℕ → List ℕ → Option Entry
-entry_of word text = entry_cut word text (first_place 61 text)
+entry_of word text = entry_cut word (cut_word text)
+
+-- the name of a file in the word at a place
+unfoldable pub name_in : List (List ℕ) → ℕ → List ℕ
+name_in texts word = after_first is_equals (slice_index_or texts word [])
 
 -- the entry of a key
 abbrev pub entry_with : Key → List Entry → Option Entry
 entry_with key entries = find (λ e. same_key e.key key) entries
 
+-- how many entries have a key
+abbrev pub count_of : Key → List Entry → ℕ
+count_of key entries = length (filter (λ e. same_key e.key key) entries)
+
+-- how often a command takes a key
+abbrev pub most_of : CommandName → Key → ℕ
+most_of Grid Lookups = 0
+most_of Grid Profile = 0
+most_of Grid key = 1
+most_of Code Lookups = 1
+most_of Code Profile = 1
+most_of Code key = 0
+
 -- the entries of words that follow others, or the place of the first word at fault: one that is no
--- entry, or whose key an earlier one has
-abbrev pub entries_after : List Entry → List (List ℕ) → Result (List Entry) ℕ
-entries_after before [] = Ok before
-entries_after before (text ∷ texts) =
+-- entry, or whose key the command doesn't take as often
+abbrev pub entries_after : CommandName → List Entry → List (List ℕ) → Result (List Entry) ℕ
+entries_after command before [] = Ok before
+entries_after command before (text ∷ texts) =
     elim (entry_of (length before + 1) text) [
       | None ↦ Err (length before + 1)
       | Some entry ↦
-          elim (entry_with entry.key before) [
-            | None ↦ entries_after (before ++ entry ∷ []) texts
-            | Some _ ↦ Err (length before + 1)
-          ]
+          cond (nat_lt (count_of entry.key before) (most_of command entry.key))
+          (entries_after command (before ++ entry ∷ []) texts) (Err (length before + 1))
     ]
 
 -- a place lies in a grid of these sizes
 abbrev pub lies_in : ℕ → ℕ → Place → Bool
 lies_in w h place = nat_lt place.x w && nat_lt place.y h
 
--- the command of five entries, or the word of the first place outside the grid
-abbrev pub command_by : Entry → Entry → Entry → Entry → Entry → Result GridCommand ℕ
-command_by seed w h from to =
-    cond (lies_in w.place.x h.place.x from.place)
-    (cond (lies_in w.place.x h.place.x to.place)
-    (Ok (record { from = from.place; to = to.place; seed = seed.place.x; w = w.place.x; h = h.place.x }))
+-- the number of a value
+abbrev pub number_in : Value → ℕ
+number_in (Number number) = number
+number_in value = 0
+
+-- the place of a value
+abbrev pub place_in : Value → Place
+place_in (At place) = place
+place_in value = record { x = 0; y = 0 }
+
+-- the command of a seed, sizes and two places with their words, or the word of the first place outside the grid
+abbrev pub grid_by : ℕ → ℕ → ℕ → Entry → Entry → Result Command ℕ
+grid_by seed w h from to =
+    cond (lies_in w h (place_in from.value))
+    (cond (lies_in w h (place_in to.value))
+    (Ok (Form.TheVariants.Grid (record { from = place_in from.value; to = place_in to.value; seed = seed; w = w; h = h })))
     (Err to.word))
     (Err from.word)
 
 -- the command of the entries that are there, or the place after the last word where one is missing
-abbrev pub command_with : ℕ → Option Entry → Option Entry → Option Entry → Option Entry → Option Entry → Result GridCommand ℕ
-command_with after (Some seed) (Some w) (Some h) (Some from) (Some to) = command_by seed w h from to
-command_with after seed w h from to = Err after
+abbrev pub grid_with : ℕ → Option Entry → Option Entry → Option Entry → Option Entry → Option Entry → Result Command ℕ
+grid_with after (Some seed) (Some w) (Some h) (Some from) (Some to) =
+    grid_by (number_in seed.value) (number_in w.value) (number_in h.value) from to
+grid_with after seed w h from to = Err after
 
--- the command of entries, before the word at this place
-unfoldable pub complete : List Entry → ℕ → Result GridCommand ℕ
-complete entries after =
-    command_with after (entry_with Seed entries) (entry_with Width entries) (entry_with Height entries)
+-- the command of the two files' words, or the place after the last word where one is missing
+abbrev pub code_with : ℕ → Option Entry → Option Entry → Result Command ℕ
+code_with after (Some lookups) (Some profile) =
+    Ok (Form.TheVariants.Code (record { lookups = lookups.word; profile = profile.word }))
+code_with after lookups profile = Err after
+
+-- the command of this name and these entries, before the word at this place
+unfoldable pub complete : CommandName → List Entry → ℕ → Result Command ℕ
+complete Grid entries after =
+    grid_with after (entry_with Seed entries) (entry_with Width entries) (entry_with Height entries)
     (entry_with From entries) (entry_with To entries)
+complete Code entries after = code_with after (entry_with Lookups entries) (entry_with Profile entries)
 
--- the command of the words after the first
-abbrev pub grid_command : List (List ℕ) → Result GridCommand ℕ
-grid_command texts =
-    elim (entries_after [] texts) [
+-- the command of this name and the words after it
+abbrev pub command_with : CommandName → List (List ℕ) → Result Command ℕ
+command_with command texts =
+    elim (entries_after command [] texts) [
       | Err word ↦ Err word
-      | Ok entries ↦ complete entries (length texts + 1)
+      | Ok entries ↦ complete command entries (length texts + 1)
     ]
 
--- The command of words: `grid`, and then each of the keys `seed`, `w`, `h`, `from`, `to` once with its
--- value. Else the place of the first word at fault; where none is, the place after the last, if a key is
--- missing; else the word of a place outside the grid.
-abbrev pub command_of : List (List ℕ) → Result GridCommand ℕ
+-- the command that a word names
+unfoldable pub command_named : List ℕ → Option CommandName
+command_named text =
+    cond (same_text text (codes "grid")) (Some Grid) (cond (same_text text (codes "code")) (Some Code) None)
+
+-- the command of words whose first names one, if it does
+abbrev pub command_by : Option CommandName → List (List ℕ) → Result Command ℕ
+command_by None texts = Err 0
+command_by (Some command) texts = command_with command texts
+
+-- The command of words: its name, and then each of its keys once with its value. Else the place of the first
+-- word at fault; where none is, the place after the last, if a key is missing; else the word of a place
+-- outside the grid.
+abbrev pub command_of : List (List ℕ) → Result Command ℕ
 command_of [] = Err 0
-command_of (name ∷ texts) = cond (same_text name (codes "grid")) (grid_command texts) (Err 0)
+command_of (name ∷ texts) = command_by (command_named name) texts

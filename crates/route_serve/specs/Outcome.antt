@@ -8,6 +8,9 @@ use Rattle.grid_map.specs.Plan.{IsPlan, plan_of}
 use Rattle.grid_map.specs.Walks.{IsLeastGridWalk, HasNoGridWalk}
 use Rattle.route_serve.specs.Command.{command_of}
 use Rattle.route_serve.specs.Lines.{grid_lines}
+use Rattle.route_serve.specs.declared.command.Command.{Command}
+use Rattle.route_serve.specs.declared.command.Command as Form
+use Rattle.route_serve.specs.declared.command.CodeCommand.{CodeCommand}
 use Rattle.route_serve.specs.declared.command.GridCommand.{GridCommand}
 use Rattle.route_serve.specs.declared.command.Place.{Place}
 use Rattle.route_serve.specs.declared.status.Status.{Status}
@@ -54,8 +57,9 @@ IsRefusal fault NoMemory output = output ≡ []
 IsRefusal fault status output = ⊥
 
 -- what the program may answer to words, and write
-abbrev pub IsOutcomeBy : Result GridCommand ℕ → Status → List ℕ → Type 0
-IsOutcomeBy (Ok command) status output = IsGridOutcome command status output
+abbrev pub IsOutcomeBy : Result Command ℕ → Status → List ℕ → Type 0
+IsOutcomeBy (Ok (Form.TheVariants.Grid command)) status output = IsGridOutcome command status output
+IsOutcomeBy (Ok (Form.TheVariants.Code command)) status output = output ≡ []
 IsOutcomeBy (Err fault) status output = IsRefusal fault status output
 
 -- what the program may answer to words, and write behind what the output held
@@ -83,6 +87,16 @@ pub record IsFit (command : GridCommand) : Type 0 where
   pub from_y : command.from.y < command.h
   pub to_x : command.to.x < command.w
   pub to_y : command.to.y < command.h
+
+-- the words that name files are among so many words after the first
+pub record IsCodeFit (words : ℕ) (command : CodeCommand) : Type 0 where
+  pub lookups : command.lookups ≤ words
+  pub profile : command.profile ≤ words
+
+-- a command that was read from so many words after the first fits
+abbrev pub IsCommandFit : ℕ → Command → Type 0
+IsCommandFit words (Form.TheVariants.Grid command) = IsFit command
+IsCommandFit words (Form.TheVariants.Code command) = IsCodeFit words command
 
 -- what a command that is answered writes behind what the output held
 pub record Writes (command : GridCommand) (status : Status) (before after : Option (List ℕ)) : Type 0 where

@@ -1,10 +1,11 @@
 //! The command that the words are.
 
 ghost use Rattle.std.specs.Prelude.{◌≡◌, [], Ok, Err, MatchResult};
-ghost use Rattle.route_serve.specs.Command.{complete, entries_after, grid_command, command_of, lies_in};
+ghost use Rattle.route_serve.specs.Command.{complete, entries_after, command_named, command_with, command_of, grid_by, lies_in, most_of};
 ghost use Rattle.route_serve.specs.Refusals.{OnUsage, texts_of};
+ghost use Rattle.route_serve.specs.declared.command.CommandName.{CommandName};
 
-use crate::entry::{Entry, Key, entry_of, entry_with};
+use crate::entry::{Entry, Key, count_of, entry_of, entry_with};
 use std::alloc::Global;
 
 /// A place of a grid by its column and its row.
@@ -24,6 +25,27 @@ pub struct GridCommand {
     pub h: u64,
 }
 
+/// The command `code`: the places of the words that name the tag table's file and the profile's.
+#[derive(Clone, Copy)]
+pub struct CodeCommand {
+    pub lookups: u64,
+    pub profile: u64,
+}
+
+/// What the first word may name.
+#[derive(Clone, Copy)]
+pub enum CommandName {
+    Grid,
+    Code,
+}
+
+/// What the words ask for.
+#[derive(Clone, Copy)]
+pub enum Command {
+    Grid(GridCommand),
+    Code(CodeCommand),
+}
+
 /// Why words are no command.
 #[derive(Clone, Copy)]
 pub enum Refusal {
@@ -34,7 +56,7 @@ pub enum Refusal {
 }
 
 /// The command of the words; `Usage` with the place of the first word at fault.
-pub fn command_of(alloc: Global, words: &[String]) -> Result<GridCommand, Refusal>
+pub fn command_of(alloc: Global, words: &[String]) -> Result<Command, Refusal>
     ensures exact { MatchResult result (λ command.
         command_of (texts_of words.now) ≡ Ok command) (λ refusal.
         OnUsage refusal (λ word. command_of (texts_of words.now) ≡ Err word)) }
@@ -42,38 +64,56 @@ pub fn command_of(alloc: Global, words: &[String]) -> Result<GridCommand, Refusa
     let [name, rest @ ..] = words else {
         return Err(Refusal::Usage(0));
     };
-    if name.as_bytes() != b"grid".as_slice() {
-        return Err(Refusal::Usage(0));
+    match command_named(name.as_bytes()) {
+        Some(command) => command_with(alloc, command, rest),
+        None => Err(Refusal::Usage(0)),
     }
-    grid_command(alloc, rest)
 }
 
-/// The command of the words after `grid`.
-fn grid_command(alloc: Global, words: &[String]) -> Result<GridCommand, Refusal>
-    ensures exact { MatchResult result (λ command.
-        grid_command (texts_of words.now) ≡ Ok command) (λ refusal.
-        OnUsage refusal (λ word. grid_command (texts_of words.now) ≡ Err word)) }
+/// The command that a word names.
+#[tactic(auto, unfolding(crate::specs::Command::command_named))]
+fn command_named(name: &[u8]) -> Option<CommandName>
+    ensures exact { result ≡ command_named name.now }
 {
-    let entries = read_entries(alloc, words)?;
-    match complete(entries.as_slice(), words.len() as u64 + 1) {
+    if name == b"grid".as_slice() {
+        Some(CommandName::Grid)
+    } else if name == b"code".as_slice() {
+        Some(CommandName::Code)
+    } else {
+        None
+    }
+}
+
+/// The command of this name and the words after it.
+fn command_with(alloc: Global, command: CommandName, words: &[String]) -> Result<Command, Refusal>
+    ensures exact { MatchResult result (λ given.
+        command_with command (texts_of words.now) ≡ Ok given) (λ refusal.
+        OnUsage refusal (λ word. command_with command (texts_of words.now) ≡ Err word)) }
+{
+    let entries = read_entries(alloc, command, words)?;
+    match complete(command, entries.as_slice(), words.len() as u64 + 1) {
         Ok(command) => Ok(command),
         Err(word) => Err(Refusal::Usage(word)),
     }
 }
 
-/// The entries of the words after `grid`.
-fn read_entries(alloc: Global, words: &[String]) -> Result<Vec<Entry>, Refusal>
+/// The entries of the words after a command's name.
+fn read_entries(
+    alloc: Global,
+    command: CommandName,
+    words: &[String],
+) -> Result<Vec<Entry>, Refusal>
     ensures exact { MatchResult result (λ entries.
-        entries_after [] (texts_of words.now) ≡ Ok entries.items) (λ refusal.
-        OnUsage refusal (λ word. entries_after [] (texts_of words.now) ≡ Err word)) }
+        entries_after command [] (texts_of words.now) ≡ Ok entries.items) (λ refusal.
+        OnUsage refusal (λ word. entries_after command [] (texts_of words.now) ≡ Err word)) }
 {
     let mut entries = Vec::new(alloc);
     'words: for word in words {
         let place = entries.len() as u64 + 1;
-        let Some(entry) = entry_of(place, word.as_bytes()) else {
+        let Some(entry) = entry_of(place, word.as_str()) else {
             return Err(Refusal::Usage(place));
         };
-        if entry_with(entries.as_slice(), entry.key).is_some() {
+        if count_of(entries.as_slice(), entry.key) >= most_of(command, entry.key) {
             return Err(Refusal::Usage(place));
         }
         match entries.push(entry) {
@@ -84,29 +124,78 @@ fn read_entries(alloc: Global, words: &[String]) -> Result<Vec<Entry>, Refusal>
     Ok(entries)
 }
 
-/// The command of the entries, before the word at the place `after`.
+/// How often a command takes a key.
+fn most_of(command: CommandName, key: Key) -> usize
+    ensures exact { result ≡ most_of command key }
+{
+    match (command, key) {
+        (CommandName::Grid, Key::Lookups | Key::Profile) => 0,
+        (CommandName::Grid, _) => 1,
+        (CommandName::Code, Key::Lookups | Key::Profile) => 1,
+        (CommandName::Code, _) => 0,
+    }
+}
+
+/// The command of this name and these entries, before the word at the place `after`.
 #[tactic(auto, unfolding(crate::specs::Command::complete))]
-fn complete(entries: &[Entry], after: u64) -> Result<GridCommand, u64>
-    ensures exact { result ≡ complete entries.now after }
+fn complete(command: CommandName, entries: &[Entry], after: u64) -> Result<Command, u64>
+    ensures exact { result ≡ complete command entries.now after }
+{
+    match command {
+        CommandName::Grid => complete_grid(entries, after),
+        CommandName::Code => complete_code(entries, after),
+    }
+}
+
+/// The command `grid` of these entries, before the word at the place `after`.
+#[tactic(auto, unfolding(crate::specs::Command::complete))]
+fn complete_grid(entries: &[Entry], after: u64) -> Result<Command, u64>
+    ensures exact { result ≡ complete CommandName.Grid entries.now after }
 {
     let seed = entry_with(entries, Key::Seed).ok_or(after)?;
     let w = entry_with(entries, Key::Width).ok_or(after)?;
     let h = entry_with(entries, Key::Height).ok_or(after)?;
     let from = entry_with(entries, Key::From).ok_or(after)?;
     let to = entry_with(entries, Key::To).ok_or(after)?;
-    if !lies_in(w.place.x, h.place.x, from.place) {
+    grid_by(
+        seed.value.number(),
+        w.value.number(),
+        h.value.number(),
+        from,
+        to,
+    )
+}
+
+/// The grid of a seed and sizes between two places, where they lie in it.
+fn grid_by(seed: u64, w: u64, h: u64, from: Entry, to: Entry) -> Result<Command, u64>
+    ensures exact { result ≡ grid_by seed w h from to }
+{
+    if !lies_in(w, h, from.value.place()) {
         return Err(from.word);
     }
-    if !lies_in(w.place.x, h.place.x, to.place) {
+    if !lies_in(w, h, to.value.place()) {
         return Err(to.word);
     }
-    Ok(GridCommand {
-        from: from.place,
-        to: to.place,
-        seed: seed.place.x,
-        w: w.place.x,
-        h: h.place.x,
-    })
+    Ok(Command::Grid(GridCommand {
+        from: from.value.place(),
+        to: to.value.place(),
+        seed,
+        w,
+        h,
+    }))
+}
+
+/// The command `code` of these entries, before the word at the place `after`.
+#[tactic(auto, unfolding(crate::specs::Command::complete))]
+fn complete_code(entries: &[Entry], after: u64) -> Result<Command, u64>
+    ensures exact { result ≡ complete CommandName.Code entries.now after }
+{
+    let lookups = entry_with(entries, Key::Lookups).ok_or(after)?;
+    let profile = entry_with(entries, Key::Profile).ok_or(after)?;
+    Ok(Command::Code(CodeCommand {
+        lookups: lookups.word,
+        profile: profile.word,
+    }))
 }
 
 /// Whether a place lies in a grid of these sizes.

@@ -1,11 +1,14 @@
 //! One word of the command line after the first: a key and its value.
 
 ghost use Rattle.std.specs.Prelude.{◌≡◌};
-ghost use Rattle.route_serve.specs.Command.{key_of, number_of, within, number_value, value_of, first_place, place_of, entry_of, entry_with};
+ghost use Rattle.std.specs.Prelude.{option_map, slice_index_or, [], ◌<◌, length};
+ghost use Rattle.route_serve.specs.Command.{key_of, number_of, within, number_value, place_value, value_of, first_place, place_of, cut_word, entry_of, entry_with, count_of, number_in, place_in, name_in};
+ghost use Rattle.route_serve.specs.Refusals.{texts_of, texts_in};
 
 use crate::command::Place;
+use crate::file_names::is_profile_file;
 
-/// The keys that the command `grid` takes.
+/// The keys of the words after a command.
 #[derive(Clone, Copy, PartialEq, Eq)]
 pub enum Key {
     Seed,
@@ -13,12 +16,44 @@ pub enum Key {
     Height,
     From,
     To,
+    Lookups,
+    Profile,
 }
 
-/// A key with its value: a place, or a number, which stands in `x`. `word` is the word's place.
+/// The value of a key; a file's name stands in its word.
+#[derive(Clone, Copy)]
+pub enum Value {
+    Number(u64),
+    At(Place),
+    File,
+}
+
+impl Value {
+    /// The number of a value that is one.
+    pub fn number(self) -> u64
+        ensures exact { result ≡ number_in self }
+    {
+        match self {
+            Value::Number(number) => number,
+            _ => 0,
+        }
+    }
+
+    /// The place of a value that is one.
+    pub fn place(self) -> Place
+        ensures exact { result ≡ place_in self }
+    {
+        match self {
+            Value::At(place) => place,
+            _ => Place { x: 0, y: 0 },
+        }
+    }
+}
+
+/// A key with its value, and the place of its word.
 #[derive(Clone, Copy)]
 pub struct Entry {
-    pub place: Place,
+    pub value: Value,
     pub word: u64,
     pub key: Key,
 }
@@ -38,6 +73,10 @@ fn key_of(text: &[u8]) -> Option<Key>
         Some(Key::From)
     } else if text == b"to".as_slice() {
         Some(Key::To)
+    } else if text == b"lookups".as_slice() {
+        Some(Key::Lookups)
+    } else if text == b"profile".as_slice() {
+        Some(Key::Profile)
     } else {
         None
     }
@@ -80,37 +119,67 @@ fn place_of(text: &[u8]) -> Option<Place>
 }
 
 /// The number of a text as a value, where it lies between `low` and `high`.
-fn number_value(text: &[u8], low: u64, high: u64) -> Option<Place>
+fn number_value(text: &[u8], low: u64, high: u64) -> Option<Value>
     ensures exact { result ≡ number_value (within low high (number_of text.now)) }
 {
     let number = number_of(text)?;
     if low <= number && number <= high {
-        Some(Place { x: number, y: 0 })
+        Some(Value::Number(number))
     } else {
         None
     }
 }
 
-/// The entry of the word at this place; `None` where the word is at fault by itself.
-#[tactic(auto, unfolding(crate::specs::Command::entry_of))]
-pub fn entry_of(word: u64, text: &[u8]) -> Option<Entry>
-    ensures exact { result ≡ entry_of word text.now }
+/// The place of a text as a value.
+fn place_value(text: &[u8]) -> Option<Value>
+    ensures exact { result ≡ place_value (place_of text.now) }
 {
-    let at = first_place(b'=', text)?;
-    let key = key_of(&text[..at])?;
-    let place = value_of(key, &text[at + 1..])?;
-    Some(Entry { place, word, key })
+    let place = place_of(text)?;
+    Some(Value::At(place))
 }
 
-/// The value of a key: a seed, a size or a place.
+/// What a word has before its first equals sign and after it.
+fn cut_word(text: &str) -> Option<(&str, &str)>
+    ensures exact { option_map texts_in result ≡ cut_word text.now }
+{
+    text.split_once('=')
+}
+
+/// The entry of the word at this place; `None` where the word is at fault by itself.
+#[tactic(auto, unfolding(crate::specs::Command::entry_of))]
+pub fn entry_of(word: u64, text: &str) -> Option<Entry>
+    ensures exact { result ≡ entry_of word text.now }
+{
+    let parts = cut_word(text)?;
+    let key = key_of(parts.0.as_bytes())?;
+    let value = value_of(key, parts.1.as_bytes())?;
+    Some(Entry { value, word, key })
+}
+
+/// The name of a file in the word at a place.
+#[tactic(auto, unfolding(crate::specs::Command::name_in))]
+pub fn name_in(words: &[String], word: u64) -> &str
+    requires { word < length words.now }
+    ensures exact { result.now ≡ name_in (texts_of words.now) word }
+{
+    match cut_word(words[word as usize].as_str()) {
+        Some(parts) => parts.1,
+        None => "",
+    }
+}
+
+/// The value of a key: a seed, a size, a place or a file's name.
 #[tactic(auto, unfolding(crate::specs::Command::value_of))]
-fn value_of(key: Key, value: &[u8]) -> Option<Place>
+fn value_of(key: Key, value: &[u8]) -> Option<Value>
     ensures exact { result ≡ value_of key value.now }
 {
     match key {
         Key::Seed => number_value(value, 0, 65535),
         Key::Width | Key::Height => number_value(value, 1, 1000),
-        Key::From | Key::To => place_of(value),
+        Key::From | Key::To => place_value(value),
+        Key::Lookups if !value.is_empty() => Some(Value::File),
+        Key::Profile if is_profile_file(value) => Some(Value::File),
+        Key::Lookups | Key::Profile => None,
     }
 }
 
@@ -119,4 +188,11 @@ pub fn entry_with(entries: &[Entry], key: Key) -> Option<Entry>
     ensures exact { result ≡ entry_with key entries.now }
 {
     entries.iter().copied().find(|entry| entry.key == key)
+}
+
+/// How many entries have a key.
+pub fn count_of(entries: &[Entry], key: Key) -> usize
+    ensures exact { result ≡ count_of key entries.now }
+{
+    entries.iter().filter(|entry| entry.key == key).count()
 }

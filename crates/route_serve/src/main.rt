@@ -3,6 +3,7 @@
 
 mod command;
 mod entry;
+mod file_names;
 mod lines;
 mod run;
 mod status;

@@ -6,9 +6,9 @@ ghost use Rattle.grid_map.specs.Plan.{IsPlan};
 ghost use Rattle.route_serve.specs.Command.{command_of};
 ghost use Rattle.route_serve.specs.Refusals.{texts_of};
 ghost use Rattle.route_serve.specs.Outcome.{IsOutcome, IsGridOutcome, HasCause, IsComplete, ShowsWalk, HasNoWalk, plan_by, cell_at, IsFit, Writes};
-ghost use Rattle.route_serve.specs.declared.command.GridCommand.{GridCommand as TheCommand};
+ghost use Rattle.route_serve.specs.declared.command.Command.{Command as TheCommand};
 
-use crate::command::{GridCommand, Place, Refusal, command_of};
+use crate::command::{Command, GridCommand, Place, Refusal, command_of};
 use crate::lines::grid_lines;
 use crate::status::{GridError, Status};
 use edge_io::{Sink, send_all};
@@ -23,7 +23,8 @@ pub fn run<O: Sink>(alloc: Global, words: &[String], out: &mut O) -> Status
         (CountRose (O.faults out.old) (O.faults out.new) → ⊥) → IsComplete result }
 {
     match command_of(alloc, words) {
-        Ok(command) => run_grid(alloc, &command, out),
+        Ok(Command::Grid(command)) => run_grid(alloc, &command, out),
+        Ok(Command::Code(_)) => Status::NoMemory,
         Err(Refusal::Usage(word)) => Status::Usage { word },
         Err(Refusal::NoMemory) => Status::NoMemory,
     }

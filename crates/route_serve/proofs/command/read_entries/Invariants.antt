@@ -7,5 +7,5 @@ abbrev pub invariant-words : goal.invariant-words
 invariant-words l =
     record {
       counted : length l.entries.items ≡ l.word-index;
-      rest : entries_after [] (texts_of l.words) ≡ entries_after l.entries.items (texts_of (drop l.word-index l.words));
+      rest : entries_after l.command [] (texts_of l.words) ≡ entries_after l.command l.entries.items (texts_of (drop l.word-index l.words));
     }

@@ -1,0 +1,80 @@
+//! The value of an expression.
+ghost use Rattle.std.specs.Prelude.{◌≡◌, Ok, option_copied};
+ghost use Rattle.profile_text.specs.Expr.{tree_of};
+ghost use Rattle.profile_text.specs.Meaning.{and_then, arithmetic, known, value_of, variable_in};
+ghost use Rattle.profile_text.specs.Meaning as meaning;
+ghost use Rattle.profile_text.specs.Scope.{looks_among, outcome_in};
+
+use crate::expr::{Expr, Op};
+use crate::fault::Fault;
+use crate::operate::{decided_by, is_true, result_of};
+use crate::parts::truth;
+use crate::scope::Scope;
+use fixed_num::Num;
+
+/// The value of an expression, or the first fault that its evaluation meets.
+pub(crate) fn evaluate(expr: &Expr, scope: &Scope) -> Result<Num, Fault>
+    ensures value { let variables = variable_in scope.now.global.now scope.now.own.now in
+        let looks = looks_among (option_copied scope.now.tags) in
+        outcome_in result ≡ value_of variables looks (tree_of expr.now) }
+{
+    match expr {
+        Expr::Number(number) => Ok(*number),
+        Expr::Var { name, line } => known_number(*line, scope.variable(name.as_slice())),
+        Expr::Look { tag, values, line } => {
+            known_truth(*line, scope.look(tag.as_slice(), values.as_slice()))
+        }
+        Expr::Not(operand) => {
+            let number = evaluate(operand, scope)?;
+            Ok(truth(!is_true(number)))
+        }
+        Expr::Two(op, first, second) => {
+            let number = evaluate(first, scope)?;
+            match decided_by(*op, number) {
+                Some(decided) => Ok(decided),
+                None => {
+                    let other = evaluate(second, scope)?;
+                    applied(*op, number, other)
+                }
+            }
+        }
+        Expr::Pick(test, chosen, other) => {
+            let number = evaluate(test, scope)?;
+            if is_true(number) {
+                evaluate(chosen, scope)
+            } else {
+                evaluate(other, scope)
+            }
+        }
+    }
+}
+
+/// The value that a variable is known to have.
+fn known_number(line: u32, value: Option<Num>) -> Result<Num, Fault>
+    ensures value { outcome_in result ≡ known line value }
+{
+    match value {
+        Some(number) => Ok(number),
+        None => Err(Fault::Unknown(line)),
+    }
+}
+
+/// The number of what a look is known to come to.
+fn known_truth(line: u32, value: Option<bool>) -> Result<Num, Fault>
+    ensures value { outcome_in result ≡ and_then (known line value) (λ found. Ok (meaning.truth found)) }
+{
+    match value {
+        Some(found) => Ok(truth(found)),
+        None => Err(Fault::Unknown(line)),
+    }
+}
+
+/// What an operator makes of two operands.
+fn applied(op: Op, first: Num, second: Num) -> Result<Num, Fault>
+    ensures value { outcome_in result ≡ arithmetic (meaning.result_of op first second) }
+{
+    match result_of(op, first, second) {
+        Ok(number) => Ok(number),
+        Err(kind) => Err(Fault::Faulty(kind)),
+    }
+}

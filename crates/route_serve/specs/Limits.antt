@@ -1,0 +1,10 @@
+-- How many bytes of files are taken. This project's own rule.
+use Rattle.std.specs.Prelude.{ℕ}
+
+-- the most bytes of a tag table's file
+abbrev pub most_lookups : ℕ
+most_lookups = 1048576
+
+-- the most bytes of a profile's file
+abbrev pub most_profile : ℕ
+most_profile = 262144
