@@ -17,3 +17,6 @@ pub use code::Code;
 pub use compiler::compile;
 pub use lister::{listing, variable_name};
 pub use profile_text::Section;
+
+#[cfg(test)]
+mod tests;
