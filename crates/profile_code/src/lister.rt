@@ -8,7 +8,9 @@ ghost use Rattle.profile_code.specs.Listing.{instr_text, line_text, lines_text, 
 use crate::code::Code;
 use crate::instr::{Instr, Look};
 use crate::labels::Labels;
-use crate::words::{append_number, append_numbers, append_two, name_at, op_word, own_word, section_line};
+use crate::words::{
+    append_number, append_numbers, append_two, name_at, op_word, own_word, section_line,
+};
 use fixed_num::SixDecimals;
 use lookup_table::Name;
 use profile_text::Section;

@@ -68,7 +68,8 @@ section way
 4 num 1.000000
 5 set costfactor
 section node
-".as_slice(),
+"
+            .as_slice(),
         "a choice"
     );
     let gate = "---context:way assign nodeaccessgranted highway=cycleway assign costfactor 1
@@ -94,7 +95,8 @@ section node
 9 jump 11
 10 num 0.000000
 11 set initialcost
-".as_slice(),
+"
+            .as_slice(),
         "a choice on `and`"
     );
     Ok(())
@@ -153,18 +155,18 @@ section node
 5 divide
 6 greater
 7 set initialcost
-".as_slice(),
+"
+            .as_slice(),
         "each operator, looks of several values, and variables of both sections"
     );
     Ok(())
 }
 
 #[test]
-fn an_override_takes_the_place_of_each_assignment_of_its_name(
-    rt: HostRuntime,
-) -> Result<(), Fail> {
+fn an_override_takes_the_place_of_each_assignment_of_its_name(rt: HostRuntime) -> Result<(), Fail> {
     let alloc = rt.alloc();
-    let text = b"---context:global assign a 1 assign b a assign a add a b ---context:way assign costfactor a";
+    let text =
+        b"---context:global assign a 1 assign b a assign a add a b ---context:way assign costfactor a";
     let number = Num::of(-2_500_000).ok_or("a number in range")?;
     let mut overrides = Overrides::new(alloc);
     overrides.push((name(alloc, "a")?, number))?;
@@ -182,12 +184,16 @@ section way
 0 get global a
 1 set costfactor
 section node
-".as_slice(),
+"
+            .as_slice(),
         "two assignments of an overridden name"
     );
     let names = code.section(Section::Global).names();
     assert!(rt; names.len() == 3, "a name for each assignment");
-    assert_eq!(rt; variable_name(&code, Section::Global, 1).as_slice(), b"b".as_slice());
+    assert_eq!(rt;
+        variable_name(&code, Section::Global, 1).as_slice(),
+        b"b".as_slice()
+    );
     Ok(())
 }
 
