@@ -1,16 +1,15 @@
 -- The code that was put together is that of the profile.
-use Rattle.std.proofs.Common.{◌≡◌, ℕ, max, List, [], ◌∷◌, length, map, ℤ, refl, sym, ap, ◌∙◌}
+use Rattle.std.proofs.Common.{◌≡◌, ℕ, max, List, [], length, map, ℤ, ap, ◌∙◌}
 use Rattle.context_check.specs.Checked.{Subject}
 use Rattle.context_check.specs.Refusal.{names_in}
 use Rattle.lookup_table.specs.First.{TagTable}
 use Rattle.lookup_table.specs.Tag.{TagRow}
 use Rattle.profile_code.proofs.SectionLemmas.{under, under_none}
-use Rattle.profile_code.specs.declared.instr.Instr.{Instr}
 use Rattle.profile_code.specs.Emit.{section_code, section_height}
 use Rattle.profile_code.specs.Flat.{Flat, FlatSection, flat_of, global_assignments}
 use Rattle.profile_text.specs.Expr.{assignment_in, sections_in}
 use Rattle.profile_text.specs.Meaning.{overridden}
-use Rattle.profile_text.specs.Tree.{Assignment, Sections}
+use Rattle.profile_text.specs.Tree.{Sections}
 use Rattle.profile_text.specs.declared.profile.Assign.{Assign}
 use Rattle.profile_text.specs.declared.profile.Profile.{Profile}
 
@@ -47,11 +46,11 @@ compiled subject profile table overrides none no_names globals ways nodes flat g
     let in_way : map assignment_in ways ≡ s.way = ap (map assignment_in) ways_is ∙ ap (λ (x : Sections). x.way) sections_is in
     let in_node : map assignment_in nodes ≡ s.node = ap (map assignment_in) nodes_is ∙ ap (λ (x : Sections). x.node) sections_is in
     let under_global : under overrides globals ≡ global_assignments subject =
-        ap (λ o. map (overridden o) (map assignment_in globals)) overrides_is ∙ ap (map (overridden subject.overrides)) in_global in
+    ap (λ o. map (overridden o) (map assignment_in globals)) overrides_is ∙ ap (map (overridden subject.overrides)) in_global in
     let under_way : under none ways ≡ s.way =
-        ap (λ o. map (overridden o) (map assignment_in ways)) none_is ∙ under_none (map assignment_in ways) ∙ in_way in
+    ap (λ o. map (overridden o) (map assignment_in ways)) none_is ∙ under_none (map assignment_in ways) ∙ in_way in
     let under_node : under none nodes ≡ s.node =
-        ap (λ o. map (overridden o) (map assignment_in nodes)) none_is ∙ under_none (map assignment_in nodes) ∙ in_node in
+    ap (λ o. map (overridden o) (map assignment_in nodes)) none_is ∙ under_none (map assignment_in nodes) ∙ in_node in
     let names : flat.global.names ≡ names_in s.global = of_global.named ∙ ap names_in in_global in
     same_flat flat (flat_of subject)
     (same_section flat.global (flat_of subject).global

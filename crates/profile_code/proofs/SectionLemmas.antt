@@ -1,5 +1,5 @@
 -- The code of a section, one assignment after the other.
-use Rattle.std.proofs.Common.{◌≡◌, ℕ, zero, suc, ◌+◌, ◌<◌, ◌≤◌, max, List, [], ◌∷◌, ◌++◌, length, map, drop, get_or, ℤ, Option, Some, None, refl, sym, ap, ◌∙◌, arith, append_assoc}
+use Rattle.std.proofs.Common.{◌≡◌, ℕ, zero, suc, ◌+◌, ◌<◌, ◌≤◌, max, List, [], ◌∷◌, ◌++◌, length, map, drop, get_or, ℤ, refl, sym, ap, ◌∙◌, arith, append_assoc}
 use Rattle.std.specs.Map.{lookup}
 use Rattle.std.specs.Str.{bytes_eq}
 use Rattle.std.proofs.lemmas.List.{append-nil, drop_all, length-map}
@@ -54,16 +54,16 @@ module _ (overrides : List (List ℕ × ℤ)) where
       let high : section_height all ≡ max height (max (height_of b.value) (section_height rest)) = so_far.high ∙ ap (λ l. max height (section_height l)) here in
       record {
         code = so_far.code
-        ∙ ap (λ l. instrs ++ section_code rows global names l) here
-        ∙ ap (λ l. instrs ++ (ops ++ Set ∷ section_code rows global l rest)) more_b
-        ∙ flat
-        ∙ ap (λ l. l ++ section_code rows global more rest) (sym new_is)
-        ∙ ap (λ n. new ++ section_code rows global more (drop n all)) next;
+            ∙ ap (λ l. instrs ++ section_code rows global names l) here
+            ∙ ap (λ l. instrs ++ (ops ++ Set ∷ section_code rows global l rest)) more_b
+            ∙ flat
+            ∙ ap (λ l. l ++ section_code rows global more rest) (sym new_is)
+            ∙ ap (λ n. new ++ section_code rows global more (drop n all)) next;
         named = so_far.named
-        ∙ ap (λ l. names ++ names_in l) here
-        ∙ sym (append_assoc names (b.name ∷ []) (names_in rest))
-        ∙ ap (λ l. l ++ names_in rest) more_b
-        ∙ ap (λ n. more ++ names_in (drop n all)) next;
+            ∙ ap (λ l. names ++ names_in l) here
+            ∙ sym (append_assoc names (b.name ∷ []) (names_in rest))
+            ∙ ap (λ l. l ++ names_in rest) more_b
+            ∙ ap (λ n. more ++ names_in (drop n all)) next;
         high = high ∙ by_max (height_of b.value) (section_height rest) one_is ∙ ap (λ n. max (max height one) (section_height (drop n all))) next;
       }
     where

@@ -3,6 +3,8 @@ pub mod Effects
 pub mod Emit
 pub mod Flat
 pub mod Held
+pub mod Labels
+pub mod Listing
 pub mod Machine
 pub mod Operands
 pub mod Runs

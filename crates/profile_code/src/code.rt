@@ -58,12 +58,12 @@ impl Model for Parts {
     ghost Value = { Flat };
 
     ghost view = { λ p. record {
-        global = p.global;
-        way = p.way;
-        node = p.node;
-        way_tags = p.way_tags;
-        node_tags = p.node_tags;
-        room = p.room;
+      global = p.global;
+      way = p.way;
+      node = p.node;
+      way_tags = p.way_tags;
+      node_tags = p.node_tags;
+      room = p.room;
     } };
 }
 

@@ -9,6 +9,8 @@ mod emit;
 mod fault;
 mod global_effects;
 mod instr;
+mod labels;
+mod lister;
 mod look;
 mod operands;
 mod operators;
@@ -20,13 +22,17 @@ mod section;
 mod stack;
 mod step;
 #[cfg(test)]
+mod tests;
+#[cfg(test)]
 mod tests_runs;
 mod values;
 mod way_effects;
+mod words;
 
 pub use code::Code;
 pub use compiler::compile;
 pub use fault::Fault;
+pub use lister::{listing, variable_name};
 pub use profile_text::Section;
 pub use runs::{global_value, run_global, run_node, run_way};
 pub use scratch::Scratch;

@@ -1,4 +1,6 @@
 //! Runs of profiles whose values were worked out by hand.
+ghost use Rattle.profile_code.specs.Scratch.{IsScratchOf};
+
 use super::*;
 use context_check::{Overrides, check};
 use fixed_num::{Arith, Num};
@@ -95,9 +97,22 @@ fn global(rt: &impl Abort, alloc: Global, text: &str) -> Result<[i64; 7], Fault>
 fn way(rt: &impl Abort, alloc: Global, text: &str, numbers: &[u16]) -> Result<[i64; 7], Fault> {
     let code = code_of(rt, alloc, text, &Overrides::new(alloc));
     let mut scratch = Scratch::new(alloc, &code).expect(rt, "memory for the runs");
+    way_in(rt, &code, &mut scratch, numbers)
+}
+
+/// The same in a scratch that may have been used before.
+fn way_in(
+    rt: &impl Abort,
+    code: &Code,
+    scratch: &mut Scratch,
+    numbers: &[u16],
+) -> Result<[i64; 7], Fault>
+    requires { IsScratchOf code.now scratch.old }
+    ensures { IsScratchOf code.now scratch.new }
+{
     assert_eq!(rt; numbers.len(), code.tags(Part::Way) as usize);
-    let _ = run_global(&code, &mut scratch)?;
-    Ok(counts(run_way(&code, numbers, &mut scratch)?))
+    let _ = run_global(code, scratch)?;
+    Ok(counts(run_way(code, numbers, scratch)?))
 }
 
 /// The values of a way in millionths.
@@ -281,21 +296,15 @@ fn a_run_after_a_fault_is_as_the_first(rt: HostRuntime) {
     let text = "---context:way assign costfactor divide 1 highway=primary";
     let code = code_of(&rt, rt.alloc(), text, &Overrides::new(rt.alloc()));
     let mut scratch = Scratch::new(rt.alloc(), &code).expect(&rt, "memory for the runs");
-    assert_eq!(rt; code.tags(Part::Way), 6);
-    for numbers in [[0, 3, 0, 0, 0, 0], [0; 6], [0, 3, 0, 0, 0, 0]] {
-        let fault = Fault {
-            variable: 0,
-            kind: Arith::DivZero,
-        };
-        let want = if numbers[1] == 3 {
-            Ok([1_000_000, 0, 0, 0, 0, 0, 0])
-        } else {
-            Err(fault)
-        };
-        assert_eq!(rt; run_global(&code, &mut scratch).is_ok(), true);
-        let answer = run_way(&code, &numbers, &mut scratch);
-        assert_eq!(rt; answer.map(counts), want);
-    }
+    let fault = Fault {
+        variable: 0,
+        kind: Arith::DivZero,
+    };
+    let primary = [0, 3, 0, 0, 0, 0];
+    let want = Ok([1_000_000, 0, 0, 0, 0, 0, 0]);
+    assert_eq!(rt; way_in(&rt, &code, &mut scratch, &primary), want);
+    assert_eq!(rt; way_in(&rt, &code, &mut scratch, &[0; 6]), Err(fault));
+    assert_eq!(rt; way_in(&rt, &code, &mut scratch, &primary), want);
 }
 
 #[test]

@@ -1,4 +1,4 @@
-use Rattle.std.proofs.Common.{◌≡◌, ◌∙◌, [], ap, map, max}
+use Rattle.std.proofs.Common.{◌∙◌, [], ap, max}
 use Rattle.context_check.specs.Subject.{subject_of}
 use Rattle.profile_code.specs.Emit.{section_code}
 use Rattle.profile_code.specs.Flat.{Flat, FlatSection}

@@ -1,4 +1,4 @@
-use Rattle.std.proofs.Common.{◌≡◌, ◌++◌, ◌∙◌, sym, ap, List}
+use Rattle.std.proofs.Common.{◌++◌, ◌∙◌, sym, ap, List}
 use Rattle.profile_code.specs.declared.instr.Instr.{Instr}
 use Rattle.profile_code.specs.Emit.{expr_code, choice_code}
 use Rattle.profile_code.specs.Scope.{rows_in}

@@ -1,6 +1,6 @@
-use Rattle.std.proofs.Common.{◌++◌, ◌∷◌, [], ◌∙◌, ap, sym, max, arith}
+use Rattle.std.proofs.Common.{◌++◌, ◌∷◌, [], ◌∙◌, ap}
 use Rattle.profile_code.specs.Scope.{rows_in}
-use Rattle.profile_code.proofs.SectionLemmas.{EmittedUpTo, EmittedUpTo-more, EmittedUpTo-names, under}
+use Rattle.profile_code.proofs.SectionLemmas.{EmittedUpTo-more, EmittedUpTo-names}
 use Rattle.profile_code.proofs.section.section.Goals as goal
 
 pub assigns-preserved : goal.assigns-preserved
