@@ -24,6 +24,8 @@ mod step;
 #[cfg(test)]
 mod tests;
 #[cfg(test)]
+mod tests_faults;
+#[cfg(test)]
 mod tests_runs;
 mod values;
 mod way_effects;

@@ -35,7 +35,7 @@ bicycle;0000000010 no
 ";
 
 /// The code of a profile under overrides.
-fn code_of(rt: &impl Abort, alloc: Global, text: &[u8], overrides: &Overrides) -> Code {
+pub(crate) fn code_of(rt: &impl Abort, alloc: Global, text: &[u8], overrides: &Overrides) -> Code {
     assert!(rt; text.len() < 100_000, "a short text");
     let table = Table::read(alloc, LOOK.as_bytes()).expect(rt, "a table");
     let profile = Profile::read(alloc, text).expect(rt, "a profile");

@@ -2,39 +2,11 @@
 ghost use Rattle.profile_code.specs.Scratch.{IsScratchOf};
 
 use super::*;
-use context_check::{Overrides, check};
-use fixed_num::{Arith, Num};
-use item_list::Items;
-use lookup_table::{Name, Part, Table};
-use profile_text::Profile;
+use crate::tests::code_of;
+use context_check::Overrides;
+use lookup_table::Part;
 use std::alloc::Global;
 use std::process::Abort;
-use std::test::Fail;
-
-/// A table of six way tags and three node tags.
-const LOOK: &str = "---lookupversion:10
----minorversion:1
-
----context:way
-reversedirection;0000000000 yes
-highway;0000000400 residential
-highway;0000000300 primary
-highway;0000000200 track
-highway;0000000100 cycleway
-oneway;0000000020 yes true 1
-oneway;0000000010 no
-bicycle;0000000020 yes
-bicycle;0000000010 no
-junction;0000000010 roundabout
-route_bicycle_rcn;0000000000 yes
-
----context:node
-nodeaccessgranted;0000000000 yes
-barrier;0000000020 gate
-barrier;0000000010 bollard
-bicycle;0000000020 yes
-bicycle;0000000010 no
-";
 
 /// A profile for trekking.
 const TREK: &str = "---context:global   # numbers are this project's own
@@ -68,18 +40,9 @@ assign initialcost = if nodeaccess then 0 else 20
 const GATE: &str = "---context:way assign nodeaccessgranted highway=cycleway assign costfactor 1
 ---context:node assign initialcost switch and barrier=gate not nodeaccessgranted=yes 1000000 0";
 
-/// The code of a profile.
-fn code_of(rt: &impl Abort, alloc: Global, text: &str, overrides: &Overrides) -> Code {
-    assert!(rt; text.len() < 100_000, "a short text");
-    let table = Table::read(alloc, LOOK.as_bytes()).expect(rt, "a table");
-    let profile = Profile::read(alloc, text.as_bytes()).expect(rt, "a profile");
-    let checked = check(alloc, &profile, &table, overrides).expect(rt, "a profile without fault");
-    compile(alloc, &checked).expect(rt, "memory for the code")
-}
-
 /// What the global section comes to, in millionths.
-fn global(rt: &impl Abort, alloc: Global, text: &str) -> Result<[i64; 7], Fault> {
-    let code = code_of(rt, alloc, text, &Overrides::new(alloc));
+pub(crate) fn global(rt: &impl Abort, alloc: Global, text: &str) -> Result<[i64; 7], Fault> {
+    let code = code_of(rt, alloc, text.as_bytes(), &Overrides::new(alloc));
     let mut scratch = Scratch::new(alloc, &code).expect(rt, "memory for the runs");
     let [a, b, c, d, e, f, g] = run_global(&code, &mut scratch)?;
     Ok([
@@ -94,14 +57,19 @@ fn global(rt: &impl Abort, alloc: Global, text: &str) -> Result<[i64; 7], Fault>
 }
 
 /// What a way with these tag numbers comes to, in millionths.
-fn way(rt: &impl Abort, alloc: Global, text: &str, numbers: &[u16]) -> Result<[i64; 7], Fault> {
-    let code = code_of(rt, alloc, text, &Overrides::new(alloc));
+pub(crate) fn way(
+    rt: &impl Abort,
+    alloc: Global,
+    text: &str,
+    numbers: &[u16],
+) -> Result<[i64; 7], Fault> {
+    let code = code_of(rt, alloc, text.as_bytes(), &Overrides::new(alloc));
     let mut scratch = Scratch::new(alloc, &code).expect(rt, "memory for the runs");
     way_in(rt, &code, &mut scratch, numbers)
 }
 
 /// The same in a scratch that may have been used before.
-fn way_in(
+pub(crate) fn way_in(
     rt: &impl Abort,
     code: &Code,
     scratch: &mut Scratch,
@@ -116,7 +84,7 @@ fn way_in(
 }
 
 /// The values of a way in millionths.
-fn counts(way: WayValues) -> [i64; 7] {
+pub(crate) fn counts(way: WayValues) -> [i64; 7] {
     [
         way.costfactor.millionths(),
         way.turncost.millionths(),
@@ -129,8 +97,13 @@ fn counts(way: WayValues) -> [i64; 7] {
 }
 
 /// What a node with these tag numbers comes to, in millionths.
-fn node(rt: &impl Abort, alloc: Global, text: &str, numbers: &[u16]) -> Result<i64, Fault> {
-    let code = code_of(rt, alloc, text, &Overrides::new(alloc));
+pub(crate) fn node(
+    rt: &impl Abort,
+    alloc: Global,
+    text: &str,
+    numbers: &[u16],
+) -> Result<i64, Fault> {
+    let code = code_of(rt, alloc, text.as_bytes(), &Overrides::new(alloc));
     let mut scratch = Scratch::new(alloc, &code).expect(rt, "memory for the runs");
     assert_eq!(rt; numbers.len(), code.tags(Part::Node) as usize);
     let _ = run_global(&code, &mut scratch)?;
@@ -264,85 +237,4 @@ fn a_way_has_the_last_value_of_a_name_in_its_own_section(rt: HostRuntime) {
     for (text, want) in rows {
         assert_eq!(rt; way(&rt, rt.alloc(), text, &[0; 6]), Ok(want), "of {text}");
     }
-}
-
-#[test]
-fn a_fault_names_the_place_of_its_assignment(rt: HostRuntime) {
-    let in_global =
-        "---context:global assign a 1 assign b divide 1 0 ---context:way assign costfactor 1";
-    let in_way = "---context:way assign costfactor 1 assign a 2 assign b multiply 1000000000 a";
-    let in_node =
-        "---context:way assign costfactor 1 ---context:node assign initialcost divide 1 0";
-    let after_one = Fault {
-        variable: 1,
-        kind: Arith::DivZero,
-    };
-    let after_two = Fault {
-        variable: 2,
-        kind: Arith::TooLarge,
-    };
-    let at_once = Fault {
-        variable: 0,
-        kind: Arith::DivZero,
-    };
-    assert_eq!(rt; global(&rt, rt.alloc(), in_global), Err(after_one));
-    assert_eq!(rt; way(&rt, rt.alloc(), in_global, &[0; 6]), Err(after_one));
-    assert_eq!(rt; way(&rt, rt.alloc(), in_way, &[0; 6]), Err(after_two));
-    assert_eq!(rt; node(&rt, rt.alloc(), in_node, &[0; 3]), Err(at_once));
-}
-
-#[test]
-fn a_run_after_a_fault_is_as_the_first(rt: HostRuntime) {
-    let text = "---context:way assign costfactor divide 1 highway=primary";
-    let code = code_of(&rt, rt.alloc(), text, &Overrides::new(rt.alloc()));
-    let mut scratch = Scratch::new(rt.alloc(), &code).expect(&rt, "memory for the runs");
-    let fault = Fault {
-        variable: 0,
-        kind: Arith::DivZero,
-    };
-    let primary = [0, 3, 0, 0, 0, 0];
-    let want = Ok([1_000_000, 0, 0, 0, 0, 0, 0]);
-    assert_eq!(rt; way_in(&rt, &code, &mut scratch, &primary), want);
-    assert_eq!(rt; way_in(&rt, &code, &mut scratch, &[0; 6]), Err(fault));
-    assert_eq!(rt; way_in(&rt, &code, &mut scratch, &primary), want);
-}
-
-#[test]
-fn an_override_counts_at_each_assignment_of_its_name(rt: HostRuntime) -> Result<(), Fail> {
-    let text = "---context:global assign a 3 assign b a assign a 4 assign c 5 assign c 6
-        ---context:way assign costfactor add a b";
-    let alloc = rt.alloc();
-    let mut name: Name = Items::new(alloc);
-    name.push(b'a')?;
-    let mut overrides = Overrides::new(alloc);
-    overrides.push((name, Num::of(9_000_000).unwrap()))?;
-    let code = code_of(&rt, alloc, text, &overrides);
-    let mut scratch = Scratch::new(alloc, &code).expect(&rt, "memory for the runs");
-    assert_eq!(rt; code.tags(Part::Way), 6);
-    assert_eq!(rt; run_global(&code, &mut scratch).is_ok(), true);
-    for (name, want) in [
-        (b"a", Some(9)),
-        (b"b", Some(9)),
-        (b"c", Some(6)),
-        (b"d", None),
-    ] {
-        let value = global_value(&code, &scratch, name);
-        assert_eq!(rt; value.map(|n| n.millionths() / 1_000_000), want);
-    }
-    let answer = run_way(&code, &[0; 6], &mut scratch);
-    assert_eq!(rt; answer.map(counts), Ok([18_000_000, 0, 0, 0, 0, 0, 0]));
-    Ok(())
-}
-
-#[test]
-fn an_expression_of_the_greatest_depth_is_run(rt: HostRuntime) -> Result<(), Fail> {
-    let alloc = rt.alloc();
-    let mut text = String::from_str(alloc, "---context:way assign costfactor ")?;
-    for _ in 0..999 {
-        text.push_str("add 1 ")?;
-    }
-    text.push_str("1")?;
-    let want = [1_000_000_000, 0, 0, 0, 0, 0, 0];
-    assert_eq!(rt; way(&rt, alloc, text.as_str(), &[0; 6]), Ok(want));
-    Ok(())
 }
