@@ -1,16 +1,16 @@
 -- The code of assignments gives their values in order, or ends at the first fault.
-use Rattle.std.proofs.Common.{◌≡◌, ℕ, zero, suc, ◌+◌, ◌<◌, ◌≤◌, max, Bool, List, [], ◌∷◌, ◌++◌, length, map, ℤ, Option, Some, None, Result, Ok, Err, refl, sym, ap, ◌∙◌, arith, append_assoc, length-append}
+use Rattle.std.proofs.Common.{◌≡◌, ℕ, ◌+◌, ◌<◌, ◌≤◌, Bool, List, [], ◌∷◌, ◌++◌, length, ℤ, Option, None, Result, Ok, Err, refl, sym, ap, ◌∙◌, arith, append_assoc, length-append}
 use Rattle.std.specs.Prelude.{if◌then◌else◌}
 use Rattle.std.proofs.lemmas.Bool.{lt-ltb}
 use Rattle.std.proofs.lemmas.List.{append-nil, map-append, length-map}
 use Rattle.context_check.specs.Checked.{IsArithmetic}
 use Rattle.context_check.specs.Refusal.{names_in, name_refusal, expr_refusal, section_refusal}
 use Rattle.lookup_table.specs.Tag.{TagRow}
-use Rattle.profile_code.proofs.OperatorLemmas.{Gives, IsKnown, after}
+use Rattle.profile_code.proofs.OperatorLemmas.{Gives}
 use Rattle.profile_code.proofs.TreeLemmas.{names_of, numbers_of, none_first, none_second, AreLooks, gives_tree}
 use Rattle.profile_code.specs.Correct.{end_of, fault_end}
 use Rattle.profile_code.specs.Emit.{expr_code, section_code, height_of, section_height}
-use Rattle.profile_code.specs.Machine.{Given, Ended, Stuck, exec}
+use Rattle.profile_code.specs.Machine.{Given, Stuck, exec}
 use Rattle.profile_code.specs.declared.instr.Instr.{Instr}
 use Rattle.profile_code.specs.declared.instr.Instr.TheVariants.{Set}
 use Rattle.profile_text.specs.Meaning.{Fault, SectionFault, and_then, with_value, values_from, value_of, variable_in}
@@ -54,10 +54,10 @@ module _ (given : Given) (section : Section) (known_rows : Option (List TagRow))
       let here : expr_refusal known_rows (names_of global) (names_of own) a.value ≡ None = none_first _ _ later in
       let behind : section_refusal section known_rows (names_of global) (names_of own ++ a.name ∷ []) rest ≡ None = none_second (expr_refusal known_rows (names_of global) (names_of own) a.value) _ later in
       sets own a rest (value_of (variable_in global own) looks a.value) (gives_tree given known_rows rows looks global own a.value are is here) (omega arith) (omega arith) (λ n.
-          ends (own ++ (a.name, n) ∷ []) rest
-          (ap (λ l. section_refusal section known_rows (names_of global) l rest) (map-append (λ (v : List ℕ × ℤ). v.0) own ((a.name, n) ∷ [])) ∙ behind)
-          (omega arith)
-          (omega (arith, length-append own ((a.name, n) ∷ []))))
+      ends (own ++ (a.name, n) ∷ []) rest
+      (ap (λ l. section_refusal section known_rows (names_of global) l rest) (map-append (λ (v : List ℕ × ℤ). v.0) own ((a.name, n) ∷ [])) ∙ behind)
+      (omega arith)
+      (omega (arith, length-append own ((a.name, n) ∷ []))))
 
 -- The values of assignments have the names of the assignments, after those that were there.
 pub value_names : (looks : List ℕ → List (List ℕ) → Option Bool) (global own values : List (List ℕ × ℤ)) (assignments : List Assignment) → values_from looks global own assignments ≡ Ok values → names_of values ≡ names_of own ++ names_in assignments

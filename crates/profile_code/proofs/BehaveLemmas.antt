@@ -1,8 +1,8 @@
 -- The code of a checked profile does what the profile says, and is never stuck.
-use Rattle.std.proofs.Common.{◌≡◌, ◌≢◌, ℕ, ◌+◌, ◌≤◌, max, List, [], ◌∷◌, ◌++◌, length, map, ℤ, Option, Some, None, Result, Ok, Err, refl, sym, ap, ◌∙◌, arith, subst, zero-add}
+use Rattle.std.proofs.Common.{◌≡◌, ◌≢◌, ℕ, List, [], ◌∷◌, ◌++◌, length, map, ℤ, Option, Some, None, Result, Ok, Err, refl, sym, ap, ◌∙◌, arith, subst, zero-add}
 use Rattle.std.proofs.lemmas.List.{length-map}
 use Rattle.context_check.specs.Checked.{Subject, IsAccepted, IsArithmetic}
-use Rattle.context_check.specs.Refusal.{names_in, override_refusal, name_refusal, look_refusal, expr_refusal, section_refusal, costfactor_refusal, sections_refusal, refusal_of}
+use Rattle.context_check.specs.Refusal.{names_in, override_refusal, expr_refusal, section_refusal, costfactor_refusal, sections_refusal, refusal_of}
 use Rattle.context_check.specs.declared.error.CheckError.{CheckError}
 use Rattle.lookup_table.specs.First.{rows_of}
 use Rattle.lookup_table.specs.Tag.{TagRow}
@@ -12,12 +12,11 @@ use Rattle.profile_code.proofs.AssignmentLemmas.{AreKnown, Ends, ends, value_nam
 use Rattle.profile_code.proofs.KnownLemmas.{gives_look}
 use Rattle.profile_code.proofs.TreeLemmas.{names_of, numbers_of, none_first, none_second, AreLooks}
 use Rattle.profile_code.specs.Correct.{Behaves, IsCodeOf, end_of, fault_end}
-use Rattle.profile_code.specs.Emit.{section_code, section_height}
-use Rattle.profile_code.specs.Flat.{Flat, IsSafe, flat_of, global_assignments, global_run, own_run, own_section, tags_of}
-use Rattle.profile_code.specs.Machine.{Given, Ended, Finished, Faulted, Stuck}
-use Rattle.profile_text.specs.Meaning.{Fault, Unknown, Faulty, SectionFault, or_else, no_looks, looks_in, replaced_by, overridden, values_from, global_values, own_values, assignments_of}
+use Rattle.profile_code.specs.Emit.{section_code}
+use Rattle.profile_code.specs.Flat.{IsSafe, flat_of, global_assignments, global_run, own_run, own_section, tags_of}
+use Rattle.profile_code.specs.Machine.{Given, Ended, Finished, Stuck}
+use Rattle.profile_text.specs.Meaning.{Fault, Unknown, Faulty, SectionFault, or_else, no_looks, looks_in, replaced_by, overridden, global_values, own_values}
 use Rattle.profile_text.specs.Tree.{Assignment}
-use Rattle.profile_text.specs.declared.kind.Section.{Section}
 use Rattle.profile_text.specs.declared.kind.Section.TheVariants as section
 use Rattle.std.specs.Map.{lookup}
 use Rattle.std.specs.Str.{bytes_eq}
@@ -25,12 +24,12 @@ use Rattle.std.specs.Str.{bytes_eq}
 -- ---- Overrides
 
 -- An override keeps the name.
-replaced_name : (o : Option ℤ) (a : Assignment) → (replaced_by o a).name ≡ a.name
+pub replaced_name : (o : Option ℤ) (a : Assignment) → (replaced_by o a).name ≡ a.name
 replaced_name None a = refl
 replaced_name (Some n) a = refl
 
 -- Overrides keep the names.
-overridden_names : (overrides : List (List ℕ × ℤ)) (assignments : List Assignment) → names_in (map (overridden overrides) assignments) ≡ names_in assignments
+pub overridden_names : (overrides : List (List ℕ × ℤ)) (assignments : List Assignment) → names_in (map (overridden overrides) assignments) ≡ names_in assignments
 overridden_names overrides [] = refl
 overridden_names overrides (a ∷ rest) =
     ap (λ n. n ∷ names_in (map (overridden overrides) rest)) (replaced_name (lookup (bytes_eq a.name) overrides) a)

@@ -1,19 +1,18 @@
 -- In a profile that was checked each variable and each look is known.
-use Rattle.std.proofs.Common.{◌≡◌, ℕ, zero, suc, ◌+◌, ◌≤◌, ◌<◌, Bool, true, false, ◌||◌, List, [], ◌∷◌, ◌++◌, length, map, ℤ, Option, Some, None, Result, Ok, Err, refl, sym, ap, ◌∙◌, arith, subst}
-use Rattle.std.specs.Prelude.{slice_get, slice_index_or, is_some, option_map, if◌then◌else◌, cond}
+use Rattle.std.proofs.Common.{◌≡◌, ℕ, suc, ◌<◌, Bool, true, false, ◌||◌, List, [], ◌∷◌, length, map, ℤ, Option, Some, None, Ok, refl, ap, ◌∙◌, arith}
+use Rattle.std.specs.Prelude.{slice_get, slice_index_or, is_some, option_map, if◌then◌else◌}
 use Rattle.std.specs.Str.{bytes_eq}
 use Rattle.std.proofs.lemmas.Option.{slice_get-get_or}
 use Rattle.context_check.specs.declared.error.CheckError.TheVariants.{UnknownName}
 use Rattle.context_check.specs.Refusal.{value_refusal, tag_refusal, look_refusal, variable_refusal}
-use Rattle.lookup_table.specs.Tag.{TagRow, place_of, name_place, names_of}
+use Rattle.lookup_table.specs.Tag.{TagRow, place_of}
 use Rattle.profile_code.proofs.AscendingLemmas.{ascending_listed}
 use Rattle.profile_code.proofs.OperatorLemmas.{Gives, gives_number}
 use Rattle.profile_code.specs.Emit.{variable_instr, look_instr, ascending}
-use Rattle.profile_code.specs.Machine.{Given, Next, act, pushed, look_value}
-use Rattle.profile_code.specs.declared.instr.Instr.{Instr}
-use Rattle.profile_code.specs.declared.instr.Instr.TheVariants.{Own, Global, Look}
-use Rattle.profile_text.specs.Meaning.{Fault, known, and_then, truth, is_listed, is_found, look_at, looks_in, look_numbers, row_at, later_value, last_value, or_else, variable_in}
-use Rattle.profile_text.specs.Names.{later_place, last_place, is_among}
+use Rattle.profile_code.specs.Machine.{Given, pushed, look_value}
+use Rattle.profile_code.specs.declared.instr.Instr.TheVariants.{Own, Global}
+use Rattle.profile_text.specs.Meaning.{known, and_then, truth, is_listed, is_found, look_at, looks_in, look_numbers, row_at, later_value, last_value, or_else, variable_in}
+use Rattle.profile_text.specs.Names.{later_place, last_place}
 
 -- ---- Variables
 
@@ -79,8 +78,8 @@ gives_look given own rows tag values line as_many refused = by_place (place_of r
     by_numbers place (Some ns) below refused =
         let at : slice_get given.numbers place ≡ Some (slice_index_or given.numbers place 0) = slice_get-get_or given.numbers place 0 (omega arith) in
         gives_number given own _ (truth (is_listed (slice_index_or given.numbers place 0) ns)) (λ next stack.
-            ap (λ o. pushed given (look_value (ascending ns) o) next stack own) at
-            ∙ ap (λ b. pushed given (Some (truth b)) next stack own) (ascending_listed (slice_index_or given.numbers place 0) ns))
+        ap (λ o. pushed given (look_value (ascending ns) o) next stack own) at
+        ∙ ap (λ b. pushed given (Some (truth b)) next stack own) (ascending_listed (slice_index_or given.numbers place 0) ns))
 
     by_place : (place : Option ℕ) → IsBelow place (length rows) → tag_refusal rows place values line ≡ None → Gives given own 1 (look_instr tag (look_at rows place values) ∷ []) (and_then (known line (option_map (is_found given.numbers) (look_at rows place values))) (λ found. Ok (truth found)))
     by_place None below refused = cc

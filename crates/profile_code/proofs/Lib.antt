@@ -1,8 +1,16 @@
+pub mod AnswerLemmas
 pub mod AscendingLemmas
 pub mod AskedLemmas
 pub mod AssignmentLemmas
 pub mod BehaveLemmas
+pub mod CompileLemmas
+pub mod EffectLemmas
 pub mod KnownLemmas
+pub mod MeaningLemmas
+pub mod NameLemmas
 pub mod OperatorLemmas
 pub mod PatchLemmas
+pub mod RunLemmas
+pub mod SectionLemmas
+pub mod StepLemmas
 pub mod TreeLemmas

@@ -1,5 +1,5 @@
 -- What the code of an expression does, made of what the code of its operands does.
-use Rattle.std.proofs.Common.{◌≡◌, ℕ, zero, suc, ◌+◌, ◌≤◌, max, Bool, true, false, not, List, [], ◌∷◌, ◌++◌, length, ℤ, pos, Option, Some, None, Result, Ok, Err, refl, ap, ◌∙◌, arith, append_assoc}
+use Rattle.std.proofs.Common.{◌≡◌, ℕ, suc, ◌+◌, ◌≤◌, max, Bool, true, false, not, List, [], ◌∷◌, ◌++◌, length, ℤ, pos, Some, None, Result, Ok, Err, refl, ap, ◌∙◌, arith, append_assoc}
 use Rattle.std.specs.Prelude.{if◌then◌else◌}
 use Rattle.std.proofs.lemmas.Bool.{lt-ltb}
 use Rattle.context_check.specs.Checked.{IsArithmetic}
@@ -9,7 +9,7 @@ use Rattle.profile_code.specs.declared.instr.Instr.{Instr}
 use Rattle.profile_code.specs.declared.instr.Instr.TheVariants.{Number, Not, Truth, Two, JumpZero, Jump}
 use Rattle.profile_code.specs.Emit.{operation_code, choice_code}
 use Rattle.profile_code.specs.Machine.{Given, Ended, Stuck, Next, pushed, computed, act, exec}
-use Rattle.profile_text.specs.Meaning.{Fault, Faulty, Unknown, and_then, arithmetic, truth, is_true, decided_by, result_of, operation}
+use Rattle.profile_text.specs.Meaning.{Fault, and_then, arithmetic, truth, is_true, decided_by, result_of, operation}
 use Rattle.profile_text.specs.declared.expr.Op.{Op}
 use Rattle.profile_text.specs.declared.expr.Op.TheVariants.{Or, And, Xor, Multiply, Divide, Add, Sub, Max, Min, Equal, Greater, Lesser}
 

@@ -1,9 +1,9 @@
 -- A jump is written after the operations that it passes.
-use Rattle.std.proofs.Common.{◌≡◌, ℕ, suc, ◌+◌, ◌-◌, List, [], ◌∷◌, ◌++◌, length, pos, refl, sym, ap, subst, ◌∙◌, arith, append_assoc, length-append}
+use Rattle.std.proofs.Common.{◌≡◌, ℕ, ◌+◌, ◌-◌, List, [], ◌∷◌, ◌++◌, length, pos, refl, sym, ap, subst, ◌∙◌, arith, append_assoc, length-append}
 use Rattle.std.specs.Prelude.{slice_set}
 use Rattle.std.proofs.Math.Seq.{set-append_seam}
 use Rattle.profile_code.specs.declared.instr.Instr.{Instr}
-use Rattle.profile_code.specs.declared.instr.Instr.TheVariants.{Number, Truth, Two, JumpZero, Jump}
+use Rattle.profile_code.specs.declared.instr.Instr.TheVariants.{Number, Truth, JumpZero, Jump}
 use Rattle.profile_code.specs.Emit.{operation_code, choice_code}
 use Rattle.profile_code.specs.Operands.{between, behind}
 use Rattle.profile_text.specs.declared.expr.Op.{Op}

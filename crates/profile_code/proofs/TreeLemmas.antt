@@ -1,6 +1,5 @@
 -- The code of an expression gives the expression's value.
-use Rattle.std.proofs.Common.{◌≡◌, ℕ, zero, suc, ◌+◌, ◌≤◌, max, Bool, List, [], ◌∷◌, ◌++◌, length, map, ℤ, Option, Some, None, Result, Ok, Err, refl, sym, ap, ◌∙◌, arith}
-use Rattle.std.specs.Prelude.{if◌then◌else◌}
+use Rattle.std.proofs.Common.{◌≡◌, ℕ, ◌≤◌, Bool, List, [], ◌∷◌, map, ℤ, Option, Some, None, Ok, refl, arith}
 use Rattle.context_check.specs.Refusal.{look_refusal, expr_refusal}
 use Rattle.context_check.specs.declared.error.CheckError.{CheckError}
 use Rattle.lookup_table.specs.Tag.{TagRow, place_of}

@@ -1,5 +1,5 @@
 -- The flat code of a profile. This project's own rule.
-use Rattle.std.specs.Prelude.{ℕ, suc, ◌+◌, max, List, [], ◌∷◌, ◌++◌, length, map, ℤ, pos, nat_lt, ◌==◌, Option, Some, None, if◌then◌else◌}
+use Rattle.std.specs.Prelude.{ℕ, suc, ◌+◌, max, List, [], ◌∷◌, ◌++◌, length, pos, nat_lt, ◌==◌, Option, Some, None, if◌then◌else◌}
 use Rattle.lookup_table.specs.Tag.{TagRow, place_of}
 use Rattle.profile_code.specs.declared.instr.Instr.{Instr}
 use Rattle.profile_code.specs.declared.instr.Instr.TheVariants.{Number, Own, Global, Look, Not, Truth, Two, JumpZero, Jump, Set}

@@ -2,12 +2,11 @@
 use Rattle.std.specs.Prelude.{◌≡◌, ◌≢◌, ℕ, max, List, [], map, length, ℤ}
 use Rattle.context_check.specs.Checked.{Subject}
 use Rattle.context_check.specs.Refusal.{names_in}
-use Rattle.context_check.specs.Overrides.{is_overridden}
 use Rattle.lookup_table.specs.declared.part.Part.{Part}
 use Rattle.lookup_table.specs.declared.part.Part.TheVariants.{Way, Node}
 use Rattle.profile_code.specs.declared.instr.Instr.{Instr}
 use Rattle.profile_code.specs.Emit.{section_code, section_height}
-use Rattle.profile_code.specs.Machine.{Given, Ended, Finished, Stuck, run_of}
+use Rattle.profile_code.specs.Machine.{Ended, Finished, Stuck, run_of}
 use Rattle.profile_text.specs.Meaning.{overridden}
 use Rattle.profile_text.specs.declared.kind.Section.{Section}
 use Rattle.profile_text.specs.declared.kind.Section.TheVariants as section
@@ -51,7 +50,7 @@ flat_of subject = record {
   way_tags = length subject.table.way;
   node_tags = length subject.table.node;
   room = max (section_height (global_assignments subject))
-    (max (section_height subject.sections.way) (section_height subject.sections.node));
+      (max (section_height subject.sections.way) (section_height subject.sections.node));
 }
 
 -- ---- The runs

@@ -1,6 +1,13 @@
 pub mod Correct
+pub mod Effects
 pub mod Emit
 pub mod Flat
+pub mod Held
+pub mod Labels
+pub mod Listing
 pub mod Machine
 pub mod Operands
+pub mod Runs
 pub mod Scope
+pub mod Scratch
+pub mod Step

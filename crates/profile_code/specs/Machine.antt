@@ -1,5 +1,5 @@
 -- What flat code does: a machine over the operations that are left, a stack and the values that were set. It knows nothing of trees. This project's own rule.
-use Rattle.std.specs.Prelude.{ℕ, zero, suc, Bool, not, List, [], ◌∷◌, ◌++◌, length, nat_lt, slice_get, ℤ, Option, Some, None, Result, Ok, Err, if◌then◌else◌, option_map}
+use Rattle.std.specs.Prelude.{ℕ, zero, suc, not, List, [], ◌∷◌, ◌++◌, length, nat_lt, slice_get, ℤ, Option, Some, None, Result, Ok, Err, if◌then◌else◌, option_map}
 use Rattle.fixed_num.specs.declared.arithmetic.Arith.{Arith}
 use Rattle.profile_code.specs.declared.instr.Instr.{Instr}
 use Rattle.profile_code.specs.declared.instr.Instr.TheVariants.{Number, Own, Global, Look, Not, Truth, Two, JumpZero, Jump, Set}

@@ -41,11 +41,9 @@ impl SectionCode {
     }
 }
 
-/// The flat code of a profile.
-///
-/// Contracts see it as the code of its three sections, with what a run needs to know before it starts.
+/// The code of the three sections, how many numbers a run has on the stack at most, and how many tags the parts have.
 #[derive(Drop)]
-pub struct Code {
+pub(crate) struct Parts {
     pub(crate) global: SectionCode,
     pub(crate) way: SectionCode,
     pub(crate) node: SectionCode,
@@ -54,35 +52,24 @@ pub struct Code {
     pub(crate) node_tags: u32,
 }
 
-impl Model for Code {
-    ghost use Rattle.profile_code.specs.Flat.{Flat, IsSafe};
+impl Model for Parts {
+    ghost use Rattle.profile_code.specs.Flat.{Flat};
 
     ghost Value = { Flat };
 
-    ghost view = { λ c. record {
-        global = c.global;
-        way = c.way;
-        node = c.node;
-        way_tags = c.way_tags;
-        node_tags = c.node_tags;
-        room = c.room;
+    ghost view = { λ p. record {
+      global = p.global;
+      way = p.way;
+      node = p.node;
+      way_tags = p.way_tags;
+      node_tags = p.node_tags;
+      room = p.room;
     } };
-
-    ghost invariant = { λ c. IsSafe (record {
-        global = c.global;
-        way = c.way;
-        node = c.node;
-        way_tags = c.way_tags;
-        node_tags = c.node_tags;
-        room = c.room;
-    }) };
 }
 
-impl Code {
-    /// The code of a section.
-    pub(crate) fn section(&self, section: Section) -> &SectionCode
+impl Parts {
+    fn section(&self, section: Section) -> &SectionCode
         ensures value { result.now ≡ section_of self.now section }
-        ensures sound { IsSafe self.now }
     {
         match section {
             Section::Global => &self.global,
@@ -91,10 +78,8 @@ impl Code {
         }
     }
 
-    /// The code of a part's section.
-    pub(crate) fn own(&self, part: Part) -> &SectionCode
+    fn own(&self, part: Part) -> &SectionCode
         ensures value { result.now ≡ own_section self.now part }
-        ensures sound { IsSafe self.now }
     {
         match part {
             Part::Way => &self.way,
@@ -102,8 +87,7 @@ impl Code {
         }
     }
 
-    /// How many tags a part has.
-    pub(crate) fn tags(&self, part: Part) -> u32
+    fn tags(&self, part: Part) -> u32
         ensures value { result ≡ tags_of self.now part }
     {
         match part {
@@ -112,10 +96,60 @@ impl Code {
         }
     }
 
+    fn room(&self) -> usize
+        ensures value { result ≡ self.now.room }
+    {
+        self.room
+    }
+}
+
+/// The flat code of a profile.
+///
+/// Contracts see it as the code of its three sections, with what a run needs to know before it starts. No run of it is
+/// ever stuck.
+#[derive(Drop)]
+pub struct Code {
+    pub(crate) parts: Parts,
+}
+
+impl Model for Code {
+    ghost use Rattle.profile_code.specs.Flat.{Flat, IsSafe};
+
+    ghost Value = { Flat };
+
+    ghost view = { λ c. c.parts };
+
+    ghost invariant = { λ c. IsSafe c.parts };
+}
+
+impl Code {
+    /// The code of a section.
+    pub(crate) fn section(&self, section: Section) -> &SectionCode
+        ensures value { result.now ≡ section_of self.now section }
+        ensures sound { IsSafe self.now }
+    {
+        self.parts.section(section)
+    }
+
+    /// The code of a part's section.
+    pub(crate) fn own(&self, part: Part) -> &SectionCode
+        ensures value { result.now ≡ own_section self.now part }
+        ensures sound { IsSafe self.now }
+    {
+        self.parts.own(part)
+    }
+
+    /// How many tags a part has.
+    pub(crate) fn tags(&self, part: Part) -> u32
+        ensures value { result ≡ tags_of self.now part }
+    {
+        self.parts.tags(part)
+    }
+
     /// How many numbers a run has on the stack at most.
     pub(crate) fn room(&self) -> usize
         ensures value { result ≡ self.now.room }
     {
-        self.room
+        self.parts.room()
     }
 }

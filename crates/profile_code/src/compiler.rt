@@ -1,10 +1,11 @@
 //! From a checked profile to its flat code.
 ghost use Rattle.std.specs.Prelude.{◌≡◌, IfOk};
+ghost use Rattle.context_check.specs.Checked.{IsAccepted};
 ghost use Rattle.context_check.specs.Subject.{subject_of};
 ghost use Rattle.profile_code.specs.Correct.{IsCodeOf};
 ghost use Rattle.profile_code.specs.Flat.{flat_of};
 
-use crate::code::Code;
+use crate::code::{Code, Parts};
 use crate::scope::{Scope, Tags};
 use crate::section::section;
 use context_check::{Checked, Overrides};
@@ -16,6 +17,15 @@ use std::alloc::{AllocError, Global};
 pub fn compile(alloc: Global, checked: &Checked) -> Result<Code, AllocError>
     ensures value { IfOk result (λ c. c ≡ flat_of (subject_of checked.now)) }
     ensures sound { IfOk result (λ c. IsCodeOf (subject_of checked.now) c) }
+{
+    let parts = parts_of(alloc, checked)?;
+    Ok(Code { parts })
+}
+
+/// The parts of the code of a checked profile.
+fn parts_of(alloc: Global, checked: &Checked) -> Result<Parts, AllocError>
+    ensures value { IfOk result (λ p. p ≡ flat_of (subject_of checked.now)) }
+    ensures sound { IsAccepted (subject_of checked.now) }
 {
     let profile = checked.profile();
     let table = checked.table();
@@ -43,7 +53,7 @@ pub fn compile(alloc: Global, checked: &Checked) -> Result<Code, AllocError>
         global: &global.names,
     };
     let (node, node_height) = section(alloc, &of_nodes, &no_overrides, profile.node.as_slice())?;
-    Ok(Code {
+    Ok(Parts {
         global,
         way,
         node,

@@ -27,10 +27,12 @@ pub(crate) fn emit(
 {
     match expr {
         Expr::Number(number) => one(code, Instr::Number(*number)),
-        Expr::Var { name, line: _ } => {
-            one(code, variable(scope.global, own, name.as_slice()))
-        }
-        Expr::Look { tag, values, line: _ } => {
+        Expr::Var { name, line: _ } => { one(code, variable(scope.global, own, name.as_slice())) }
+        Expr::Look {
+            tag,
+            values,
+            line: _,
+        } => {
             let look = look(alloc, &scope.tags, tag, values.as_slice())?;
             one(code, look)
         }

@@ -33,7 +33,7 @@ pub(crate) fn section(
 {
     let mut instrs = Vec::new(alloc);
     let mut names = Names::new(alloc);
-    let mut height = 0;
+    let mut height: usize = 0;
     'assigns: for assign in assigns {
         let one = emit_assignment(alloc, scope, overrides, &names, &mut instrs, assign)?;
         names.push(alloc, assign.name.as_slice())?;

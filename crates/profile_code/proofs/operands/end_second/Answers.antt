@@ -1,5 +1,5 @@
 use Rattle.std.proofs.Common.{ap, ◌∙◌, ◌++◌, ◌∷◌, []}
-use Rattle.profile_code.specs.declared.instr.Instr.TheVariants.{Number, Truth, Jump}
+use Rattle.profile_code.specs.declared.instr.Instr.TheVariants.{Number, Jump}
 use Rattle.profile_code.proofs.PatchLemmas.{close_and, close_or}
 use Rattle.profile_code.proofs.operands.end_second.Goals as goal
 

@@ -1,0 +1,17 @@
+use Rattle.std.proofs.Common.{◌≡◌, ◌∙◌, ap}
+use Rattle.profile_code.specs.Effects.{value_at}
+use Rattle.profile_code.specs.Flat.{FlatSection}
+use Rattle.profile_text.specs.Names.{last_place}
+use Rattle.profile_code.proofs.MeaningLemmas.{value_assigned, value_held}
+use Rattle.profile_code.proofs.runs.global_value.Goals as goal
+
+pub returns-clause-exact : goal.returns-clause-exact
+returns-clause-exact c = cc
+
+pub returns-clause-meaning : goal.returns-clause-meaning
+returns-clause-meaning c =
+    value_held c.args.code.now c.args.scratch.now.global.numbers c.args.name.now c.value_at.result c.requires.held (returns-clause-exact c)
+
+pub returns-clause-found : goal.returns-clause-found
+returns-clause-found c subject code =
+    value_assigned subject c.args.name.now c.value_at.result (returns-clause-meaning c subject code)

@@ -1,0 +1,8 @@
+use Rattle.lookup_table.specs.declared.part.Part.TheVariants.{Way, Node}
+use Rattle.profile_code.specs.Effects.{node_number}
+use Rattle.profile_code.proofs.MeaningLemmas.{own_answered}
+use Rattle.profile_code.proofs.runs.run_node.Goals as goal
+
+pub returns-clause-meaning : goal.returns-clause-meaning
+returns-clause-meaning c =
+    own_answered node_number c.args.code.now Node c.args.numbers.now c.args.scratch.now.global.numbers c.node_answer.result c.requires.held c.requires.fits c.node_answer.ensures.exact
