@@ -64,25 +64,25 @@ value-fit Profile text value e = tt
 -- an entry whose number is within the limits of its key, and whose word is one of so many words after the first
 record FitEntry (words : ℕ) (entry : Entry) : Type 0 where
   number : FitBy entry.key (number_in entry.value)
-  word : entry.word ≤ words
+  word : entry.word < words
 
-by-fit : (words word : ℕ) (key : Key) (r : Option Value) (entry : Entry) → word ≤ words → ((value : Value) → r ≡ Some value → FitBy key (number_in value)) → entry_by word key r ≡ Some entry → FitEntry words entry
+by-fit : (words word : ℕ) (key : Key) (r : Option Value) (entry : Entry) → word < words → ((value : Value) → r ≡ Some value → FitBy key (number_in value)) → entry_by word key r ≡ Some entry → FitEntry words entry
 by-fit words word key None entry within fit e = cc
 by-fit words word key (Some value) entry within fit e =
     let made : Entry = record { value = value; word = word; key = key } in
     let same : made ≡ entry = cc in
     subst (FitEntry words) same (record { number = fit value refl; word = within })
 
-for-fit : (words word : ℕ) (text : List ℕ) (r : Option Key) (entry : Entry) → word ≤ words → entry_for word text r ≡ Some entry → FitEntry words entry
+for-fit : (words word : ℕ) (text : List ℕ) (r : Option Key) (entry : Entry) → word < words → entry_for word text r ≡ Some entry → FitEntry words entry
 for-fit words word text None entry within e = cc
 for-fit words word text (Some key) entry within e =
     by-fit words word key (value_of key text) entry within (λ value is. value-fit key text value is) e
 
-cut-fit : (words word : ℕ) (r : Option (List ℕ × List ℕ)) (entry : Entry) → word ≤ words → entry_cut word r ≡ Some entry → FitEntry words entry
+cut-fit : (words word : ℕ) (r : Option (List ℕ × List ℕ)) (entry : Entry) → word < words → entry_cut word r ≡ Some entry → FitEntry words entry
 cut-fit words word None entry within e = cc
 cut-fit words word (Some parts) entry within e = for-fit words word parts.1 (key_of parts.0) entry within e
 
-entry-fit : (words word : ℕ) (text : List ℕ) (entry : Entry) → word ≤ words → entry_of word text ≡ Some entry → FitEntry words entry
+entry-fit : (words word : ℕ) (text : List ℕ) (entry : Entry) → word < words → entry_of word text ≡ Some entry → FitEntry words entry
 unfolding entry_of
 entry-fit words word text entry within e = cut-fit words word (cut_word text) entry within e
 
@@ -104,7 +104,7 @@ length-push : (entries : List Entry) (entry : Entry) → length (entries ++ entr
 length-push [] entry = refl
 length-push (first ∷ rest) entry = let e = length-push rest entry in omega (arith, e)
 
-after-fit : (command : CommandName) (words : ℕ) (texts : List (List ℕ)) (before entries : List Entry) → length before + length texts ≤ words → AllFit words before → entries_after command before texts ≡ Ok entries → AllFit words entries
+after-fit : (command : CommandName) (words : ℕ) (texts : List (List ℕ)) (before entries : List Entry) → length before + length texts < words → AllFit words before → entries_after command before texts ≡ Ok entries → AllFit words entries
 after-fit command words [] before entries within all e =
     let same : before ≡ entries = cc in subst (AllFit words) same all
 after-fit command words (text ∷ texts) before entries within all e =
@@ -120,9 +120,9 @@ after-fit command words (text ∷ texts) before entries within all e =
     (Ok entries) → AllFit words entries) [
       | None ↦ λ is f. absurd (err-not_ok (length before + 1) entries f)
       | Some entry ↦ λ is f.
-          let some : length before + 1 ≤ words = omega (arith, within) in
+          let some : length before + 1 < words = omega (arith, within) in
           let longer = length-push before entry in
-          let still : length (before ++ entry ∷ []) + length texts ≤ words = omega (arith, within, longer) in
+          let still : length (before ++ entry ∷ []) + length texts < words = omega (arith, within, longer) in
           elim (split (nat_lt (count_of entry.key before) (most_of command entry.key)) (entries_after command (before ++ entry ∷ []) texts) (Err (length before + 1)) (Ok entries) f) [
             | inl (free, h) ↦
                 after-fit command words texts (before ++ entry ∷ []) entries still
@@ -183,14 +183,14 @@ key-is Profile Lookups e = cc
 key-is Profile Profile e = refl
 
 -- the entry that is found fits its key
-with-fit : (words : ℕ) (key : Key) (entries : List Entry) (entry : Entry) → AllFit words entries → entry_with key entries ≡ Some entry → FitBy key (number_in entry.value) × (entry.word ≤ words)
+with-fit : (words : ℕ) (key : Key) (entries : List Entry) (entry : Entry) → AllFit words entries → entry_with key entries ≡ Some entry → FitBy key (number_in entry.value) × (entry.word < words)
 with-fit words key [] entry all e = cc
 with-fit words key (first ∷ rest) entry all e =
     elim (split (same_key first.key key) (Some first) (find (λ (x : Entry). same_key x.key key) rest) (Some entry) e) [
       | inl (is, here) ↦
           let same : first ≡ entry = cc in
           let fit = subst (λ k. FitBy k (number_in first.value)) (key-is first.key key is) all.0.number in
-          subst (λ (x : Entry). FitBy key (number_in x.value) × (x.word ≤ words)) same (fit, all.0.word)
+          subst (λ (x : Entry). FitBy key (number_in x.value) × (x.word < words)) same (fit, all.0.word)
       | inr (is, later) ↦ with-fit words key rest entry all.1 later
     ]
 
@@ -245,8 +245,8 @@ grid_with-fit words after (Some seed) (Some w) (Some h) None to command a b c e 
 grid_with-fit words after (Some seed) (Some w) (Some h) (Some from) None command a b c e = cc
 
 code_with-fit : (words after : ℕ) (lookups profile : Option Entry) (command : Command) →
-    ((e : Entry) → lookups ≡ Some e → e.word ≤ words) →
-    ((e : Entry) → profile ≡ Some e → e.word ≤ words) →
+    ((e : Entry) → lookups ≡ Some e → e.word < words) →
+    ((e : Entry) → profile ≡ Some e → e.word < words) →
     code_with after lookups profile ≡ Ok command → IsCommandFit words command
 code_with-fit words after (Some lookups) (Some profile) command a b e =
     let made : CodeCommand = record { lookups = lookups.word; profile = profile.word } in
@@ -266,27 +266,25 @@ complete-fit Name.Code words entries after command all e =
     code_with-fit words after (entry_with Lookups entries) (entry_with Profile entries) command
     (λ x is. (with-fit words Lookups entries x all is).1) (λ x is. (with-fit words Profile entries x all is).1) e
 
-with_words-fit : (name : CommandName) (texts : List (List ℕ)) (command : Command) → command_with name texts ≡ Ok command → IsCommandFit (length texts) command
+with_words-fit : (name : CommandName) (texts : List (List ℕ)) (command : Command) → command_with name texts ≡ Ok command → IsCommandFit (length texts + 1) command
 with_words-fit name texts command e =
     elim (entries_after name [] texts) as
     (λ r. entries_after name [] texts ≡ r →
-    elim r [ Err word ↦ Err word | Ok entries ↦ complete name entries (length texts + 1) ] ≡ Ok command → IsCommandFit (length texts) command) [
+    elim r [ Err word ↦ Err word | Ok entries ↦ complete name entries (length texts + 1) ] ≡ Ok command → IsCommandFit (length texts + 1) command) [
       | Err word ↦ λ is f. absurd (err-not_ok word command f)
       | Ok entries ↦ λ is f.
-          complete-fit name (length texts) entries (length texts + 1) command
-          (after-fit name (length texts) texts [] entries (omega arith) tt is) f
+          let within : 0 + length texts < length texts + 1 = omega arith in
+          complete-fit name (length texts + 1) entries (length texts + 1) command
+          (after-fit name (length texts + 1) texts [] entries within tt is) f
     ] refl e
 
-named-fit : (name : Option CommandName) (texts : List (List ℕ)) (command : Command) → command_by name texts ≡ Ok command → IsCommandFit (length texts) command
+named-fit : (name : Option CommandName) (texts : List (List ℕ)) (command : Command) → command_by name texts ≡ Ok command → IsCommandFit (length texts + 1) command
 named-fit None texts command e = cc
 named-fit (Some name) texts command e = with_words-fit name texts command e
 
--- so many words after the first
-abbrev words_after : List (List ℕ) → ℕ
-words_after [] = 0
-words_after (name ∷ texts) = length texts
-
 -- a command that was read fits
-pub command-is_fit : (words : List (List ℕ)) (command : Command) → command_of words ≡ Ok command → IsCommandFit (words_after words) command
+pub command-is_fit : (words : List (List ℕ)) (command : Command) → command_of words ≡ Ok command → IsCommandFit (length words) command
 command-is_fit [] command e = cc
-command-is_fit (name ∷ texts) command e = named-fit (command_named name) texts command e
+command-is_fit (name ∷ texts) command e =
+    let count : length texts + 1 ≡ length (name ∷ texts) = omega arith in
+    subst (λ n. IsCommandFit n command) count (named-fit (command_named name) texts command e)

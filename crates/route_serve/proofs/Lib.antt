@@ -1,3 +1,4 @@
 pub mod FitLemmas
 pub mod PathLemmas
+pub mod StageLemmas
 pub mod TextLemmas

@@ -4,3 +4,4 @@ pub mod Limits
 pub mod Lines
 pub mod Outcome
 pub mod Refusals
+pub mod Stages

@@ -39,10 +39,7 @@ fn stem(name: &[u8]) -> &[u8]
 fn is_profile_name(name: &[u8]) -> bool
     ensures exact { result ≡ is_profile_name name.now }
 {
-    !name.is_empty()
-        && name.len() <= 64
-        && are_name_bytes(name)
-        && !name.starts_with(b"custom_")
+    !name.is_empty() && name.len() <= 64 && are_name_bytes(name) && !name.starts_with(b"custom_")
 }
 
 /// Whether all bytes are letters, digits, `_` or `-`.

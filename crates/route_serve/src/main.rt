@@ -1,9 +1,11 @@
 //! A bicycle route server whose answers are proved: the program.
 #![tactic(auto)]
 
+mod code;
 mod command;
 mod entry;
 mod file_names;
+mod files;
 mod lines;
 mod run;
 mod status;
@@ -16,7 +18,7 @@ ghost use Rattle.std.specs.Prelude.{◌≡◌, ◌⊎◌, ◌↔◌, IsSome, IfS
 
 use crate::run::run;
 use crate::status::Status;
-use edge_io::StdSink;
+use edge_io::{DirFiles, StdSink};
 use std::process::ExitCode;
 use std::str::from_utf8;
 use std::{env, io};
@@ -29,7 +31,11 @@ const HELP: &str = "usage: route_serve grid seed=N w=N h=N from=X,Y to=X,Y
   makes a grid of w by h cells from a number, and prints a shortest walk across it
   seed  0 to 65535
   w, h  1 to 1000
-  from, to  column and row of a cell, from 0";
+  from, to  column and row of a cell, from 0
+usage: route_serve code lookups=FILE profile=FILE
+  prints the flat code that a routing profile becomes under a tag table
+  lookups  a tag table, as `lookups.dat`
+  profile  a routing profile, as `trekking.brf`";
 
 fn main(rt: HostRuntime) -> ExitCode {
     let Ok(words) = words_of(&rt) else {
@@ -43,8 +49,9 @@ fn main(rt: HostRuntime) -> ExitCode {
             Err(_) => ended(&rt, Status::WriteFault),
         };
     }
+    let mut files = DirFiles::new(&rt);
     let mut out = StdSink::new(&rt);
-    let status = run(rt.alloc(), words.as_slice(), &mut out);
+    let status = run(rt.alloc(), words.as_slice(), &mut files, &mut out);
     ended(&rt, status)
 }
 

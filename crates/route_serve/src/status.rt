@@ -1,9 +1,12 @@
 //! How a command ended.
 
-ghost use Rattle.std.specs.Prelude.{◌≡◌, IfOk};
-ghost use Rattle.route_serve.specs.Lines.{number_of_status, line_of};
+ghost use Rattle.std.specs.Prelude.{◌≡◌, ◌++◌, IfOk, OnOk};
+ghost use Rattle.route_serve.specs.Lines.{number_of_status, line_of, word_front};
 
 use crate::text::{append_number, bytes_of};
+use context_check::CheckError;
+use lookup_table::LookupError;
+use profile_text::TextError;
 use std::alloc::{AllocError, Global};
 
 /// Why the command `grid` gives no walk.
@@ -13,15 +16,28 @@ pub enum GridError {
     NoTrack,
 }
 
-/// How a command ended.
-#[derive(Clone, Copy, Debug, PartialEq, Eq)]
+/// How a command ended. `word` is the place of a word, from 0; of a refused file that of the word that
+/// names it.
+#[derive(Debug, Drop)]
 pub enum Status {
     /// The whole output was written.
     Done,
-    /// The word at this place is at fault.
+    /// The word is at fault.
     Usage { word: u64 },
+    /// The file has more bytes than are taken.
+    TooLong { word: u64 },
+    /// The file is no tag table.
+    Lookup { word: u64, error: LookupError },
+    /// The file is no profile.
+    Text { word: u64, error: TextError },
+    /// The file's profile may not be used with the tag table.
+    Check { word: u64, error: CheckError },
     /// The grid gives no walk.
     Grid { error: GridError },
+    /// No file has the name.
+    NotFound { word: u64 },
+    /// The file could not be opened or read.
+    ReadFault { word: u64 },
     /// The output met a fault; a front of it was written.
     WriteFault,
     /// Memory ran out; nothing was written.
@@ -36,7 +52,13 @@ impl Status {
         match self {
             Status::Done => 0,
             Status::Usage { .. } => 1,
+            Status::TooLong { .. }
+            | Status::Lookup { .. }
+            | Status::Text { .. }
+            | Status::Check { .. } => 2,
             Status::Grid { .. } => 3,
+            Status::NotFound { .. } => 7,
+            Status::ReadFault { .. } => 8,
             Status::WriteFault => 9,
             Status::NoMemory => 10,
         }
@@ -53,9 +75,35 @@ impl Status {
                 append_number(&mut text, *word)?;
                 Ok(text)
             }
+            Status::TooLong { word } => file_line(alloc, *word, b"file too long"),
+            Status::Lookup { word, error } => {
+                let line = error.line(alloc)?;
+                file_line(alloc, *word, line.as_bytes())
+            }
+            Status::Text { word, error } => {
+                let line = error.line(alloc)?;
+                file_line(alloc, *word, line.as_bytes())
+            }
+            Status::Check { word, error } => {
+                let line = error.line(alloc)?;
+                file_line(alloc, *word, line.as_bytes())
+            }
             Status::Grid { .. } => bytes_of(alloc, b"no track: leg 0"),
+            Status::NotFound { word } => file_line(alloc, *word, b"not found"),
+            Status::ReadFault { word } => file_line(alloc, *word, b"read fault"),
             Status::WriteFault => bytes_of(alloc, b"write fault"),
             Status::NoMemory => bytes_of(alloc, b"out of memory"),
         }
     }
+}
+
+/// The line of a refused file: the place of its word, and why.
+fn file_line(alloc: Global, word: u64, reason: &[u8]) -> Result<Vec<u8>, AllocError>
+    ensures value { IfOk result (λ text. text.items ≡ word_front word ++ reason.now) }
+{
+    let mut text = bytes_of(alloc, b"word ")?;
+    append_number(&mut text, word)?;
+    text.extend_from_slice(b": ")?;
+    text.extend_from_slice(reason)?;
+    Ok(text)
 }

@@ -1,10 +1,14 @@
-//! The top call over sinks in memory.
+//! The top call over files and sinks in memory.
 
 ghost use Rattle.std.specs.Prelude.{◌≤◌};
 
 use crate::run::run;
 use crate::status::{GridError, Status};
-use edge_io::MemSink;
+use context_check::CheckError;
+use edge_io::{MemFiles, MemSink};
+use item_list::Items;
+use lookup_table::{LookupError, Name};
+use profile_text::{TextError, TextKind};
 use std::alloc::{AllocError, Global};
 use std::test::Fail;
 
@@ -17,12 +21,40 @@ fn words(alloc: Global, line: &str) -> Result<Vec<String>, AllocError> {
     Ok(words)
 }
 
-/// Whether the command ends with this status and writes exactly these bytes to an ample sink.
-fn gives(alloc: Global, line: &str, status: Status, written: &str) -> Result<bool, AllocError> {
+/// No files.
+fn no_files(alloc: Global) -> MemFiles {
+    MemFiles::new(alloc, Vec::new(alloc), 4096, Vec::new(alloc))
+}
+
+/// Whether the command ends with this number and line, and writes exactly these bytes to an ample sink.
+fn gives(
+    alloc: Global,
+    line: &str,
+    number: u8,
+    told: &str,
+    written: &str,
+) -> Result<bool, AllocError> {
+    over(alloc, line, &mut no_files(alloc), number, told, written)
+}
+
+/// The same over these files.
+fn over(
+    alloc: Global,
+    line: &str,
+    files: &mut MemFiles,
+    number: u8,
+    told: &str,
+    written: &str,
+) -> Result<bool, AllocError> {
     let mut out = MemSink::new(alloc, 100_000, 4096, Vec::new(alloc))?;
     let words = words(alloc, line)?;
-    let ended = run(alloc, words.as_slice(), &mut out);
-    Ok(ended == status && out.bytes() == written.as_bytes())
+    let ended = run(alloc, words.as_slice(), files, &mut out);
+    let line = ended.line(alloc)?;
+    Ok(
+        ended.number() == number
+            && line.as_slice() == told.as_bytes()
+            && out.bytes() == written.as_bytes(),
+    )
 }
 
 /// Whether the command ends with a write fault over a sink of this room, piece and failing calls, which
@@ -38,12 +70,16 @@ fn breaks(
 {
     let mut out = MemSink::new(alloc, room, piece, failing)?;
     let words = words(alloc, FIRST)?;
-    let ended = run(alloc, words.as_slice(), &mut out);
-    Ok(ended == Status::WriteFault && out.bytes() == written.as_bytes())
+    let ended = run(alloc, words.as_slice(), &mut no_files(alloc), &mut out);
+    Ok(ended.number() == 9 && out.bytes() == written.as_bytes())
 }
 
 /// The first command that the program ran.
 const FIRST: &str = "grid seed=1 w=3 h=2 from=0,0 to=2,0";
+
+/// A profile's name of 65 letters.
+const LONG_NAME: &str =
+    "code profile=aaaaaaaaaaaaaaaaaaaaaaaaaaaaaaaaaaaaaaaaaaaaaaaaaaaaaaaaaaaaaaaaa";
 
 /// What it prints.
 const LINES: &str = "nodes 6\nsegments 5\nlength 445.280\nwalk 0,0 0,1 1,1 2,1 2,0\n";
@@ -52,18 +88,15 @@ const LINES: &str = "nodes 6\nsegments 5\nlength 445.280\nwalk 0,0 0,1 1,1 2,1 2
 fn a_shortest_walk_is_printed(rt: HostRuntime) -> Result<(), Fail> {
     let alloc = rt.alloc();
     assert!(rt;
-        gives(alloc, FIRST, Status::Done, LINES)?,
+        gives(alloc, FIRST, 0, "", LINES)?,
         "round the missing segments"
     );
     let stays = "nodes 6\nsegments 5\nlength 0.000\nwalk 0,0\n";
     let line = "grid seed=1 w=3 h=2 from=0,0 to=0,0";
-    assert!(rt;
-        gives(alloc, line, Status::Done, stays)?,
-        "from a cell to itself"
-    );
+    assert!(rt; gives(alloc, line, 0, "", stays)?, "from a cell to itself");
     let line = "grid to=02,00 from=0,0 h=02 w=3 seed=0001";
     assert!(rt;
-        gives(alloc, line, Status::Done, LINES)?,
+        gives(alloc, line, 0, "", LINES)?,
         "any order, leading zeros"
     );
     Ok(())
@@ -71,12 +104,9 @@ fn a_shortest_walk_is_printed(rt: HostRuntime) -> Result<(), Fail> {
 
 #[test]
 fn no_walk_is_said_where_there_is_none(rt: HostRuntime) -> Result<(), Fail> {
-    let none = Status::Grid {
-        error: GridError::NoTrack,
-    };
     let line = "grid seed=5 w=2 h=1 from=0,0 to=1,0";
     assert!(rt;
-        gives(rt.alloc(), line, none, "")?,
+        gives(rt.alloc(), line, 3, "no track: leg 0", "")?,
         "the only segment isn't there"
     );
     Ok(())
@@ -109,6 +139,22 @@ fn the_first_faulty_word_is_named(rt: HostRuntime) -> Result<(), Fail> {
             "a row outside the grid",
         ),
         ("grid seed=1 w=2 h=1 from=0,0", 5, "a missing word"),
+        ("code", 1, "both files missing"),
+        ("code lookups=a", 2, "the profile missing"),
+        ("code profile=b", 2, "the tag table missing"),
+        ("code lookups=a seed=1", 2, "a key of another command"),
+        ("code lookups=a lookups=a", 2, "a file named twice"),
+        ("code lookups= profile=b", 1, "no name of a file"),
+        ("code profile=", 1, "no name of a profile"),
+        ("code profile=x/.brf", 1, "no name before the ending"),
+        ("code profile=b.brf.brf", 1, "a point in a profile's name"),
+        (
+            "code profile=a/custom_1.brf",
+            1,
+            "a name of an uploaded profile",
+        ),
+        ("code profile=a+b", 1, "a plus in a profile's name"),
+        (LONG_NAME, 1, "65 letters in a profile's name"),
         ("grid", 1, "all words missing"),
         ("grid seed w=2", 1, "no equals sign"),
         ("grid seeds=1", 1, "an unknown key"),
@@ -137,8 +183,12 @@ fn the_first_faulty_word_is_named(rt: HostRuntime) -> Result<(), Fail> {
         ("Grid", 0, "capitals"),
     ];
     for row in rows.iter() {
-        let usage = Status::Usage { word: row.1 };
-        assert!(rt; gives(rt.alloc(), row.0, usage, "")?, "{}", row.2);
+        let told = format!(in rt.alloc(); "usage: word {}", row.1)?;
+        assert!(rt;
+            gives(rt.alloc(), row.0, 1, told.as_str(), "")?,
+            "{}",
+            row.2
+        );
     }
     Ok(())
 }
@@ -162,13 +212,44 @@ fn a_write_fault_leaves_a_front_of_the_lines(rt: HostRuntime) -> Result<(), Fail
 
 #[test]
 fn a_status_has_its_number_and_line(rt: HostRuntime) -> Result<(), Fail> {
-    let none = Status::Grid {
-        error: GridError::NoTrack,
+    let error = GridError::NoTrack;
+    let line = LookupError::Line { line: 7 };
+    let text = TextError::At {
+        line: 3,
+        kind: TextKind::Deep,
     };
+    let check = CheckError::NoCostfactor;
     let rows = [
         (Status::Done, 0, ""),
         (Status::Usage { word: 12 }, 1, "usage: word 12"),
-        (none, 3, "no track: leg 0"),
+        (Status::TooLong { word: 1 }, 2, "word 1: file too long"),
+        (
+            Status::Lookup {
+                word: 1,
+                error: line,
+            },
+            2,
+            "word 1: lookup line 7",
+        ),
+        (
+            Status::Text {
+                word: 2,
+                error: text,
+            },
+            2,
+            "word 2: profile line 3: deep",
+        ),
+        (
+            Status::Check {
+                word: 2,
+                error: check,
+            },
+            2,
+            "word 2: profile: no costfactor",
+        ),
+        (Status::Grid { error }, 3, "no track: leg 0"),
+        (Status::NotFound { word: 2 }, 7, "word 2: not found"),
+        (Status::ReadFault { word: 1 }, 8, "word 1: read fault"),
         (Status::WriteFault, 9, "write fault"),
         (Status::NoMemory, 10, "out of memory"),
     ];
@@ -177,5 +258,181 @@ fn a_status_has_its_number_and_line(rt: HostRuntime) -> Result<(), Fail> {
         let line = row.0.line(rt.alloc())?;
         assert!(rt; line.as_slice() == row.2.as_bytes(), "{}", row.2);
     }
+    Ok(())
+}
+
+/// A tag table.
+const LOOK: &str = "---lookupversion:10\n---minorversion:1\n\n---context:way\n\
+reversedirection;0000000000 yes\n\
+highway;0000000400 residential\n\
+highway;0000000300 primary\n\
+highway;0000000200 track\n\
+highway;0000000100 cycleway\n\
+\n---context:node\n\
+nodeaccessgranted;0000000000 yes\n\
+barrier;0000000020 gate\n\
+barrier;0000000010 bollard\n";
+
+/// A profile by which main roads cost double.
+const TWO: &str = "---context:way assign costfactor switch highway=primary 2 1";
+
+/// Its listing.
+const LISTING: &str = "section global\nsection way\n0 look highway 3\n1 jumpzero 4\n\
+2 num 2.000000\n3 jump 5\n4 num 1.000000\n5 set costfactor\nsection node\n";
+
+/// A file of this name and content.
+fn file(alloc: Global, name: &str, content: &str) -> Result<(Name, Vec<u8>), AllocError> {
+    let name = Items::from_vec(Vec::from_slice(alloc, name.as_bytes())?);
+    Ok((name, Vec::from_slice(alloc, content.as_bytes())?))
+}
+
+/// A tag table `look` and a profile `two.brf` of these contents, of which each read gives so many bytes and these calls
+/// fail.
+fn two_files(
+    alloc: Global,
+    look: &str,
+    two: &str,
+    piece: usize,
+    failing: Vec<u64>,
+) -> Result<MemFiles, AllocError>
+    requires { 1 ≤ piece }
+{
+    let mut files = Vec::new(alloc);
+    files.push(file(alloc, "look", look)?)?;
+    files.push(file(alloc, "two.brf", two)?)?;
+    Ok(MemFiles::new(alloc, files, piece, failing))
+}
+
+#[test]
+fn the_listing_of_a_profile_is_printed(rt: HostRuntime) -> Result<(), Fail> {
+    let alloc = rt.alloc();
+    let rows = [
+        ("code lookups=look profile=two.brf", 4096),
+        ("code profile=two.brf lookups=look", 1),
+    ];
+    for row in rows.iter() {
+        let mut files = two_files(alloc, LOOK, TWO, row.1, Vec::new(alloc))?;
+        assert!(rt;
+            over(alloc, row.0, &mut files, 0, "", LISTING)?,
+            "{}",
+            row.0
+        );
+        assert_eq!(rt; files.opens(), 2);
+    }
+    Ok(())
+}
+
+#[test]
+fn the_first_refusal_of_the_files_is_told(rt: HostRuntime) -> Result<(), Fail> {
+    let alloc = rt.alloc();
+    let rows = [
+        (
+            LOOK,
+            TWO,
+            "code lookups=l profile=two.brf",
+            7,
+            "word 1: not found",
+        ),
+        (
+            LOOK,
+            TWO,
+            "code profile=p lookups=l",
+            7,
+            "word 2: not found",
+        ),
+        (
+            LOOK,
+            TWO,
+            "code profile=p lookups=look",
+            7,
+            "word 1: not found",
+        ),
+        (
+            "x",
+            "5x",
+            "code profile=two.brf lookups=look",
+            2,
+            "word 2: lookup line 1",
+        ),
+        (
+            LOOK,
+            "5x",
+            "code lookups=look profile=two.brf",
+            2,
+            "word 2: profile line 1: number",
+        ),
+        (
+            LOOK,
+            "",
+            "code lookups=look profile=two.brf",
+            2,
+            "word 2: profile: no costfactor",
+        ),
+        (
+            LOOK,
+            "---context:way\nassign costfactor highway=path",
+            "code lookups=look profile=two.brf",
+            2,
+            "word 2: profile line 2: unknown value",
+        ),
+    ];
+    for row in rows.iter() {
+        let mut files = two_files(alloc, row.0, row.1, 4096, Vec::new(alloc))?;
+        assert!(rt;
+            over(alloc, row.2, &mut files, row.3, row.4, "")?,
+            "{}",
+            row.4
+        );
+    }
+    Ok(())
+}
+
+#[test]
+fn a_file_that_is_too_long_is_refused(rt: HostRuntime) -> Result<(), Fail> {
+    let alloc = rt.alloc();
+    let mut profile = String::from_str(alloc, TWO)?;
+    let spaces = "                                                                ";
+    for _ in 0..4095 {
+        profile.push_str(spaces)?;
+    }
+    profile.push_str("    ")?;
+    let line = "code lookups=look profile=two.brf";
+    let mut files = two_files(alloc, LOOK, profile.as_str(), 65536, Vec::new(alloc))?;
+    assert_eq!(rt; profile.len(), 262_143);
+    assert!(rt;
+        over(alloc, line, &mut files, 0, "", LISTING)?,
+        "a file within the limit"
+    );
+    profile.push_str("  ")?;
+    let mut files = two_files(alloc, LOOK, profile.as_str(), 65536, Vec::new(alloc))?;
+    assert!(rt;
+        over(alloc, line, &mut files, 2, "word 2: file too long", "")?,
+        "one byte more than the limit"
+    );
+    Ok(())
+}
+
+#[test]
+fn a_read_fault_names_the_file_that_was_opened_last(rt: HostRuntime) -> Result<(), Fail> {
+    let alloc = rt.alloc();
+    let line = "code profile=two.brf lookups=look";
+    // The calls are: open, two reads, open, two reads.
+    let rows = [(0u64, 2), (1, 2), (2, 2), (3, 1), (4, 1), (5, 1)];
+    for row in rows.iter() {
+        let failing = vec![in alloc; row.0]?;
+        let mut files = two_files(alloc, LOOK, TWO, 4096, failing)?;
+        let told = format!(in alloc; "word {}: read fault", row.1)?;
+        assert!(rt;
+            over(alloc, line, &mut files, 8, told.as_str(), "")?,
+            "call {}",
+            row.0
+        );
+    }
+    let failing = vec![in alloc; 6u64]?;
+    let mut files = two_files(alloc, LOOK, TWO, 4096, failing)?;
+    assert!(rt;
+        over(alloc, line, &mut files, 0, "", LISTING)?,
+        "no call after the last"
+    );
     Ok(())
 }
