@@ -60,6 +60,17 @@ fn outcome(
     )
 }
 
+/// Compares the values of expressions with what they are written as, for one way.
+fn compare_all(rt: &impl Abort, alloc: Global, rows: &[(&str, &str)]) -> Result<(), AllocError> {
+    let numbers = [0u16, 3, 0, 0, 1, 0];
+    for (expr, want) in rows {
+        let text = format!(in alloc; "---context:way assign x {expr}")?;
+        let got = outcome(rt, alloc, text.as_bytes(), Part::Way, numbers.as_slice())?;
+        assert_eq!(rt; got.as_slice(), want.as_bytes(), "{expr}");
+    }
+    Ok(())
+}
+
 #[test]
 fn each_operator_has_its_values(rt: HostRuntime) -> Result<(), Fail> {
     let rows = [
@@ -110,18 +121,7 @@ fn each_operator_has_its_values(rt: HostRuntime) -> Result<(), Fail> {
         ("junction=unknown", "x=1000000"),
         ("junction=roundabout|unknown", "x=1000000"),
     ];
-    for (expr, want) in rows {
-        let text = format!(in rt.alloc(); "---context:way assign x {expr}")?;
-        let numbers = [0u16, 3, 0, 0, 1, 0];
-        let got = outcome(
-            &rt,
-            rt.alloc(),
-            text.as_bytes(),
-            Part::Way,
-            numbers.as_slice(),
-        )?;
-        assert_eq!(rt; got.as_slice(), want.as_bytes(), "{expr}");
-    }
+    compare_all(&rt, rt.alloc(), rows.as_slice())?;
     Ok(())
 }
 
@@ -150,18 +150,7 @@ fn the_first_fault_that_is_met_is_told(rt: HostRuntime) -> Result<(), Fail> {
             "zero divides in z",
         ),
     ];
-    for (expr, want) in rows {
-        let text = format!(in rt.alloc(); "---context:way assign x {expr}")?;
-        let numbers = [0u16, 3, 0, 0, 1, 0];
-        let got = outcome(
-            &rt,
-            rt.alloc(),
-            text.as_bytes(),
-            Part::Way,
-            numbers.as_slice(),
-        )?;
-        assert_eq!(rt; got.as_slice(), want.as_bytes(), "{expr}");
-    }
+    compare_all(&rt, rt.alloc(), rows.as_slice())?;
     Ok(())
 }
 
