@@ -1,5 +1,5 @@
 -- What isn't at fault never meets what isn't known.
-use Rattle.std.proofs.Common.{◌≡◌, ◌∙◌, ℕ, suc, Bool, true, false, ◌||◌, cond, List, [], ◌∷◌, ◌++◌, map, ℤ, Option, Some, None, Result, Ok, Err, is_some, refl, sym, ap, subst, append_assoc, append-nil}
+use Rattle.std.proofs.Common.{◌≡◌, ◌∙◌, ℕ, Bool, true, false, ◌||◌, cond, List, [], ◌∷◌, ◌++◌, map, ℤ, Option, Some, None, Result, Ok, Err, is_some, refl, sym, ap, subst, append_assoc, append-nil}
 use Rattle.std.proofs.lemmas.List.{map-append}
 use Rattle.std.specs.Option.{option_map}
 use Rattle.std.specs.Map.{lookup}
@@ -225,6 +225,12 @@ values_names looks global own values (a ∷ rest) is =
         ∙ append_assoc (names_of own) (a.name ∷ []) (names_in rest)
     go_on (Err fault) next is = cc
 
+-- The values of the global section are those of its names, under any overrides.
+pub names_of_global : (overrides : List (List ℕ × ℤ)) (s : Sections) (values : List (List ℕ × ℤ)) → global_values overrides s ≡ Ok values → names_of values ≡ names_in s.global
+unfolding global_values
+names_of_global overrides s values there =
+    values_names no_looks [] [] values (map (overridden overrides) s.global) there ∙ overridden_names overrides s.global
+
 -- The section of a part has its values after those of the global one, but for a fault of arithmetic.
 AreThere-part : (table : TagTable) (s : Sections) → sections_refusal table s ≡ None → (part : Part) (numbers : List ℕ) (values : List (List ℕ × ℤ)) → names_of values ≡ names_in s.global → AreThere (values_from (looks_in (rows_of table part) numbers) values [] (assignments_of s part))
 AreThere-part table s none part numbers values are = by_part part
@@ -254,8 +260,7 @@ IsDefined-accepted table s none =
           (AreThere-section Global None no_looks [] [] (map (overridden overrides) s.global) AreKnown-global (overridden_refusal overrides None [] [] s.global first.0))
           is;
       own = λ overrides part numbers values fault known there is.
-          let names : names_of values ≡ names_in s.global =
-          values_names no_looks [] [] values (map (overridden overrides) s.global) there ∙ overridden_names overrides s.global in
+          let names : names_of values ≡ names_in s.global = names_of_global overrides s values there in
           fault_found (values_from (looks_in (rows_of table part) numbers) values [] (assignments_of s part)) fault
           (AreThere-part table s none part numbers values names) is;
     }

@@ -1,3 +1,4 @@
+pub mod CallerLemmas
 pub mod DefinedLemmas
 pub mod FaultLemmas
 pub mod OverrideLemmas

@@ -1,5 +1,5 @@
 -- The first thing at fault in a profile. This project's own rule.
-use Rattle.std.specs.Prelude.{ℕ, suc, Bool, ◌||◌, List, [], ◌∷◌, ◌++◌, map, ℤ, Option, Some, None, if◌then◌else◌}
+use Rattle.std.specs.Prelude.{ℕ, suc, ◌||◌, List, [], ◌∷◌, ◌++◌, map, ℤ, Option, Some, None, if◌then◌else◌}
 use Rattle.context_check.specs.Effects.{global_names, costfactor_name}
 use Rattle.context_check.specs.declared.error.CheckError.{CheckError}
 use Rattle.context_check.specs.declared.error.CheckError.TheVariants.{UnknownOverride, WrongSection, UnknownName, UnknownTag, UnknownValue, NoCostfactor}

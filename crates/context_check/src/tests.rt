@@ -3,14 +3,12 @@ mod fixtures;
 
 use super::*;
 use fixed_num::Num;
-use fixtures::{TREK, TWICE, answer, assert_answers, overrides, profile, table};
+use fixtures::{TREK, TWICE, assert_answers, overrides, profile, table};
 use item_list::TryClone;
 use std::alloc::{AllocError, Global};
-use std::test::Fail;
 
 #[test]
-fn a_profile_is_accepted_or_its_fault_is_named(rt: HostRuntime) -> Result<(), Fail> {
-    let none = Overrides::new(rt.alloc());
+fn a_profile_is_accepted_or_its_fault_is_named(rt: HostRuntime) {
     let rows = [
         (
             "---context:way assign costfactor a",
@@ -75,13 +73,11 @@ fn a_profile_is_accepted_or_its_fault_is_named(rt: HostRuntime) -> Result<(), Fa
             "profile line 1: unknown tag",
         ),
     ];
-    assert_answers(&rt, rt.alloc(), &none, rows.as_slice());
-    Ok(())
+    assert_answers(&rt, rt.alloc(), &[], rows.as_slice());
 }
 
 #[test]
-fn the_first_fault_counts(rt: HostRuntime) -> Result<(), Fail> {
-    let none = Overrides::new(rt.alloc());
+fn the_first_fault_counts(rt: HostRuntime) {
     let rows = [
         // Kinds in an assignment.
         (
@@ -172,28 +168,24 @@ fn the_first_fault_counts(rt: HostRuntime) -> Result<(), Fail> {
             "accepted",
         ),
     ];
-    assert_answers(&rt, rt.alloc(), &none, rows.as_slice());
-    Ok(())
+    assert_answers(&rt, rt.alloc(), &[], rows.as_slice());
 }
 
 #[test]
-fn overrides_are_of_names_of_the_global_section(rt: HostRuntime) -> Result<(), Fail> {
+fn overrides_are_of_names_of_the_global_section(rt: HostRuntime) {
     let first = "override 0: unknown name";
     let second = "override 1: unknown name";
-    let unknown = overrides(&rt, rt.alloc(), &["x"])?;
     let rows = [
         ("---context:way assign costfactor 1", first),
         ("---context:way assign x 1 assign costfactor 1", first),
         (TWICE, first),
     ];
-    assert_answers(&rt, rt.alloc(), &unknown, rows.as_slice());
-    let later = overrides(&rt, rt.alloc(), &["g", "x"])?;
+    assert_answers(&rt, rt.alloc(), &["x"], rows.as_slice());
     let rows = [
         ("---context:global assign g highway=track", second),
         (TWICE, second),
     ];
-    assert_answers(&rt, rt.alloc(), &later, rows.as_slice());
-    let known = overrides(&rt, rt.alloc(), &["g"])?;
+    assert_answers(&rt, rt.alloc(), &["g", "x"], rows.as_slice());
     let rows = [
         (TWICE, "accepted"),
         (
@@ -201,16 +193,15 @@ fn overrides_are_of_names_of_the_global_section(rt: HostRuntime) -> Result<(), F
             "profile line 1: unknown name",
         ),
     ];
-    assert_answers(&rt, rt.alloc(), &known, rows.as_slice());
-    Ok(())
+    assert_answers(&rt, rt.alloc(), &["g"], rows.as_slice());
 }
 
 #[test]
-fn what_was_checked_is_kept(rt: HostRuntime) -> Result<(), Fail> {
+fn what_was_checked_is_kept(rt: HostRuntime) {
     let table = table(&rt, rt.alloc());
     let profile = profile(&rt, rt.alloc(), TREK.as_bytes());
-    let overrides = overrides(&rt, rt.alloc(), &["uphillcost", "stick_to_cycleroutes"])?;
-    let copy = overrides.try_clone(rt.alloc())?;
+    let overrides = overrides(&rt, rt.alloc(), &["uphillcost", "stick_to_cycleroutes"]);
+    let copy = overrides.try_clone(rt.alloc()).expect(&rt, "memory");
     let checked = check(rt.alloc(), &profile, &table, &copy)
         .ok()
         .expect(&rt, "accepted");
@@ -228,35 +219,31 @@ fn what_was_checked_is_kept(rt: HostRuntime) -> Result<(), Fail> {
         Num::of(1_000_000)
     );
     assert_eq!(rt; checked.overrides().find(b"uphillcosts"), None);
-    Ok(())
 }
 
 /// A profile whose one expression is a thousand deep, with this word at its end.
-fn deep_text(alloc: Global, word: &[u8]) -> Result<Vec<u8>, AllocError> {
-    let mut text = Vec::from_slice(alloc, b"---context:way\nassign costfactor\n")?;
+fn deep_text(alloc: Global, word: &str) -> Result<String, AllocError> {
+    let mut text = String::from_str(alloc, "---context:way\nassign costfactor\n")?;
     for _ in 1..1000 {
-        text.extend_from_slice(b"not ")?;
+        text.push_str("not ")?;
     }
-    text.extend_from_slice(word)?;
+    text.push_str(word)?;
     Ok(text)
 }
 
 #[test]
-fn an_expression_is_checked_to_a_depth_of_a_thousand(rt: HostRuntime) -> Result<(), Fail> {
-    let table = table(&rt, rt.alloc());
-    let none = Overrides::new(rt.alloc());
-    let known = deep_text(rt.alloc(), b"highway=track")?;
-    let found = answer(&rt, rt.alloc(), &table, known.as_slice(), &none);
-    assert_eq!(rt; found.as_str(), "accepted");
-    let unknown = deep_text(rt.alloc(), b"a")?;
-    let found = answer(&rt, rt.alloc(), &table, unknown.as_slice(), &none);
-    assert_eq!(rt; found.as_str(), "profile line 3: unknown name");
-    Ok(())
+fn an_expression_is_checked_to_a_depth_of_a_thousand(rt: HostRuntime) {
+    for (word, want) in [
+        ("highway=track", "accepted"),
+        ("a", "profile line 3: unknown name"),
+    ] {
+        let text = deep_text(rt.alloc(), word).expect(&rt, "memory");
+        assert_answers(&rt, rt.alloc(), &[], &[(text.as_str(), want)]);
+    }
 }
 
 #[test]
-fn want_of_memory_is_printed(rt: HostRuntime) -> Result<(), Fail> {
-    let line = CheckError::NoMemory.line(rt.alloc())?;
+fn want_of_memory_is_printed(rt: HostRuntime) {
+    let line = CheckError::NoMemory.line(rt.alloc()).expect(&rt, "memory");
     assert_eq!(rt; line.as_str(), "out of memory");
-    Ok(())
 }

@@ -81,23 +81,19 @@ fn name(alloc: Global, text: &str) -> Result<Name, AllocError> {
 }
 
 /// Overrides of these names, each by 1.
-pub(super) fn overrides(
-    rt: &impl Abort,
-    alloc: Global,
-    names: &[&str],
-) -> Result<Overrides, AllocError> {
+pub(super) fn overrides(rt: &impl Abort, alloc: Global, names: &[&str]) -> Overrides {
     let one = Num::of(1_000_000).expect(rt, "a number");
     let mut overrides = Overrides::new(alloc);
     for other in names {
-        let item = (name(alloc, other)?, one);
+        let item = (name(alloc, other).expect(rt, "memory"), one);
         assert!(rt; overrides.find(item.0.as_slice()).is_none());
-        overrides.push(item)?;
+        overrides.push(item).expect(rt, "memory");
     }
-    Ok(overrides)
+    overrides
 }
 
 /// The answer to a profile: `accepted`, or the printed line.
-pub(super) fn answer(
+fn answer(
     rt: &impl Abort,
     alloc: Global,
     table: &Table,
@@ -112,16 +108,17 @@ pub(super) fn answer(
     line.expect(rt, "memory for the line")
 }
 
-/// Each text has the answer beside it.
+/// Each text has the answer beside it, where these names have overrides.
 pub(super) fn assert_answers(
     rt: &impl Abort,
     alloc: Global,
-    overrides: &Overrides,
+    names: &[&str],
     rows: &[(&str, &str)],
 ) {
     let table = table(rt, alloc);
+    let overrides = overrides(rt, alloc, names);
     for (text, want) in rows {
-        let found = answer(rt, alloc, &table, text.as_bytes(), overrides);
+        let found = answer(rt, alloc, &table, text.as_bytes(), &overrides);
         assert_eq!(rt; found.as_str(), *want, "{text}");
     }
 }
