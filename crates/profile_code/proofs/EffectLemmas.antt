@@ -1,5 +1,5 @@
 -- The names with an effect, their places and their values.
-use Rattle.std.proofs.Common.{◌≡◌, ℕ, List, Option, refl}
+use Rattle.std.proofs.Common.{◌≡◌, ℕ, List, Option}
 use lib.Chars.{codes}
 use Rattle.profile_code.specs.Effects.{global_places, way_places}
 use Rattle.profile_code.specs.declared.global_effects.GlobalPlaces.{GlobalPlaces}

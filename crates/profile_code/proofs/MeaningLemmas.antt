@@ -9,10 +9,10 @@ use Rattle.lookup_table.specs.declared.part.Part.TheVariants.{Way, Node}
 use Rattle.profile_code.specs.Correct.{IsCodeOf, end_of, fault_end}
 use Rattle.profile_code.specs.Effects.{last_or, placed_or, value_at}
 use Rattle.profile_code.specs.Flat.{Flat, flat_of, global_run, own_run, own_section, tags_of}
-use Rattle.profile_code.specs.Machine.{Ended, Finished, Faulted, Stuck}
+use Rattle.profile_code.specs.Machine.{Ended, Finished}
 use Rattle.profile_code.specs.Runs.{AnswersOwn, AnswersRun, AnswersSection, IsValueOf}
 use Rattle.profile_code.specs.declared.fault.Fault.{Fault as RunFault}
-use Rattle.profile_text.specs.Meaning.{Fault, Unknown, Faulty, SectionFault, assignments_of, global_values, own_values, last_value, no_looks, looks_in, overridden}
+use Rattle.profile_text.specs.Meaning.{Fault, Unknown, Faulty, SectionFault, assignments_of, global_values, own_values, no_looks, looks_in, overridden}
 use Rattle.profile_text.specs.Names.{last_place, is_among}
 use Rattle.profile_code.proofs.NameLemmas.{names_of, numbers_of, number_placed, overrides_named, value_placed, value_some, values_named}
 

@@ -1,5 +1,5 @@
 -- The names of values, and where they stand.
-use Rattle.std.proofs.Common.{◌≡◌, ◌∙◌, ℕ, suc, ◌<◌, Bool, true, false, List, [], ◌∷◌, ◌++◌, length, map, ℤ, Option, Some, None, Result, Ok, Err, refl, sym, ap, arith, IfSome, slice_get, get_or, unwrap_or, subst, is_some}
+use Rattle.std.proofs.Common.{◌≡◌, ◌∙◌, ℕ, suc, ◌<◌, Bool, true, false, List, [], ◌∷◌, ◌++◌, length, map, ℤ, Option, Some, None, Result, Ok, Err, refl, sym, ap, arith, IfSome, get_or, unwrap_or, subst, is_some}
 use Rattle.std.proofs.Math.Path.{fun_ext}
 use Rattle.std.proofs.lemmas.List.{append-nil, append_assoc, map-append}
 use Rattle.std.proofs.lemmas.Option.{slice_get-get_or}
@@ -7,9 +7,9 @@ use Rattle.std.specs.Map.{lookup}
 use Rattle.std.specs.Str.{bytes_eq}
 use Rattle.context_check.specs.Refusal.{names_in}
 use Rattle.profile_code.specs.Effects.{value_at, last_or, placed_or}
-use Rattle.profile_text.specs.Meaning.{Fault, SectionFault, and_then, with_value, value_of, variable_in, values_from, later_value, last_value, overridden, replaced_by}
+use Rattle.profile_text.specs.Meaning.{Fault, and_then, with_value, value_of, variable_in, values_from, later_value, last_value, overridden, replaced_by}
 use Rattle.profile_text.specs.Names.{last_place, later_place}
-use Rattle.profile_text.specs.Tree.{Assignment, Constant}
+use Rattle.profile_text.specs.Tree.{Assignment}
 
 -- The names of values.
 abbrev pub names_of : List (List ℕ × ℤ) → List (List ℕ)

@@ -1,4 +1,4 @@
-use Rattle.lookup_table.specs.declared.part.Part.TheVariants.{Way, Node}
+use Rattle.lookup_table.specs.declared.part.Part.TheVariants.{Node}
 use Rattle.profile_code.proofs.AnswerLemmas.{own_ready}
 use Rattle.profile_code.proofs.answers.node_answer.Goals as goal
 

@@ -1,7 +1,6 @@
-use Rattle.std.proofs.Common.{◌∙◌, ◌-◌, ◌^◌, sym, ap, drop, arith}
+use Rattle.std.proofs.Common.{◌∙◌, ◌-◌, ◌^◌, sym, ap, arith}
 use Rattle.profile_code.specs.Machine.{exec}
 use Rattle.profile_code.specs.Step.{given_of}
-use Rattle.profile_code.specs.declared.instr.Instr.{Instr}
 use Rattle.profile_code.proofs.RunLemmas.{given_same, goes_on, drop_capped}
 use Rattle.profile_code.proofs.run.run_section.Goals as goal
 

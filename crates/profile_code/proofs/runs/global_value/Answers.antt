@@ -1,7 +1,3 @@
-use Rattle.std.proofs.Common.{◌≡◌, ◌∙◌, ap}
-use Rattle.profile_code.specs.Effects.{value_at}
-use Rattle.profile_code.specs.Flat.{FlatSection}
-use Rattle.profile_text.specs.Names.{last_place}
 use Rattle.profile_code.proofs.MeaningLemmas.{value_assigned, value_held}
 use Rattle.profile_code.proofs.runs.global_value.Goals as goal
 

@@ -1,4 +1,4 @@
-use Rattle.lookup_table.specs.declared.part.Part.TheVariants.{Way, Node}
+use Rattle.lookup_table.specs.declared.part.Part.TheVariants.{Node}
 use Rattle.profile_code.specs.Effects.{node_number}
 use Rattle.profile_code.proofs.MeaningLemmas.{own_answered}
 use Rattle.profile_code.proofs.runs.run_node.Goals as goal
