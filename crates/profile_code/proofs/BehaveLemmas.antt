@@ -76,15 +76,19 @@ module _ (subject : Subject) (accepted : IsAccepted subject) where
   unfolding refusal_of
   sections_none = none_second (override_refusal 0 subject.overrides (names_in subject.sections.global)) _ accepted
 
+  -- Nothing is at fault in the global section.
   global_none : section_refusal section.Global None [] [] subject.sections.global ≡ None
   global_none = none_first _ _ sections_none
 
+  -- Nor in the sections of ways and nodes.
   own_none : or_else (section_refusal section.Way (Some subject.table.way) (names_in subject.sections.global) [] subject.sections.way) (or_else (section_refusal section.Node (Some subject.table.node) (names_in subject.sections.global) [] subject.sections.node) (costfactor_refusal subject.sections.way)) ≡ None
   own_none = none_second (section_refusal section.Global None [] [] subject.sections.global) _ sections_none
 
+  -- Nor in that of ways.
   way_none : section_refusal section.Way (Some subject.table.way) (names_in subject.sections.global) [] subject.sections.way ≡ None
   way_none = none_first _ _ own_none
 
+  -- Nor in that of nodes.
   node_none : section_refusal section.Node (Some subject.table.node) (names_in subject.sections.global) [] subject.sections.node ≡ None
   node_none = none_first _ _ (none_second (section_refusal section.Way (Some subject.table.way) (names_in subject.sections.global) [] subject.sections.way) _ own_none)
 

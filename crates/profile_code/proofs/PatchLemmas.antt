@@ -1,15 +1,15 @@
 -- A jump is written after the operations that it passes.
-use Rattle.std.proofs.Common.{◌≡◌, ℕ, ◌+◌, ◌-◌, List, [], ◌∷◌, ◌++◌, length, pos, refl, sym, ap, subst, ◌∙◌, arith, append_assoc, length-append}
+use Rattle.std.proofs.Common.{◌≡◌, ℕ, ◌+◌, ◌-◌, List, [], ◌∷◌, ◌++◌, length, pos, sym, ap, subst, ◌∙◌, arith, append_assoc, length-append}
 use Rattle.std.specs.Prelude.{slice_set}
 use Rattle.std.proofs.Math.Seq.{set-append_seam}
 use Rattle.profile_code.specs.declared.instr.Instr.{Instr}
 use Rattle.profile_code.specs.declared.instr.Instr.TheVariants.{Number, Truth, JumpZero, Jump}
-use Rattle.profile_code.specs.Emit.{operation_code, choice_code}
+use Rattle.profile_code.specs.Emit.{choice_code}
 use Rattle.profile_code.specs.Operands.{between, behind}
 use Rattle.profile_text.specs.declared.expr.Op.{Op}
-use Rattle.profile_text.specs.declared.expr.Op.TheVariants.{Or, And, Xor, Multiply, Divide, Add, Sub, Max, Min, Equal, Greater, Lesser}
+use Rattle.profile_text.specs.declared.expr.Op.TheVariants.{Or, And}
 
--- The jump of `and` is written.
+-- The jump of `and` is written after its second operand.
 close_at_and : (old new front b : List Instr) (start len : ℕ) → new ≡ ((old ++ Truth ∷ []) ++ Jump 1 ∷ []) ++ Number (pos 0) ∷ [] → len ≡ length new → old ≡ (front ++ JumpZero 2 ∷ []) ++ b → start ≡ length (front ++ JumpZero 2 ∷ []) → slice_set new (start - 1) (JumpZero (len - start - 1)) ≡ front ++ JumpZero (length b + 2) ∷ (b ++ Truth ∷ Jump 1 ∷ Number (pos 0) ∷ [])
 close_at_and old new front b start len new_is len_is old_is start_is =
     let flat : (((((front ++ JumpZero 2 ∷ []) ++ b) ++ Truth ∷ []) ++ Jump 1 ∷ []) ++ Number (pos 0) ∷ []) ≡ front ++ JumpZero 2 ∷ (b ++ Truth ∷ Jump 1 ∷ Number (pos 0) ∷ []) = simp append_assoc in
@@ -24,12 +24,13 @@ close_at_and old new front b start len new_is len_is old_is start_is =
     ∙ set-append_seam front (JumpZero 2) (b ++ Truth ∷ Jump 1 ∷ Number (pos 0) ∷ []) (JumpZero (len - start - 1))
     ∙ ap (λ n. front ++ JumpZero n ∷ (b ++ Truth ∷ Jump 1 ∷ Number (pos 0) ∷ [])) jump
 
+-- The jump of `and` is written, wherever the operator is known to be `and`.
 pub close_and : (op : Op) (old new front b : List Instr) (start len : ℕ) → op ≡ And → new ≡ ((old ++ Truth ∷ []) ++ Jump 1 ∷ []) ++ Number (pos 0) ∷ [] → len ≡ length new → old ≡ (front ++ between op 0) ++ b → start ≡ length (front ++ between op 0) → slice_set new (start - 1) (JumpZero (len - start - 1)) ≡ front ++ (between op (length b) ++ (b ++ behind op))
 close_and op old new front b start len is new_is len_is =
     subst (λ o. old ≡ (front ++ between o 0) ++ b → start ≡ length (front ++ between o 0) → slice_set new (start - 1) (JumpZero (len - start - 1)) ≡ front ++ (between o (length b) ++ (b ++ behind o))) (sym is)
     (close_at_and old new front b start len new_is len_is)
 
--- The jump of `or` is written.
+-- The jump of `or` is written after its second operand.
 close_at_or : (old new front b : List Instr) (start len : ℕ) → new ≡ old ++ Truth ∷ [] → len ≡ length new → old ≡ (front ++ JumpZero 2 ∷ Number (pos 1000000) ∷ Jump 1 ∷ []) ++ b → start ≡ length (front ++ JumpZero 2 ∷ Number (pos 1000000) ∷ Jump 1 ∷ []) → slice_set new (start - 1) (Jump (len - start)) ≡ front ++ JumpZero 2 ∷ Number (pos 1000000) ∷ Jump (length b + 1) ∷ (b ++ Truth ∷ [])
 close_at_or old new front b start len new_is len_is old_is start_is =
     let before = front ++ JumpZero 2 ∷ Number (pos 1000000) ∷ [] in
@@ -47,34 +48,13 @@ close_at_or old new front b start len new_is len_is old_is start_is =
     ∙ ap (λ n. before ++ Jump n ∷ (b ++ Truth ∷ [])) jump
     ∙ append_assoc front (JumpZero 2 ∷ Number (pos 1000000) ∷ []) (Jump (length b + 1) ∷ (b ++ Truth ∷ []))
 
+-- The jump of `or` is written, wherever the operator is known to be `or`.
 pub close_or : (op : Op) (old new front b : List Instr) (start len : ℕ) → op ≡ Or → new ≡ old ++ Truth ∷ [] → len ≡ length new → old ≡ (front ++ between op 0) ++ b → start ≡ length (front ++ between op 0) → slice_set new (start - 1) (Jump (len - start)) ≡ front ++ (between op (length b) ++ (b ++ behind op))
 close_or op old new front b start len is new_is len_is =
     subst (λ o. old ≡ (front ++ between o 0) ++ b → start ≡ length (front ++ between o 0) → slice_set new (start - 1) (Jump (len - start)) ≡ front ++ (between o (length b) ++ (b ++ behind o))) (sym is)
     (close_at_or old new front b start len new_is len_is)
 
--- The code of an operator is that of its operands, with what stands between and behind them.
-operands : (op : Op) (a b : List Instr) → a ++ (between op (length b) ++ (b ++ behind op)) ≡ operation_code op a b
-operands And a b = refl
-operands Or a b = refl
-operands Xor a b = refl
-operands Multiply a b = refl
-operands Divide a b = refl
-operands Add a b = refl
-operands Sub a b = refl
-operands Max a b = refl
-operands Min a b = refl
-operands Equal a b = refl
-operands Greater a b = refl
-operands Lesser a b = refl
-
--- The code of an operator is appended in four steps.
-pub append_operation : (op : Op) (old c1 c2 c3 c4 a b : List Instr) (start : ℕ) → c1 ≡ old ++ a → c2 ≡ c1 ++ between op 0 → start ≡ length c2 → c3 ≡ c2 ++ b → ((front b : List Instr) → c3 ≡ (front ++ between op 0) ++ b → start ≡ length (front ++ between op 0) → c4 ≡ front ++ (between op (length b) ++ (b ++ behind op))) → c4 ≡ old ++ operation_code op a b
-append_operation op old c1 c2 c3 c4 a b start e1 e2 start_is e3 closed =
-    closed c1 b (e3 ∙ ap (λ l. l ++ b) e2) (start_is ∙ ap length e2)
-    ∙ ap (λ l. l ++ (between op (length b) ++ (b ++ behind op))) e1
-    ∙ append_assoc old a (between op (length b) ++ (b ++ behind op))
-    ∙ ap (λ l. old ++ l) (operands op a b)
-
+-- Two jumps are written one after the other.
 two_writes : (c a b : List Instr) (x y i j : Instr) → slice_set (slice_set (c ++ x ∷ (a ++ y ∷ b)) (length c) i) (length (c ++ i ∷ a)) j ≡ c ++ i ∷ (a ++ j ∷ b)
 two_writes c a b x y i j =
     ap (λ l. slice_set l (length (c ++ i ∷ a)) j) (set-append_seam c x (a ++ y ∷ b) i ∙ sym (append_assoc c (i ∷ a) (y ∷ b)))

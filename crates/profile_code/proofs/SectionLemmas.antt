@@ -20,14 +20,6 @@ pub record EmittedUpTo (rows : List TagRow) (global : List (List ℕ)) (all : Li
   pub named : names_in all ≡ names ++ names_in (drop i all)
   pub high : section_height all ≡ max height (section_height (drop i all))
 
--- Before the first there is none.
-pub EmittedUpTo-start : (rows : List TagRow) (global : List (List ℕ)) (all : List Assignment) (instrs : List Instr) (names : List (List ℕ)) → instrs ≡ [] → names ≡ [] → EmittedUpTo rows global all 0 instrs names 0
-EmittedUpTo-start rows global all instrs names instrs_is names_is = record {
-  code = ap (λ l. section_code rows global l all) (sym names_is) ∙ ap (λ l. l ++ section_code rows global names all) (sym instrs_is);
-  named = ap (λ l. l ++ names_in all) (sym names_is);
-  high = omega arith;
-}
-
 module _ (overrides : List (List ℕ × ℤ)) where
   -- The assignments of the code under overrides.
   abbrev pub under : List Assign → List Assignment
@@ -75,22 +67,11 @@ module _ (overrides : List (List ℕ × ℤ)) where
   nothing_behind assigns i past =
       drop_all i (under assigns) (omega (arith, length-map (map assignment_in assigns) (overridden overrides), length-map assigns assignment_in))
 
-  -- After the last all have their code.
-  pub EmittedUpTo-code : (rows : List TagRow) (global : List (List ℕ)) (assigns : List Assign) (i : ℕ) (instrs : List Instr) (names : List (List ℕ)) (height : ℕ) → EmittedUpTo rows global (under assigns) i instrs names height → length assigns ≤ i → instrs ≡ section_code rows global [] (under assigns)
-  EmittedUpTo-code rows global assigns i instrs names height so_far past =
-      sym (so_far.code ∙ ap (λ l. instrs ++ section_code rows global names l) (nothing_behind assigns i past) ∙ append-nil instrs)
-
-  -- All have their names, which overrides keep.
+  -- After the last all have their names, which overrides keep.
   pub EmittedUpTo-names : (rows : List TagRow) (global : List (List ℕ)) (assigns : List Assign) (i : ℕ) (instrs : List Instr) (names : List (List ℕ)) (height : ℕ) → EmittedUpTo rows global (under assigns) i instrs names height → length assigns ≤ i → names ≡ names_in (map assignment_in assigns)
   EmittedUpTo-names rows global assigns i instrs names height so_far past =
       sym (so_far.named ∙ ap (λ l. names ++ names_in l) (nothing_behind assigns i past) ∙ append-nil names)
       ∙ overridden_names overrides (map assignment_in assigns)
-
-  -- All have their greatest height.
-  pub EmittedUpTo-height : (rows : List TagRow) (global : List (List ℕ)) (assigns : List Assign) (i : ℕ) (instrs : List Instr) (names : List (List ℕ)) (height : ℕ) → EmittedUpTo rows global (under assigns) i instrs names height → length assigns ≤ i → height ≡ section_height (under assigns)
-  EmittedUpTo-height rows global assigns i instrs names height so_far past =
-      let all : section_height (under assigns) ≡ max height 0 = so_far.high ∙ ap (λ l. max height (section_height l)) (nothing_behind assigns i past) in
-      omega arith
 
 -- No override leaves assignments as they are.
 pub under_none : (assignments : List Assignment) → map (overridden []) assignments ≡ assignments

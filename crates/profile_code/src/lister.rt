@@ -38,7 +38,8 @@ pub fn variable_name(code: &Code, section: Section, place: u32) -> &Name
 
 /// Appends a section with its operations.
 fn append_section(text: &mut Vec<u8>, code: &Code, section: Section) -> Result<(), AllocError>
-    ensures value { OnOk result (text.new.items ≡ text.old.items ++ section_text code.now section) }
+    ensures value { OnOk result
+        (text.new.items ≡ text.old.items ++ section_text code.now section) }
 {
     let part = code.section(section);
     let labels = Labels {
@@ -73,8 +74,8 @@ fn append_line(
     place: u32,
     instr: &Instr,
 ) -> Result<(), AllocError>
-    ensures value { OnOk result
-        (text.new.items ≡ text.old.items ++ line_text (naming_in labels.now) number place instr.now) }
+    ensures value { let line = line_text (naming_in labels.now) number place instr.now in
+        OnOk result (text.new.items ≡ text.old.items ++ line) }
 {
     append_number(text, b"", number as u128)?;
     text.push(b' ')?;
@@ -91,8 +92,8 @@ fn append_instr(
     place: u32,
     instr: &Instr,
 ) -> Result<(), AllocError>
-    ensures value { OnOk result
-        (text.new.items ≡ text.old.items ++ instr_text (naming_in labels.now) number place instr.now) }
+    ensures value { let words = instr_text (naming_in labels.now) number place instr.now in
+        OnOk result (text.new.items ≡ text.old.items ++ words) }
 {
     match instr {
         Instr::Number(value) => {

@@ -75,7 +75,8 @@ fn emit_value(
 ) -> Result<usize, AllocError>
     ensures value { let rows = rows_in scope.now.tags in
         let tree = (overridden overrides.now (assignment_in assign.now)).value in
-        OnOk result (code.new.items ≡ code.old.items ++ expr_code rows scope.now.global.now own.now tree) }
+        let ops = expr_code rows scope.now.global.now own.now tree in
+        OnOk result (code.new.items ≡ code.old.items ++ ops) }
     ensures exact { let tree = (overridden overrides.now (assignment_in assign.now)).value in
         IfOk result (λ height. height ≡ height_of tree) }
 {
