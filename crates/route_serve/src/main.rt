@@ -11,6 +11,8 @@ mod run;
 mod status;
 #[cfg(test)]
 mod tests;
+#[cfg(test)]
+mod tests_files;
 mod text;
 
 ghost use Rattle.route_serve.specs.Lines.{number_of_status};
