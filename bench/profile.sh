@@ -1,9 +1,9 @@
 #!/bin/bash
-# The code of a profile for trekking, run on 64 ways in turn: nanoseconds of the processor for one evaluation and for one
-# operation that is carried out, which are the middle of three runs less that of a run without evaluations, and how many
-# operations an evaluation has. These come from the listing and the ways' tag numbers, on which the operations are carried
-# out here once more: the cost factors have to sum up to what the program prints. Its word is how many evaluations a run
-# makes: a million where there is none.
+# The code of a profile for trekking, run on 64 ways in turn: nanoseconds of the processor for an evaluation and for an
+# operation that is carried out, which are the middle of three runs less that of runs without evaluations, and how many
+# operations an evaluation has. These come from the listing and the tag numbers of the ways, on which the operations
+# are carried out here once more: their cost factors have to sum up to what the program prints. Its word is how many
+# evaluations a run makes: a million where there is none.
 cd "$(dirname "$0")/../crates/profile_bench" || exit 1
 rt run >/dev/null 2>&1 || exit 1
 TIMEFORMAT='%3U'
