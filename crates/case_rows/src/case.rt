@@ -1,0 +1,52 @@
+//! One case of a table.
+
+/// A case: where it stands, its words, of which the first names the call, and the answer that is wanted.
+#[derive(Drop)]
+pub struct Case {
+    pub(crate) line: u64,
+    pub(crate) words: Vec<Vec<u8>>,
+    pub(crate) wanted: Vec<u8>,
+}
+
+impl Case {
+    /// The word at a place; the empty one where there is none.
+    pub fn word(&self, place: usize) -> &[u8] {
+        match self.words.as_slice().get(place) {
+            Some(word) => word.as_slice(),
+            None => b"",
+        }
+    }
+
+    /// How many words the case has.
+    pub fn len(&self) -> usize {
+        self.words.len()
+    }
+
+    /// The word at a place as text; the empty one where it is none.
+    pub fn text(&self, place: usize) -> &str {
+        match str::from_utf8(self.word(place)) {
+            Ok(text) => text,
+            Err(_) => "",
+        }
+    }
+
+    /// The word at a place as a whole number; the least one where it is none.
+    pub fn wide(&self, place: usize) -> i128 {
+        self.text(place).parse::<i128>().unwrap_or(i128::MIN)
+    }
+
+    /// The word at a place as a whole number of 64 bits; the least one where it is none.
+    pub fn signed(&self, place: usize) -> i64 {
+        self.text(place).parse::<i64>().unwrap_or(i64::MIN)
+    }
+
+    /// The word at a place as a number of 128 bits without sign; the greatest one where it is none.
+    pub fn size(&self, place: usize) -> u128 {
+        self.text(place).parse::<u128>().unwrap_or(u128::MAX)
+    }
+
+    /// The word at a place as a number of 64 bits without sign; the greatest one where it is none.
+    pub fn count(&self, place: usize) -> u64 {
+        self.text(place).parse::<u64>().unwrap_or(u64::MAX)
+    }
+}

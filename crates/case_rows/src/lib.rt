@@ -1,0 +1,11 @@
+//! Tables of cases as text: a call with its words and the answer that is wanted, one a line.
+#![tactic(auto)]
+
+mod case;
+mod escape;
+mod report;
+mod table;
+
+pub use case::Case;
+pub use report::Report;
+pub use table::Table;

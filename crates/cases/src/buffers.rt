@@ -1,0 +1,78 @@
+//! Cases on elevation buffers.
+
+ghost use Rattle.std.specs.Prelude.{IfSome};
+ghost use Rattle.elev_buffer.specs.Covers.{IsPair};
+
+use crate::texts::{OUTSIDE, truth};
+use case_rows::Case;
+use elev_buffer::{Limits, Mode, Modes, Pair, covers, step};
+use std::alloc::{AllocError, Global};
+
+const MOST: i64 = 1_000_000_000_000_000;
+
+const FAR: i64 = 2_000_000_000_000_000_000;
+
+/// The answer to a case on buffers; none where the call is another.
+pub(crate) fn answer(alloc: Global, case: &Case) -> Result<Option<String>, AllocError> {
+    let text = match case.word(0) {
+        b"step" => stepped(alloc, case)?,
+        b"covers" => covering(alloc, case)?,
+        _ => return Ok(None),
+    };
+    Ok(Some(text))
+}
+
+/// What a step from a buffer leaves, pays and weighs: the buffer, what is added, the reduction, the penalty, the most.
+fn stepped(alloc: Global, case: &Case) -> Result<String, AllocError> {
+    let (e, a, r) = (case.signed(1), case.signed(2), case.signed(3));
+    let (penalty, most) = (case.signed(4), case.signed(5));
+    if penalty < 0 || penalty > most || most > MOST || e < 0 || e > most {
+        return String::from_str(alloc, OUTSIDE);
+    }
+    if a < -FAR || a > FAR || r < 0 || r > FAR {
+        return String::from_str(alloc, OUTSIDE);
+    }
+    let left = step(e, a, r, &Limits { penalty, most });
+    format!(in alloc; "{} {} {}", left.e, left.paid, left.weight)
+}
+
+/// The two buffers, if they are buffers.
+fn pair_of(down: i64, up: i64) -> Option<Pair>
+    ensures found { IfSome result (λ pair. IsPair pair) }
+{
+    if down < 0 || down > MOST || up < 0 || up > MOST {
+        return None;
+    }
+    Some(Pair { down, up })
+}
+
+/// The mode of a word.
+fn mode_of(word: &[u8]) -> Mode {
+    match word {
+        b"compensated" => Mode::Compensated,
+        b"ordered" => Mode::Ordered,
+        _ => Mode::Equal,
+    }
+}
+
+/// Whether a label covers another: the buffers and the cost of both, the two rates, the two modes.
+fn covering(alloc: Global, case: &Case) -> Result<String, AllocError> {
+    let first = pair_of(case.signed(1), case.signed(2));
+    let second = pair_of(case.signed(4), case.signed(5));
+    let (Some(a), Some(b)) = (first, second) else {
+        return String::from_str(alloc, OUTSIDE);
+    };
+    let (kd, ku) = (case.signed(7), case.signed(8));
+    if kd < 0 || kd > MOST || ku < 0 || ku > MOST {
+        return String::from_str(alloc, OUTSIDE);
+    }
+    let (first_cost, second_cost) = (case.size(3), case.size(6));
+    if first_cost >= 1 << 126 || second_cost >= 1 << 126 {
+        return String::from_str(alloc, OUTSIDE);
+    }
+    let modes = Modes {
+        down: mode_of(case.word(9)),
+        up: mode_of(case.word(10)),
+    };
+    truth(alloc, covers(&a, first_cost, &b, second_cost, kd, ku, &modes))
+}

@@ -1,0 +1,148 @@
+//! Cases on the scanner of JSON texts.
+
+ghost use Rattle.std.specs.Prelude.{◌≡◌, false, OnOk};
+ghost use Rattle.json_text.specs.Scanner.{fed, has_ended};
+
+use crate::texts::{OUTSIDE, text_of};
+use case_rows::Case;
+use json_text::{JsonStep, Scanner};
+use std::alloc::{AllocError, Global};
+
+/// The answer to a case on JSON texts; none where the call is another.
+pub(crate) fn answer(alloc: Global, case: &Case) -> Result<Option<String>, AllocError> {
+    let text = match case.word(0) {
+        b"json" => scanned_by_sizes(alloc, case.word(1))?,
+        b"json_pieces" => scanned_by_words(alloc, case)?,
+        b"json_fronts" => fronts(alloc, case.word(1))?,
+        _ => return Ok(None),
+    };
+    Ok(Some(text))
+}
+
+/// The sign of a step or a verdict.
+fn sign(step: JsonStep) -> &'static [u8] {
+    match step {
+        JsonStep::Open => b"{",
+        JsonStep::Close => b"}",
+        JsonStep::ListOpen => b"[",
+        JsonStep::ListClose => b"]",
+        JsonStep::Key => b"k",
+        JsonStep::Text => b"t",
+        JsonStep::Number => b"n",
+        JsonStep::True => b"T",
+        JsonStep::False => b"F",
+        JsonStep::Null => b"N",
+        JsonStep::Done => b".",
+        JsonStep::More => b"?",
+        JsonStep::Bad { .. } => b"!",
+    }
+}
+
+/// Appends a step with its content behind it, or a verdict with its byte.
+fn tell(alloc: Global, told: &mut Vec<u8>, scanner: &Scanner, step: JsonStep) -> Result<(), AllocError> {
+    told.extend_from_slice(sign(step))?;
+    if matches!(step, JsonStep::Key | JsonStep::Text | JsonStep::Number) {
+        told.extend_from_slice(scanner.text())?;
+    }
+    if let JsonStep::Bad { at } = step {
+        told.extend_from_slice(format!(in alloc; "{at}")?.as_bytes())?;
+    }
+    Ok(())
+}
+
+/// Takes every step that is fixed, and tells it; behind them the verdict, if it is to be told.
+fn take_steps(
+    alloc: Global,
+    scanner: &mut Scanner,
+    told: &mut Vec<u8>,
+    verdict: bool,
+) -> Result<(), AllocError>
+    ensures fed { fed scanner.new ≡ fed scanner.old }
+    ensures ended { has_ended scanner.new ≡ has_ended scanner.old }
+{
+    'steps: for _ in 0..u32::MAX {
+        let step = scanner.next()?;
+        if matches!(step, JsonStep::Done | JsonStep::More | JsonStep::Bad { .. }) {
+            if verdict {
+                tell(alloc, told, scanner, step)?;
+            }
+            return Ok(());
+        }
+        tell(alloc, told, scanner, step)?;
+        told.push(b' ')?;
+    }
+    Ok(())
+}
+
+/// Feeds a piece to a scanner that was fed so many bytes.
+fn feed(scanner: &mut Scanner, piece: &[u8], total: &mut u64) -> Result<(), AllocError>
+    requires counted { fed scanner.old ≡ total.old }
+    requires open { has_ended scanner.old ≡ false }
+    ensures counted { OnOk result (fed scanner.new ≡ total.new) }
+    ensures open { has_ended scanner.new ≡ false }
+{
+    if *total < 1 << 60 && piece.len() < 1 << 60 {
+        scanner.feed(piece)?;
+        *total += piece.len() as u64;
+    }
+    Ok(())
+}
+
+/// The steps of a text in pieces of a size, and the verdict at its end.
+fn scanned(alloc: Global, text: &[u8], size: usize) -> Result<Vec<u8>, AllocError> {
+    let mut scanner = Scanner::new(alloc);
+    let mut told = Vec::new(alloc);
+    let mut total = 0u64;
+    'pieces: for piece in text.chunks(size.max(1)) {
+        feed(&mut scanner, piece, &mut total)?;
+        take_steps(alloc, &mut scanner, &mut told, false)?;
+    }
+    scanner.end();
+    take_steps(alloc, &mut scanner, &mut told, true)?;
+    Ok(told)
+}
+
+/// The steps of a text, if they are the same in pieces of 1, 2, 3, 7 and 1,000 bytes.
+fn scanned_by_sizes(alloc: Global, text: &[u8]) -> Result<String, AllocError> {
+    let whole = scanned(alloc, text, 1000)?;
+    for size in [1, 2, 3, 7] {
+        if scanned(alloc, text, size)?.as_slice() != whole.as_slice() {
+            return format!(in alloc; "otherwise in pieces of {size}");
+        }
+    }
+    text_of(alloc, whole.as_slice())
+}
+
+/// What is told after each of the pieces that the words are, the last of which is the end of the text if it is `end`.
+fn scanned_by_words(alloc: Global, case: &Case) -> Result<String, AllocError> {
+    let mut scanner = Scanner::new(alloc);
+    let mut told = Vec::new(alloc);
+    let mut total = 0u64;
+    'words: for place in 1..case.len() {
+        if place > 1 {
+            told.push(b' ')?;
+        }
+        feed(&mut scanner, case.word(place), &mut total)?;
+        take_steps(alloc, &mut scanner, &mut told, true)?;
+        told.extend_from_slice(b" <")?;
+        told.extend_from_slice(scanner.text())?;
+        told.extend_from_slice(b">")?;
+    }
+    scanner.end();
+    told.push(b' ')?;
+    take_steps(alloc, &mut scanner, &mut told, true)?;
+    text_of(alloc, told.as_slice())
+}
+
+/// How many proper fronts of a text are bad exactly at their end.
+fn fronts(alloc: Global, text: &[u8]) -> Result<String, AllocError> {
+    let mut bad = 0u64;
+    for n in 0..text.len() {
+        let told = scanned(alloc, &text[..n], 7)?;
+        let wanted = format!(in alloc; "!{n}")?;
+        if told.as_slice().ends_with(wanted.as_bytes()) {
+            bad = bad.saturating_add(1);
+        }
+    }
+    format!(in alloc; "{bad} of {}", text.len())
+}
