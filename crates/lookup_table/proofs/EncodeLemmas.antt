@@ -11,13 +11,13 @@ use Rattle.lookup_table.specs.Tag.{TagRow, AreSound, AreDistinct, names_of, plac
 use Rattle.lookup_table.proofs.TagLemmas.{AreWithin-number}
 use Rattle.lookup_table.proofs.RowLemmas.{name_place-none, bytes_eq-turned, bytes_eq-refl, same_name}
 
--- A list of tags: names with their values.
+-- a list of tags: names with their values
 abbrev pub TagList : Type 0
 TagList = List (List ℕ × List ℕ)
 
 -- ---- One tag more
 
--- A tag that no row has changes no number.
+-- a tag that no row has changes no number
 tag_numbers-absent : (rows : List TagRow) (tag : List ℕ × List ℕ) (tags : TagList) → place_of rows tag.0 ≡ None → tag_numbers rows (tag ∷ tags) ≡ tag_numbers rows tags
 tag_numbers-absent [] tag tags none = refl
 tag_numbers-absent (r ∷ rs) tag tags none =
@@ -25,12 +25,12 @@ tag_numbers-absent (r ∷ rs) tag tags none =
     ap (λ b. cond b (value_number_of r tag.1) (tag_number_of r tags) ∷ tag_numbers rs (tag ∷ tags)) parts.0
     ∙ ap (λ ns. tag_number_of r tags ∷ ns) (tag_numbers-absent rs tag tags parts.1)
 
--- A place after the first.
+-- a place after the first
 noted_at-later : (r : TagRow) (rs : List TagRow) (n : ℕ) (ns value : List ℕ) (o : Option ℕ) → noted_at (r ∷ rs) (n ∷ ns) value (option_map suc o) ≡ n ∷ noted_at rs ns value o
 noted_at-later r rs n ns value None = refl
 noted_at-later r rs n ns value (Some i) = refl
 
--- The numbers of one more tag in front.
+-- the numbers of one more tag in front
 pub noted_is : (rows : List TagRow) (tag : List ℕ × List ℕ) (tags : TagList) → AreDistinct (names_of rows) → noted rows (tag_numbers rows tags) tag.0 tag.1 ≡ tag_numbers rows (tag ∷ tags)
 noted_is [] tag tags apart = refl
 noted_is (r ∷ rs) tag tags apart = by_test (bytes_eq tag.0 r.name) refl (noted_is rs tag tags apart.1)
@@ -43,17 +43,17 @@ noted_is (r ∷ rs) tag tags apart = by_test (bytes_eq tag.0 r.name) refl (noted
         noted_at-later r rs (tag_number_of r tags) (tag_numbers rs tags) tag.1 (place_of rs tag.0)
         ∙ ap (λ ns. tag_number_of r tags ∷ ns) rest
 
--- Without tags all numbers are 0.
+-- without tags all numbers are 0
 pub tag_numbers-none : (rows : List TagRow) → tag_numbers rows [] ≡ replicate (length rows) 0
 tag_numbers-none [] = refl
 tag_numbers-none (r ∷ rs) = ap (λ ns. 0 ∷ ns) (tag_numbers-none rs)
 
--- The numbers of the tags from a place on.
+-- the numbers of the tags from a place on
 pub record EncodesOn (rows : List TagRow) (tags : TagList) (numbers : List ℕ) (place : ℕ) : Type 0 where
   pub fits : place ≤ length tags
   pub numbers_are : numbers ≡ tag_numbers rows (drop place tags)
 
--- At the end there are none.
+-- at the end there are none
 pub EncodesOn-start : (rows : List TagRow) (tags : TagList) (numbers : List ℕ) → numbers ≡ replicate (length rows) 0 → EncodesOn rows tags numbers (length tags)
 EncodesOn-start rows tags numbers zeros = record {
   fits = omega arith;
@@ -64,11 +64,11 @@ EncodesOn-start rows tags numbers zeros = record {
     drop_all [] = refl
     drop_all (t ∷ ts) = drop_all ts
 
--- There is one number for each tag of the part.
+-- there is one number for each tag of the part
 pub EncodesOn-length : (rows : List TagRow) (tags : TagList) (numbers : List ℕ) (place : ℕ) → EncodesOn rows tags numbers place → length numbers ≡ length rows
 EncodesOn-length rows tags numbers place on = ap length on.numbers_are ∙ length-map rows (λ row. tag_number_of row (drop place tags))
 
--- One tag before that place.
+-- one tag before that place
 pub EncodesOn-step : (rows : List TagRow) (tags : TagList) (numbers new : List ℕ) (place : ℕ) (tag : List ℕ × List ℕ) → AreDistinct (names_of rows) → EncodesOn rows tags numbers place → 0 < place → tag ≡ get_or tags (place - 1) tag → new ≡ noted rows numbers tag.0 tag.1 → EncodesOn rows tags new (place - 1)
 EncodesOn-step rows tags numbers new place tag apart on some tag_is new_is =
     let fits : place ≤ length tags = on.fits in
@@ -86,7 +86,7 @@ EncodesOn-step rows tags numbers new place tag apart on some tag_is new_is =
 
 -- ---- What is printed, read again
 
--- Among what is printed of other tags a tag isn't set.
+-- among what is printed of other tags a tag isn't set
 tag_number_of-printed : (row : TagRow) (rows : List TagRow) (numbers : List ℕ) → place_of rows row.name ≡ None → tag_number_of row (printed_tags rows numbers) ≡ 0
 tag_number_of-printed row [] numbers none = refl
 tag_number_of-printed row (r ∷ rs) [] none = refl
@@ -98,35 +98,35 @@ tag_number_of-printed row (r ∷ rs) (n ∷ ns) none =
     by_test true other rest = rest
     by_test false other rest = ap (λ b. cond b (value_number_of row (value_text r n)) (tag_number_of row (printed_tags rs ns))) other ∙ rest
 
--- Tags before others that name none of these rows.
+-- tags before others that name none of these rows
 abbrev pub NamesNone : TagList → List TagRow → Type 0
 NamesNone [] rows = Unit {0}
 NamesNone (t ∷ ts) rows = (place_of rows t.0 ≡ None) × NamesNone ts rows
 
--- So they name none of fewer rows.
+-- so they name none of fewer rows
 NamesNone-rest : (tags : TagList) (r : TagRow) (rs : List TagRow) → NamesNone tags (r ∷ rs) → NamesNone tags rs
 NamesNone-rest [] r rs none = tt
 NamesNone-rest (t ∷ ts) r rs none = ((name_place-none r.name (names_of rs) t.0 none.0).1, NamesNone-rest ts r rs none.1)
 
--- One more that names none of them.
+-- one more that names none of them
 NamesNone-append : (tags : TagList) (tag : List ℕ × List ℕ) (rows : List TagRow) → NamesNone tags rows → place_of rows tag.0 ≡ None → NamesNone (tags ++ tag ∷ []) rows
 NamesNone-append [] tag rows none one = (one, tt)
 NamesNone-append (t ∷ ts) tag rows none one = (none.0, NamesNone-append ts tag rows none.1 one)
 
--- They leave the number of the first row.
+-- they leave the number of the first row
 tag_number_of-skip : (tags more : TagList) (r : TagRow) (rs : List TagRow) → NamesNone tags (r ∷ rs) → tag_number_of r (tags ++ more) ≡ tag_number_of r more
 tag_number_of-skip [] more r rs none = refl
 tag_number_of-skip (t ∷ ts) more r rs none =
     ap (λ b. cond b (value_number_of r t.1) (tag_number_of r (ts ++ more))) (name_place-none r.name (names_of rs) t.0 none.0).0
     ∙ tag_number_of-skip ts more r rs none.1
 
--- A value that is a first spelling has its number.
+-- a value that is a first spelling has its number
 value_number_of-first : (row : TagRow) (number : ℕ) → 0 < number → IsFirstSpelling row number → value_number_of row (value_text row number) ≡ number
 value_number_of-first row zero some first = absurd (omega arith)
 value_number_of-first row (suc zero) some first = ap (λ o. unwrap_or o 1) (first.unknown refl)
 value_number_of-first row (suc (suc n)) some first = ap (λ o. unwrap_or o 1) (first.listed (omega arith))
 
--- What is printed of numbers has these numbers, after tags that name none of the rows.
+-- what is printed of numbers has these numbers, after tags that name none of the rows
 printed_after : (tags : TagList) (rows : List TagRow) (numbers : List ℕ) → AreDistinct (names_of rows) → AreNumbersOf rows numbers → AreFirstSpellings rows numbers → NamesNone tags rows → tag_numbers rows (tags ++ printed_tags rows numbers) ≡ numbers
 printed_after tags [] [] apart fits firsts none = refl
 printed_after tags [] (n ∷ ns) apart fits firsts none = absurd fits
@@ -149,15 +149,15 @@ printed_after tags (r ∷ rs) (n ∷ ns) apart fits firsts none =
         ∙ ap (λ ts. n ∷ tag_numbers rs ts) (sym (append_assoc tags (tag ∷ []) (printed_tags rs ns)))
         ∙ ap (λ ms. n ∷ ms) more
 
--- What is printed of numbers has these numbers.
+-- what is printed of numbers has these numbers
 pub tag_numbers-printed : (rows : List TagRow) (numbers : List ℕ) → AreDistinct (names_of rows) → AreNumbersOf rows numbers → AreFirstSpellings rows numbers → tag_numbers rows (printed_tags rows numbers) ≡ numbers
 tag_numbers-printed rows numbers apart fits firsts = printed_after [] rows numbers apart fits firsts tt
 
--- A slice of a whole list that was written to is that list as it is now.
+-- a slice of a whole list that was written to is that list as it is now
 pub whole_written : (len : ℕ) (new old : List ℕ) → len ≡ length new → take len (new ++ drop (length new) old) ≡ new
 whole_written len new old len_is = ap (λ n. take n (new ++ drop (length new) old)) len_is ∙ take-append_seam new (drop (length new) old)
 
--- The numbers of tags are of the part.
+-- the numbers of tags are of the part
 pub AreNumbersOf-tag_numbers : (rows : List TagRow) (tags : TagList) → AreSound rows → AreNumbersOf rows (tag_numbers rows tags)
 AreNumbersOf-tag_numbers [] tags sound = tt
 AreNumbersOf-tag_numbers (r ∷ rs) tags sound = (within tags, AreNumbersOf-tag_numbers rs tags sound.1)

@@ -4,7 +4,7 @@ ghost use Rattle.lookup_table.specs.declared.error.LookupError.TheVariants.{NoMe
 ghost use Rattle.lookup_table.specs.Line.{line_form};
 ghost use Rattle.lookup_table.specs.Tag.{add_line, has_room};
 ghost use Rattle.lookup_table.specs.Words.{words_of};
-ghost use Rattle.lookup_table.specs.Version.{one_more};
+ghost use Rattle.lookup_table.specs.Draft.{one_more};
 
 use crate::error::LookupError;
 use crate::line::Line;
@@ -26,7 +26,7 @@ pub(crate) struct Draft {
 }
 
 impl Draft {
-    ghost use Rattle.lookup_table.specs.Table.{empty_draft, take_line, open_part, add_tag_line};
+    ghost use Rattle.lookup_table.specs.Draft.{empty_draft, take_line, open_part, add_tag_line};
 
     /// Nothing was read yet.
     pub(crate) fn new(alloc: Global) -> Draft

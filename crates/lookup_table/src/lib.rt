@@ -24,6 +24,3 @@ pub type Name = Items<u8>;
 
 /// The tags of a way or a node: names with their values.
 pub type Tags = Items<(Name, Name)>;
-
-#[cfg(test)]
-mod tests;
