@@ -7,7 +7,8 @@ use Rattle.lookup_table.specs.Numbers.{AreNumbersOf}
 use Rattle.lookup_table.specs.Tag.{TagRow}
 
 -- numbers of a part's tags stay so where the first of them is set to 0, to 1 or to the number of its first value, 2
-pub AreNumbersOf-first : (part : Part) (rows : List TagRow) (numbers : List ℕ) (number : ℕ) → IsTrue (begins_as part rows) → number ≤ 2 → AreNumbersOf rows numbers → AreNumbersOf rows (set numbers 0 number)
+pub AreNumbersOf-first : (part : Part) (rows : List TagRow) (numbers : List ℕ) (number : ℕ) → IsTrue (begins_as part rows) → number ≤ 2
+    → AreNumbersOf rows numbers → AreNumbersOf rows (set numbers 0 number)
 AreNumbersOf-first part [] numbers number begins few fits = absurd cc
 AreNumbersOf-first part (r ∷ rs) [] number begins few fits = fits
 AreNumbersOf-first part (r ∷ rs) (n ∷ ns) number begins few fits = (by_test (bytes_eq r.name (first_name part)) r.firsts begins, fits.1)

@@ -24,9 +24,11 @@ line_form-other line other = by_test (is_utf8 line) refl
 -- ---- Lines that begin with dashes
 
 -- a line that is no version opens a part or is skipped
-pub dashes_form-context : (line : List ℕ) → starts_with nat_eq line (codes "---lookupversion:") ≡ false → starts_with nat_eq line (codes "---minorversion:") ≡ false → dashes_form line ≡ context_form line
+pub dashes_form-context : (line : List ℕ) → starts_with nat_eq line (codes "---lookupversion:") ≡ false
+    → starts_with nat_eq line (codes "---minorversion:") ≡ false → dashes_form line ≡ context_form line
 dashes_form-context line lookup minor =
-    ap (λ b. cond b (version_form LookupVersion (drop 17 line)) (cond (starts_with nat_eq line (codes "---minorversion:")) (version_form MinorVersion (drop 16 line)) (context_form line))) lookup
+    ap (λ b. cond b (version_form LookupVersion (drop 17 line))
+    (cond (starts_with nat_eq line (codes "---minorversion:")) (version_form MinorVersion (drop 16 line)) (context_form line))) lookup
     ∙ ap (λ b. cond b (version_form MinorVersion (drop 16 line)) (context_form line)) minor
 
 -- ---- Tag lines
@@ -54,15 +56,20 @@ words_form-HasSpelling (w ∷ ws) = by_tag (tag_of w) ws
 -- a line that begins with dashes has it
 dashes_form-HasSpelling : (line : List ℕ) → HasSpelling (dashes_form line)
 dashes_form-HasSpelling line =
-    either (starts_with nat_eq line (codes "---lookupversion:")) (version_form LookupVersion (drop 17 line)) _ (either (is_version (drop 17 line)) LookupVersion Malformed tt tt)
-    (either (starts_with nat_eq line (codes "---minorversion:")) (version_form MinorVersion (drop 16 line)) _ (either (is_version (drop 16 line)) MinorVersion Malformed tt tt)
-    (either (bytes_eq line (codes "---context:way")) (Opens Way) _ tt (either (bytes_eq line (codes "---context:node")) (Opens Node) Skipped tt tt)))
+    either (starts_with nat_eq line (codes "---lookupversion:")) (version_form LookupVersion (drop 17 line)) _
+    (either (is_version (drop 17 line)) LookupVersion Malformed tt tt)
+    (either (starts_with nat_eq line (codes "---minorversion:")) (version_form MinorVersion (drop 16 line)) _
+    (either (is_version (drop 16 line)) MinorVersion Malformed tt tt)
+    (either (bytes_eq line (codes "---context:way")) (Opens Way) _ tt
+    (either (bytes_eq line (codes "---context:node")) (Opens Node) Skipped tt tt)))
 
 -- each text has it
 text_form-HasSpelling : (line : List ℕ) → HasSpelling (text_form line)
 text_form-HasSpelling [] = tt
 text_form-HasSpelling (c ∷ cs) =
-    either (c == 35) Skipped _ tt (either (starts_with nat_eq (c ∷ cs) (codes "---")) (dashes_form (c ∷ cs)) (words_form (words_of (c ∷ cs))) (dashes_form-HasSpelling (c ∷ cs)) (words_form-HasSpelling (words_of (c ∷ cs))))
+    either (c == 35) Skipped _ tt
+    (either (starts_with nat_eq (c ∷ cs) (codes "---")) (dashes_form (c ∷ cs)) (words_form (words_of (c ∷ cs)))
+    (dashes_form-HasSpelling (c ∷ cs)) (words_form-HasSpelling (words_of (c ∷ cs))))
 
 -- each line has it
 line_form-HasSpelling : (line : List ℕ) → HasSpelling (line_form line)

@@ -28,9 +28,11 @@ pub PrintsOn-start : (rows : List TagRow) (numbers : List ℕ) → AreNumbersOf 
 PrintsOn-start rows numbers fits = record { fits = fits; text = sym (join_is_glued (map item_text (printed_tags rows numbers))) }
 
 -- nothing is left
-pub PrintsOn-end : (rows : List TagRow) (numbers out : List ℕ) (first : Bool) (place : ℕ) → PrintsOn rows numbers out first place → length numbers ≤ place → out ≡ tag_text rows numbers
+pub PrintsOn-end : (rows : List TagRow) (numbers out : List ℕ) (first : Bool) (place : ℕ) → PrintsOn rows numbers out first place
+    → length numbers ≤ place → out ≡ tag_text rows numbers
 PrintsOn-end rows numbers out first place on over =
-    sym (append-nil out) ∙ ap (λ t. out ++ t) (sym (nothing_left (drop place rows) (drop place numbers) (omega (arith, length-drop place numbers)))) ∙ on.text
+    sym (append-nil out) ∙ ap (λ t. out ++ t)
+    (sym (nothing_left (drop place rows) (drop place numbers) (omega (arith, length-drop place numbers)))) ∙ on.text
   where
     nothing_left : (rs : List TagRow) (ns : List ℕ) → length ns ≤ 0 → glued first (map item_text (printed_tags rs ns)) ≡ []
     nothing_left [] ns none = refl
@@ -53,32 +55,41 @@ pub record HasTag (rows : List TagRow) (numbers : List ℕ) (place : ℕ) : Type
   pub rest : AreNumbersOf (drop (place + 1) rows) (drop (place + 1) numbers)
 
 -- each place of the numbers has it
-pub has_tag : (rows : List TagRow) (numbers out : List ℕ) (first : Bool) (place : ℕ) → PrintsOn rows numbers out first place → place < length numbers → HasTag rows numbers place
+pub has_tag : (rows : List TagRow) (numbers out : List ℕ) (first : Bool) (place : ℕ) → PrintsOn rows numbers out first place
+    → place < length numbers → HasTag rows numbers place
 has_tag rows numbers out first place on more =
     let both : length (drop place rows) ≡ length (drop place numbers) = same_length (drop place rows) (drop place numbers) on.fits in
     let within : place < length rows = omega (arith, both, length-drop place rows, length-drop place numbers) in
-    let rows_are : drop place rows ≡ get_or rows place (empty_tag []) ∷ drop (place + 1) rows = drop_more rows place (empty_tag []) within in
+    let rows_are : drop place rows ≡ get_or rows place (empty_tag []) ∷ drop (place + 1) rows =
+    drop_more rows place (empty_tag []) within in
     let numbers_are : drop place numbers ≡ get_or numbers place 0 ∷ drop (place + 1) numbers = drop_more numbers place 0 more in
-    let split : AreNumbersOf (get_or rows place (empty_tag []) ∷ drop (place + 1) rows) (get_or numbers place 0 ∷ drop (place + 1) numbers) =
-    subst (λ (ns : List ℕ). AreNumbersOf (get_or rows place (empty_tag []) ∷ drop (place + 1) rows) ns) numbers_are (subst (λ (rs : List TagRow). AreNumbersOf rs (drop place numbers)) rows_are on.fits) in
+    let split : AreNumbersOf (get_or rows place (empty_tag []) ∷ drop (place + 1) rows)
+    (get_or numbers place 0 ∷ drop (place + 1) numbers) =
+    subst (λ (ns : List ℕ). AreNumbersOf (get_or rows place (empty_tag []) ∷ drop (place + 1) rows) ns) numbers_are
+    (subst (λ (rs : List TagRow). AreNumbersOf rs (drop place numbers)) rows_are on.fits) in
     record { within = within; rows_are = rows_are; numbers_are = numbers_are; fits = split.0; rest = split.1 }
 
 -- the tag at a place with the value that its number is written as
 abbrev item_at : List TagRow → List ℕ → ℕ → List ℕ × List ℕ
-item_at rows numbers place = ((get_or rows place (empty_tag [])).name, value_text (get_or rows place (empty_tag [])) (get_or numbers place 0))
+item_at rows numbers place =
+    ((get_or rows place (empty_tag [])).name, value_text (get_or rows place (empty_tag [])) (get_or numbers place 0))
 
 -- what is printed of the tags after a place
 abbrev printed_later : List TagRow → List ℕ → ℕ → List (List ℕ × List ℕ)
 printed_later rows numbers place = printed_tags (drop (place + 1) rows) (drop (place + 1) numbers)
 
 -- what is printed from a place on, by its number
-printed_from : (rows : List TagRow) (numbers : List ℕ) (place : ℕ) → HasTag rows numbers place → printed_tags (drop place rows) (drop place numbers) ≡ cond (nat_eq (get_or numbers place 0) 0) (printed_later rows numbers place) (item_at rows numbers place ∷ printed_later rows numbers place)
+printed_from : (rows : List TagRow) (numbers : List ℕ) (place : ℕ) → HasTag rows numbers place
+    → printed_tags (drop place rows) (drop place numbers)
+    ≡ cond (nat_eq (get_or numbers place 0) 0) (printed_later rows numbers place)
+    (item_at rows numbers place ∷ printed_later rows numbers place)
 printed_from rows numbers place has =
     ap (λ rs. printed_tags rs (drop place numbers)) has.rows_are
     ∙ ap (printed_tags (get_or rows place (empty_tag []) ∷ drop (place + 1) rows)) has.numbers_are
 
 -- a number 0 is passed over
-pub PrintsOn-zero : (rows : List TagRow) (numbers out : List ℕ) (first : Bool) (place : ℕ) → PrintsOn rows numbers out first place → place < length numbers → get_or numbers place 0 ≡ 0 → PrintsOn rows numbers out first (place + 1)
+pub PrintsOn-zero : (rows : List TagRow) (numbers out : List ℕ) (first : Bool) (place : ℕ) → PrintsOn rows numbers out first place
+    → place < length numbers → get_or numbers place 0 ≡ 0 → PrintsOn rows numbers out first (place + 1)
 PrintsOn-zero rows numbers out first place on more zero_is =
     let has : HasTag rows numbers place = has_tag rows numbers out first place on more in
     let test : nat_eq (get_or numbers place 0) 0 ≡ true = grind (arith, nat_tests) in
@@ -88,7 +99,10 @@ PrintsOn-zero rows numbers out first place on more zero_is =
     record { fits = has.rest; text = ap (λ ts. out ++ glued first (map item_text ts)) (sym left) ∙ on.text }
 
 -- another is written
-pub PrintsOn-item : (rows : List TagRow) (numbers out new : List ℕ) (first : Bool) (place : ℕ) (tag : TagRow) → PrintsOn rows numbers out first place → place < length numbers → get_or numbers place 0 ≢ 0 → tag ≡ get_or rows place (empty_tag []) → new ≡ out ++ parted first (item_text (tag.name, value_text tag (get_or numbers place 0))) → PrintsOn rows numbers new false (place + 1)
+pub PrintsOn-item : (rows : List TagRow) (numbers out new : List ℕ) (first : Bool) (place : ℕ) (tag : TagRow)
+    → PrintsOn rows numbers out first place → place < length numbers → get_or numbers place 0 ≢ 0 → tag ≡ get_or rows place (empty_tag [])
+    → new ≡ out ++ parted first (item_text (tag.name, value_text tag (get_or numbers place 0)))
+    → PrintsOn rows numbers new false (place + 1)
 PrintsOn-item rows numbers out new first place tag on more some tag_is new_is =
     let has : HasTag rows numbers place = has_tag rows numbers out first place on more in
     let test : nat_eq (get_or numbers place 0) 0 ≡ false = grind (arith, nat_tests) in

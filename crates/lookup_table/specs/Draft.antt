@@ -1,5 +1,6 @@
 -- How the code takes one line after the other; no public clause cites this.
 use Rattle.std.specs.Prelude.{ℕ, suc, min, Bool, true, false, not, ◌&&◌, ◌||◌, List, [], ◌∷◌, is_some, ◌==◌, Option, Some, None, Result, Ok, Err, if◌then◌else◌}
+use Rattle.item_list.specs.Answer.{and_then}
 use Rattle.lookup_table.specs.declared.draft.Draft.{Draft}
 use Rattle.lookup_table.specs.declared.error.LookupError.{LookupError}
 use Rattle.lookup_table.specs.declared.error.LookupError.TheVariants.{Line, TooMany, Version, FirstTag}
@@ -24,10 +25,20 @@ one_more count = min (suc count) 2
 
 -- nothing was read yet
 abbrev pub empty_draft : Draft
-empty_draft = record { way = []; node = []; part = None; lookups = 0; minors = 0; late = false; has_way = false; has_node = false }
+empty_draft = record {
+  way = [];
+  node = [];
+  part = None;
+  lookups = 0;
+  minors = 0;
+  late = false;
+  has_way = false;
+  has_node = false;
+}
 
 -- a tag line, where a part is open and has room for it
-abbrev pub add_tag_line : ℕ → List ℕ → List (List ℕ) → Option Part → Draft → Result Draft LookupError
+abbrev pub add_tag_line : (line : ℕ) (tag : List ℕ) (spellings : List (List ℕ)) → Option Part → Draft
+    → Result Draft LookupError
 add_tag_line line tag spellings None d = Err (Line line)
 add_tag_line line tag spellings (Some Way) d =
     if has_room d.way tag then Ok (record d { way = add_line d.way tag spellings }) else Err (TooMany line)
@@ -36,22 +47,20 @@ add_tag_line line tag spellings (Some Node) d =
 
 -- a line that opens a part, which no line did before
 abbrev pub open_part : ℕ → Part → Draft → Result Draft LookupError
-open_part line Way d = if d.has_way then Err (Line line) else Ok (record d { part = Some Way; has_way = true })
-open_part line Node d = if d.has_node then Err (Line line) else Ok (record d { part = Some Node; has_node = true })
+open_part line Way d =
+    if d.has_way then Err (Line line) else Ok (record d { part = Some Way; has_way = true })
+open_part line Node d =
+    if d.has_node then Err (Line line) else Ok (record d { part = Some Node; has_node = true })
 
 -- what a draft becomes by a line of this number, or why the line is refused
 abbrev pub take_line : ℕ → LineForm → Draft → Result Draft LookupError
 take_line line Skipped d = Ok d
-take_line line LookupVersion d = Ok (record d { lookups = one_more d.lookups; late = d.late || is_some d.part })
+take_line line LookupVersion d =
+    Ok (record d { lookups = one_more d.lookups; late = d.late || is_some d.part })
 take_line line MinorVersion d = Ok (record d { minors = one_more d.minors; late = d.late || is_some d.part })
 take_line line (Opens part) d = open_part line part d
 take_line line (TagLine tag spellings) d = add_tag_line line tag spellings d.part d
 take_line line Malformed d = Err (Line line)
-
--- the next step, unless there is a refusal
-abbrev pub and_then : {A B : Type 0} → Result A LookupError → (A → Result B LookupError) → Result B LookupError
-and_then (Ok a) next = next a
-and_then (Err e) next = Err e
 
 -- what a draft becomes by these lines, the first of this number: the first refusal counts
 abbrev pub take_lines : ℕ → List (List ℕ) → Draft → Result Draft LookupError

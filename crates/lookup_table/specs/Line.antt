@@ -40,7 +40,8 @@ is_count (c ∷ cs) = (c == 59) && is_digits cs
 -- the tag of the first word of a tag line: a name, a `;` and a count
 abbrev pub tag_of : List ℕ → Option (List ℕ)
 tag_of word =
-    if nat_lt 0 (prefix_len is_tag_byte word) && is_count (drop (prefix_len is_tag_byte word) word) then Some (take (prefix_len is_tag_byte word) word) else None
+    if nat_lt 0 (prefix_len is_tag_byte word) && is_count (drop (prefix_len is_tag_byte word) word)
+    then Some (take (prefix_len is_tag_byte word) word) else None
 
 -- a tag line with this tag, if there is one, and these spellings of a value
 abbrev pub tag_line : Option (List ℕ) → List (List ℕ) → LineForm
@@ -71,14 +72,16 @@ context_form line =
 abbrev pub dashes_form : List ℕ → LineForm
 dashes_form line =
     if starts_with nat_eq line (codes "---lookupversion:") then version_form LookupVersion (drop 17 line)
-    else (if starts_with nat_eq line (codes "---minorversion:") then version_form MinorVersion (drop 16 line) else context_form line)
+    else (if starts_with nat_eq line (codes "---minorversion:") then version_form MinorVersion (drop 16 line)
+    else context_form line)
 
 -- a line without the white space at its end
 abbrev pub text_form : List ℕ → LineForm
 text_form [] = Skipped
 text_form (c ∷ cs) =
     if c == 35 then Skipped
-    else (if starts_with nat_eq (c ∷ cs) (codes "---") then dashes_form (c ∷ cs) else words_form (words_of (c ∷ cs)))
+    else (if starts_with nat_eq (c ∷ cs) (codes "---") then dashes_form (c ∷ cs)
+    else words_form (words_of (c ∷ cs)))
 
 -- a line: where it isn't UTF-8, it isn't of these forms
 abbrev pub line_form : List ℕ → LineForm

@@ -6,7 +6,8 @@ use Rattle.lookup_table.specs.Tag.{TagRow, empty_tag, place_of}
 -- the numbers with that of a value at a place, if there is one
 abbrev pub noted_at : List TagRow → List ℕ → List ℕ → Option ℕ → List ℕ
 noted_at rows numbers value None = numbers
-noted_at rows numbers value (Some place) = slice_set numbers place (value_number_of (slice_index_or rows place (empty_tag [])) value)
+noted_at rows numbers value (Some place) =
+    slice_set numbers place (value_number_of (slice_index_or rows place (empty_tag [])) value)
 
 -- the numbers with that of one more tag, if the part has it
 abbrev pub noted : List TagRow → List ℕ → List ℕ → List ℕ → List ℕ

@@ -9,7 +9,8 @@ use Rattle.lookup_table.specs.Tag.{TagRow, number_in}
 abbrev pub value_number_of : TagRow → List ℕ → ℕ
 value_number_of row value = unwrap_or (number_in row.numbers value) 1
 
--- the number of a tag among a way's or a node's tags: the first pair of its name counts, and it is 0 where none has the name
+-- the number of a tag among a way's or a node's tags: the first pair of its name counts, and it is 0 where
+-- none has the name
 abbrev pub tag_number_of : TagRow → List (List ℕ × List ℕ) → ℕ
 tag_number_of row [] = 0
 tag_number_of row (t ∷ ts) = if bytes_eq t.0 row.name then value_number_of row t.1 else tag_number_of row ts
@@ -28,7 +29,8 @@ value_text row number = if number == 1 then codes "unknown" else slice_index_or 
 abbrev pub printed_tags : List TagRow → List ℕ → List (List ℕ × List ℕ)
 printed_tags [] numbers = []
 printed_tags (r ∷ rs) [] = []
-printed_tags (r ∷ rs) (n ∷ ns) = if n == 0 then printed_tags rs ns else (r.name, value_text r n) ∷ printed_tags rs ns
+printed_tags (r ∷ rs) (n ∷ ns) =
+    if n == 0 then printed_tags rs ns else (r.name, value_text r n) ∷ printed_tags rs ns
 
 -- a tag with its value, as it is written
 abbrev pub item_text : List ℕ × List ℕ → List ℕ

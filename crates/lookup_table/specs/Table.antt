@@ -37,18 +37,21 @@ is_open part now = false
 abbrev pub rows_after : Part → List LineForm → List TagRow
 rows_after part [] = []
 rows_after part (TagLine tag spellings ∷ before) =
-    if is_open part (part_after before) then add_line (rows_after part before) tag spellings else rows_after part before
+    if is_open part (part_after before) then add_line (rows_after part before) tag spellings
+    else rows_after part before
 rows_after part (line ∷ before) = rows_after part before
 
 -- ---- The first line at fault
 
--- why a line of this number that names a tag can't stand where this part is open: there is none, or no room for one more value
+-- why a line of this number that names a tag can't stand where this part is open: there is none, or no room
+-- for one more value
 abbrev pub tag_fault : ℕ → List ℕ → Option Part → List LineForm → Option LookupError
 tag_fault number tag None before = Some (Line number)
 tag_fault number tag (Some part) before =
     if has_room (rows_after part before) tag then None else Some (TooMany number)
 
--- why a line of this number can't stand after these: it is malformed, opens a part again, or is a tag line that can't stand there
+-- why a line of this number can't stand after these: it is malformed, opens a part again, or is a tag line
+-- that can't stand there
 abbrev pub line_fault : ℕ → LineForm → List LineForm → Option LookupError
 line_fault number Malformed before = Some (Line number)
 line_fault number (Opens part) before = if is_opened part before then Some (Line number) else None
@@ -81,12 +84,14 @@ is_minor_version line = false
 abbrev pub has_late_version : List LineForm → Bool
 has_late_version [] = false
 has_late_version (line ∷ before) =
-    has_late_version before || ((is_lookup_version line || is_minor_version line) && is_some (part_after before))
+    has_late_version before
+    || ((is_lookup_version line || is_minor_version line) && is_some (part_after before))
 
 -- each version line stands exactly once, before the first opening
 abbrev pub has_versions : List LineForm → Bool
 has_versions lines =
-    (length (filter is_lookup_version lines) == 1) && ((length (filter is_minor_version lines) == 1) && not (has_late_version lines))
+    (length (filter is_lookup_version lines) == 1)
+    && ((length (filter is_minor_version lines) == 1) && not (has_late_version lines))
 
 -- the table of lines that can stand where they are, or the first fault of the whole
 abbrev pub whole_table : List LineForm → Result TagTable LookupError

@@ -4,7 +4,8 @@ use Rattle.std.specs.Map.{lookup}
 use Rattle.std.specs.Option.{option_map}
 use Rattle.std.specs.Str.{bytes_eq}
 
--- a tag: its name, the first spelling of each listed value in order, and each spelling once with its value's number
+-- a tag: its name, the first spelling of each listed value in order, and each spelling once with its value's
+-- number
 pub record TagRow : Type 0 where
   pub name : List ℕ
   pub firsts : List (List ℕ)
@@ -48,7 +49,8 @@ AreWithin values (e ∷ es) = (2 ≤ e.1) × (e.1 ≤ values + 1) × AreWithin v
 
 -- numbers of so many listed values stay so, where the number that may be added is that of one of them
 abbrev pub KeepWithin : ℕ → List (List ℕ × ℕ) → List (List ℕ × ℕ) → Type 0
-KeepWithin number old new = (values : ℕ) → 2 ≤ number → number ≤ values + 1 → AreWithin values old → AreWithin values new
+KeepWithin number old new =
+    (values : ℕ) → 2 ≤ number → number ≤ values + 1 → AreWithin values old → AreWithin values new
 
 -- the numbers of a tag are those of its listed values
 abbrev pub IsSound : TagRow → Type 0

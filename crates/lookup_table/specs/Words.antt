@@ -1,10 +1,7 @@
 -- The words of a line: what stands between white space.
-use Rattle.std.specs.Prelude.{ℕ, Bool, true, false, not, ◌&&◌, ◌||◌, List, [], ◌∷◌, filter, nat_le, ◌==◌, if◌then◌else◌}
+use Rattle.std.specs.Prelude.{ℕ, Bool, true, false, not, ◌&&◌, List, [], ◌∷◌, filter, if◌then◌else◌}
 use Rattle.std.specs.List.{slice_split}
-
--- white space: the bytes 9, 10, 11, 12, 13 and 32
-abbrev pub is_space : ℕ → Bool
-is_space c = (nat_le 9 c && nat_le c 13) || (c == 32)
+use Rattle.item_list.specs.Bytes.{is_space}
 
 -- a byte that isn't white space
 abbrev pub is_ink : ℕ → Bool

@@ -1,6 +1,7 @@
 //! The lines of a table, one after the other.
-ghost use Rattle.std.specs.Prelude.{◌≡◌, ◌⊎◌, ◌<◌, ◌≤◌, ◌^◌, ◌∷◌, length, Ok, Err, IfOk, IfErr};
+ghost use Rattle.std.specs.Prelude.{◌≡◌, ◌<◌, ◌≤◌, ◌^◌, ◌∷◌, length};
 ghost use Rattle.std.specs.List.{prefix_len};
+ghost use Rattle.item_list.specs.Answer.{Answers};
 ghost use Rattle.lookup_table.specs.declared.error.LookupError.TheVariants.{NoMemory};
 ghost use Rattle.lookup_table.specs.Draft.{empty_draft, lines_after, take_lines};
 ghost use Rattle.lookup_table.specs.Line.{is_in_line, lines_of};
@@ -12,9 +13,8 @@ use std::alloc::Global;
 /// What all lines of a text say.
 pub(crate) fn draft_of(alloc: Global, text: &[u8]) -> Result<Draft, LookupError>
     requires fits { length text.now < 2 ^ 32 }
-    ensures value { IfOk result (λ d. take_lines 1 (lines_of text.now) empty_draft ≡ Ok d) }
-    ensures refused { IfErr result
-        (λ e. (e ≡ NoMemory) ⊎ (take_lines 1 (lines_of text.now) empty_draft ≡ Err e)) }
+    ensures exact { let lines = take_lines 1 (lines_of text.now) empty_draft in
+        Answers (λ d. d) lines NoMemory result }
 {
     let mut draft = Draft::new(alloc);
     let mut rest = text;
