@@ -5,7 +5,7 @@ use Rattle.std.specs.Str.{bytes_eq}
 use Rattle.profile_text.specs.Meaning.{last_value, later_value}
 use Rattle.profile_text.specs.Names.{last_place, later_place}
 
--- The value that a name was given last is that at its last place.
+-- the value that a name was given last is that at its last place
 pub last_value-place : (values : List (List ℕ × ℤ)) (name : List ℕ) (d : ℤ) → last_value values name ≡ option_map (λ place. get_or (map (λ v. v.1) values) place d) (last_place (map (λ v. v.0) values) name)
 last_value-place [] name d = refl
 last_value-place (v ∷ vs) name d =

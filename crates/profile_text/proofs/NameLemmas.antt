@@ -7,11 +7,11 @@ use Rattle.indexmap.specs.IndexMap.{insert_entry}
 use Rattle.profile_text.specs.Names.{last_place, later_place}
 use Rattle.profile_text.specs.Numbered.{AreNumbered}
 
--- Two names that are one are alike for every other name.
+-- two names that are one are alike for every other name
 bytes_eq-same : (name x y : List ℕ) → bytes_eq x y ≡ true → bytes_eq name x ≡ bytes_eq name y
 bytes_eq-same name x y test = ap (bytes_eq name) ((bytes_eq-Decides x y).0 test)
 
--- A name that was put at the end stands last there; every other where it stood.
+-- a name that was put at the end stands last there; every other where it stood
 pub last_place-append : (names : List (List ℕ)) (last name : List ℕ) → last_place (names ++ last ∷ []) name ≡ cond (bytes_eq name last) (Some (length names)) (last_place names name)
 last_place-append [] last name = by_test (bytes_eq name last)
   where
@@ -24,7 +24,7 @@ last_place-append (n ∷ ns) last name = ap (later_place (bytes_eq name n)) (las
     by_test true = refl
     by_test false = refl
 
--- The place of a name is within the list.
+-- the place of a name is within the list
 pub last_place-lt : (names : List (List ℕ)) (name : List ℕ) → IfSome (last_place names name) (λ place. place < length names)
 last_place-lt [] name = tt
 last_place-lt (n ∷ ns) name = by_rest (bytes_eq name n) (last_place ns name) (last_place-lt ns name)
@@ -34,7 +34,7 @@ last_place-lt (n ∷ ns) name = by_rest (bytes_eq name n) (last_place ns name) (
     by_rest true None below = omega arith
     by_rest false None below = tt
 
--- A look-up after a key was put in finds its value by its name, and for every other name what it found.
+-- a look-up after a key was put in finds its value by its name, and for every other name what it found
 pub lookup-insert : {X : Type 0} (name : List ℕ) (entries : List (Vec ℕ Global × X)) (key : Vec ℕ Global) (place : X) → lookup (λ k. bytes_eq name k.items) (insert_entry (λ x y. bytes_eq x.items y.items) entries key place) ≡ cond (bytes_eq name key.items) (Some place) (lookup (λ k. bytes_eq name k.items) entries)
 lookup-insert {X} name [] key place = refl
 lookup-insert {X} name (e ∷ es) key place = by_test (bytes_eq key.items e.0.items) refl (lookup-insert name es key place)
@@ -58,7 +58,7 @@ lookup-insert {X} name (e ∷ es) key place = by_test (bytes_eq key.items e.0.it
         by_keys false true key_is entry_is = refl
         by_keys false false key_is entry_is = refl
 
--- An index stays one of the names where a name is put at the end of both.
+-- an index stays one of the names where a name is put at the end of both
 pub AreNumbered-push : (names new : List (List ℕ)) (entries more : List (Vec ℕ Global × ℕ)) (key : Vec ℕ Global) (place : ℕ) → AreNumbered names entries → place ≡ length names → place + 1 < 2 ^ 32 → new ≡ names ++ key.items ∷ [] → more ≡ insert_entry (λ x y. bytes_eq x.items y.items) entries key place → AreNumbered new more
 AreNumbered-push names new entries more key place numbered place_is fits new_is more_is = record {
   few = omega (arith, ap length new_is, length-append names (key.items ∷ []), place_is, fits);

@@ -13,36 +13,36 @@ use Rattle.profile_text.specs.Source.{tokens_left, place_of}
 use Rattle.profile_text.specs.Token.{Token, Place}
 use Rattle.profile_text.specs.Tree.{Sections}
 
--- The profile so far and what is left at a place come to the whole: there are at least as many parts as bytes left.
+-- the profile so far and what is left at a place come to the whole: there are at least as many parts as bytes left
 pub record ReadsOn (text : List ℕ) (so_far : Sections) (current : Option Section) (spot : Spot) : Type 0 where
   pub parts : ℕ
   pub enough : length text ≤ spot.at + parts
   pub whole : profile_of text ≡ onto so_far (sections_within parts current spot.last (tokens_left text spot))
 
--- No part is left where no token is.
+-- no part is left where no token is
 pub no_part : (parts : ℕ) (current : Option Section) (last : ℕ) → sections_within parts current last [] ≡ Ok no_sections
 unfolding sections_within
 no_part zero current last = refl
 no_part (suc n) current last = refl
 
--- A part begins with the first token.
+-- a part begins with the first token
 pub one_part : (parts : ℕ) (current : Option Section) (last : ℕ) (t : Token) (ts : List Token) → sections_within (suc parts) current last (t ∷ ts) ≡ from_front (kind_of t.text) current (λ section p. sections_within parts section p.last p.tokens) t (record { last = t.line; tokens = ts })
 unfolding sections_within
 one_part parts current last t ts = refl
 
--- Nothing in front changes nothing.
+-- nothing in front changes nothing
 onto_none : (r : Result Sections TextError) → onto no_sections r ≡ r
 onto_none (Ok s) = refl
 onto_none (Err e) = refl
 
--- Nothing behind changes nothing.
+-- nothing behind changes nothing
 joined_none : (s : Sections) → joined s no_sections ≡ s
 joined_none s =
     ap (λ l. record { global = l; way = s.way ++ []; node = s.node ++ [] }) (append-nil s.global)
     ∙ ap (λ l. record { global = s.global; way = l; node = s.node ++ [] }) (append-nil s.way)
     ∙ ap (λ l. record { global = s.global; way = s.way; node = l }) (append-nil s.node)
 
--- The whole is what is read from the text's start.
+-- the whole is what is read from the text's start
 from_start : (text : List ℕ) → ReadsOn text no_sections None (record { at = 0; breaks = 0; last = 1 })
 unfolding profile_of
 from_start text = record {
@@ -51,7 +51,7 @@ from_start text = record {
   whole = sym (onto_none (profile_of text));
 }
 
--- Nothing was read before the first token.
+-- nothing was read before the first token
 pub reads_first : (text : List ℕ) (g w n : List Assign) (spot : Spot) → g ≡ [] → w ≡ [] → n ≡ [] → spot ≡ record { at = 0; breaks = 0; last = 1 } → ReadsOn text (record { global = map assignment_in g; way = map assignment_in w; node = map assignment_in n }) None spot
 reads_first text g w n spot g_is w_is n_is spot_is =
     let Q : Spot → Type 0 = λ s. ReadsOn text no_sections None s in
@@ -62,7 +62,7 @@ reads_first text g w n spot g_is w_is n_is spot_is =
     ∙ ap (λ l. record { global = []; way = []; node = map assignment_in l }) n_is))
     (subst Q (sym spot_is) (from_start text))
 
--- Where no token is left, the profile so far is the whole.
+-- where no token is left, the profile so far is the whole
 pub reads_all : (text : List ℕ) (so_far : Sections) (current : Option Section) (spot : Spot) → ReadsOn text so_far current spot → tokens_left text spot ≡ [] → profile_of text ≡ Ok so_far
 reads_all text so_far current spot on none =
     on.whole
@@ -70,18 +70,18 @@ reads_all text so_far current spot on none =
     ∙ ap (onto so_far) (no_part on.parts current spot.last)
     ∙ ap Ok (joined_none so_far)
 
--- What a part does to the rest of the parts.
+-- what a part does to the rest of the parts
 abbrev pub rest_of : ℕ → Option Section → Place → Result Sections TextError
 rest_of n section p = sections_within n section p.last p.tokens
 
--- The whole from a token on.
+-- the whole from a token on
 from_token : (text : List ℕ) (old : Sections) (current : Option Section) (spot rest : Spot) (t : Token) (n : ℕ) → tokens_left text spot ≡ t ∷ tokens_left text rest → rest.last ≡ t.line → onto old (sections_within (suc n) current spot.last (tokens_left text spot)) ≡ onto old (from_front (kind_of t.text) current (rest_of n) t (place_of text rest))
 from_token text old current spot rest t n tokens last =
     ap (λ ts. onto old (sections_within (suc n) current spot.last ts)) tokens
     ∙ ap (onto old) (one_part n current spot.last t (tokens_left text rest))
     ∙ ap (λ l. onto old (from_front (kind_of t.text) current (rest_of n) t (record { last = l; tokens = tokens_left text rest }))) (sym last)
 
--- A part that was taken in leaves what the rest adds.
+-- a part that was taken in leaves what the rest adds
 pub reads_part : (text : List ℕ) (old new : Sections) (current : Option Section) (spot rest after : Spot) (t : Token) (section : Section) → ReadsOn text old current spot → tokens_left text spot ≡ t ∷ tokens_left text rest → rest.last ≡ t.line → spot.at < rest.at → rest.at ≤ length text → rest.at ≤ after.at → TakesPart old new current t (place_of text rest) section (place_of text after) → ReadsOn text new (Some section) after
 reads_part text old new current spot rest after t section on tokens last more place further takes = by_parts on.parts on.enough on.whole
   where
@@ -93,7 +93,7 @@ reads_part text old new current spot rest after t section on tokens last more pl
       whole = whole ∙ from_token text old current spot rest t n tokens last ∙ takes (rest_of n);
     }
 
--- A part that is refused refuses the whole.
+-- a part that is refused refuses the whole
 pub reads_refusal : (text : List ℕ) (old : Sections) (current : Option Section) (spot rest : Spot) (t : Token) (e : TextError) → ReadsOn text old current spot → tokens_left text spot ≡ t ∷ tokens_left text rest → rest.last ≡ t.line → spot.at < rest.at → rest.at ≤ length text → (e ≡ NoMemory) ⊎ RefusesPart current t (place_of text rest) e → (e ≡ NoMemory) ⊎ (profile_of text ≡ Err e)
 reads_refusal text old current spot rest t e on tokens last more place (inl memory) = inl memory
 reads_refusal text old current spot rest t e on tokens last more place (inr refuses) = inr (by_parts on.parts on.enough on.whole)

@@ -15,7 +15,7 @@ use Rattle.profile_text.proofs.FoundLemmas.{went_on, taken_is_first, read_is_spe
 use Rattle.profile_text.proofs.GrammarLemmas.{before, taken_first, spelled_is_read}
 use Rattle.profile_text.proofs.PartLemmas.{one_part, no_part, rest_of}
 
--- An expression takes tokens.
+-- an expression takes tokens
 pub expr_takes : (depth : ℕ) (ts : List Token) (e : Tree) (rest : List Token) → SpellsExpr depth ts e rest → length rest < length ts
 expr_takes _ _ _ _ (a_number depth t n rest k) = omega arith
 expr_takes _ _ _ _ (a_true depth t rest k) = omega arith
@@ -36,7 +36,7 @@ expr_takes _ _ _ _ (an_if depth t u v ts us vs a b c rest k x th y el z) =
     let j = expr_takes depth vs c rest z in omega (arith, h, i, j)
 expr_takes _ _ _ _ (a_bracket depth t u ts a rest k x cl) = let h = expr_takes depth ts a (u ∷ rest) x in omega (arith, h)
 
--- No expression begins with `=`.
+-- no expression begins with `=`
 pub no_equals : (last depth : ℕ) (ts : List Token) (e : Tree) (rest : List Token) → SpellsExpr depth ts e rest → past_equals last ts ≡ before last ts
 no_equals last _ _ _ _ (a_number depth t n rest k) = ap (λ x. after_equals x t rest (before last (t ∷ rest))) k
 no_equals last _ _ _ _ (a_true depth t rest k) = ap (λ x. after_equals x t rest (before last (t ∷ rest))) k
@@ -49,11 +49,11 @@ no_equals last _ _ _ _ (a_switch depth t ts us vs a b c rest k x y z) = ap (λ x
 no_equals last _ _ _ _ (an_if depth t u v ts us vs a b c rest k x th y el z) = ap (λ x. after_equals x t ts (before last (t ∷ ts))) k
 no_equals last _ _ _ _ (a_bracket depth t u ts a rest k x cl) = ap (λ x. after_equals x t ts (before last (t ∷ ts))) k
 
--- The assignment of a name and a tree.
+-- the assignment of a name and a tree
 abbrev pub assign_is : Token → Tree → Assignment
 assign_is name a = record { name = name.text; line = name.line; value = a }
 
--- An assignment that is spelled so is read, where the place after the name is known.
+-- an assignment that is spelled so is read, where the place after the name is known
 assignment_read : (last : ℕ) (name : Token) (us ts : List Token) (l : ℕ) (a : Tree) (rest : List Token) → kind_of name.text ≡ Name → past_equals name.line us ≡ before l ts → SpellsExpr most_depth ts a rest → (m : ℕ) × (assignment_of (before last (name ∷ us)) ≡ read (assign_is name a) (before m rest))
 unfolding assignment_of
 assignment_read last name us ts l a rest k place_is spells =
@@ -64,7 +64,7 @@ assignment_read last name us ts l a rest k place_is spells =
           ∙ ap (λ r. and_then r (λ value q. read (assign_is name value) q)) x.1,
     )
 
--- The parts after an assignment that was read.
+-- the parts after an assignment that was read
 part_read : (n last : ℕ) (section : Section) (t : Token) (us rest : List Token) (m : ℕ) (a : Assignment) (s : Sections) → kind_of t.text ≡ Assign → assignment_of (before t.line us) ≡ read a (before m rest) → sections_within n (Some section) m rest ≡ Ok s → sections_within (suc n) (Some section) last (t ∷ us) ≡ Ok (put_first section a s)
 part_read n last section t us rest m a s k assignment more =
     one_part n (Some section) last t us
@@ -72,7 +72,7 @@ part_read n last section t us rest m a s k assignment more =
     ∙ ap (λ r. and_then r (λ a p. with_first section a (rest_of n (Some section) p))) assignment
     ∙ ap (with_first section a) more
 
--- Sections that are spelled so are read, where there are as many parts as tokens.
+-- sections that are spelled so are read, where there are as many parts as tokens
 pub spelled_sections : (current : Option Section) (ts : List Token) (s : Sections) → SpellsSections current ts s → (parts last : ℕ) → length ts ≤ parts → sections_within parts current last ts ≡ Ok s
 spelled_sections _ _ _ (the_end current) parts last enough = no_part parts current last
 spelled_sections _ _ _ (a_section current t section ts s k more) zero last enough = let none : ⊥ = omega (arith, enough) in absurd none
@@ -91,12 +91,12 @@ spelled_sections _ _ _ (assigned_by section t name equals ts rest a s k named by
     let x = assignment_read t.line name (equals ∷ ts) ts equals.line a rest named (ap (λ x. after_equals x equals ts (before name.line (equals ∷ ts))) by) spells in
     part_read n last section t (name ∷ equals ∷ ts) rest x.0 (assign_is name a) s k x.1 (spelled_sections (Some section) rest s more n x.0 (omega (arith, enough, less)))
 
--- One more byte in front adds no token.
+-- one more byte in front adds no token
 prepend_len : (c : ℕ) (ts : List Token) → length (prepend c ts) ≤ length ts
 prepend_len c [] = omega arith
 prepend_len c (t ∷ ts) = omega arith
 
--- A text has at most as many tokens as bytes.
+-- a text has at most as many tokens as bytes
 pub few_tokens : (comment : Bool) (line : ℕ) (text : List ℕ) → length (tokens_from comment line text) ≤ length text
 few_tokens comment line [] = omega arith
 few_tokens comment line (c ∷ cs) = by_test (λ comment line. few_tokens comment line cs) (is_ink comment c) (is_joined c cs)
@@ -106,17 +106,17 @@ few_tokens comment line (c ∷ cs) = by_test (λ comment line. few_tokens commen
     by_test few true false = let h = few false line in omega (arith, h)
     by_test few false joined = let h = few (comment_after comment c) (line_after line c) in omega (arith, h)
 
--- A profile that is spelled so is read.
+-- a profile that is spelled so is read
 pub spelled_profile : (text : List ℕ) (s : Sections) → Spells text s → profile_of text ≡ Ok s
 unfolding profile_of
 spelled_profile text s spells = spelled_sections None (tokens_from false 1 text) s spells (length text) 1 (few_tokens false 1 text)
 
--- A name may stand where one is expected.
+-- a name may stand where one is expected
 name_word : (k : Kind) → name_fault k ≡ None → k ≡ Name
 name_word Name h = refl
 name_word _ h = cc
 
--- An assignment that was read: its name, what follows the name, and its tree.
+-- an assignment that was read: its name, what follows the name, and its tree
 pub record Assigned (ts : List Token) (a : Assignment) (rest : List Token) : Type 0 where
   pub name : Token
   pub after : List Token
@@ -126,7 +126,7 @@ pub record Assigned (ts : List Token) (a : Assignment) (rest : List Token) : Typ
   pub is : a ≡ assign_is name tree
   pub spells : SpellsExpr most_depth (past_equals name.line after).tokens tree rest
 
--- Each assignment that was read is one.
+-- each assignment that was read is one
 assignment_spelled : (last : ℕ) (ts : List Token) (r : Read Assignment) → assignment_of (before last ts) ≡ Ok r → Assigned ts r.value r.place.tokens
 unfolding assignment_of
 assignment_spelled last ts r h =
@@ -145,18 +145,18 @@ assignment_spelled last ts r h =
       spells = subst L first.last (read_is_spelled most_depth (past_equals x.place.last x.place.tokens) (record { value = y.value; place = y.place }) y.was);
     })
 
--- Sections with an assignment in front were read from what follows it.
+-- sections with an assignment in front were read from what follows it
 pub record Followed (section : Section) (a : Assignment) (r : Result Sections TextError) (s : Sections) : Type 0 where
   pub later : Sections
   pub was : r ≡ Ok later
   pub is : put_first section a later ≡ s
 
--- So they were.
+-- so they were
 followed : (section : Section) (a : Assignment) (r : Result Sections TextError) (s : Sections) → with_first section a r ≡ Ok s → Followed section a r s
 followed section a (Ok later) s h = record { later = later; was = refl; is = same_value (put_first section a later) s h }
 followed section a (Err e) s h = cc
 
--- Tokens after a name spell an assignment, with `=` or without.
+-- tokens after a name spell an assignment, with `=` or without
 spells_assignment : (section : Section) (t name : Token) (after : List Token) (a : Tree) (rest : List Token) (s : Sections) → kind_of t.text ≡ Assign → kind_of name.text ≡ Name → SpellsExpr most_depth (past_equals name.line after).tokens a rest → SpellsSections (Some section) rest s → SpellsSections (Some section) (t ∷ name ∷ after) (put_first section (assign_is name a) s)
 spells_assignment section t name [] a rest s k named spells more = assigned section t name [] rest a s k named spells more
 spells_assignment section t name (e ∷ es) a rest s k named spells more = by_kind (kind_of e.text) refl spells
@@ -165,7 +165,7 @@ spells_assignment section t name (e ∷ es) a rest s k named spells more = by_ki
     by_kind Equals is x = assigned_by section t name e es rest a s k named is x more
     by_kind _ is x = assigned section t name (e ∷ es) rest a s k named x more
 
--- How many tokens an assignment leaves.
+-- how many tokens an assignment leaves
 past_len : (last : ℕ) (ts : List Token) → length (past_equals last ts).tokens ≤ length ts
 past_len last [] = omega arith
 past_len last (t ∷ ts) = by_kind (kind_of t.text)
@@ -174,7 +174,7 @@ past_len last (t ∷ ts) = by_kind (kind_of t.text)
     by_kind Equals = omega arith
     by_kind _ = omega arith
 
--- What is read from a token on is spelled so, where what is read after it is.
+-- what is read from a token on is spelled so, where what is read after it is
 front_spelled : (n : ℕ) (current : Option Section) (t : Token) (ts : List Token) (s : Sections) → length ts ≤ n → ((section : Section) (p : Place) (s : Sections) → length p.tokens ≤ n → rest_of n (Some section) p ≡ Ok s → SpellsSections (Some section) p.tokens s) → (k : Kind) → kind_of t.text ≡ k → from_front k current (rest_of n) t (before t.line ts) ≡ Ok s → SpellsSections current (t ∷ ts) s
 front_spelled n current t ts s enough inner (Opens section) k h = a_section current t section ts s k (inner section (before t.line ts) s enough h)
 front_spelled n None t ts s enough inner Assign k h = cc
@@ -191,7 +191,7 @@ front_spelled n (Some section) t ts s enough inner Assign k h =
     subst P (sym a.tokens) (subst Q (ap (λ b. put_first section b f.later) (sym a.is) ∙ f.is) (spells_assignment section t a.name a.after a.tree x.place.tokens f.later k a.named a.spells more))
 front_spelled n current t ts s enough inner _ k h = cc
 
--- Sections that are read are spelled so.
+-- sections that are read are spelled so
 pub read_sections : (parts : ℕ) (current : Option Section) (last : ℕ) (ts : List Token) (s : Sections) → length ts ≤ parts → sections_within parts current last ts ≡ Ok s → SpellsSections current ts s
 read_sections parts current last [] s enough h =
     let P : Sections → Type 0 = λ s. SpellsSections current [] s in
@@ -200,16 +200,16 @@ read_sections zero current last (t ∷ ts) s enough h = let none : ⊥ = omega (
 read_sections (suc n) current last (t ∷ ts) s enough h =
     front_spelled n current t ts s (omega (arith, enough)) (λ section p s few was. read_sections n (Some section) p.last p.tokens s few was) (kind_of t.text) refl (sym (one_part n current last t ts) ∙ h)
 
--- A profile that is read is spelled so.
+-- a profile that is read is spelled so
 pub read_profile : (text : List ℕ) (s : Sections) → profile_of text ≡ Ok s → Spells text s
 unfolding profile_of
 read_profile text s h = read_sections (length text) None 1 (tokens_from false 1 text) s (few_tokens false 1 text) h
 
--- No other profile is spelled so.
+-- no other profile is spelled so
 pub only_read : (text : List ℕ) (s p : Sections) → profile_of text ≡ Ok s → Spells text p → s ≡ p
 only_read text s p h spells = same_value s p (sym h ∙ spelled_profile text p spells)
 
--- A text that spells a profile is refused for want of memory alone.
+-- a text that spells a profile is refused for want of memory alone
 pub only_memory : (text : List ℕ) (e : TextError) (p : Sections) → (e ≡ NoMemory) ⊎ (profile_of text ≡ Err e) → Spells text p → e ≡ NoMemory
 only_memory text e p (inl memory) spells = memory
 only_memory text e p (inr h) spells =
