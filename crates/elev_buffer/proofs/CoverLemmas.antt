@@ -4,11 +4,10 @@ use Rattle.std.specs.Int.{int_max}
 use Rattle.std.proofs.Math.IntN.{*ℤ_comm, *ℤ-zero}
 use Rattle.std.proofs.lemmas.Int.{ints, clamps, by_lt_z}
 use Rattle.elev_buffer.specs.Step.{IsLimits, step_of}
-use Rattle.elev_buffer.specs.Covers.{excess, price, IsInOrder, CoversLabel, IsKept, IsBelowInSums}
+use Rattle.elev_buffer.specs.Covers.{Terms, Label, excess, price, IsInOrder, CoversLabel, IsKept, IsBelowInSums}
 use Rattle.elev_buffer.specs.declared.steps.Limits.{Limits}
 use Rattle.elev_buffer.specs.declared.labels.Mode.{Mode}
 use Rattle.elev_buffer.specs.declared.labels.Mode.TheVariants.{Compensated, Ordered, Equal}
-use Rattle.elev_buffer.specs.declared.labels.Modes.{Modes}
 use Rattle.elev_buffer.specs.declared.labels.Pair.{Pair}
 use Rattle.elev_buffer.proofs.ProductLemmas.{mul-add, mul-sub, mul-grows}
 use Rattle.elev_buffer.proofs.StepLemmas.{step-grows, step-slowly}
@@ -42,26 +41,28 @@ price-trans Ordered k x y z positive = omega (arith, ints)
 price-trans Equal k x y z positive = omega (arith, ints)
 
 -- covering is an order
-pub covers-trans : (modes : Modes) (kd ku : ℤ) (a b c : Pair) (ca cb cc' : ℤ) → pos 0 ≤ℤ kd → pos 0 ≤ℤ ku →
-    CoversLabel modes kd ku a ca b cb → CoversLabel modes kd ku b cb c cc' → CoversLabel modes kd ku a ca c cc'
-covers-trans modes kd ku a b c ca cb cc' d u f g =
-    let p = price-trans modes.down kd a.down b.down c.down d in
-    let q = price-trans modes.up ku a.up b.up c.up u in
+pub covers-trans : (by : Terms) (a b c : Label) → pos 0 ≤ℤ by.down_rate → pos 0 ≤ℤ by.up_rate →
+    CoversLabel by a b → CoversLabel by b c → CoversLabel by a c
+covers-trans by a b c d u f g =
+    let p = price-trans by.modes.down by.down_rate a.buffers.down b.buffers.down c.buffers.down d in
+    let q = price-trans by.modes.up by.up_rate a.buffers.up b.buffers.up c.buffers.up u in
     let first = f.cost in
     let second = g.cost in
     record {
       cost = omega (arith, ints);
-      down = order-trans modes.down _ _ _ f.down g.down;
-      up = order-trans modes.up _ _ _ f.up g.up;
+      down = order-trans by.modes.down _ _ _ f.down g.down;
+      up = order-trans by.modes.up _ _ _ f.up g.up;
     }
 
 -- a label covers every one of its own buffers that costs no less
-pub covers-refl : (modes : Modes) (kd ku : ℤ) (a : Pair) (ca cb : ℤ) → ca ≤ℤ cb → CoversLabel modes kd ku a ca a cb
-covers-refl modes kd ku a ca cb h = record {
-  cost = omega (arith, ints, price-refl modes.down kd a.down, price-refl modes.up ku a.up);
-  down = order-refl modes.down a.down;
-  up = order-refl modes.up a.up;
-}
+pub covers-refl : (by : Terms) (a b : Label) → a.buffers ≡ b.buffers → a.cost ≤ℤ b.cost → CoversLabel by a b
+covers-refl by a b same h =
+    let P : Pair → Type 0 = λ pair. CoversLabel by a (record { buffers = pair; cost = b.cost }) in
+    subst P same (record {
+      cost = omega (arith, ints, price-refl by.modes.down by.down_rate a.buffers.down, price-refl by.modes.up by.up_rate a.buffers.up);
+      down = order-refl by.modes.down a.buffers.down;
+      up = order-refl by.modes.up a.buffers.up;
+    })
 
 -- what a step pays, and what one buffer then has more than the other, is no more than before
 step-excess : (l : Limits) (added r x y : ℤ) → IsLimits l → pos 0 ≤ℤ r →
@@ -85,14 +86,16 @@ pub record KeepsOne (mode : Mode) (l : Limits) (added r k x y : ℤ) : Type 0 wh
       ≤ℤ ((step_of l added r y).paid *ℤ k +ℤ price mode k x y)
 
 -- lasts in each mode
-keeps-one : (mode : Mode) (l : Limits) (added r k x y : ℤ) → IsLimits l → pos 0 ≤ℤ r → pos 0 ≤ℤ k → IsInOrder mode x y → KeepsOne mode l added r k x y
+keeps-one : (mode : Mode) (l : Limits) (added r k x y : ℤ) → IsLimits l → pos 0 ≤ℤ r → pos 0 ≤ℤ k → IsInOrder mode x y →
+    KeepsOne mode l added r k x y
 keeps-one Compensated l added r k x y is positive price h =
     let sx = step_of l added r x in
     let sy = step_of l added r y in
     let e = mul-grows k _ _ price (step-excess l added r x y is positive) in
     record {
       order = tt;
-      cost = omega (arith, ints, e, mul-add k sx.paid (excess sx.e sy.e), mul-add k sy.paid (excess x y), *ℤ_comm sx.paid k, *ℤ_comm sy.paid k);
+      cost =
+          omega (arith, ints, e, mul-add k sx.paid (excess sx.e sy.e), mul-add k sy.paid (excess x y), *ℤ_comm sx.paid k, *ℤ_comm sy.paid k);
     }
 keeps-one Ordered l added r k x y is positive price h =
     let sx = step_of l added r x in
@@ -108,11 +111,11 @@ keeps-one Equal l added r k x y is positive price h = record {
 }
 
 -- covering lasts over every link
-pub covers-kept : (modes : Modes) (kd ku : ℤ) (a b : Pair) (ca cb : ℤ) → pos 0 ≤ℤ kd → pos 0 ≤ℤ ku →
-    CoversLabel modes kd ku a ca b cb → IsKept modes kd ku a ca b cb
-covers-kept modes kd ku a b ca cb d u f climb a_other b_other is positive other =
-    let down = keeps-one modes.down climb.limits climb.down_added climb.reduction kd a.down b.down is positive d f.down in
-    let up = keeps-one modes.up climb.limits climb.up_added climb.reduction ku a.up b.up is positive u f.up in
+pub covers-kept : (by : Terms) (a b : Label) → pos 0 ≤ℤ by.down_rate → pos 0 ≤ℤ by.up_rate → CoversLabel by a b → IsKept by a b
+covers-kept by a b d u f climb a_other b_other is positive other =
+    let down =
+    keeps-one by.modes.down climb.limits climb.down_added climb.reduction by.down_rate a.buffers.down b.buffers.down is positive d f.down in
+    let up = keeps-one by.modes.up climb.limits climb.up_added climb.reduction by.up_rate a.buffers.up b.buffers.up is positive u f.up in
     let p = down.cost in
     let q = up.cost in
     let cost = f.cost in
@@ -137,14 +140,18 @@ two_prices u v ca cb less = (
 )
 
 -- where both are compensated, covering is the order in three sums
-pub covers-sums : (modes : Modes) (kd ku : ℤ) (a b : Pair) (ca cb : ℤ) → pos 0 ≤ℤ kd → pos 0 ≤ℤ ku → modes.down ≡ Compensated →
-    modes.up ≡ Compensated → ca ≤ℤ cb → CoversLabel modes kd ku a ca b cb ↔ IsBelowInSums kd ku a ca b cb
-covers-sums modes kd ku a b ca cb d u e f less =
-    let p = price-excess kd a.down b.down d in
-    let q = price-excess ku a.up b.up u in
-    let two = two_prices (kd *ℤ a.down -ℤ kd *ℤ b.down) (ku *ℤ a.up -ℤ ku *ℤ b.up) ca cb less in
-    let C : Mode → Mode → Type 0 = λ m n. (ca +ℤ price m kd a.down b.down +ℤ price n ku a.up b.up) ≤ℤ cb in (
-      λ h. let cost : C Compensated Compensated = subst (λ n. C Compensated n) f (subst (λ m. C m modes.up) e h.cost) in
+pub covers-sums : (by : Terms) (a b : Label) → pos 0 ≤ℤ by.down_rate → pos 0 ≤ℤ by.up_rate → by.modes.down ≡ Compensated →
+    by.modes.up ≡ Compensated → a.cost ≤ℤ b.cost → CoversLabel by a b ↔ IsBelowInSums by a b
+covers-sums by a b d u e f less =
+    let kd = by.down_rate in
+    let ku = by.up_rate in
+    let x = a.buffers in
+    let y = b.buffers in
+    let p = price-excess kd x.down y.down d in
+    let q = price-excess ku x.up y.up u in
+    let two = two_prices (kd *ℤ x.down -ℤ kd *ℤ y.down) (ku *ℤ x.up -ℤ ku *ℤ y.up) a.cost b.cost less in
+    let C : Mode → Mode → Type 0 = λ m n. (a.cost +ℤ price m kd x.down y.down +ℤ price n ku x.up y.up) ≤ℤ b.cost in (
+      λ h. let cost : C Compensated Compensated = subst (λ n. C Compensated n) f (subst (λ m. C m by.modes.up) e h.cost) in
           let sums = two.0 (omega (arith, ints)) in
           let first = sums.0 in
           let second = sums.1 in
@@ -156,8 +163,8 @@ covers-sums modes kd ku a b ca cb d u e f less =
           let cost = two.1 (omega (arith, ints), omega (arith, ints), omega (arith, ints)) in
           let made : C Compensated Compensated = omega (arith, ints) in
           record {
-            cost = subst (λ m. C m modes.up) (sym e) (subst (λ n. C Compensated n) (sym f) made);
-            down = subst (λ m. IsInOrder m a.down b.down) (sym e) tt;
-            up = subst (λ m. IsInOrder m a.up b.up) (sym f) tt;
+            cost = subst (λ m. C m by.modes.up) (sym e) (subst (λ n. C Compensated n) (sym f) made);
+            down = subst (λ m. IsInOrder m x.down y.down) (sym e) tt;
+            up = subst (λ m. IsInOrder m x.up y.up) (sym f) tt;
           },
     )

@@ -165,7 +165,8 @@ step-sum l added r buffer is = left-paid l r (buffer +ℤ added) is
 
 -- from a larger buffer that is more by no more than the buffer is
 pub step-slowly : (l : Limits) (added r buffer more : ℤ) → IsLimits l → buffer ≤ℤ more →
-    ((step_of l added r more).e +ℤ (step_of l added r more).paid -ℤ ((step_of l added r buffer).e +ℤ (step_of l added r buffer).paid)) ≤ℤ (more -ℤ buffer)
+    ((step_of l added r more).e +ℤ (step_of l added r more).paid -ℤ ((step_of l added r buffer).e +ℤ (step_of l added r buffer).paid)) ≤ℤ
+    (more -ℤ buffer)
 step-slowly l added r buffer more is grows = omega (arith, ints, clamps, step-sum l added r buffer is, step-sum l added r more is)
 
 -- a step leaves a buffer

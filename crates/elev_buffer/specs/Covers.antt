@@ -3,6 +3,7 @@ use Rattle.std.specs.Prelude.{◌≡◌, ℤ, pos, ◌+ℤ◌, ◌-ℤ◌, ◌*�
 use Rattle.std.specs.Int.{int_max}
 use Rattle.elev_buffer.specs.Step.{IsLimits, step_of}
 use Rattle.elev_buffer.specs.declared.steps.Limits.{Limits}
+use Rattle.elev_buffer.specs.declared.steps.Stepped.{Stepped}
 use Rattle.elev_buffer.specs.declared.labels.Mode.{Mode}
 use Rattle.elev_buffer.specs.declared.labels.Mode.TheVariants.{Compensated, Ordered, Equal}
 use Rattle.elev_buffer.specs.declared.labels.Modes.{Modes}
@@ -34,11 +35,38 @@ IsInOrder Compensated first second = Unit {0}
 IsInOrder Ordered first second = first ≤ℤ second
 IsInOrder Equal first second = first ≡ second
 
--- the first label, at its cost, makes the second, at its cost, needless
-pub record CoversLabel (modes : Modes) (down_rate up_rate : ℤ) (a : Pair) (a_cost : ℤ) (b : Pair) (b_cost : ℤ) : Type 0 where
-  pub cost : (a_cost +ℤ price modes.down down_rate a.down b.down +ℤ price modes.up up_rate a.up b.up) ≤ℤ b_cost
-  pub down : IsInOrder modes.down a.down b.down
-  pub up : IsInOrder modes.up a.up b.up
+-- how labels are compared: the modes of both buffers, and the prices of a micrometre of each in millionths
+pub record Terms : Type 0 where
+  pub modes : Modes
+  pub down_rate : ℤ
+  pub up_rate : ℤ
+
+-- these terms
+abbrev pub terms : Modes → ℤ → ℤ → Terms
+terms modes down_rate up_rate = record { modes = modes; down_rate = down_rate; up_rate = up_rate }
+
+-- a label: its buffers and its cost
+pub record Label : Type 0 where
+  pub buffers : Pair
+  pub cost : ℤ
+
+-- the label of these buffers and this cost
+abbrev pub label : Pair → ℤ → Label
+label buffers cost = record { buffers = buffers; cost = cost }
+
+-- the price of what the first label has more of descent
+abbrev pub down_price : Terms → Label → Label → ℤ
+down_price by a b = price by.modes.down by.down_rate a.buffers.down b.buffers.down
+
+-- the price of what the first label has more of climb
+abbrev pub up_price : Terms → Label → Label → ℤ
+up_price by a b = price by.modes.up by.up_rate a.buffers.up b.buffers.up
+
+-- the first label makes the second needless
+pub record CoversLabel (by : Terms) (a b : Label) : Type 0 where
+  pub cost : (a.cost +ℤ down_price by a b +ℤ up_price by a b) ≤ℤ b.cost
+  pub down : IsInOrder by.modes.down a.buffers.down b.buffers.down
+  pub up : IsInOrder by.modes.up a.buffers.up b.buffers.up
 
 -- the steps of both buffers over one link: what is added to each, and how much each is reduced
 pub record Climb : Type 0 where
@@ -47,29 +75,47 @@ pub record Climb : Type 0 where
   pub up_added : ℤ
   pub reduction : ℤ
 
+-- what a climb makes of the buffer of descent
+abbrev pub down_step : Climb → Pair → Stepped
+down_step climb pair = step_of climb.limits climb.down_added climb.reduction pair.down
+
+-- what a climb makes of the buffer of climb
+abbrev pub up_step : Climb → Pair → Stepped
+up_step climb pair = step_of climb.limits climb.up_added climb.reduction pair.up
+
 -- both buffers after their steps
 abbrev pub after : Climb → Pair → Pair
-after climb pair = record {
-  down = (step_of climb.limits climb.down_added climb.reduction pair.down).e;
-  up = (step_of climb.limits climb.up_added climb.reduction pair.up).e;
-}
+after climb pair = record { down = (down_step climb pair).e; up = (up_step climb pair).e }
 
 -- what both steps cost
-abbrev pub elevation_cost : Climb → ℤ → ℤ → Pair → ℤ
-elevation_cost climb down_rate up_rate pair =
-    (step_of climb.limits climb.down_added climb.reduction pair.down).paid *ℤ down_rate
-    +ℤ (step_of climb.limits climb.up_added climb.reduction pair.up).paid *ℤ up_rate
+abbrev pub elevation_cost : Terms → Climb → Pair → ℤ
+elevation_cost by climb pair =
+    (down_step climb pair).paid *ℤ by.down_rate +ℤ (up_step climb pair).paid *ℤ by.up_rate
+
+-- a label after its steps over a link, whose other cost is this
+abbrev pub label_after : Terms → Climb → ℤ → Label → Label
+label_after by climb other a = label (after climb a.buffers) (a.cost +ℤ elevation_cost by climb a.buffers +ℤ other)
 
 -- the covering lasts over every link whose other cost is no more for the first label
-abbrev pub IsKept : Modes → ℤ → ℤ → Pair → ℤ → Pair → ℤ → Type 0
-IsKept modes down_rate up_rate a a_cost b b_cost =
+abbrev pub IsKept : Terms → Label → Label → Type 0
+IsKept by a b =
     (climb : Climb) (a_other b_other : ℤ) → IsLimits climb.limits → pos 0 ≤ℤ climb.reduction → a_other ≤ℤ b_other →
-    CoversLabel modes down_rate up_rate
-    (after climb a) (a_cost +ℤ elevation_cost climb down_rate up_rate a +ℤ a_other)
-    (after climb b) (b_cost +ℤ elevation_cost climb down_rate up_rate b +ℤ b_other)
+    CoversLabel by (label_after by climb a_other a) (label_after by climb b_other b)
+
+-- the cost of a label with the price of its descent
+abbrev pub with_down : Terms → Label → ℤ
+with_down by a = a.cost +ℤ by.down_rate *ℤ a.buffers.down
+
+-- the cost of a label with the price of its climb
+abbrev pub with_up : Terms → Label → ℤ
+with_up by a = a.cost +ℤ by.up_rate *ℤ a.buffers.up
+
+-- the cost of a label with the price of both
+abbrev pub with_both : Terms → Label → ℤ
+with_both by a = a.cost +ℤ by.down_rate *ℤ a.buffers.down +ℤ by.up_rate *ℤ a.buffers.up
 
 -- the first label is no more in each of three sums: with the price of its descent, of its climb, and of both
-pub record IsBelowInSums (down_rate up_rate : ℤ) (a : Pair) (a_cost : ℤ) (b : Pair) (b_cost : ℤ) : Type 0 where
-  pub down : (a_cost +ℤ down_rate *ℤ a.down) ≤ℤ (b_cost +ℤ down_rate *ℤ b.down)
-  pub up : (a_cost +ℤ up_rate *ℤ a.up) ≤ℤ (b_cost +ℤ up_rate *ℤ b.up)
-  pub both : (a_cost +ℤ down_rate *ℤ a.down +ℤ up_rate *ℤ a.up) ≤ℤ (b_cost +ℤ down_rate *ℤ b.down +ℤ up_rate *ℤ b.up)
+pub record IsBelowInSums (by : Terms) (a b : Label) : Type 0 where
+  pub down : with_down by a ≤ℤ with_down by b
+  pub up : with_up by a ≤ℤ with_up by b
+  pub both : with_both by a ≤ℤ with_both by b

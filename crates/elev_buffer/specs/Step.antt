@@ -1,4 +1,5 @@
--- What a step over a link pays out of a buffer of climbing or descending, and what it keeps (this project's own rule).
+-- What a step over a link pays out of a buffer of climbing or descending, and what it keeps (this project's
+-- own rule).
 use Rattle.std.specs.Prelude.{ℤ, pos, ◌+ℤ◌, ◌-ℤ◌, ◌*ℤ◌, ◌≤ℤ◌, int_lt, int_le, cond}
 use Rattle.std.specs.Int.{int_max, int_min, int_div_euclid}
 use Rattle.elev_buffer.specs.declared.steps.Limits.{Limits}
@@ -12,11 +13,15 @@ pub record IsLimits (limits : Limits) : Type 0 where
 
 -- what is paid of a full buffer: the reduction as far as the penalty, but all above the most
 unfoldable pub paid_of : Limits → ℤ → ℤ → ℤ
-paid_of limits reduction full = cond (int_lt limits.penalty full) (int_max (int_min reduction (full -ℤ limits.penalty)) (full -ℤ limits.most)) (pos 0)
+paid_of limits reduction full =
+    cond (int_lt limits.penalty full)
+    (int_max (int_min reduction (full -ℤ limits.penalty)) (full -ℤ limits.most))
+    (pos 0)
 
 -- what is left of a full buffer, which never falls below 0
 unfoldable pub left_of : Limits → ℤ → ℤ → ℤ
-left_of limits reduction full = cond (int_lt limits.penalty full) (full -ℤ paid_of limits reduction full) (int_max full (pos 0))
+left_of limits reduction full =
+    cond (int_lt limits.penalty full) (full -ℤ paid_of limits reduction full) (int_max full (pos 0))
 
 -- how far into the reduction a full buffer reaches, in millionths
 unfoldable pub weight_of : Limits → ℤ → ℤ → ℤ

@@ -4,8 +4,6 @@
 mod labels;
 mod orders;
 mod steps;
-#[cfg(test)]
-mod tests;
 
 pub use labels::{Mode, Modes, Pair};
 pub use orders::covers;

@@ -1,12 +1,12 @@
 //! When a label makes another of the same link needless.
 
 ghost use Rattle.std.specs.Prelude.{◌≡◌, ◌<◌, ◌≤◌, ◌^◌, ◌↔◌, ℤ, pos, ◌+ℤ◌, IsTrue};
-ghost use Rattle.elev_buffer.specs.Covers.{CoversLabel, IsBelowInSums, IsBuffer, IsInOrder, IsKept, IsPair, price};
+ghost use Rattle.elev_buffer.specs.Covers.{CoversLabel, IsBelowInSums, IsBuffer, IsInOrder, IsKept, IsPair, Label, label, price, terms};
 
 use crate::labels::{Mode, Modes, Pair};
 
-/// Whether the label of the buffers `a` and the cost `ca` makes that of `b` and `cb` needless, where `kd` and `ku` are
-/// the prices of a micrometre of descent and of climb in millionths.
+/// Whether the label of the buffers `a` and the cost `ca` makes that of `b` and `cb` needless,
+/// where `kd` and `ku` are the prices of a micrometre of descent and of climb in millionths.
 pub fn covers(a: &Pair, ca: u128, b: &Pair, cb: u128, kd: i64, ku: i64, modes: &Modes) -> bool
     requires first { IsPair a.now }
     requires second { IsPair b.now }
@@ -14,29 +14,35 @@ pub fn covers(a: &Pair, ca: u128, b: &Pair, cb: u128, kd: i64, ku: i64, modes: &
     requires second_cost { cb < 2 ^ 126 }
     requires down_rate { IsBuffer kd }
     requires up_rate { IsBuffer ku }
-    ensures exact { IsTrue result ↔ CoversLabel modes.now kd ku a.now (pos ca) b.now (pos cb) }
+    ensures exact { IsTrue result ↔
+        CoversLabel (terms modes.now kd ku) (label a.now (pos ca)) (label b.now (pos cb)) }
 
     // Covering is an order, and lasts from link to link.
     ensures reflexive { a.now ≡ b.now → ca ≤ cb → IsTrue result }
-    ensures transitive { (third : Pair) (cost : ℤ) → IsTrue result →
-        CoversLabel modes.now kd ku b.now (pos cb) third cost → CoversLabel modes.now kd ku a.now (pos ca) third cost }
-    ensures kept { IsTrue result → IsKept modes.now kd ku a.now (pos ca) b.now (pos cb) }
+    ensures transitive { (third : Label) → IsTrue result →
+        CoversLabel (terms modes.now kd ku) (label b.now (pos cb)) third →
+        CoversLabel (terms modes.now kd ku) (label a.now (pos ca)) third }
+    ensures kept { IsTrue result →
+        IsKept (terms modes.now kd ku) (label a.now (pos ca)) (label b.now (pos cb)) }
 
-    // Where both buffers are compensated and the second label costs no less, it is the order in three sums.
+    // Where both buffers are compensated and the second label costs no less, it is the order in
+    // three sums.
     ensures sums { modes.now.down ≡ Mode.Compensated → modes.now.up ≡ Mode.Compensated → ca ≤ cb →
-        (IsTrue result ↔ IsBelowInSums kd ku a.now (pos ca) b.now (pos cb)) }
+        (IsTrue result ↔
+        IsBelowInSums (terms modes.now kd ku) (label a.now (pos ca)) (label b.now (pos cb))) }
 {
     is_covered(a, ca, b, cb, kd, ku, modes)
 }
 
-// The test of the definition: first the order, then the cost.
+/// The test of the definition: first the order, then the cost.
 fn is_covered(a: &Pair, ca: u128, b: &Pair, cb: u128, kd: i64, ku: i64, modes: &Modes) -> bool
     requires first { IsPair a.now }
     requires second { IsPair b.now }
     requires first_cost { ca < 2 ^ 126 }
     requires down_rate { IsBuffer kd }
     requires up_rate { IsBuffer ku }
-    ensures exact { IsTrue result ↔ CoversLabel modes.now kd ku a.now (pos ca) b.now (pos cb) }
+    ensures exact { IsTrue result ↔
+        CoversLabel (terms modes.now kd ku) (label a.now (pos ca)) (label b.now (pos cb)) }
 {
     if !are_in_order(a, b, modes) {
         return false;
@@ -44,7 +50,7 @@ fn is_covered(a: &Pair, ca: u128, b: &Pair, cb: u128, kd: i64, ku: i64, modes: &
     ca + prices(a, b, kd, ku, modes) <= cb
 }
 
-// Whether both buffers have the order that their modes ask for.
+/// Whether both buffers have the order that their modes ask for.
 fn are_in_order(a: &Pair, b: &Pair, modes: &Modes) -> bool
     ensures exact { IsTrue result ↔
         (IsInOrder modes.now.down a.now.down b.now.down × IsInOrder modes.now.up a.now.up b.now.up) }
@@ -52,7 +58,7 @@ fn are_in_order(a: &Pair, b: &Pair, modes: &Modes) -> bool
     is_in_order(modes.down, a.down, b.down) && is_in_order(modes.up, a.up, b.up)
 }
 
-// What it costs to make up for what the first pair has more.
+/// What it costs to make up for what the first pair has more.
 fn prices(a: &Pair, b: &Pair, kd: i64, ku: i64, modes: &Modes) -> u128
     requires first { IsPair a.now }
     requires second { IsPair b.now }
@@ -65,7 +71,7 @@ fn prices(a: &Pair, b: &Pair, kd: i64, ku: i64, modes: &Modes) -> u128
     price_of(modes.down, kd, a.down, b.down) + price_of(modes.up, ku, a.up, b.up)
 }
 
-// Whether two buffers have the order that their mode asks for.
+/// Whether two buffers have the order that their mode asks for.
 fn is_in_order(mode: Mode, first: i64, second: i64) -> bool
     ensures exact { IsTrue result ↔ IsInOrder mode first second }
 {
@@ -76,7 +82,7 @@ fn is_in_order(mode: Mode, first: i64, second: i64) -> bool
     }
 }
 
-// What it costs to make up for what the first buffer has more.
+/// What it costs to make up for what the first buffer has more.
 fn price_of(mode: Mode, rate: i64, first: i64, second: i64) -> u128
     requires rate { IsBuffer rate }
     requires first { IsBuffer first }

@@ -22,7 +22,8 @@ pub struct Stepped {
     pub weight: i64,
 }
 
-/// A step from the buffer `e`, to which `a` is added and of which up to `r` is paid above the penalty, all in micrometres.
+/// A step from the buffer `e`, to which `a` is added and of which up to `r` is paid above the
+/// penalty, all in micrometres.
 pub fn step(e: i64, a: i64, r: i64, limits: &Limits) -> Stepped
     requires limits { IsLimits limits.now }
     requires low { pos 0 ≤ℤ e }
@@ -32,7 +33,8 @@ pub fn step(e: i64, a: i64, r: i64, limits: &Limits) -> Stepped
     requires reduction { r ≤ℤ pos 2000000000000000000 }
     ensures exact { result ≡ step_of limits.now a r e }
 
-    // The buffer stays one, a weight is a part of a million, and what is paid and what is left make up the full buffer.
+    // The buffer stays one, a weight is a part of a million, and what is paid and what is left make
+    // up the full buffer.
     ensures positive { pos 0 ≤ℤ result.e }
     ensures within { result.e ≤ℤ limits.now.most }
     ensures paid { pos 0 ≤ℤ result.paid }
@@ -40,7 +42,8 @@ pub fn step(e: i64, a: i64, r: i64, limits: &Limits) -> Stepped
     ensures heavy { result.weight ≤ℤ pos 1000000 }
     ensures sum { result.e +ℤ result.paid ≡ int_max (e +ℤ a) (pos 0) }
 
-    // From a larger buffer no part is less, and both together are more by no more than the buffer is.
+    // From a larger buffer no part is less, and both together are more by no more than the buffer
+    // is.
     ensures grows { (more : ℤ) → e ≤ℤ more → IsNoMore result (step_of limits.now a r more) }
     ensures slowly { (more : ℤ) → e ≤ℤ more → let other = step_of limits.now a r more in
         (other.e +ℤ other.paid -ℤ (result.e +ℤ result.paid)) ≤ℤ (more -ℤ e) }
@@ -48,7 +51,7 @@ pub fn step(e: i64, a: i64, r: i64, limits: &Limits) -> Stepped
     settled(e + a, r, limits)
 }
 
-// What is made of a full buffer.
+/// What is made of a full buffer.
 fn settled(full: i64, r: i64, limits: &Limits) -> Stepped
     requires limits { IsLimits limits.now }
     requires full { unsigned_abs full ≤ 2001000000000000000 }
@@ -63,7 +66,7 @@ fn settled(full: i64, r: i64, limits: &Limits) -> Stepped
     }
 }
 
-// What is paid of a full buffer.
+/// What is paid of a full buffer.
 fn paid_from(full: i64, r: i64, limits: &Limits) -> i64
     requires limits { IsLimits limits.now }
     requires full { unsigned_abs full ≤ 2001000000000000000 }
@@ -79,7 +82,7 @@ fn paid_from(full: i64, r: i64, limits: &Limits) -> i64
     }
 }
 
-// How far a full buffer reaches into the reduction, in millionths.
+/// How far a full buffer reaches into the reduction, in millionths.
 fn weight_from(full: i64, r: i64, limits: &Limits) -> i64
     requires limits { IsLimits limits.now }
     requires full { unsigned_abs full ≤ 2001000000000000000 }
@@ -95,7 +98,8 @@ fn weight_from(full: i64, r: i64, limits: &Limits) -> i64
     }
 }
 
-// A part in millionths, rounded down. Products of 128 bits are divided only above nine kilometres: that is much slower.
+/// A part in millionths, rounded down. Products of 128 bits are divided only above nine kilometres:
+/// that is much slower.
 fn share(part: i64, whole: i64) -> i64
     requires part { pos 0 ≤ℤ part }
     requires less { part <ℤ whole }

@@ -16,16 +16,16 @@ use Rattle.fixed_num.proofs.RoundingLemmas.{digits_after-append, rounded_short}
 
 -- ---- Digits
 
--- `digits_after` reads numerals.
+-- `digits_after` reads numerals
 numerals : IsNumeralModel (λ ds. all_ascii_digits ds ≡ true) (digits_after 0)
 numerals = numerals_by_fold _ tells_all_ascii_digits digits_after (search rules)
 
--- So many last digits are written.
+-- so many last digits are written
 pub length-last_digits : (k n : ℕ) → length (last_digits k n) ≡ k
 length-last_digits zero n = refl
 length-last_digits (suc k) n = ap suc (length-last_digits k n)
 
--- They are digits.
+-- they are digits
 all_ascii_digits-last_digits : (k n : ℕ) → all_ascii_digits (last_digits k n) ≡ true
 all_ascii_digits-last_digits zero n = refl
 all_ascii_digits-last_digits (suc k) n =
@@ -34,7 +34,7 @@ all_ascii_digits-last_digits (suc k) n =
     digit_is : (g : ℕ) → g < 10 → is_ascii_digit (48 + g) ≡ true
     digit_is g small = grind (arith, nat_tests)
 
--- They spell what is left of the number.
+-- they spell what is left of the number
 digits_after-last_digits : (w k n : ℕ) → digits_after w (last_digits k n) ≡ w * 10 ^ k + n % 10 ^ k
 digits_after-last_digits w zero n = omega arith
 digits_after-last_digits w (suc k) n =
@@ -52,7 +52,7 @@ digits_after-last_digits w (suc k) n =
 
 -- ---- The text read again
 
--- The parts of the text of a count of millionths.
+-- the parts of the text of a count of millionths
 printed : ℤ → Decimal
 printed n = record {
   is_negative = is_negative n;
@@ -60,7 +60,7 @@ printed n = record {
   fraction = last_digits 6 (unsigned_abs n % 1000000);
 }
 
--- The digits of the whole part and of the decimals spell the size.
+-- the digits of the whole part and of the decimals spell the size
 digits_are : (n : ℕ) → n ≤ 1000000000000000 → digits_after 0 (decimal (n / 1000000) ++ last_digits 6 (n % 1000000)) ≡ n
 digits_are n fits =
     digits_after-append 0 (decimal (n / 1000000)) (last_digits 6 (n % 1000000))
@@ -68,12 +68,12 @@ digits_are n fits =
     ∙ digits_after-last_digits (n / 1000000) 6 (n % 1000000)
     ∙ omega arith
 
--- The size and the sign give the number back.
+-- the size and the sign give the number back
 with_sign_is : (n : ℤ) → with_sign (is_negative n) (unsigned_abs n) ≡ n
 with_sign_is (pos n) = let test : is_negative (pos n) ≡ false = grind (arith, nat_tests) in ap (λ v. with_sign v n) test
 with_sign_is (negsuc n) = refl
 
--- The text spells those parts.
+-- the text spells those parts
 Spells-mil6 : (text : List ℕ) (n : ℤ) → unsigned_abs n ≤ 1000000000000000 → text ≡ mil6 n → Spells text (printed n)
 unfolding mil6 printed
 Spells-mil6 text n fits text_is = record {
@@ -85,31 +85,33 @@ Spells-mil6 text n fits text_is = record {
   text_is = text_is;
 }
 
--- Its size is cut to that of the number.
+-- its size is cut to that of the number
 cut_millionths-printed : (n : ℤ) → unsigned_abs n ≤ 1000000000000000 → cut_millionths (printed n) ≡ unsigned_abs n
 unfolding cut_millionths printed
 cut_millionths-printed n fits =
     ap (λ v. v * 1000000 / 1000000) (digits_are (unsigned_abs n) fits) ∙ mul-div_cancel (unsigned_abs n) (lit< tt)
 
--- No more than six decimals are printed.
+-- no more than six decimals are printed
 rounded_millionths-printed : (n : ℤ) → rounded_millionths (printed n) ≡ cut_millionths (printed n)
 unfolding printed
 rounded_millionths-printed n =
     rounded_short (printed n) (omega (arith, length-last_digits 6 (unsigned_abs n % 1000000)))
 
--- A literal that spells the text of a number has that number.
+-- a literal that spells the text of a number has that number
 pub SpellsValue-mil6_cut : (text : List ℕ) (n : ℤ) → unsigned_abs n ≤ 1000000000000000 → text ≡ mil6 n → SpellsValue cut_millionths text n
 unfolding printed
 SpellsValue-mil6_cut text n fits text_is =
     (printed n, Spells-mil6 text n fits text_is, sym (ap (λ s. with_sign (is_negative n) s) (cut_millionths-printed n fits) ∙ with_sign_is n))
 
--- So has a coordinate.
-pub SpellsValue-mil6_rounded : (text : List ℕ) (n : ℤ) → unsigned_abs n ≤ 1000000000000000 → text ≡ mil6 n → SpellsValue rounded_millionths text n
+-- so has a coordinate
+pub SpellsValue-mil6_rounded : (text : List ℕ) (n : ℤ) → unsigned_abs n ≤ 1000000000000000 → text ≡ mil6 n →
+    SpellsValue rounded_millionths text n
 unfolding printed
 SpellsValue-mil6_rounded text n fits text_is =
     (printed n, Spells-mil6 text n fits text_is, sym (ap (λ s. with_sign (is_negative n) s) (rounded_millionths-printed n ∙ cut_millionths-printed n fits) ∙ with_sign_is n))
 
--- A coordinate within the most is in a number's range.
-pub coordinate_in_range : (most n : ℤ) → pos 0 ≤ℤ most → most ≤ℤ pos 180000000 → unsigned_abs n ≤ unsigned_abs most → unsigned_abs n ≤ 1000000000000000
+-- a coordinate within the most is in a number's range
+pub coordinate_in_range : (most n : ℤ) → pos 0 ≤ℤ most → most ≤ℤ pos 180000000 → unsigned_abs n ≤ unsigned_abs most →
+    unsigned_abs n ≤ 1000000000000000
 coordinate_in_range (pos m) n positive fits small = omega (arith, ints)
 coordinate_in_range (negsuc m) n positive fits small = absurd (omega (arith, ints))

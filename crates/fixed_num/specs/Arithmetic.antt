@@ -3,23 +3,23 @@ use Rattle.std.specs.Prelude.{ℤ, pos, negsuc, zero, suc, ◌+ℤ◌, ◌-ℤ�
 use Rattle.fixed_num.specs.declared.arithmetic.Arith.{Arith}
 use Rattle.fixed_num.specs.declared.arithmetic.Arith.TheVariants.{DivZero, TooLarge}
 
--- The result that comes to so many millionths: the number, or `TooLarge` where it is out of range.
+-- the result that comes to so many millionths: the number, or `TooLarge` where it is out of range
 abbrev pub within_range : ℤ → Result ℤ Arith
 within_range n = if nat_le (unsigned_abs n) 1000000000000000 then Ok n else Err TooLarge
 
--- The sum of two numbers.
+-- the sum of two numbers
 unfoldable pub sum_of : ℤ → ℤ → Result ℤ Arith
 sum_of a b = within_range (a +ℤ b)
 
--- The difference of two numbers.
+-- the difference of two numbers
 unfoldable pub difference_of : ℤ → ℤ → Result ℤ Arith
 difference_of a b = within_range (a -ℤ b)
 
--- The product of two numbers, cut toward zero to a whole millionth.
+-- the product of two numbers, cut toward zero to a whole millionth
 unfoldable pub product_of : ℤ → ℤ → Result ℤ Arith
 product_of a b = within_range (int_div (a *ℤ b) (pos 1000000))
 
--- The quotient of two numbers, cut toward zero to a whole millionth; `DivZero` where the divisor is 0.
+-- the quotient of two numbers, cut toward zero to a whole millionth; `DivZero` where the divisor is 0
 unfoldable pub quotient_of : ℤ → ℤ → Result ℤ Arith
 quotient_of a (pos zero) = Err DivZero
 quotient_of a (pos (suc n)) = within_range (int_div (a *ℤ pos 1000000) (pos (suc n)))

@@ -15,17 +15,20 @@ pub enum CoordError {
     OutOfRange,
 }
 
-/// The coordinate of a text in degrees, as microdegrees: rounded half up at the sixth decimal before
-/// the sign is applied. It is at most `most` microdegrees either way.
+/// The coordinate of a text in degrees, as microdegrees: rounded half up at the sixth decimal
+/// before the sign is applied. It is at most `most` microdegrees either way.
 pub fn coord(text: &[u8], most: i64) -> Result<i64, CoordError>
     requires positive { pos 0 ≤ℤ most }
     requires fits { most ≤ℤ pos 180000000 }
 
     ensures exact { result ≡ coordinate_of most text.now }
-    ensures found { IfOk result (λ n. IsCoordinate text.now n × (unsigned_abs n ≤ unsigned_abs most)) }
-    ensures only { (n : ℤ) → IsCoordinate text.now n → unsigned_abs n ≤ unsigned_abs most → result ≡ Ok n }
+    ensures found { IfOk result (λ n.
+        IsCoordinate text.now n × (unsigned_abs n ≤ unsigned_abs most)) }
+    ensures only { (n : ℤ) → IsCoordinate text.now n → unsigned_abs n ≤ unsigned_abs most →
+        result ≡ Ok n }
     // The text that is printed of a coordinate is read as that coordinate.
-    ensures reread { (n : ℤ) → unsigned_abs n ≤ unsigned_abs most → text.now ≡ mil6 n → result ≡ Ok n }
+    ensures reread { (n : ℤ) → unsigned_abs n ≤ unsigned_abs most → text.now ≡ mil6 n →
+        result ≡ Ok n }
 
     ensures not_decimal { (result ≡ Err CoordError.NotDecimal) ↔ ¬ IsSpelled text.now }
     ensures out_of_range { (result ≡ Err CoordError.OutOfRange)

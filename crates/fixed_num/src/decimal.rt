@@ -27,7 +27,8 @@ impl<'a> Model for Parts<'a> {
 
     ghost Value = { Decimal };
 
-    ghost view = { λ p. record { is_negative = p.negative; whole = p.whole.now; fraction = p.fraction.now } };
+    ghost view = { λ p.
+        record { is_negative = p.negative; whole = p.whole.now; fraction = p.fraction.now } };
 
     ghost invariant = { λ p. IsDecimal
         (record { is_negative = p.negative; whole = p.whole.now; fraction = p.fraction.now }) };
@@ -36,7 +37,7 @@ impl<'a> Model for Parts<'a> {
 impl<'a> Parts<'a> {
     /// The parts of a decimal text.
     pub(crate) fn of(text: &'a [u8]) -> Option<Parts<'a>>
-        ensures value { result ≡ parts_of text.now }
+        ensures exact { result ≡ parts_of text.now }
     {
         match text {
             [] => None,
@@ -47,7 +48,7 @@ impl<'a> Parts<'a> {
 
     /// The parts of a decimal text after its sign.
     fn unsigned(negative: bool, text: &'a [u8]) -> Option<Parts<'a>>
-        ensures value { result ≡ unsigned_parts negative text.now }
+        ensures exact { result ≡ unsigned_parts negative text.now }
     {
         let (whole, tail) = text.split_at(leading_digits(text));
         let fraction = fraction_of(tail)?;
@@ -64,7 +65,7 @@ impl<'a> Parts<'a> {
 
     /// The size in millionths, cut after the sixth decimal, or `CAP` where that is less.
     pub(crate) fn cut(&self) -> u64
-        ensures value { result ≡ min (cut_millionths self.now) CAP }
+        ensures exact { result ≡ min (cut_millionths self.now) CAP }
     {
         let kept = self.fraction.len().min(KEPT);
         let whole = capped_number(0, self.whole);
@@ -74,7 +75,7 @@ impl<'a> Parts<'a> {
 
     /// The size in millionths, rounded half up at the sixth decimal, or `CAP` where that is less.
     pub(crate) fn rounded(&self) -> u64
-        ensures value { result ≡ min (rounded_millionths self.now) CAP }
+        ensures exact { result ≡ min (rounded_millionths self.now) CAP }
     {
         if rounds_up(self.fraction) {
             (self.cut() + 1).min(CAP)
@@ -93,7 +94,7 @@ impl<'a> Parts<'a> {
 
 /// The digits after the point, of what follows the digits before it.
 fn fraction_of(tail: &[u8]) -> Option<&[u8]>
-    ensures value { MatchOption result (tail_of tail.now ≡ None) (λ f. tail_of tail.now ≡ Some f.now) }
+    ensures exact { MatchOption result (tail_of tail.now ≡ None) (λ f. tail_of tail.now ≡ Some f.now) }
 {
     match tail {
         [] => Some(tail),
@@ -104,7 +105,7 @@ fn fraction_of(tail: &[u8]) -> Option<&[u8]>
 
 /// Whether a text is digits alone, and not empty.
 fn is_all_digits(text: &[u8]) -> bool
-    ensures value { result ≡ is_fraction text.now }
+    ensures exact { result ≡ is_fraction text.now }
 {
     !text.is_empty() && leading_digits(text) == text.len()
 }
@@ -112,7 +113,7 @@ fn is_all_digits(text: &[u8]) -> bool
 /// A size with its sign.
 pub(crate) fn signed(negative: bool, size: u64) -> i64
     requires fits { size ≤ CAP }
-    ensures value { result ≡ with_sign negative size }
+    ensures exact { result ≡ with_sign negative size }
 {
     if negative {
         -(size as i64)
@@ -123,14 +124,15 @@ pub(crate) fn signed(negative: bool, size: u64) -> i64
 
 /// Whether the first decimal that isn't kept is a five or more.
 fn rounds_up(fraction: &[u8]) -> bool
-    ensures value { IsTrue result ↔ ((6 < length fraction.now) × (53 ≤ slice_index fraction.now 6)) }
+    ensures exact { IsTrue result ↔
+        ((6 < length fraction.now) × (53 ≤ slice_index fraction.now 6)) }
 {
     fraction.len() > KEPT && fraction[KEPT] >= b'5'
 }
 
 /// The digits at the front of a text.
 fn leading_digits(text: &[u8]) -> usize
-    ensures value { result ≡ leading_digits text.now }
+    ensures exact { result ≡ leading_digits text.now }
     ensures fits { result ≤ length text.now }
 {
     for (i, c) in text.iter().enumerate() {
@@ -146,7 +148,7 @@ fn leading_digits(text: &[u8]) -> usize
 fn capped_number(before: u64, digits: &[u8]) -> u64
     requires fits { before ≤ CAP }
     requires digits { IsTrue (all_ascii_digits digits.now) }
-    ensures value { result ≡ min (digits_after before digits.now) CAP }
+    ensures exact { result ≡ min (digits_after before digits.now) CAP }
 {
     let mut number = before;
     for digit in digits {

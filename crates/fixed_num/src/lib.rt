@@ -14,6 +14,3 @@ pub use coordinate::{CoordError, coord};
 pub use literal::NumError;
 pub use number::Num;
 pub use text::{SixDecimals, append_mil6};
-
-#[cfg(test)]
-mod tests;

@@ -18,8 +18,8 @@ pub enum NumError {
 }
 
 impl Num {
-    /// The number of a literal: an optional `-`, digits, and an optional point with digits, cut after
-    /// the sixth decimal.
+    /// The number of a literal: an optional `-`, digits, and an optional point with digits, cut
+    /// after the sixth decimal.
     pub fn read(text: &[u8]) -> Result<Num, NumError>
         ensures exact { result ≡ literal_of text.now }
         ensures found { IfOk result (λ n. IsLiteral text.now n × IsNumber n) }

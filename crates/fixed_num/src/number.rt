@@ -5,6 +5,8 @@ ghost use Rattle.fixed_num.specs.Arithmetic.{within_range, sum_of, difference_of
 ghost use Rattle.fixed_num.specs.Number.{IsNumber};
 
 use crate::arithmetic::Arith;
+use item_list::TryClone;
+use std::alloc::{AllocError, Global};
 use std::marker::Model;
 
 /// The greatest count of millionths, 10^15, which stands for 10^9.
@@ -15,8 +17,8 @@ const ONE: i64 = 1_000_000;
 
 /// A number as a whole count of millionths, from -10^15 to 10^15.
 ///
-/// Contracts see it as that count.
-#[derive(Clone, Copy, Debug, PartialEq, Eq)]
+/// Contracts see it as that count. It can be a key of a map, and be cloned with its list.
+#[derive(Clone, Copy, Debug, PartialEq, Eq, Hash)]
 pub struct Num {
     millionths: i64,
 }
@@ -32,6 +34,12 @@ impl Model for Num {
     ghost invariant = { λ n. IsNumber n.millionths };
 
     ghost inverse = { λ n. record { millionths = n } };
+}
+
+impl TryClone for Num {
+    fn try_clone(&self, _alloc: Global) -> Result<Num, AllocError> {
+        Ok(*self)
+    }
 }
 
 impl Num {
@@ -109,7 +117,7 @@ impl Num {
 
     /// The greater of the two.
     pub fn max(self, other: Num) -> Num
-        ensures value { result ≡ int_max self other }
+        ensures exact { result ≡ int_max self other }
     {
         if other.millionths < self.millionths {
             self
@@ -120,7 +128,7 @@ impl Num {
 
     /// The lesser of the two.
     pub fn min(self, other: Num) -> Num
-        ensures value { result ≡ int_min self other }
+        ensures exact { result ≡ int_min self other }
     {
         if other.millionths < self.millionths {
             other
@@ -137,7 +145,7 @@ fn cut_ratio(a: i64, b: i64, divisor: i64) -> i128
     requires first { IsNumber a }
     requires second { IsNumber b }
     requires nonzero { divisor ≢ pos 0 }
-    ensures value { result ≡ int_div (a *ℤ b) divisor }
+    ensures exact { result ≡ int_div (a *ℤ b) divisor }
 {
     match a.checked_mul(b) {
         Some(product) if product > i64::MIN => i128::from(product / divisor),

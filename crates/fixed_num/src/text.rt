@@ -8,8 +8,8 @@ use std::marker::Model;
 /// The most bytes of a text: a sign, 39 digits, a point and six decimals, and one to spare.
 const ROOM: usize = 48;
 
-/// The text of a count of millionths: `-` where it is negative, the whole number, a point and exactly
-/// six decimals. It is at most 47 bytes long, and takes no memory.
+/// The text of a count of millionths: `-` where it is negative, the whole number, a point and
+/// exactly six decimals. It is at most 47 bytes long, and takes no memory.
 ///
 /// Contracts see it as the list of its bytes.
 #[derive(Drop)]
@@ -60,6 +60,7 @@ impl SixDecimals {
         text
     }
 
+    /// No text yet.
     fn empty() -> SixDecimals
         ensures value { result ≡ [] }
     {
@@ -119,12 +120,12 @@ impl SixDecimals {
     }
 }
 
-/// Appends the text of so many millionths to the first `at` bytes of `out`, and returns where it ends.
-/// It takes no memory.
+/// Appends the text of so many millionths to the first `at` bytes of `out`, and returns where it
+/// ends. It takes no memory.
 pub fn append_mil6(out: &mut [u8], at: usize, millionths: i128) -> usize
     requires room { at + 47 ≤ length out.old }
-    ensures value { result ≡ at + length (mil6 millionths) }
-    ensures text { take result out.new ≡ take at out.old ++ mil6 millionths }
+    ensures exact { result ≡ at + length (mil6 millionths) }
+    ensures value { take result out.new ≡ take at out.old ++ mil6 millionths }
     ensures kept { drop result out.new ≡ drop result out.old }
 {
     let text = SixDecimals::of(millionths);

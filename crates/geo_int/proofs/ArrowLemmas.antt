@@ -7,7 +7,8 @@ use Rattle.geo_int.specs.Arrow.{arrow_between, arrow_of, length_between, east_be
 use Rattle.geo_int.specs.declared.offsets.Arrow.{Arrow}
 
 -- the arrow of the parts between two places has the length between them
-pub length_between-is : (a b : Place) (found : Arrow) → found ≡ arrow_of (east_between a b) (north_between a b) → found.len ≡ length_between a b
+pub length_between-is : (a b : Place) (found : Arrow) → found ≡ arrow_of (east_between a b) (north_between a b) →
+    found.len ≡ length_between a b
 unfolding length_between
 length_between-is a b found is = cc
 

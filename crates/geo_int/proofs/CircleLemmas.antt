@@ -111,7 +111,8 @@ line_touches-grows a b m n more e =
 -- a larger circle touches the way that a smaller one touches
 pub way_touches-grows : (a b : Offset) (m n : ℕ) → m ≤ n → way_touches a b m ≡ true → way_touches a b n ≡ true
 unfolding way_touches
-way_touches-grows a b m n more = choice-grows _ _ _ _ _ _ _ _ (int_le-grows (dot a a) m n more) (int_le-grows (dot b b) m n more) (line_touches-grows a b m n more)
+way_touches-grows a b m n more =
+    choice-grows _ _ _ _ _ _ _ _ (int_le-grows (dot a a) m n more) (int_le-grows (dot b b) m n more) (line_touches-grows a b m n more)
 
 -- what a gate lets through still comes
 gate-grows : (s x y : Bool) → (x ≡ true → y ≡ true) → cond s x false ≡ true → cond s y false ≡ true
@@ -164,7 +165,8 @@ circle_touches-far a b centre first second radius e f far = rw (sym e, sym f, fa
 
 -- a way whose ends are near is touched by the three cases
 pub circle_touches-near : (a b centre : Place) (first second : Offset) (radius : ℕ) → first ≡ offset_between centre a →
-    second ≡ offset_between centre b → (is_near first && is_near second) ≡ true → circle_touches a b centre radius ≡ way_touches first second (radius * radius)
+    second ≡ offset_between centre b →
+    (is_near first && is_near second) ≡ true → circle_touches a b centre radius ≡ way_touches first second (radius * radius)
 unfolding circle_touches offsets_touch
 circle_touches-near a b centre first second radius e f near = rw (sym e, sym f, near) refl
 

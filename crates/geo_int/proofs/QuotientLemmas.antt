@@ -17,7 +17,8 @@ unsigned_abs-int_div (negsuc m) n = unsigned_abs-neg (suc m / n)
 
 -- the magnitude of a difference in degrees times that of a cosine
 pub east_product : (degrees cosine : ℤ) → unsigned_abs (degrees *ℤ pos 11132 *ℤ cosine) ≡ unsigned_abs degrees * 11132 * unsigned_abs cosine
-east_product degrees cosine = unsigned_abs-mul (degrees *ℤ pos 11132) cosine ∙ ap (λ n. n * unsigned_abs cosine) (unsigned_abs-mul degrees (pos 11132))
+east_product degrees cosine =
+    unsigned_abs-mul (degrees *ℤ pos 11132) cosine ∙ ap (λ n. n * unsigned_abs cosine) (unsigned_abs-mul degrees (pos 11132))
 
 -- the product is bounded where the two factors are
 pub east_product_le : (degrees cosine : ℤ) (most : ℕ) → unsigned_abs degrees ≤ most → unsigned_abs cosine ≤ 1000000000 →
@@ -26,7 +27,8 @@ east_product_le degrees cosine most d c =
     rw (east_product degrees cosine) (mul-le (unsigned_abs degrees * 11132) (unsigned_abs cosine) (most * 11132) 1000000000 (omega arith) c)
 
 -- no two places are more than 50,000 kilometres apart to the east
-pub east_part_le : (degrees cosine : ℤ) → unsigned_abs degrees ≤ 360000000 → unsigned_abs cosine ≤ 1000000000 → unsigned_abs (east_part degrees cosine) ≤ 50000000000
+pub east_part_le : (degrees cosine : ℤ) → unsigned_abs degrees ≤ 360000000 → unsigned_abs cosine ≤ 1000000000 →
+    unsigned_abs (east_part degrees cosine) ≤ 50000000000
 unfolding east_part
 east_part_le degrees cosine d c =
     let e : unsigned_abs (degrees *ℤ pos 11132 *ℤ cosine) ≤ 360000000 * 11132 * 1000000000 = east_product_le degrees cosine 360000000 d c in
@@ -46,8 +48,10 @@ pub wide_fits : (degrees cosine : ℤ) → unsigned_abs degrees ≤ 360000000 �
 unfolding east_part
 wide_fits degrees cosine d c =
     let whole : unsigned_abs (degrees *ℤ pos 11132) ≡ unsigned_abs degrees * 11132 = unsigned_abs-mul degrees (pos 11132) in
-    let all : unsigned_abs (degrees *ℤ pos 11132 *ℤ cosine) ≤ 360000000 * 11132 * 1000000000 = east_product_le degrees cosine 360000000 d c in
-    let least : unsigned_abs (int_div (degrees *ℤ pos 11132 *ℤ cosine) (pos 100000000000)) ≤ 50000000000 = east_part_le degrees cosine d c in
+    let all : unsigned_abs (degrees *ℤ pos 11132 *ℤ cosine) ≤ 360000000 * 11132 * 1000000000 =
+    east_product_le degrees cosine 360000000 d c in
+    let least : unsigned_abs (int_div (degrees *ℤ pos 11132 *ℤ cosine) (pos 100000000000)) ≤ 50000000000 =
+    east_part_le degrees cosine d c in
     record {
       left = fits_signed_from_abs w128 _ (omega arith);
       right = fits_signed_from_abs w128 _ (omega arith);

@@ -16,12 +16,14 @@ use Rattle.geo_int.proofs.SquareLemmas.{square_sum-is, square_sum-dot}
 -- the part to the east is within the length
 pub east_le : (arrow : Arrow) → IsArrow arrow → unsigned_abs arrow.dx ≤ arrow.len
 unfolding length_of
-east_le arrow is = rw is.rooted (not_above (square_sum arrow.dx arrow.dy) _ _ (rw (square_sum-is arrow.dx arrow.dy) (omega arith)) (whole_root-next _))
+east_le arrow is =
+    rw is.rooted (not_above (square_sum arrow.dx arrow.dy) _ _ (rw (square_sum-is arrow.dx arrow.dy) (omega arith)) (whole_root-next _))
 
 -- the part to the north is within the length
 pub north_le : (arrow : Arrow) → IsArrow arrow → unsigned_abs arrow.dy ≤ arrow.len
 unfolding length_of
-north_le arrow is = rw is.rooted (not_above (square_sum arrow.dx arrow.dy) _ _ (rw (square_sum-is arrow.dx arrow.dy) (omega arith)) (whole_root-next _))
+north_le arrow is =
+    rw is.rooted (not_above (square_sum arrow.dx arrow.dy) _ _ (rw (square_sum-is arrow.dx arrow.dy) (omega arith)) (whole_root-next _))
 
 -- the turn back has the same cosine
 pub turn_cosine-swap : (first second : Arrow) → turn_cosine second first ≡ turn_cosine first second
@@ -76,10 +78,12 @@ pub record DividedFits (dot : ℤ) (lengths : ℕ) : Type 0 where
   pub whole : FitsSigned w128 (quotient dot lengths)
 
 -- a product of 128 bits by a million fits, and its quotient is below two millions
-pub divided_fits : (dot : ℤ) (lengths : ℕ) → 0 < lengths → lengths ≤ 10000000000000000 → unsigned_abs dot ≤ 2 * lengths → DividedFits dot lengths
+pub divided_fits : (dot : ℤ) (lengths : ℕ) → 0 < lengths → lengths ≤ 10000000000000000 → unsigned_abs dot ≤ 2 * lengths →
+    DividedFits dot lengths
 divided_fits dot lengths some most within =
     let product : unsigned_abs (dot *ℤ pos 1000000) ≡ unsigned_abs dot * 1000000 = unsigned_abs-mul dot (pos 1000000) in
-    let small : unsigned_abs (dot *ℤ pos 1000000) / lengths < 2000001 = div_below (unsigned_abs (dot *ℤ pos 1000000)) lengths 2000001 some (omega arith) in
+    let small : unsigned_abs (dot *ℤ pos 1000000) / lengths < 2000001 =
+    div_below (unsigned_abs (dot *ℤ pos 1000000)) lengths 2000001 some (omega arith) in
     let q : unsigned_abs (quotient dot lengths) < 2000001 = rw (unsigned_abs-int_div (dot *ℤ pos 1000000) lengths) small in
     record {
       wide = fits_signed_from_abs w128 _ (omega arith);

@@ -10,7 +10,8 @@ use Rattle.geo_int.specs.declared.offsets.Arrow.{Arrow}
 unfoldable pub north_part : ℤ → ℤ
 north_part degrees = int_div (degrees *ℤ pos 11132) (pos 100)
 
--- the millimetres east for a difference of longitude where the cosine of the latitude is this many billionths, cut toward zero
+-- the millimetres east for a difference of longitude where the cosine of the latitude is this many
+-- billionths, cut toward zero
 unfoldable pub east_part : ℤ → ℤ → ℤ
 east_part degrees cosine = int_div (degrees *ℤ pos 11132 *ℤ cosine) (pos 100000000000)
 

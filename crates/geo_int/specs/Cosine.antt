@@ -9,14 +9,17 @@ radians degrees = degrees * 1745329252 / 100000000
 unfoldable pub squared : ℕ → ℕ
 squared angle = angle * angle / 1000000000
 
--- one more term of the series: 1 less the square times the terms behind it, divided by the two next numbers' product
+-- one more term of the series: 1 less the square times the terms behind it, divided by the two next numbers'
+-- product
 unfoldable pub series_term : ℕ → ℕ → ℕ → ℕ
 series_term square behind product = 1000000000 - square * behind / 1000000000 / product
 
 -- the series of the cosine over the square of the angle; what would fall below 0 is 0
 unfoldable pub cosine_series : ℕ → ℕ
 cosine_series square =
-    series_term square (series_term square (series_term square (series_term square (1000000000 - square / 90) 56) 30) 12) 2
+    series_term square
+    (series_term square (series_term square (series_term square (1000000000 - square / 90) 56) 30) 12)
+    2
 
 -- the cosine of a latitude in microdegrees, in billionths
 unfoldable pub cosine_at : ℤ → ℕ

@@ -18,4 +18,5 @@ quotient dot lengths = int_div (dot *ℤ pos 1000000) (pos lengths)
 -- the cosine of the turn from the first arrow to the second; straight on where one has no length
 unfoldable pub turn_cosine : Arrow → Arrow → ℤ
 turn_cosine first second =
-    cond (first.len * second.len == 0) (pos 1000000) (held (quotient (arrow_dot first second) (first.len * second.len)))
+    cond (first.len * second.len == 0) (pos 1000000)
+    (held (quotient (arrow_dot first second) (first.len * second.len)))

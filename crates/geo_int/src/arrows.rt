@@ -1,7 +1,7 @@
 //! The arrow from one place to another.
 
 ghost use Rattle.std.specs.Prelude.{◌≡◌, ◌≤◌, ◌<◌, ◌↔◌, IsNone, IfSome, unsigned_abs};
-ghost use Rattle.geo_int.specs.Arrow.{arrow_between, arrow_of, length_between, east_part, north_part, middle_latitude, east_between, north_between, square_sum, IsArrow};
+ghost use Rattle.geo_int.specs.Arrow.{arrow_between, arrow_of, length_between, east_part, middle_latitude, east_between, north_between, square_sum, IsArrow};
 ghost use Rattle.geo_int.specs.Spot.{place_of};
 
 use crate::cosines::cos_lat;
@@ -9,8 +9,8 @@ use crate::offsets::Arrow;
 use crate::roots::floor_root;
 use crate::spots::Spot;
 
-/// The arrow from `a` to `b`, none where it is longer than 100 kilometres. Its parts are in millimetres, the one to the
-/// east by the cosine of the latitude halfway.
+/// The arrow from `a` to `b`, none where it is longer than 100 kilometres. Its parts are in
+/// millimetres, the one to the east by the cosine of the latitude halfway.
 pub fn arrow(a: Spot, b: Spot) -> Option<Arrow>
     ensures exact { result ≡ arrow_between (place_of a) (place_of b) }
     ensures refused { IsNone result ↔ (100000000 < length_between (place_of a) (place_of b)) }
@@ -23,7 +23,7 @@ pub fn arrow(a: Spot, b: Spot) -> Option<Arrow>
     Some(found)
 }
 
-// The arrow of these two parts, however long.
+/// The arrow of these two parts, however long.
 fn measured(dx: i64, dy: i64) -> Arrow
     requires east { unsigned_abs dx ≤ 50000000000 }
     requires north { unsigned_abs dy ≤ 50000000000 }
@@ -49,7 +49,7 @@ pub(crate) fn north(a: Spot, b: Spot) -> i64
     (b.lat() - a.lat()) * 11_132 / 100
 }
 
-// The latitude halfway between two places, rounded down.
+/// The latitude halfway between two places, rounded down.
 fn middle(a: Spot, b: Spot) -> i64
     ensures exact { result ≡ middle_latitude (place_of a) (place_of b) }
     ensures within { unsigned_abs result ≤ 90000000 }
@@ -57,7 +57,8 @@ fn middle(a: Spot, b: Spot) -> i64
     (a.lat() + b.lat()).div_euclid(2)
 }
 
-// Products of 128 bits are divided only where the difference is above 800,000 microdegrees: that is much slower.
+/// Products of 128 bits are divided only where the difference is above 800,000 microdegrees: that is
+/// much slower.
 fn scaled_east(degrees: i64, cosine: i64) -> i64
     requires degrees { unsigned_abs degrees ≤ 360000000 }
     requires cosine { unsigned_abs cosine ≤ 1000000000 }
@@ -71,6 +72,7 @@ fn scaled_east(degrees: i64, cosine: i64) -> i64
     }
 }
 
+/// The sum of the squares of two parts.
 fn sum_of_squares(dx: i64, dy: i64) -> u128
     requires east { unsigned_abs dx ≤ 50000000000 }
     requires north { unsigned_abs dy ≤ 50000000000 }

@@ -1,6 +1,6 @@
 //! Whether a circle touches the straight way between two places.
 
-ghost use Rattle.std.specs.Prelude.{◌≡◌, ◌≤◌, ◌*◌, ℕ, pos, ◌&&◌, int_le, nat_le, unsigned_abs, IsTrue, ◌*ℤ◌};
+ghost use Rattle.std.specs.Prelude.{◌≡◌, ◌≤◌, ◌*◌, ℕ, ◌&&◌, int_le, nat_le, unsigned_abs, IsTrue, ◌*ℤ◌};
 ghost use Rattle.geo_int.specs.Spot.{place_of};
 ghost use Rattle.geo_int.specs.Circle.{circle_touches, way_touches, end_touches, line_touches, foot, way_square, offset_between, IsWithin, is_near, difference, dot, cross};
 
@@ -14,13 +14,14 @@ pub(crate) struct Offset {
     pub(crate) north: i64,
 }
 
-/// Whether the circle of this centre and radius in millimetres touches the straight way between `a` and `b`. One with an
-/// end more than 300 kilometres from the centre in either part is not touched.
+/// Whether the circle of this centre and radius in millimetres touches the straight way between `a`
+/// and `b`. One with an end more than 300 kilometres from the centre in either part is not touched.
 pub fn touches(a: Spot, b: Spot, centre: Spot, radius: u64) -> bool
     requires { radius ≤ 100000000 }
     ensures exact { result ≡ circle_touches (place_of a) (place_of b) (place_of centre) radius }
 
-    // What follows from the definition: the way back is touched too, and so is it by every larger circle.
+    // What follows from the definition: the way back is touched too, and so is it by every larger
+    // circle.
     ensures same { circle_touches (place_of b) (place_of a) (place_of centre) radius ≡ result }
     ensures grows { (larger : ℕ) → radius ≤ larger → IsTrue result →
         IsTrue (circle_touches (place_of a) (place_of b) (place_of centre) larger) }
@@ -33,7 +34,7 @@ pub fn touches(a: Spot, b: Spot, centre: Spot, radius: u64) -> bool
     touches_near(first, second, radius * radius)
 }
 
-// The parts of the arrow from a centre to a place, however long.
+/// The parts of the arrow from a centre to a place, however long.
 fn seen_from(centre: Spot, at: Spot) -> Offset
     ensures exact { result ≡ offset_between (place_of centre) (place_of at) }
 {
@@ -43,20 +44,21 @@ fn seen_from(centre: Spot, at: Spot) -> Offset
     }
 }
 
-// Whether both ends are near enough to be looked at.
+/// Whether both ends are near enough to be looked at.
 fn near(a: Offset, b: Offset) -> bool
     ensures exact { result ≡ (is_near a && is_near b) }
 {
     is_part_near(a.east) && is_part_near(a.north) && is_part_near(b.east) && is_part_near(b.north)
 }
 
+/// Whether one part is near enough.
 fn is_part_near(part: i64) -> bool
     ensures exact { result ≡ nat_le (unsigned_abs part) 300000000 }
 {
     part.unsigned_abs() <= 300_000_000
 }
 
-// The test for two offsets that are near, by the square of the radius.
+/// The test for two offsets that are near, by the square of the radius.
 fn touches_near(a: Offset, b: Offset, square: u64) -> bool
     requires a { IsWithin 300000000 a }
     requires b { IsWithin 300000000 b }
@@ -73,6 +75,7 @@ fn touches_near(a: Offset, b: Offset, square: u64) -> bool
     }
 }
 
+/// How far along the way the foot of the centre lies, times the length of the way.
 fn foot_along(a: Offset, b: Offset) -> i64
     requires a { IsWithin 300000000 a }
     requires b { IsWithin 300000000 b }
@@ -81,6 +84,7 @@ fn foot_along(a: Offset, b: Offset) -> i64
     -product(a, step(a, b))
 }
 
+/// The square of the way's length.
 fn square_of_way(a: Offset, b: Offset) -> i64
     requires a { IsWithin 300000000 a }
     requires b { IsWithin 300000000 b }
@@ -91,6 +95,7 @@ fn square_of_way(a: Offset, b: Offset) -> i64
     product(way, way)
 }
 
+/// Whether an end lies within the circle whose radius has this square.
 fn end_is_within(a: Offset, square: u64) -> bool
     requires a { IsWithin 300000000 a }
     requires square { square ≤ 10000000000000000 }
@@ -99,7 +104,8 @@ fn end_is_within(a: Offset, square: u64) -> bool
     product(a, a) <= square as i64
 }
 
-// The height of a triangle is its doubled area by its base: both sides are squares times the square of the base.
+/// The height of a triangle is its doubled area by its base: both sides are squares times the square
+/// of the base.
 fn line_is_within(a: Offset, b: Offset, square: u64) -> bool
     requires a { IsWithin 300000000 a }
     requires b { IsWithin 300000000 b }
@@ -109,6 +115,7 @@ fn line_is_within(a: Offset, b: Offset, square: u64) -> bool
     is_square_within(area(a, b), square as i64, square_of_way(a, b))
 }
 
+/// From the first offset to the second.
 fn step(a: Offset, b: Offset) -> Offset
     requires a { IsWithin 300000000 a }
     requires b { IsWithin 300000000 b }
@@ -121,6 +128,7 @@ fn step(a: Offset, b: Offset) -> Offset
     }
 }
 
+/// The sum of the products of the parts.
 fn product(a: Offset, b: Offset) -> i64
     requires a { IsWithin 600000000 a }
     requires b { IsWithin 600000000 b }
@@ -130,6 +138,7 @@ fn product(a: Offset, b: Offset) -> i64
     a.east * b.east + a.north * b.north
 }
 
+/// Twice the area between two offsets, with its sign.
 fn area(a: Offset, b: Offset) -> i64
     requires a { IsWithin 300000000 a }
     requires b { IsWithin 300000000 b }
@@ -139,7 +148,7 @@ fn area(a: Offset, b: Offset) -> i64
     a.east * b.north - a.north * b.east
 }
 
-// Compares in 128 bits, where no product of these can overflow.
+/// Compares in 128 bits, where no product of these can overflow.
 fn is_square_within(area: i64, reach: i64, base: i64) -> bool
     requires area { unsigned_abs area ≤ 180000000000000000 }
     requires reach { unsigned_abs reach ≤ 10000000000000000 }

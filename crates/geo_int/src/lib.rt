@@ -1,4 +1,5 @@
-//! Places on the globe in whole numbers: arrows between them, turns, circles, and the texts of lengths and heights.
+//! Places on the globe in whole numbers: arrows between them, turns, circles, and the texts of
+//! lengths and heights.
 #![tactic(auto)]
 
 mod arrows;
@@ -7,8 +8,6 @@ mod cosines;
 mod offsets;
 mod roots;
 mod spots;
-#[cfg(test)]
-mod tests;
 mod texts;
 mod turns;
 

@@ -18,8 +18,8 @@ pub fn floor_root(n: u128) -> u64
     }
 }
 
-// The float root of a number this small is seldom off, and never by more than one: it is tested, and what fails the
-// test is rooted in whole numbers.
+/// The float root of a number this small is seldom off, and never by more than one: it is tested,
+/// and what fails the test is rooted in whole numbers.
 fn root_of_word(n: u64) -> u64
     ensures below { result * result ≤ n }
     ensures next { n < (result + 1) * (result + 1) }

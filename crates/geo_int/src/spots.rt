@@ -2,6 +2,9 @@
 
 ghost use Rattle.std.specs.Prelude.{◌≤◌};
 
+use item_list::TryClone;
+use std::alloc::{AllocError, Global};
+
 /// A place, in microdegrees counted from 180 degrees west and from the south pole.
 #[derive(Clone, Copy, Debug, PartialEq, Eq)]
 pub struct Spot {
@@ -11,6 +14,12 @@ pub struct Spot {
     pub ilat: u32,
     ghost within_longitude: { ilon ≤ 360000000 },
     ghost within_latitude: { ilat ≤ 180000000 },
+}
+
+impl TryClone for Spot {
+    fn try_clone(&self, _alloc: Global) -> Result<Spot, AllocError> {
+        Ok(*self)
+    }
 }
 
 impl Spot {

@@ -6,7 +6,8 @@ ghost use Rattle.geo_int.specs.Texts.{metres_text, height_text, hundredths_text}
 use itoa::Buffer;
 use std::alloc::AllocError;
 
-/// Appends a length in millimetres as metres with three decimals. Where memory runs out, nothing is appended.
+/// Appends a length in millimetres as metres with three decimals. Where memory runs out, nothing is
+/// appended.
 pub fn mm3(text: &mut Vec<u8>, millimetres: u128) -> Result<(), AllocError>
     ensures exact { OnOk result (text.new.items ≡ text.old.items ++ metres_text millimetres) }
     ensures kept { OnErr result (text.new.items ≡ text.old.items) }
@@ -23,7 +24,8 @@ pub fn mm3(text: &mut Vec<u8>, millimetres: u128) -> Result<(), AllocError>
     append(text, b"", whole.as_bytes(), &decimals)
 }
 
-/// Appends a height in micrometres as metres with two decimals, rounded down. Where memory runs out, nothing is appended.
+/// Appends a height in micrometres as metres with two decimals, rounded down. Where memory runs
+/// out, nothing is appended.
 pub fn ele(text: &mut Vec<u8>, height: i64) -> Result<(), AllocError>
     ensures exact { OnOk result (text.new.items ≡ text.old.items ++ height_text height) }
     ensures kept { OnErr result (text.new.items ≡ text.old.items) }
@@ -36,10 +38,11 @@ pub fn ele(text: &mut Vec<u8>, height: i64) -> Result<(), AllocError>
     }
 }
 
-// A sign, and hundredths with two decimals.
+/// A sign, and hundredths with two decimals.
 fn append_hundredths(text: &mut Vec<u8>, sign: &[u8], size: u64) -> Result<(), AllocError>
     requires { length sign.now ≤ 1 }
-    ensures exact { OnOk result (text.new.items ≡ text.old.items ++ (sign.now ++ hundredths_text size)) }
+    ensures exact { OnOk result
+        (text.new.items ≡ text.old.items ++ (sign.now ++ hundredths_text size)) }
     ensures kept { OnErr result (text.new.items ≡ text.old.items) }
 {
     let mut buffer = Buffer::new();
@@ -49,12 +52,13 @@ fn append_hundredths(text: &mut Vec<u8>, sign: &[u8], size: u64) -> Result<(), A
     append(text, sign, whole.as_bytes(), &decimals)
 }
 
-// A number in its three pieces: all of them, or nothing.
+/// A number in its three pieces: all of them, or nothing.
 fn append(text: &mut Vec<u8>, sign: &[u8], whole: &[u8], decimals: &[u8]) -> Result<(), AllocError>
     requires sign { length sign.now ≤ 1 }
     requires whole { length whole.now ≤ 40 }
     requires decimals { length decimals.now ≤ 4 }
-    ensures exact { OnOk result (text.new.items ≡ text.old.items ++ (sign.now ++ (whole.now ++ decimals.now))) }
+    ensures exact { OnOk result
+        (text.new.items ≡ text.old.items ++ (sign.now ++ (whole.now ++ decimals.now))) }
     ensures kept { OnErr result (text.new.items ≡ text.old.items) }
 {
     text.reserve(sign.len() + whole.len() + decimals.len())?;
@@ -64,10 +68,10 @@ fn append(text: &mut Vec<u8>, sign: &[u8], whole: &[u8], decimals: &[u8]) -> Res
     Ok(())
 }
 
-// The digit of a number below ten.
+/// The digit of a number below ten.
 fn digit(n: u16) -> u8
     requires { n < 10 }
-    ensures value { result ≡ 48 + n }
+    ensures exact { result ≡ 48 + n }
 {
     b'0' + n as u8
 }

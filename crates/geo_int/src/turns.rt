@@ -25,7 +25,8 @@ pub fn turn_cos(first: &Arrow, second: &Arrow) -> i64
     divided(sum_of_products(first, second), lengths).clamp(-1_000_000, 1_000_000)
 }
 
-// A part of an arrow is no longer than the arrow, so no product of two parts is above that of the lengths.
+/// A part of an arrow is no longer than the arrow, so no product of two parts is above that of the
+/// lengths.
 fn sum_of_products(first: &Arrow, second: &Arrow) -> i64
     requires first { IsArrow first.now }
     requires second { IsArrow second.now }
@@ -35,7 +36,7 @@ fn sum_of_products(first: &Arrow, second: &Arrow) -> i64
     first.dx * second.dx + first.dy * second.dy
 }
 
-// Products of 128 bits are divided only for arrows of kilometres: that is much slower.
+/// Products of 128 bits are divided only for arrows of kilometres: that is much slower.
 fn divided(dot: i64, lengths: u64) -> i64
     requires positive { 0 < lengths }
     requires lengths { lengths ≤ 10000000000000000 }

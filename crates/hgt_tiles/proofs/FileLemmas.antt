@@ -1,9 +1,9 @@
 -- The samples of a file, read two bytes at a time.
 use Rattle.std.proofs.Common.{◌≡◌, ℕ, suc, ◌+◌, ◌*◌, ◌/◌, ◌-◌, ◌<◌, ◌≤◌, ℤ, List, [], ◌∷◌, length, refl, sym, ap, ◌∙◌, arith, ◌++◌, drop, get_or, to_z, w8, w16, Fits, take, drop-cons, append_assoc}
-use Rattle.std.proofs.lemmas.List.{take_all, length-drop}
 use Rattle.std.proofs.lemmas.Bool.Decides.{nat_tests}
 use Rattle.std.proofs.lemmas.Int.{ints}
 use Rattle.hgt_tiles.specs.File.{samples_of, sample_of}
+use Rattle.hgt_tiles.proofs.NameLemmas.{tail}
 
 -- two more are one more half
 half : (n : ℕ) → suc (n / 2) ≡ suc (suc n) / 2
@@ -45,10 +45,6 @@ samples_of-next bytes done more sample i inside is next read =
     ∙ ap (λ x. x ∷ samples_of (drop (2 * i + 2) bytes)) (sym read)
     ∙ ap (λ k. sample ∷ samples_of (drop k bytes)) (omega arith) in
     ap (λ x. x ++ rest) next ∙ append_assoc done (sample ∷ []) rest ∙ ap (λ x. done ++ x) (sym step) ∙ is
-
--- what stands from a place to the end
-tail : (bytes : List ℕ) (k : ℕ) → take (length bytes - k) (drop k bytes) ≡ drop k bytes
-tail bytes k = take_all (length bytes - k) (drop k bytes) (omega (arith, length-drop k bytes))
 
 -- what is read at a place is the sample of its two bytes
 pub read-at : (bytes : List ℕ) (k : ℕ) → k + 1 < length bytes → ((i : ℕ) → Fits w8 (get_or bytes i 0)) →

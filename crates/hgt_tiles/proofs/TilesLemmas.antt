@@ -53,7 +53,8 @@ not_there None tile e = refl
 not_there (Some x) tile e = absurd (cc)
 
 -- the height where a tile is there
-pub height_of-some : (tiles : Tiles) (at : Place) (relief : Relief) → relief_at tiles (corner_of_place at) ≡ Some relief → height_of tiles at ≡ height_if (Some relief) at
+pub height_of-some : (tiles : Tiles) (at : Place) (relief : Relief) → relief_at tiles (corner_of_place at) ≡ Some relief →
+    height_of tiles at ≡ height_if (Some relief) at
 unfolding height_of
 height_of-some tiles at relief e = ap (λ r. height_if r at) e
 
@@ -72,7 +73,8 @@ one_relief : (o : Option Relief) (r s : Relief) → o ≡ Some r → o ≡ Some 
 one_relief o r s e f = cc
 
 -- a height lies between the samples around its place
-lawful-at : (tiles : Tiles) (at : Place) (o : Option Relief) → relief_at tiles (corner_of_place at) ≡ o → IfSome (height_if o at) (IsInterpolated tiles at)
+lawful-at : (tiles : Tiles) (at : Place) (o : Option Relief) → relief_at tiles (corner_of_place at) ≡ o →
+    IfSome (height_if o at) (IsInterpolated tiles at)
 lawful-at tiles at None e = tt
 lawful-at tiles at (Some r) e =
     let a = beyond at.lon in

@@ -20,7 +20,8 @@ steps_of bytes = cond (bytes == 2884802) (Some 1200) (cond (bytes == 25934402) (
 
 -- the relief of a corner and a number of steps that are there
 abbrev pub relief_of_both : Option Corner → Option ℕ → List ℕ → Option Relief
-relief_of_both (Some corner) (Some steps) bytes = Some (record { corner = corner; steps = steps; samples = samples_of bytes })
+relief_of_both (Some corner) (Some steps) bytes =
+    Some (record { corner = corner; steps = steps; samples = samples_of bytes })
 relief_of_both (Some corner) None bytes = None
 relief_of_both None steps bytes = None
 

@@ -31,13 +31,16 @@ around relief a b = record {
 -- one of the four is void
 abbrev pub has_void : Cell → Bool
 has_void cell =
-    int_eq cell.south_west void || int_eq cell.south_east void || int_eq cell.north_west void || int_eq cell.north_east void
+    int_eq cell.south_west void || int_eq cell.south_east void
+    || int_eq cell.north_west void || int_eq cell.north_east void
 
 -- the height between the four, rounded down
 unfoldable pub between : Cell → ℤ
 between cell =
     int_div_euclid
-    (mix cell.north (mix cell.east cell.south_west cell.south_east) (mix cell.east cell.north_west cell.north_east))
+    (mix cell.north
+    (mix cell.east cell.south_west cell.south_east)
+    (mix cell.east cell.north_west cell.north_east))
     (pos 1000000)
 
 -- the height, not known where one of the four is void

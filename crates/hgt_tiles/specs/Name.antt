@@ -23,15 +23,16 @@ is_digit byte = nat_le 48 byte && nat_le byte 57
 -- the two digits of a latitude and the three of a longitude are there
 abbrev pub digits_are_there : List ℕ → Bool
 digits_are_there part =
-    is_digit (slice_index part 1) && is_digit (slice_index part 2) && is_digit (slice_index part 4) && is_digit (slice_index part 5)
-    && is_digit (slice_index part 6)
+    is_digit (slice_index part 1) && is_digit (slice_index part 2)
+    && is_digit (slice_index part 4) && is_digit (slice_index part 5) && is_digit (slice_index part 6)
 
 -- both letters are there, and the ending
 abbrev pub letters_are_there : List ℕ → Bool
 letters_are_there part =
     (is_letter 78 (slice_index part 0) || is_letter 83 (slice_index part 0))
     && (is_letter 69 (slice_index part 3) || is_letter 87 (slice_index part 3))
-    && (slice_index part 7 == 46) && (slice_index part 8 == 104) && (slice_index part 9 == 103) && (slice_index part 10 == 116)
+    && (slice_index part 7 == 46) && (slice_index part 8 == 104)
+    && (slice_index part 9 == 103) && (slice_index part 10 == 116)
 
 -- N or S, two digits, E or W, three digits, and .hgt
 abbrev pub is_spelled : List ℕ → Bool

@@ -14,7 +14,8 @@ void = negsuc 32767
 
 -- the sample in a row counted from the south and a column counted from the west
 unfoldable pub sample : Relief → ℕ → ℕ → ℤ
-sample relief row column = slice_index_or relief.samples ((relief.steps - row) * (relief.steps + 1) + column) void
+sample relief row column =
+    slice_index_or relief.samples ((relief.steps - row) * (relief.steps + 1) + column) void
 
 -- the corner of a square degree on the globe
 pub record IsCorner (corner : Corner) : Type 0 where

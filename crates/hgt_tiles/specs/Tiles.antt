@@ -21,7 +21,10 @@ relief_at tiles corner = get corner_cmp tiles.by_corner corner
 
 -- the corner of the square degree that a place lies in: its degrees, rounded down
 abbrev pub corner_of_place : Place → Corner
-corner_of_place at = record { lon = int_div_euclid at.lon (pos 1000000); lat = int_div_euclid at.lat (pos 1000000) }
+corner_of_place at = record {
+  lon = int_div_euclid at.lon (pos 1000000);
+  lat = int_div_euclid at.lat (pos 1000000);
+}
 
 -- how far beyond a whole degree, in microdegrees
 abbrev pub beyond : ℤ → ℕ
@@ -39,7 +42,8 @@ height_of tiles at = height_if (relief_at tiles (corner_of_place at)) at
 -- a height is one between the four samples around a place, on the relief that is there
 abbrev pub IsInterpolated : Tiles → Place → ℤ → Type 0
 IsInterpolated tiles at height =
-    (relief : Relief) → relief_at tiles (corner_of_place at) ≡ Some relief → IsBetween (around relief (beyond at.lon) (beyond at.lat)) height
+    (relief : Relief) → relief_at tiles (corner_of_place at) ≡ Some relief →
+    IsBetween (around relief (beyond at.lon) (beyond at.lat)) height
 
 -- a tile was added: its corner keeps what it had, or has the tile, and every other corner what it had
 pub record AddsTile (old new : Tiles) (tile : Relief) : Type 0 where

@@ -3,9 +3,10 @@
 ghost use Rattle.std.specs.Prelude.{◌≡◌, ◌<◌, ◌≤◌, ◌*◌, ◌+◌, unsigned_abs, IfSome, ℕ};
 ghost use Rattle.std.specs.Ordering.{int_eq};
 ghost use Rattle.hgt_tiles.specs.Relief.{void};
-ghost use Rattle.hgt_tiles.specs.Height.{mix, between, height_around, has_void, IsBetween};
+ghost use Rattle.hgt_tiles.specs.Height.{mix, between, height_around, has_void};
 
-/// The four samples around a place in metres, and the shares of the way to the east and to the north in millionths.
+/// The four samples around a place in metres, and the shares of the way to the east and to the
+/// north in millionths.
 #[derive(Clone, Copy, Debug, PartialEq, Eq)]
 pub(crate) struct Cell {
     pub(crate) south_west: i16,
@@ -31,6 +32,7 @@ pub(crate) fn height_between(cell: Cell) -> Option<i64>
     Some(mixed(cell.north, south, north).div_euclid(1_000_000))
 }
 
+/// Whether one of the four is void.
 fn is_void(cell: Cell) -> bool
     ensures exact { result ≡ has_void cell }
 {
@@ -40,13 +42,14 @@ fn is_void(cell: Cell) -> bool
         || is_unknown(cell.north_east)
 }
 
+/// Whether a sample says that no height is known.
 fn is_unknown(sample: i16) -> bool
     ensures exact { result ≡ int_eq sample void }
 {
     sample == i16::MIN
 }
 
-// A million times the number between two, by a share in millionths.
+/// A million times the number between two, by a share in millionths.
 fn mixed(share: u32, first: i64, second: i64) -> i64
     requires share { share < 1000000 }
     requires first { unsigned_abs first ≤ 32768000000 }

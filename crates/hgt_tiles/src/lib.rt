@@ -3,8 +3,6 @@
 
 mod heights;
 mod names;
-#[cfg(test)]
-mod tests;
 mod tile_file;
 mod tile_set;
 

@@ -1,8 +1,8 @@
 //! The corner that the name of a file of heights tells.
 
-ghost use Rattle.std.specs.Prelude.{◌≡◌, ◌+◌, ◌-◌, ◌<◌, ◌≤◌, ◌&&◌, ◌||◌, length, IsTrue, slice_index, Some, IfSome, pos, neg_ℤ, ◌≤ℤ◌, ◌<ℤ◌};
+ghost use Rattle.std.specs.Prelude.{◌≡◌, ◌+◌, ◌-◌, ◌<◌, ◌≤◌, ◌&&◌, ◌||◌, length, IsTrue, Some, IfSome, pos, neg_ℤ, ◌≤ℤ◌, ◌<ℤ◌};
 ghost use Rattle.hgt_tiles.specs.Relief.{IsCorner};
-ghost use Rattle.hgt_tiles.specs.Name.{last_part, is_spelled, letters_are_there, digits_are_there, is_letter, is_digit, lat_digits, lon_digits, signed_degrees, corner_of_part, corner_of_name};
+ghost use Rattle.hgt_tiles.specs.Name.{last_part, is_spelled, letters_are_there, digits_are_there, is_letter, is_digit, lat_digits, lon_digits, signed_degrees, corner_of_name};
 
 /// A south-west corner in whole degrees, east of Greenwich and north of the equator.
 #[derive(Clone, Copy, Debug, PartialEq, Eq, PartialOrd, Ord)]
@@ -25,6 +25,7 @@ pub(crate) fn corner_of(name: &[u8]) -> Option<Corner>
     Some(Corner { lon, lat })
 }
 
+/// What stands after the last slash.
 fn after_last_slash(name: &[u8]) -> &[u8]
     ensures exact { result.now ≡ last_part name.now }
 {
@@ -37,6 +38,7 @@ fn after_last_slash(name: &[u8]) -> &[u8]
     part
 }
 
+/// Whether a part has the form of a name.
 fn spells_corner(part: &[u8]) -> bool
     ensures exact { result ≡ is_spelled part.now }
     ensures long { IsTrue result → length part.now ≡ 11 }
@@ -44,6 +46,7 @@ fn spells_corner(part: &[u8]) -> bool
     part.len() == 11 && are_letters(part) && are_digits(part)
 }
 
+/// Whether the letters and the ending are there.
 fn are_letters(part: &[u8]) -> bool
     requires { length part.now ≡ 11 }
     ensures exact { result ≡ letters_are_there part.now }
@@ -56,6 +59,7 @@ fn are_letters(part: &[u8]) -> bool
         && part[10] == b't'
 }
 
+/// Whether the digits are there.
 fn are_digits(part: &[u8]) -> bool
     requires { length part.now ≡ 11 }
     ensures exact { result ≡ digits_are_there part.now }
@@ -67,13 +71,14 @@ fn are_digits(part: &[u8]) -> bool
         && is_decimal(part[6])
 }
 
+/// Whether a byte is a decimal digit.
 fn is_decimal(byte: u8) -> bool
     ensures exact { result ≡ is_digit byte }
 {
     byte >= b'0' && byte <= b'9'
 }
 
-// A letter in either case, by its capital.
+/// A letter in either case, by its capital.
 fn is_either(byte: u8, capital: u8) -> bool
     requires { capital ≤ 90 }
     ensures exact { result ≡ is_letter capital byte }
@@ -81,6 +86,7 @@ fn is_either(byte: u8, capital: u8) -> bool
     byte == capital || byte == capital + 32
 }
 
+/// The degrees that the digits of the latitude tell.
 fn degrees_of_latitude(part: &[u8]) -> u16
     requires { length part.now ≡ 11 }
     ensures exact { result ≡ lat_digits part.now }
@@ -88,6 +94,7 @@ fn degrees_of_latitude(part: &[u8]) -> u16
     digit(part[1]) * 10 + digit(part[2])
 }
 
+/// The degrees that the digits of the longitude tell.
 fn degrees_of_longitude(part: &[u8]) -> u16
     requires { length part.now ≡ 11 }
     ensures exact { result ≡ lon_digits part.now }
@@ -95,6 +102,7 @@ fn degrees_of_longitude(part: &[u8]) -> u16
     digit(part[4]) * 100 + digit(part[5]) * 10 + digit(part[6])
 }
 
+/// The number of a digit.
 fn digit(byte: u8) -> u16
     ensures exact { result ≡ byte - 48 }
     ensures small { result < 256 }
@@ -102,7 +110,7 @@ fn digit(byte: u8) -> u16
     byte.saturating_sub(b'0') as u16
 }
 
-// Degrees with their sign, if they are within so many: the positive end is one less.
+/// Degrees with their sign, if they are within so many: the positive end is one less.
 fn signed(minus: bool, degrees: u16, most: u16) -> Option<i16>
     requires some { 0 < most }
     requires few { most ≤ 180 }

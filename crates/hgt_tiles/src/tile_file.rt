@@ -82,7 +82,8 @@ impl Tile {
         self.corner
     }
 
-    /// The height in micrometres at offsets to the east and to the north of the corner in microdegrees.
+    /// The height in micrometres at offsets to the east and to the north of the corner in
+    /// microdegrees.
     pub(crate) fn height(&self, east: u32, north: u32) -> Option<i64>
         requires east { east < 1000000 }
         requires north { north < 1000000 }
@@ -105,7 +106,7 @@ impl Tile {
     }
 }
 
-// How many steps a degree has in a file of so many bytes.
+/// How many steps a degree has in a file of so many bytes.
 fn steps_in(bytes: usize) -> Option<u32>
     ensures exact { result ≡ steps_of bytes }
     ensures some { IfSome result (λ steps. 0 < steps) }
@@ -121,7 +122,7 @@ fn steps_in(bytes: usize) -> Option<u32>
     }
 }
 
-// The samples of a file, two bytes each.
+/// The samples of a file, two bytes each.
 fn samples_in(alloc: Global, bytes: &[u8]) -> Result<Vec<i16>, AllocError>
     ensures exact { IfOk result (λ samples. samples.items ≡ samples_of bytes.now) }
 {

@@ -1,10 +1,10 @@
 //! Tiles by their corners.
 
-ghost use Rattle.std.specs.Prelude.{◌≡◌, ◌≤◌, unsigned_abs, OnOk, OnErr, IsNone, IfSome, Some};
+ghost use Rattle.std.specs.Prelude.{◌≡◌, ◌≤◌, unsigned_abs, OnOk, OnErr, IsNone, IfSome};
 ghost use Rattle.geo_int.specs.Spot.{place_of};
 ghost use Rattle.hgt_tiles.specs.Relief.{Relief};
 ghost use Rattle.hgt_tiles.specs.declared.names.Corner.{Corner};
-ghost use Rattle.hgt_tiles.specs.Tiles.{relief_at, corner_of_place, height_of, AddsTile, IsInterpolated};
+ghost use Rattle.hgt_tiles.specs.Tiles.{relief_at, height_of, AddsTile, IsInterpolated};
 
 use crate::names::Corner;
 use crate::tile_file::Tile;
@@ -31,7 +31,8 @@ impl Tiles {
     /// Adds a tile, unless there is one of its corner. Where memory runs out, nothing changes.
     pub fn add(&mut self, tile: Tile) -> Result<(), AllocError>
         ensures added { OnOk result (AddsTile self.old self.new tile) }
-        ensures kept { OnErr result ((corner : Corner) → relief_at self.new corner ≡ relief_at self.old corner) }
+        ensures kept { OnErr result ((corner : Corner) →
+            relief_at self.new corner ≡ relief_at self.old corner) }
     {
         let corner = tile.corner();
         if self.by_corner.contains_key(&corner) {
@@ -41,7 +42,8 @@ impl Tiles {
         Ok(())
     }
 
-    /// The height of a place in micrometres, none where no tile is there or one of the four samples around it is void.
+    /// The height of a place in micrometres, none where no tile is there or one of the four samples
+    /// around it is void.
     pub fn height(&self, spot: Spot) -> Option<i64>
         ensures exact { result ≡ height_of self.now (place_of spot) }
         ensures within { IfSome result (λ height. unsigned_abs height ≤ 32768000000) }

@@ -1,25 +1,22 @@
 use Rattle.std.proofs.Common.{pos, ◌↔◌, IsTrue, arith}
 use Rattle.std.proofs.lemmas.Int.{ints, to_z-of_z}
-use Rattle.elev_buffer.specs.Covers.{CoversLabel}
+use Rattle.elev_buffer.specs.Covers.{CoversLabel, terms, label}
 use Rattle.elev_buffer.proofs.CoverLemmas.{covers-trans, covers-kept, covers-sums}
 use Rattle.elev_buffer.proofs.orders.covers.Goals as goal
 
 pub returns-clause-transitive : goal.returns-clause-transitive
 returns-clause-transitive c =
-    let is : IsTrue c.is_covered.result ↔ CoversLabel c.args.modes.now c.args.kd c.args.ku c.args.a.now (pos c.args.ca) c.args.b.now (pos c.args.cb) =
-    simp (to_z-of_z, c.ranges.kd, c.ranges.ku) at c.is_covered.ensures.exact in
-    λ third cost h k. covers-trans _ _ _ _ _ _ _ _ _ c.requires.down_rate.low c.requires.up_rate.low (is.0 h) k
+    let is = simp (to_z-of_z, c.ranges.kd, c.ranges.ku) at c.is_covered.ensures.exact in
+    λ third h k. covers-trans _ _ _ _ c.requires.down_rate.low c.requires.up_rate.low (is.0 h) k
 
 pub returns-clause-kept : goal.returns-clause-kept
 returns-clause-kept c =
-    let is : IsTrue c.is_covered.result ↔ CoversLabel c.args.modes.now c.args.kd c.args.ku c.args.a.now (pos c.args.ca) c.args.b.now (pos c.args.cb) =
-    simp (to_z-of_z, c.ranges.kd, c.ranges.ku) at c.is_covered.ensures.exact in
-    λ h. covers-kept _ _ _ _ _ _ _ c.requires.down_rate.low c.requires.up_rate.low (is.0 h)
+    let is = simp (to_z-of_z, c.ranges.kd, c.ranges.ku) at c.is_covered.ensures.exact in
+    λ h. covers-kept _ _ _ c.requires.down_rate.low c.requires.up_rate.low (is.0 h)
 
 pub returns-clause-sums : goal.returns-clause-sums
 returns-clause-sums c =
-    let is : IsTrue c.is_covered.result ↔ CoversLabel c.args.modes.now c.args.kd c.args.ku c.args.a.now (pos c.args.ca) c.args.b.now (pos c.args.cb) =
-    simp (to_z-of_z, c.ranges.kd, c.ranges.ku) at c.is_covered.ensures.exact in
+    let is = simp (to_z-of_z, c.ranges.kd, c.ranges.ku) at c.is_covered.ensures.exact in
     λ e f less.
-    let sums = covers-sums _ _ _ _ _ _ _ c.requires.down_rate.low c.requires.up_rate.low e f (omega (arith, ints)) in
+    let sums = covers-sums _ _ _ c.requires.down_rate.low c.requires.up_rate.low e f (omega (arith, ints)) in
     (λ h. sums.0 (is.0 h), λ k. is.1 (sums.1 k))

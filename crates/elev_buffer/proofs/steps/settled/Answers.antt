@@ -12,8 +12,10 @@ returns c =
     let paid : SFits w64 c.paid_from-paid.result = search rules in
     let top : SFits w64 c.max.result = search rules in
     let weight : SFits w64 c.weight_from.result = search rules in
-    let p : c.paid_from-paid.result ≡ paid_of l c.args.r c.args.full = simp (to_z-of_z, c.ranges.r, c.ranges.full) at c.paid_from-paid.ensures.exact in
-    let w : c.weight_from.result ≡ weight_of l c.args.r c.args.full = simp (to_z-of_z, c.ranges.r, c.ranges.full) at c.weight_from.ensures.exact in
+    let p : c.paid_from-paid.result ≡ paid_of l c.args.r c.args.full =
+    simp (to_z-of_z, c.ranges.r, c.ranges.full) at c.paid_from-paid.ensures.exact in
+    let w : c.weight_from.result ≡ weight_of l c.args.r c.args.full =
+    simp (to_z-of_z, c.ranges.r, c.ranges.full) at c.weight_from.ensures.exact in
     let m : c.max.result ≡ int_max c.args.full (pos 0) = simp (to_z-of_z, c.ranges.full) at c.max.ensures.value in
     let e : c.max.result -ℤ c.paid_from-paid.result ≡ left_of l c.args.r c.args.full =
     omega (arith, ints, left-paid l c.args.r c.args.full c.requires.limits) in

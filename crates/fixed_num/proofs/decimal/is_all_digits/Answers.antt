@@ -4,5 +4,7 @@ use Rattle.fixed_num.proofs.decimal.is_all_digits.Goals as goal
 
 pub returns-then-not-is_empty : goal.returns-then-not-is_empty
 returns-then-not-is_empty c = record {
-  value = ap (λ n. nat_eq n (length c.args.text.now)) c.leading_digits.ensures.value ∙ is_fraction_is c.args.text.now (sym c.is_empty.ensures ∙ c.if-not-is_empty.true);
+  exact =
+      ap (λ n. nat_eq n (length c.args.text.now)) c.leading_digits.ensures.exact
+      ∙ is_fraction_is c.args.text.now (sym c.is_empty.ensures ∙ c.if-not-is_empty.true);
 }

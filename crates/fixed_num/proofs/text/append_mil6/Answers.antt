@@ -6,5 +6,7 @@ pub returns-clause-kept : goal.returns-clause-kept
 returns-clause-kept c =
     let bytes = c.as_slice-bytes.result.now in
     let few : length bytes ≤ 47 = omega (arith, ap length c.as_slice-bytes.ensures.value, c.of-text.ensures.fits) in
-    let same : length c.copy_from_slice.new.self ≡ c.args.at + length bytes - c.args.at = omega (arith, ap length c.copy_from_slice.ensures.after) in
-    drop-put_mid c.args.at (c.args.at + length bytes - c.args.at) c.args.out.now c.copy_from_slice.new.self (c.args.at + length bytes) (omega arith) (omega arith) same
+    let same : length c.copy_from_slice.new.self ≡ c.args.at + length bytes - c.args.at =
+    omega (arith, ap length c.copy_from_slice.ensures.after) in
+    drop-put_mid c.args.at (c.args.at + length bytes - c.args.at) c.args.out.now c.copy_from_slice.new.self (c.args.at + length bytes)
+    (omega arith) (omega arith) same

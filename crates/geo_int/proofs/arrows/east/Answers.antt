@@ -13,6 +13,7 @@ returns-clause-exact c =
     let middle : SFits w64 c.middle.result = search rules in
     let cosine : SFits w64 c.cos_lat.result = search rules in
     let east : SFits w64 c.scaled_east.result = search rules in
-    let e : c.scaled_east.result ≡ east_part (c.lon.result -ℤ c.lon-2.result) c.cos_lat.result = simp to_z-of_z at c.scaled_east.ensures.exact in
+    let e : c.scaled_east.result ≡ east_part (c.lon.result -ℤ c.lon-2.result) c.cos_lat.result =
+    simp to_z-of_z at c.scaled_east.ensures.exact in
     let f : c.cos_lat.result ≡ pos (cosine_at c.middle.result) = simp to_z-of_z at c.cos_lat.ensures.exact in
     simp to_z-of_z (cc (c.middle.ensures.exact, c.lon.ensures.value, c.lon-2.ensures.value))

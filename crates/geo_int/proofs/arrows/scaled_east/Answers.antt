@@ -19,7 +19,8 @@ returns-then-degrees-le800000-clause-exact c =
     let part : SFits w64 (c.args.degrees *ℤ pos 11132) = search (rules, ints) in
     let product : SFits w64 (c.args.degrees *ℤ pos 11132 *ℤ c.args.cosine) =
     fits_signed_from_abs w64 _ (omega (arith, east_product_le c.args.degrees c.args.cosine 800000 small c.requires.cosine)) in
-    let quotient : SFits w64 (int_div (c.args.degrees *ℤ pos 11132 *ℤ c.args.cosine) (pos 100000000000)) = quot_fits w64 _ _ product (search rules) in
+    let quotient : SFits w64 (int_div (c.args.degrees *ℤ pos 11132 *ℤ c.args.cosine) (pos 100000000000)) =
+    quot_fits w64 _ _ product (search rules) in
     simp to_z-of_z
 
 pub returns-else-degrees-geminus800000-clause-exact : goal.returns-else-degrees-geminus800000-clause-exact

@@ -17,7 +17,8 @@ returns-then-along-square_of_way c =
     let way : SFits w64 c.square_of_way.result = search rules in
     let before : int_le c.foot_along-along.result (pos 0) ≡ false = simp to_z-of_z at c.if-along-le0.false in
     let behind : int_le c.square_of_way.result c.foot_along-along.result ≡ true = simp to_z-of_z at c.if-along-square_of_way.true in
-    let first : int_le (foot c.args.a c.args.b) (pos 0) ≡ false = ap (λ k. int_le k (pos 0)) (sym c.foot_along-along.ensures.exact) ∙ before in
+    let first : int_le (foot c.args.a c.args.b) (pos 0) ≡ false =
+    ap (λ k. int_le k (pos 0)) (sym c.foot_along-along.ensures.exact) ∙ before in
     let second : int_le (way_square c.args.a c.args.b) (foot c.args.a c.args.b) ≡ true =
     ap (λ k. int_le k (foot c.args.a c.args.b)) (sym c.square_of_way.ensures.exact)
     ∙ ap (int_le c.square_of_way.result) (sym c.foot_along-along.ensures.exact) ∙ behind in
@@ -29,7 +30,8 @@ returns-else-along-square_of_way c =
     let way : SFits w64 c.square_of_way.result = search rules in
     let before : int_le c.foot_along-along.result (pos 0) ≡ false = simp to_z-of_z at c.if-along-le0.false in
     let behind : int_le c.square_of_way.result c.foot_along-along.result ≡ false = simp to_z-of_z at c.if-along-square_of_way.false in
-    let first : int_le (foot c.args.a c.args.b) (pos 0) ≡ false = ap (λ k. int_le k (pos 0)) (sym c.foot_along-along.ensures.exact) ∙ before in
+    let first : int_le (foot c.args.a c.args.b) (pos 0) ≡ false =
+    ap (λ k. int_le k (pos 0)) (sym c.foot_along-along.ensures.exact) ∙ before in
     let second : int_le (way_square c.args.a c.args.b) (foot c.args.a c.args.b) ≡ false =
     ap (λ k. int_le k (foot c.args.a c.args.b)) (sym c.square_of_way.ensures.exact)
     ∙ ap (int_le c.square_of_way.result) (sym c.foot_along-along.ensures.exact) ∙ behind in

@@ -43,9 +43,12 @@ returns c =
     let north : SFits w64 c.mixed-north.result = search rules in
     let all : SFits w64 c.mixed.result = search rules in
     let made : SFits w64 c.div_euclid.result = search rules in
-    let a : c.mixed-south.result ≡ mix cell.east cell.south_west cell.south_east = simp (to_z-of_z, sw, se, sw', se') at c.mixed-south.ensures.exact in
-    let b : c.mixed-north.result ≡ mix cell.east cell.north_west cell.north_east = simp (to_z-of_z, nw, ne, nw', ne') at c.mixed-north.ensures.exact in
-    let m : c.mixed.result ≡ mix cell.north c.mixed-south.result c.mixed-north.result = simp (to_z-of_z, south, north) at c.mixed.ensures.exact in
+    let a : c.mixed-south.result ≡ mix cell.east cell.south_west cell.south_east =
+    simp (to_z-of_z, sw, se, sw', se') at c.mixed-south.ensures.exact in
+    let b : c.mixed-north.result ≡ mix cell.east cell.north_west cell.north_east =
+    simp (to_z-of_z, nw, ne, nw', ne') at c.mixed-north.ensures.exact in
+    let m : c.mixed.result ≡ mix cell.north c.mixed-south.result c.mixed-north.result =
+    simp (to_z-of_z, south, north) at c.mixed.ensures.exact in
     let d : c.div_euclid.result ≡ int_div_euclid c.mixed.result (pos 1000000) = simp (to_z-of_z, all) at c.div_euclid.ensures in
     let is : c.div_euclid.result ≡ between cell = cc in
     let low : unsigned_abs c.mixed-south.result ≤ 32768000000 =

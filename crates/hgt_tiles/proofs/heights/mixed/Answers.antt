@@ -10,7 +10,8 @@ returns-clause-exact c =
     let fits = mix_fits c.args.share c.args.first c.args.second 32768000000 c.requires.share c.requires.first c.requires.second in
     let a : SFits w64 (pos (1000000 - c.args.share) *ℤ c.args.first) = fits_signed_from_abs w64 _ (omega (arith, fits.first)) in
     let b : SFits w64 (pos c.args.share *ℤ c.args.second) = fits_signed_from_abs w64 _ (omega (arith, fits.second)) in
-    let s : SFits w64 (pos (1000000 - c.args.share) *ℤ c.args.first +ℤ pos c.args.share *ℤ c.args.second) = fits_signed_from_abs w64 _ (omega (arith, fits.sum)) in
+    let s : SFits w64 (pos (1000000 - c.args.share) *ℤ c.args.first +ℤ pos c.args.share *ℤ c.args.second) =
+    fits_signed_from_abs w64 _ (omega (arith, fits.sum)) in
     let x : to_z w64 (1000000 - c.args.share) ≡ pos (1000000 - c.args.share) = to_z_pos w64 _ (omega arith) in
     let y : to_z w64 c.args.share ≡ pos c.args.share = to_z_pos w64 _ (omega arith) in
     simp (to_z-of_z, x, y, c.ranges.first, c.ranges.second, a, b, s) refl
@@ -20,7 +21,8 @@ returns-clause-within c =
     let fits = mix_fits c.args.share c.args.first c.args.second 32768000000 c.requires.share c.requires.first c.requires.second in
     let a : SFits w64 (pos (1000000 - c.args.share) *ℤ c.args.first) = fits_signed_from_abs w64 _ (omega (arith, fits.first)) in
     let b : SFits w64 (pos c.args.share *ℤ c.args.second) = fits_signed_from_abs w64 _ (omega (arith, fits.second)) in
-    let s : SFits w64 (pos (1000000 - c.args.share) *ℤ c.args.first +ℤ pos c.args.share *ℤ c.args.second) = fits_signed_from_abs w64 _ (omega (arith, fits.sum)) in
+    let s : SFits w64 (pos (1000000 - c.args.share) *ℤ c.args.first +ℤ pos c.args.share *ℤ c.args.second) =
+    fits_signed_from_abs w64 _ (omega (arith, fits.sum)) in
     let x : to_z w64 (1000000 - c.args.share) ≡ pos (1000000 - c.args.share) = to_z_pos w64 _ (omega arith) in
     let y : to_z w64 c.args.share ≡ pos c.args.share = to_z_pos w64 _ (omega arith) in
     simp (to_z-of_z, x, y, c.ranges.first, c.ranges.second, a, b, s)

@@ -12,7 +12,9 @@ loop-i-preserved c =
     let i = c.loop-i.i in
     let more : c.if-byte-eq47.part.now ≡ cond (get_or name i 0 == 47) (drop (i + 1) name) c.loop-i.part.now =
     elim c.if-byte-eq47.branch [
-      | then-byte-eq47 w ↦ ap (λ p. p.now) w.part-is ∙ tail name (i + 1) ∙ sym (chosen (List ℕ) (get_or name i 0) 47 (drop (i + 1) name) c.loop-i.part.now w.if-byte-eq47.true)
-      | else-byte-eq47 w ↦ ap (λ p. p.now) w.part-is ∙ sym (other (List ℕ) (get_or name i 0) 47 (drop (i + 1) name) c.loop-i.part.now w.if-byte-eq47.false)
+      | then-byte-eq47 w ↦ ap (λ p. p.now) w.part-is ∙ tail name (i + 1)
+          ∙ sym (chosen (List ℕ) (get_or name i 0) 47 (drop (i + 1) name) c.loop-i.part.now w.if-byte-eq47.true)
+      | else-byte-eq47 w ↦ ap (λ p. p.now) w.part-is
+          ∙ sym (other (List ℕ) (get_or name i 0) 47 (drop (i + 1) name) c.loop-i.part.now w.if-byte-eq47.false)
     ] in
     last_part-next name c.loop-i.part.now c.if-byte-eq47.part.now i c.loop-i-test.true c.loop-i.invariant more

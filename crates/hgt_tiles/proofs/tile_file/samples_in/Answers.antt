@@ -14,8 +14,10 @@ loop-i-preserved c =
     let i = c.loop-i.i in
     let inside : 2 * i + 1 < length bytes = omega arith in
     let fits : SFits w16 c.read_i16.result = search rules in
-    let read : c.read_i16.result ≡ sample_of (get_or bytes (2 * i) 0) (get_or bytes (2 * i + 1) 0) = c.read_i16.ensures ∙ read-at bytes (2 * i) inside c.type_inv.bytes in
-    let pushed : c.push.new.self.items ≡ c.loop-i.samples.items ++ c.read_i16.result ∷ [] = simp (to_z-of_z, fits) at c.in_ok-push.ensures.items in
+    let read : c.read_i16.result ≡ sample_of (get_or bytes (2 * i) 0) (get_or bytes (2 * i + 1) 0) =
+    c.read_i16.ensures ∙ read-at bytes (2 * i) inside c.type_inv.bytes in
+    let pushed : c.push.new.self.items ≡ c.loop-i.samples.items ++ c.read_i16.result ∷ [] =
+    simp (to_z-of_z, fits) at c.in_ok-push.ensures.items in
     samples_of-next bytes c.loop-i.samples.items c.push.new.self.items c.read_i16.result i inside c.loop-i.invariant pushed read
 
 pub returns : goal.returns

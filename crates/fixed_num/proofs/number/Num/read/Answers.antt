@@ -8,7 +8,7 @@ use Rattle.fixed_num.proofs.TextLemmas.{SpellsValue-mil6_cut}
 use Rattle.fixed_num.proofs.ValueLemmas.{ReadsAs, reads_as}
 use Rattle.fixed_num.proofs.number.Num.read.Goals as goal
 
--- The two refusals differ.
+-- the two refusals differ
 apart : NotNumber ≢ TooLarge
 apart same = cc
 
@@ -17,7 +17,8 @@ unfolding literal_of
 returns c =
     let exact : c.literal.result ≡ literal_of c.args.text.now = c.literal.ensures.exact in
     let reads : ReadsAs cut_millionths 1000000000000000 NotNumber TooLarge c.args.text.now c.literal.result =
-    subst (λ (r : Result ℤ NumError). ReadsAs cut_millionths 1000000000000000 NotNumber TooLarge c.args.text.now r) (sym exact) (reads_as cut_millionths 1000000000000000 NotNumber TooLarge apart c.args.text.now) in
+    subst (λ (r : Result ℤ NumError). ReadsAs cut_millionths 1000000000000000 NotNumber TooLarge c.args.text.now r) (sym exact)
+    (reads_as cut_millionths 1000000000000000 NotNumber TooLarge apart c.args.text.now) in
     record {
       exact = exact;
       found = reads.found;
@@ -26,6 +27,7 @@ returns c =
       not_number = reads.bad_spelling;
       too_large = (
         λ same. let value = reads.out_of_range.0 same in (value.0, value.1, λ small. absurd (omega (arith, value.2))),
-        λ value. reads.out_of_range.1 (value.0, value.1, elim (cases_lt 1000000000000000 (unsigned_abs value.0)) [ inl big ↦ big | inr small ↦ absurd (value.2 small) ]),
+        λ value. reads.out_of_range.1
+            (value.0, value.1, elim (cases_lt 1000000000000000 (unsigned_abs value.0)) [ inl big ↦ big | inr small ↦ absurd (value.2 small) ]),
       );
     }

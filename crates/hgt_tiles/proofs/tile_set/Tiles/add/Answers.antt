@@ -29,6 +29,7 @@ returns-clause-added c =
     ap (λ k. is_some (relief_at old k)) (sym c.corner-corner.ensures.value) ∙ sym c.contains_key.ensures ∙ c.if-contains_key.false in
     let changes = c.in_ok-insert.ensures.updates in
     record {
-      this = ap (relief_at (record { by_corner = c.insert.new.self })) (sym c.corner-corner.ensures.value) ∙ changes.1 ∙ not_there _ tile is;
+      this =
+          ap (relief_at (record { by_corner = c.insert.new.self })) (sym c.corner-corner.ensures.value) ∙ changes.1 ∙ not_there _ tile is;
       others = λ corner other. changes.2 corner (elsewhere _ corner (λ e. other (e ∙ c.corner-corner.ensures.value)));
     }
