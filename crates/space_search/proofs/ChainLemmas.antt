@@ -20,11 +20,11 @@ module _ {S : Type 0} (rules : Rules S) (laws : IsSpace rules) (kept : Books S) 
   -- what a settled label costs is small enough to be compared
   pub settled-small : (place : ℕ) (label : Label S) → IsSettled kept place label → label.cost < LOW_BOUND
   settled-small place label s =
-      let f = search.reads.settled_follows place label s in
-      omega (arith, f.bounded, settled-within kept place label s, search.reads.few_settled)
+      let f = search.stands.reads.settled_follows place label s in
+      omega (arith, f.bounded, settled-within kept place label s, search.stands.reads.few_settled)
 
   pub settled-valid : (place : ℕ) (label : Label S) → IsSettled kept place label → IsTrue (rules.is_valid label.state)
-  settled-valid place label s = (search.reads.settled_follows place label s).valid
+  settled-valid place label s = (search.stands.reads.settled_follows place label s).valid
 
   module _ (state : S) (cost : ℕ) (valid : IsTrue (rules.is_valid state)) where
     -- the chain begins at the cell's newest label

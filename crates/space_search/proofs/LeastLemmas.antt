@@ -120,7 +120,7 @@ module _ {S : Type 0} (rules : Rules S) (laws : IsSpace rules) (kept : Books S)
     (search : IsSearch rules kept) (closed : IsClosed rules kept)
     (least : ℕ) (low : (entry : Entry) → Contains kept.queue entry → least ≤ entry.0.0) where
   settled-valid : (place : ℕ) (label : Label S) → IsSettled kept place label → IsTrue (rules.is_valid label.state)
-  settled-valid place label s = (search.reads.settled_follows place label s).valid
+  settled-valid place label s = (search.stands.reads.settled_follows place label s).valid
 
   -- what waits ranks at least as high as the least entry
   pub waits-high : (state : S) (cost : ℕ) → Waits kept state cost → (rank : ℕ) × HasRank rules state cost rank × (least ≤ rank)
@@ -151,7 +151,7 @@ module _ {S : Type 0} (rules : Rules S) (laws : IsSpace rules) (kept : Books S)
       (numbers : List ℕ) (place : ℕ) (label : Label S) (end : S) (total : ℕ) → IsSettled kept place label →
       Walks rules label.state label.cost numbers end total → IsTrue (rules.is_goal end) → least ≤ total
   settled-below [] place label end total s walk goal =
-      let none = search.no_goal place label s in
+      let none = search.stands.no_goal place label s in
       let same : label.state ≡ end = walks-none rules walk in
       let some : rules.is_goal label.state ≡ true = subst (λ t. rules.is_goal t ≡ true) (sym same) goal in
       let never : ⊥ = cc in

@@ -6,7 +6,7 @@ use Rattle.space_search.specs.Laws.{IsSpace, HasRank}
 use Rattle.space_search.specs.Limits.{IsUncoveredChain, LieIn, HasFewPerCell}
 use Rattle.space_search.specs.Rules.{Rules}
 use Rattle.space_search.specs.Turns.{IsSpent}
-use Rattle.space_search.specs.declared.label.Label.{Label}
+use Rattle.space_search.specs.View.{Reached}
 use Rattle.space_search.proofs.ListLemmas.{equal-or_not}
 
 -- one of two choices by a decision
@@ -16,19 +16,19 @@ either (inr q) first second = second
 
 module _ {S : Type 0} (rules : Rules S) where
   -- the labels of one cell
-  abbrev in_cell : ℕ → List (Label S) → List (Label S)
+  abbrev in_cell : ℕ → List (Reached S) → List (Reached S)
   in_cell cell [] = []
   in_cell cell (label ∷ rest) =
       either (equal-or_not (rules.cell label.state) cell) (label ∷ in_cell cell rest) (in_cell cell rest)
 
   -- a label of the cell is one of all
   from-cell :
-      (cell : ℕ) (labels : List (Label S)) (place : ℕ) (label : Label S) → slice_get (in_cell cell labels) place ≡ Some label →
+      (cell : ℕ) (labels : List (Reached S)) (place : ℕ) (label : Reached S) → slice_get (in_cell cell labels) place ≡ Some label →
       (from : ℕ) × (slice_get labels from ≡ Some label)
   from-cell cell [] place label at = (place, at)
   from-cell cell (first ∷ rest) place label at = go (from-cell cell rest) (equal-or_not (rules.cell first.state) cell) place at where
     go :
-        ((place : ℕ) (label : Label S) → slice_get (in_cell cell rest) place ≡ Some label → (from : ℕ) × (slice_get rest from ≡ Some label)) →
+        ((place : ℕ) (label : Reached S) → slice_get (in_cell cell rest) place ≡ Some label → (from : ℕ) × (slice_get rest from ≡ Some label)) →
         (d : (rules.cell first.state ≡ cell) ⊎ (rules.cell first.state ≢ cell)) (place : ℕ) →
         slice_get (either d (first ∷ in_cell cell rest) (in_cell cell rest)) place ≡ Some label →
         (from : ℕ) × (slice_get (first ∷ rest) from ≡ Some label)
@@ -37,7 +37,7 @@ module _ {S : Type 0} (rules : Rules S) where
     go again (inr e) place at = let f = again place label at in (suc f.0, f.1)
 
   -- the labels of one cell are such a chain, too
-  chain-in_cell : (cell : ℕ) (labels : List (Label S)) → IsUncoveredChain rules labels → IsUncoveredChain rules (in_cell cell labels)
+  chain-in_cell : (cell : ℕ) (labels : List (Reached S)) → IsUncoveredChain rules labels → IsUncoveredChain rules (in_cell cell labels)
   chain-in_cell cell [] chain = tt
   chain-in_cell cell (first ∷ rest) chain = go (chain-in_cell cell rest chain.2) (equal-or_not (rules.cell first.state) cell) where
     go :
@@ -48,7 +48,7 @@ module _ {S : Type 0} (rules : Rules S) where
         (chain.0, (λ place label at. let f = from-cell cell rest place label at in chain.1 f.0 label f.1), tail)
     go tail (inr e) = tail
 
-  lie-in_cell : (cell : ℕ) (labels : List (Label S)) → LieIn rules cell (in_cell cell labels)
+  lie-in_cell : (cell : ℕ) (labels : List (Reached S)) → LieIn rules cell (in_cell cell labels)
   lie-in_cell cell [] = tt
   lie-in_cell cell (first ∷ rest) = go (lie-in_cell cell rest) (equal-or_not (rules.cell first.state) cell) where
     go :
@@ -59,13 +59,13 @@ module _ {S : Type 0} (rules : Rules S) where
     go tail (inr e) = tail
 
   -- how many labels lie in the first cells
-  abbrev count : ℕ → List (Label S) → ℕ
+  abbrev count : ℕ → List (Reached S) → ℕ
   count zero labels = 0
   count (suc cells) labels = count cells labels + length (in_cell cells labels)
 
   -- one more label counts once, in its own cell
   length-in_cell :
-      (cell : ℕ) (first : Label S) (rest : List (Label S)) →
+      (cell : ℕ) (first : Reached S) (rest : List (Reached S)) →
       ((rules.cell first.state ≡ cell) × (length (in_cell cell (first ∷ rest)) ≡ length (in_cell cell rest) + 1)) ⊎
       ((rules.cell first.state ≢ cell) × (length (in_cell cell (first ∷ rest)) ≡ length (in_cell cell rest)))
   length-in_cell cell first rest = go (equal-or_not (rules.cell first.state) cell) where
@@ -77,7 +77,7 @@ module _ {S : Type 0} (rules : Rules S) where
     go (inr e) = inr (e, refl)
 
   count-beyond :
-      (cells : ℕ) (first : Label S) (rest : List (Label S)) → cells ≤ rules.cell first.state →
+      (cells : ℕ) (first : Reached S) (rest : List (Reached S)) → cells ≤ rules.cell first.state →
       count cells (first ∷ rest) ≡ count cells rest
   count-beyond zero first rest beyond = refl
   count-beyond (suc cells) first rest beyond =
@@ -87,7 +87,7 @@ module _ {S : Type 0} (rules : Rules S) where
       ]
 
   count-one :
-      (cells : ℕ) (first : Label S) (rest : List (Label S)) → rules.cell first.state < cells →
+      (cells : ℕ) (first : Reached S) (rest : List (Reached S)) → rules.cell first.state < cells →
       count cells (first ∷ rest) ≡ count cells rest + 1
   count-one zero first rest below = absurd (omega arith)
   count-one (suc cells) first rest below =
@@ -98,8 +98,8 @@ module _ {S : Type 0} (rules : Rules S) where
 
   -- where all labels lie in the cells, all are counted
   count-all :
-      (cells : ℕ) (labels : List (Label S)) →
-      ((place : ℕ) (label : Label S) → slice_get labels place ≡ Some label → rules.cell label.state < cells) →
+      (cells : ℕ) (labels : List (Reached S)) →
+      ((place : ℕ) (label : Reached S) → slice_get labels place ≡ Some label → rules.cell label.state < cells) →
       length labels ≤ count cells labels
   count-all cells [] all = omega arith
   count-all cells (first ∷ rest) all =
@@ -111,7 +111,7 @@ module _ {S : Type 0} (rules : Rules S) where
 
   -- and each cell has few
   count-few :
-      (most cells : ℕ) (labels : List (Label S)) → HasFewPerCell rules most → IsUncoveredChain rules labels →
+      (most cells : ℕ) (labels : List (Reached S)) → HasFewPerCell rules most → IsUncoveredChain rules labels →
       count cells labels ≤ cells * most
   count-few most zero labels few chain = omega arith
   count-few most (suc cells) labels few chain =
@@ -121,11 +121,11 @@ module _ {S : Type 0} (rules : Rules S) where
 
   -- labels that are such a chain by their places are one from the first on
   chain-from :
-      (labels : List (Label S)) →
-      ((place : ℕ) (label : Label S) → slice_get labels place ≡ Some label → IsTrue (rules.is_valid label.state)) →
-      ((first second : ℕ) (a b : Label S) → first < second → slice_get labels first ≡ Some a → slice_get labels second ≡ Some b →
+      (labels : List (Reached S)) →
+      ((place : ℕ) (label : Reached S) → slice_get labels place ≡ Some label → IsTrue (rules.is_valid label.state)) →
+      ((first second : ℕ) (a b : Reached S) → first < second → slice_get labels first ≡ Some a → slice_get labels second ≡ Some b →
       rules.covers a.state a.cost b.state b.cost ≡ false) →
-      ((first second : ℕ) (a b : Label S) (low high : ℕ) → first ≤ second → slice_get labels first ≡ Some a → slice_get labels second ≡ Some b →
+      ((first second : ℕ) (a b : Reached S) (low high : ℕ) → first ≤ second → slice_get labels first ≡ Some a → slice_get labels second ≡ Some b →
       HasRank rules a.state a.cost low → HasRank rules b.state b.cost high → low ≤ high) →
       IsUncoveredChain rules labels
   chain-from [] valid apart rising = tt
@@ -138,14 +138,14 @@ module _ {S : Type 0} (rules : Rules S) where
         (λ i j a b low high up p q ra rb. rising (suc i) (suc j) a b low high (omega arith) p q ra rb),
   )
 
-  -- a limit of cells times the most labels of a cell isn't spent
+-- a limit of cells times the most labels of a cell isn't spent
   pub never-spent :
-      (laws : IsSpace rules) (most limit : ℕ) (shown : List (Label S)) → HasFewPerCell rules most →
+      (laws : IsSpace rules) (most limit : ℕ) (shown : List (Reached S)) → HasFewPerCell rules most →
       rules.cells * most ≤ limit → IsSpent rules limit shown → ⊥
   never-spent laws most limit shown few enough spent =
-      let valid : (place : ℕ) (label : Label S) → slice_get shown place ≡ Some label → IsTrue (rules.is_valid label.state) =
-      λ place label at. (spent.each place label at).valid in
-      let chain : IsUncoveredChain rules shown = chain-from shown valid spent.apart spent.rising in
+      let valid : (place : ℕ) (label : Reached S) → slice_get shown place ≡ Some label → IsTrue (rules.is_valid label.state) =
+      λ place label at. (spent.ordered.each place label at).valid in
+      let chain : IsUncoveredChain rules shown = chain-from shown valid spent.ordered.apart spent.ordered.rising in
       let counted : length shown ≤ count rules.cells shown =
       count-all rules.cells shown (λ place label at. laws.moves.cell label.state (valid place label at)) in
       let small : count rules.cells shown ≤ rules.cells * most = count-few most rules.cells shown few chain in

@@ -78,3 +78,9 @@ most-or_below zero b = inl (omega arith)
 most-or_below (suc a) zero = inr (omega arith)
 most-or_below (suc a) (suc b) =
     elim (most-or_below a b) [ inl h ↦ inl (omega arith) | inr h ↦ inr (omega arith) ]
+
+-- at each place below its length a list has an element
+pub slice_get-there : {X : Type 0} (xs : List X) (n : ℕ) → n < length xs → (x : X) × (slice_get xs n ≡ Some x)
+slice_get-there [] n below = absurd (omega arith)
+slice_get-there (x ∷ xs) zero below = (x, refl)
+slice_get-there (x ∷ xs) (suc n) below = slice_get-there xs n (omega arith)

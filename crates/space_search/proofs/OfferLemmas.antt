@@ -11,7 +11,7 @@ use Rattle.space_search.specs.Rules.{Rules}
 use Rattle.space_search.specs.declared.label.Label.{Label}
 use Rattle.space_search.specs.declared.label.TheConstants.{MOST_LABELS}
 use Rattle.space_search.proofs.ListLemmas.{slice_get-append, slice_get-pushed, slice_get-push_cases, Contains-cons_cases, Contains-first, Contains-rest}
-use Rattle.space_search.proofs.SameLemmas.{follows-moved, keeps-same, keeps-back, reads-same, rising-same, index-same}
+use Rattle.space_search.proofs.SameLemmas.{follows-moved, keeps-same, keeps-back, stands-same, index-same}
 
 -- nothing changes in no step
 pub extends-refl : {S : Type 0} (kept : Books S) → Extends kept kept
@@ -26,7 +26,7 @@ offers-accounted rules kept label search accounted =
 
 -- a search leaves its labels where nothing changes
 pub leaves-same : {S : Type 0} (rules : Rules S) (kept : Books S) → IsSearch rules kept → Leaves rules kept kept
-leaves-same rules kept search = record { reads = search.reads; keeps = λ place label s. s }
+leaves-same rules kept search = record { stands = search.stands; keeps = λ place label s. s }
 
 -- the lists once a label was put at the end of the labels and into the queue
 abbrev pub offered : {S : Type 0} → Books S → List (Label S) → List Entry → Books S
@@ -45,8 +45,8 @@ module _ {S : Type 0} (rules : Rules S) (kept : Books S) (label : Label S) (labe
   pub leaves-pushed : Leaves rules kept (offered kept labels queue)
   leaves-pushed =
       record {
-        reads = reads-same rules kept (offered kept labels queue) stays search.reads refl;
-        keeps = keeps-same rules kept (offered kept labels queue) stays search.reads refl;
+        stands = stands-same rules kept (offered kept labels queue) stays search.stands refl;
+        keeps = keeps-same rules kept (offered kept labels queue) stays search.stands refl;
       }
 
   -- the label goes to the end of the labels and into the queue
@@ -68,10 +68,10 @@ module _ {S : Type 0} (rules : Rules S) (kept : Books S) (label : Label S) (labe
     longer = rw pushed (length-append kept.labels (label ∷ []))
 
     to : KeepsLabels kept (offered kept labels queue)
-    to = keeps-same rules kept (offered kept labels queue) stays search.reads refl
+    to = keeps-same rules kept (offered kept labels queue) stays search.stands refl
 
     back : KeepsLabels (offered kept labels queue) kept
-    back = keeps-back rules kept (offered kept labels queue) stays search.reads refl
+    back = keeps-back rules kept (offered kept labels queue) stays search.stands refl
 
     entry_rank : entry.0.0 ≡ rank
     entry_rank = ap (λ (p : ℕ × ℕ). p.0) is
@@ -120,15 +120,13 @@ module _ {S : Type 0} (rules : Rules S) (kept : Books S) (label : Label S) (labe
     search-next : IsSearch rules (offered kept labels queue)
     search-next =
         record {
-          reads = reads-same rules kept (offered kept labels queue) stays search.reads refl;
+          stands = stands-same rules kept (offered kept labels queue) stays search.stands refl;
           few = omega (arith, longer);
           follows = follows-next;
           queued = queued-next;
           ordered = ordered search.ordered;
-          no_goal = λ place old s. search.no_goal place old (back place old s);
-          rising = rising-same rules kept (offered kept labels queue) stays search.reads refl search.rising;
           above = above-next;
-          index = index-same rules kept (offered kept labels queue) stays search.reads refl refl refl search.index;
+          index = index-same rules kept (offered kept labels queue) stays search.stands refl refl refl search.index;
         }
 
     pub offers-pushed : Offers rules kept (offered kept labels queue) label

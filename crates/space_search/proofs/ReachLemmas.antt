@@ -30,14 +30,14 @@ module _ {S : Type 0} (rules : Rules S) (laws : IsSpace rules) (kept : Books S) 
       (counted : length kept.settled ≡ place + 1) (choice : ℕ) (found : S × ℕ)
       (within : choice < rules.steps label.state) (is : Some found ≡ rules.step label.state choice) where
     old : Follows rules kept place label
-    old = search.reads.settled_follows place label settled
+    old = search.stands.reads.settled_follows place label settled
 
     move : IsMove rules found.0 found.1
     move = laws.moves.steps label.state choice found.0 found.1 old.valid within (sym is)
 
     -- what a step of a settled label reaches costs less than 128 bits hold
     pub step-fits : label.cost + found.1 < 2 ^ 123
-    step-fits = omega (arith, old.bounded, move.cheap, counted, search.reads.few_settled)
+    step-fits = omega (arith, old.bounded, move.cheap, counted, search.stands.reads.few_settled)
 
     -- a label that a permitted step of the newest settled label gives
     pub follows-step :
@@ -53,9 +53,9 @@ module _ {S : Type 0} (rules : Rules S) (laws : IsSpace rules) (kept : Books S) 
     -- it ranks no less than any settled label
     pub above-step : RanksAbove rules kept found.0 (label.cost + found.1)
     above-step p other low high s r new =
-        let mine = search.rising.ranked place label settled in
+        let mine = search.stands.rising.ranked place label settled in
         let first : low ≤ mine.0 =
-        search.rising.rising p place other label low mine.0 (omega (arith, settled-within kept p other s, counted)) s settled r mine.1 in
+        search.stands.rising.rising p place other label low mine.0 (omega (arith, settled-within kept p other s, counted)) s settled r mine.1 in
         let then : mine.1.low ≤ found.1 + new.low =
         laws.bound.step label.state choice found.0 found.1 mine.1.low new.low old.valid within (sym is) mine.1.is new.is in
         omega (arith, first, then, mine.1.sum, new.sum)

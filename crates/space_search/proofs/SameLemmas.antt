@@ -1,9 +1,9 @@
 -- What a search's lists say stays true where no label is settled.
-use Rattle.std.proofs.Common.{◌≡◌, ℕ, ◌<◌, ◌≤◌, length, Some, ap, arith, sym, ◌∙◌, subst}
+use Rattle.std.proofs.Common.{◌≡◌, ℕ, ◌<◌, ◌≤◌, List, length, Some, ap, arith, sym, ◌∙◌, subst}
 use Rattle.std.proofs.lemmas.Option.{slice_get_within}
 use Rattle.std.specs.List.{slice_get}
 use Rattle.space_search.specs.Rules.{Rules}
-use Rattle.space_search.specs.Books.{Books, IsLabel, IsSettled, CameFrom, from_start, from_label, Follows, IsLatest, IsIndex, Reads, IsRising, KeepsLabels}
+use Rattle.space_search.specs.Books.{Books, IsLabel, IsSettled, CameFrom, from_start, from_label, Follows, IsLatest, IsIndex, Reads, IsRising, Stands, KeepsLabels, IsSearch, Leaves}
 use Rattle.space_search.specs.declared.label.Label.{Label}
 use Rattle.space_search.proofs.ListLemmas.{slice_get-same}
 
@@ -38,7 +38,7 @@ follows-moved rules before after low high label keeps up f =
 
 module _ {S : Type 0} (rules : Rules S) (before after : Books S)
     (more : (number : ℕ) (label : Label S) → IsLabel before number label → IsLabel after number label)
-    (reads : Reads rules before) (settled : after.settled ≡ before.settled) where
+    (stands : Stands rules before) (settled : after.settled ≡ before.settled) where
   -- settled labels keep their places
   pub keeps-same : KeepsLabels before after
   keeps-same place label s =
@@ -52,27 +52,36 @@ module _ {S : Type 0} (rules : Rules S) (before after : Books S)
   pub keeps-back : KeepsLabels after before
   keeps-back place label s =
       let at : slice_get before.settled place ≡ Some s.number = rw (← settled) s.at in
-      let old = reads.settled_there place s.number at in
+      let old = stands.reads.settled_there place s.number at in
       let same : old.0 ≡ label = slice_get-same after.labels s.number old.0 label (more s.number old.0 old.1) s.there in
       record { number = s.number; at = at; there = subst (λ l. IsLabel before s.number l) same old.1 }
 
-  pub reads-same : Reads rules after
+  reads-same : Reads rules after
   reads-same =
       record {
-        few_settled = rw settled reads.few_settled;
+        few_settled = rw settled stands.reads.few_settled;
         settled_there = λ place number at.
-            let old = reads.settled_there place number (rw (← settled) at) in (old.0, more number old.0 old.1);
+            let old = stands.reads.settled_there place number (rw (← settled) at) in (old.0, more number old.0 old.1);
         settled_follows = λ place label s.
             follows-moved rules before after place place label keeps-same (omega arith)
-            (reads.settled_follows place label (keeps-back place label s));
+            (stands.reads.settled_follows place label (keeps-back place label s));
       }
 
-  pub rising-same : IsRising rules before → IsRising rules after
+  rising-same : IsRising rules before → IsRising rules after
   rising-same r =
       record {
         ranked = λ place label s. r.ranked place label (keeps-back place label s);
         rising = λ first second a b low high up p q. r.rising first second a b low high up (keeps-back first a p) (keeps-back second b q);
         apart = λ first second a b up p q. r.apart first second a b up (keeps-back first a p) (keeps-back second b q);
+      }
+
+  -- and they still stand
+  pub stands-same : Stands rules after
+  stands-same =
+      record {
+        reads = reads-same;
+        no_goal = λ place label s. stands.no_goal place label (keeps-back place label s);
+        rising = rising-same stands.rising;
       }
 
   latest-same : (cell below cursor : ℕ) → IsLatest rules before cell below cursor → IsLatest rules after cell below cursor
@@ -94,3 +103,17 @@ module _ {S : Type 0} (rules : Rules S) (before after : Books S)
             latest-same (rules.cell label.state) place cursor
             (i.older place cursor label (rw (← older) at) (keeps-back place label s));
       }
+
+-- where memory ran out before the label was settled, nothing that is read has changed
+pub leaves-failed :
+    {S : Type 0} (rules : Rules S) (kept : Books S) (settled older : List ℕ) → IsSearch rules kept →
+    settled ≡ kept.settled →
+    Leaves rules kept
+    (record { labels = kept.labels; queue = kept.queue; settled = settled; newest = kept.newest; older = older })
+leaves-failed rules kept settled older search is =
+    let after : Books _ =
+    record { labels = kept.labels; queue = kept.queue; settled = settled; newest = kept.newest; older = older } in
+    record {
+      stands = stands-same rules kept after (λ n l h. h) search.stands is;
+      keeps = keeps-same rules kept after (λ n l h. h) search.stands is;
+    }

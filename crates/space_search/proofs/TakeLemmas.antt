@@ -75,7 +75,7 @@ module _ {S : Type 0} (rules : Rules S) (before after : Books S) (more : Extends
       record {
         starts = λ n s c h is. accounted-extended s c (starts n s c h is);
         steps = λ p l inside s.
-            let old : IsSettled before p l = keeps-back rules before after more.labels search.reads more.settled p l s in
+            let old : IsSettled before p l = keeps-back rules before after more.labels search.stands more.settled p l s in
             elim (equal-or_not p place) [
               | inl at ↦
                   let one : label ≡ l =
@@ -146,6 +146,6 @@ pub leaves-extended :
     Leaves rules before after
 leaves-extended rules before between after more leaves =
     record {
-      reads = leaves.reads;
+      stands = leaves.stands;
       keeps = λ place label s. leaves.keeps place label (to-settled rules before between more place label s);
     }

@@ -1,105 +1,136 @@
 -- What the calls of a search say, from its phase.
-use Rattle.std.proofs.Common.{◌≡◌, ℕ, ◌≤◌, ◌+◌, ◌*◌, IfOk, Result, Ok, Err, List, length, arith, sym, subst}
-use Rattle.space_search.specs.Books.{Books, books, Follows}
+use Rattle.std.proofs.Common.{◌≡◌, ℕ, ◌≤◌, ◌+◌, ◌*◌, List, [], ◌++◌, length, Option, Some, refl, ap, arith, sym, ◌∙◌, subst}
+use Rattle.std.specs.List.{slice_get}
+use Rattle.space_search.specs.Books.{Books, books, Reads, Leaves}
 use Rattle.space_search.specs.Laws.{IsSpace}
 use Rattle.space_search.specs.Limits.{HasFewPerCell}
 use Rattle.space_search.specs.Rules.{Rules}
-use Rattle.space_search.specs.Turns.{IsPhase, IsLast, Ends, EndsWith, Counts, IsUnspentTurn, IsSearchOf, LabelOf, settled_label, found_label, EndsFound}
 use Rattle.space_search.specs.Runs.{IsRun, IsLeastRun}
-use Rattle.space_search.specs.declared.label.Label.{Label}
+use Rattle.space_search.specs.Searches.{IsPhase, IsSearchOf, Turns}
+use Rattle.space_search.specs.Turns.{IsLast, Ends, Counts, IsUnspentTurn, EndsFound, GoesOn}
+use Rattle.space_search.specs.View.{Reached, View, Held, held, view, view_of, shown_from, pick, settled_of, listed, labels_of, IsShown, phase_after}
 use Rattle.space_search.specs.declared.phase.Phase.{Phase}
 use Rattle.space_search.specs.declared.phase.Phase.TheVariants.{Ended}
 use Rattle.space_search.specs.declared.search.Search.{Search}
 use Rattle.space_search.specs.declared.turn.Turn.{Turn}
-use Rattle.space_search.proofs.LimitLemmas.{never-spent}
-use Rattle.space_search.proofs.ListLemmas.{slice_get-same}
-use Rattle.space_search.proofs.SameLemmas.{settled-unique, settled-within}
 use Rattle.space_search.specs.declared.turn.Turn.TheVariants.{More, Found, NoWay, Budget}
+use Rattle.space_search.proofs.LimitLemmas.{never-spent}
+use Rattle.space_search.proofs.ListLemmas.{slice_get-pushed}
+use Rattle.space_search.proofs.OrderLemmas.{in-order}
+use Rattle.space_search.proofs.ShownLemmas.{shown-count, places-kept}
 
 -- an answer that is given again settles nothing
-pub counts-again : {S : Type 0} (quota : ℕ) (kept : Books S) (turn : Turn) → IsLast turn → 1 ≤ quota → Counts quota kept kept turn
-counts-again quota kept More last some = absurd last
-counts-again quota kept (Found label) last some = omega arith
-counts-again quota kept NoWay last some = omega arith
-counts-again quota kept Budget last some = omega arith
+pub counts-again : (quota settled : ℕ) (turn : Turn) → IsLast turn → 1 ≤ quota → Counts quota settled settled turn
+counts-again quota settled More last some = absurd last
+counts-again quota settled (Found label) last some = omega arith
+counts-again quota settled NoWay last some = omega arith
+counts-again quota settled Budget last some = omega arith
 
 -- and leaves the search at its end
-pub ends_with-again : (phase : Phase) (turn : Turn) → IsLast turn → phase ≡ Ended turn → EndsWith phase turn
-ends_with-again phase More last is = absurd last
-ends_with-again phase (Found label) last is = is
-ends_with-again phase NoWay last is = is
-ends_with-again phase Budget last is = is
+pub phase-again : (phase : Phase) (turn : Turn) → IsLast turn → phase ≡ Ended turn → phase ≡ phase_after turn
+phase-again phase More last is = absurd last
+phase-again phase (Found label) last is = is
+phase-again phase NoWay last is = is
+phase-again phase Budget last is = is
 
--- a label that can be read follows from a start or from one that was settled before its number
-pub label-follows :
-    {S : Type 0} (rules : Rules S) (search : Search S) (number : ℕ) (label : Label S) →
-    IsSearchOf rules search → LabelOf search number label → Follows rules (books search.lists) number label
-label-follows rules search number label of (settled_label s) = of.reads.settled_follows number label s
-label-follows {S} rules search number label of (found_label numbered phase there) =
-    let ended : IsPhase rules search.limit (books search.lists) search.found (Ended (Found number)) =
-    subst (λ p. IsPhase rules search.limit (books search.lists) search.found p) phase of.is_phase in
-    let same : ended.1.goal ≡ label = slice_get-same search.lists.labels.items search.found ended.1.goal label ended.1.there there in
-    subst (λ (l : Label S). Follows rules (books search.lists) number l) same ended.1.follows
+-- what a part of a turn leaves goes on from what was shown before it
+pub goes-on :
+    {S : Type 0} (rules : Rules S) (before after : Held S) → Reads rules before.kept → Leaves rules before.kept after.kept →
+    after.limit ≡ before.limit → length after.kept.settled ≤ after.limit → GoesOn rules (view_of before) (view_of after)
+goes-on rules before after reads leaves limit within =
+    record {
+      limit = limit;
+      within = omega (arith, shown-count rules after.kept leaves.stands.reads);
+      kept = places-kept rules before.kept after.kept reads leaves.stands.reads leaves.keeps;
+      ordered = in-order rules after.kept leaves.stands;
+    }
 
--- what holds of the value in an Ok holds of it in other words
-pub if_ok-weaker :
-    {T E : Type 0} (r : Result T E) (P Q : T → Type 0) → ((x : T) → P x → Q x) → IfOk r P → IfOk r Q
-if_ok-weaker (Ok x) P Q weaker p = weaker x p
-if_ok-weaker (Err e) P Q weaker p = tt
+-- and so does a search that stays
+pub goes-same : {S : Type 0} (rules : Rules S) (search : Search S) → IsSearchOf rules search → GoesOn rules (view search) (view search)
+goes-same rules search of =
+    goes-on rules (held search) (held search) of.stands.reads
+    (record { stands = of.stands; keeps = λ place label s. s }) refl of.within
 
--- a number has one label
-pub label-unique :
-    {S : Type 0} (search : Search S) (number : ℕ) (a b : Label S) → LabelOf search number a → LabelOf search number b → a ≡ b
-label-unique search number a b (settled_label p) (settled_label q) = settled-unique (books search.lists) number a b p q
-label-unique search number a b (settled_label p) (found_label numbered phase there) =
-    absurd (omega (arith, settled-within (books search.lists) number a p, numbered))
-label-unique search number a b (found_label numbered phase there) (settled_label q) =
-    absurd (omega (arith, settled-within (books search.lists) number b q, numbered))
-label-unique search number a b (found_label numbered phase there) (found_label numbered' phase' there') =
-    slice_get-same search.lists.labels.items search.found a b there there'
+-- what is between a search and its last part of a turn
+pub record Between {S : Type 0} (rules : Rules S) (before after : Search S) : Type 0 where
+  pub leaves : Leaves rules (books before.lists) (books after.lists)
+  pub limit : after.limit ≡ before.limit
+  pub settled : after.lists.settled.items ≡ before.lists.settled.items
+
+-- nothing is between where only the phase changes
+pub between-same :
+    {S : Type 0} (rules : Rules S) (search : Search S) (phase : Phase) → IsSearchOf rules search →
+    Between rules search (record { lists = search.lists; limit = search.limit; found = search.found; phase = phase })
+between-same rules search phase of =
+    record { leaves = record { stands = of.stands; keeps = λ place label s. s }; limit = refl; settled = refl }
+
+-- the whole goes on from what was shown first
+pub goes-through :
+    {S : Type 0} (rules : Rules S) (before between : Search S) (after : Held S) → IsSearchOf rules before → Between rules before between →
+    Leaves rules (books between.lists) after.kept → after.limit ≡ between.limit → length after.kept.settled ≤ after.limit →
+    GoesOn rules (view before) (view_of after)
+goes-through rules before between after of first leaves limit within =
+    goes-on rules (held before) after of.stands.reads
+    (record { stands = leaves.stands; keeps = λ place label s. leaves.keeps place label (first.leaves.keeps place label s) })
+    (limit ∙ first.limit) within
+
+-- and settled as many labels as the last part did
+pub counts-through :
+    {S : Type 0} (rules : Rules S) (before between : Search S) (after : Held S) (quota : ℕ) (turn : Turn) → IsSearchOf rules before →
+    Between rules before between → Turns rules quota (books between.lists) after turn →
+    Counts quota (length (view before).settled) (length (settled_of after.kept)) turn
+counts-through rules before between after quota turn of first turns =
+    subst (λ n. Counts quota n (length (settled_of after.kept)) turn)
+    (ap length first.settled ∙ sym (shown-count rules (books before.lists) of.stands.reads))
+    (subst (λ n. Counts quota (length between.lists.settled.items) n turn)
+    (sym (shown-count rules after.kept turns.kept.stands.reads)) turns.counts)
 
 -- a search that found a goal shows a least run to it
 pub least-run :
-    {S : Type 0} (rules : Rules S) (search : Search S) (turn : Turn) (number : ℕ) (choices : List ℕ) (cost : ℕ) →
-    IsSearchOf rules search →
-    Ends rules search.limit (books search.lists) search.found turn → EndsWith search.phase turn → turn ≡ Found number →
-    ((rules : Rules S) (one : Label S) → IsSearchOf rules search → LabelOf search number one → IsRun rules choices one.state one.cost) →
-    length choices ≤ number + 1 → ((one : Label S) → LabelOf search number one → cost ≡ one.cost) →
-    IsLeastRun rules choices cost × (length choices ≤ search.limit + 1)
-least-run {S} rules search turn number choices cost of ends ended is run short value =
-    let e : EndsFound rules (books search.lists) search.found number =
-    subst (λ t. Ends rules search.limit (books search.lists) search.found t) is ends in
-    let phase : search.phase ≡ Ended (Found number) = subst (λ t. EndsWith search.phase t) is ended in
-    let one : LabelOf search number e.goal = found_label e.numbered phase e.there in
-    let cost_is : e.goal.cost ≡ cost = sym (value e.goal one) in (
+    {S : Type 0} (rules : Rules S) (search : Search S) (number : ℕ) (choices : List ℕ) (cost : ℕ) →
+    EndsFound rules (view search) number → length (view search).settled ≤ (view search).limit →
+    ((one : Reached S) → IsShown (view search) number one → choices ≡ one.choices) →
+    ((one : Reached S) → IsShown (view search) number one → cost ≡ one.cost) →
+    IsLeastRun rules choices cost × (length choices ≤ (view search).limit + 1)
+least-run {S} rules search number choices cost e within choices_are cost_is =
+    let there : IsShown (view search) number e.goal =
+    subst (λ n. slice_get (labels_of (view search)) n ≡ Some e.goal) (sym e.numbered)
+    (subst (λ (g : Option (Reached S)). slice_get ((view search).settled ++ listed g) (length (view search).settled) ≡ Some e.goal)
+    (sym e.there) (slice_get-pushed (view search).settled e.goal)) in
+    let cost_same : e.goal.cost ≡ cost = sym (cost_is e.goal there) in
+    let choices_same : e.goal.choices ≡ choices = sym (choices_are e.goal there) in (
       record {
         reaches =
             record {
               end = e.goal.state;
-              run = subst (λ c. IsRun rules choices e.goal.state c) cost_is (run rules e.goal of one);
+              run =
+                  subst (λ c. IsRun rules choices e.goal.state c) cost_same
+                  (subst (λ c. IsRun rules c e.goal.state e.goal.cost) choices_same e.least.run.run);
               goal = e.least.goal;
             };
-        least = λ others other reaches. subst (λ c. c ≤ other) cost_is (e.least.least others other reaches);
+        least = λ others other reaches. subst (λ c. c ≤ other) cost_same (e.least.least others other reaches);
       },
-      omega (arith, short, e.numbered, of.within),
+      subst (λ (c : List ℕ). length c ≤ (view search).limit + 1) choices_same (omega (arith, e.least.run.short, e.numbered, within)),
     )
 
 -- where no cell can keep more than the limit divides into, a turn doesn't end with a spent limit
 pub unspent :
-    {S : Type 0} (rules : Rules S) (laws : IsSpace rules) (most limit : ℕ) (kept : Books S) (found : ℕ) (turn : Turn) →
-    HasFewPerCell rules most → rules.cells * most ≤ limit → Ends rules limit kept found turn → IsUnspentTurn turn
-unspent rules laws most limit kept found More few enough ends = tt
-unspent rules laws most limit kept found (Found label) few enough ends = tt
-unspent rules laws most limit kept found NoWay few enough ends = tt
-unspent rules laws most limit kept found Budget few enough ends =
-    never-spent rules laws most limit ends.shown few enough ends.spent
+    {S : Type 0} (rules : Rules S) (laws : IsSpace rules) (most : ℕ) (view : View S) (turn : Turn) →
+    HasFewPerCell rules most → rules.cells * most ≤ view.limit → Ends rules view turn → IsUnspentTurn turn
+unspent rules laws most view More few enough ends = tt
+unspent rules laws most view (Found label) few enough ends = tt
+unspent rules laws most view NoWay few enough ends = tt
+unspent rules laws most view Budget few enough ends =
+    never-spent rules laws most view.limit _ few enough ends.spent
 
--- also where it was the last answer before
-pub unspent-again :
-    {S : Type 0} (rules : Rules S) (laws : IsSpace rules) (most : ℕ) (search : Search S) (turn : Turn) →
-    HasFewPerCell rules most → rules.cells * most ≤ search.limit → IsSearchOf rules search → search.phase ≡ Ended turn →
-    IsUnspentTurn turn
-unspent-again {S} rules laws most search turn few enough of phase =
-    let ended : IsPhase rules search.limit (books search.lists) search.found (Ended turn) =
-    subst (λ p. IsPhase rules search.limit (books search.lists) search.found p) phase of.is_phase in
-    unspent rules laws most search.limit (books search.lists) search.found turn few enough ended.1
+-- what the last answer of a search said still holds
+pub ends-again :
+    {S : Type 0} (rules : Rules S) (search : Search S) (turn : Turn) → IsSearchOf rules search → search.phase ≡ Ended turn →
+    IsPhase rules (held search) (Ended turn)
+ends-again {S} rules search turn of phase =
+    subst (λ p. IsPhase rules (held search) p) phase of.is_phase
+
+-- lists in which nothing stands show no label
+pub none-shown : {S : Type 0} (kept : Books S) → kept.settled ≡ [] → settled_of kept ≡ []
+unfolding settled_of
+none-shown kept none = ap (λ s. shown_from [] (pick kept.labels s)) none

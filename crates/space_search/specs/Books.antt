@@ -172,9 +172,16 @@ pub record IsRising {S : Type 0} (rules : Rules S) (kept : Books S) : Type 0 whe
       (first second : ℕ) (a b : Label S) → first < second → IsSettled kept first a → IsSettled kept second b →
       rules.covers a.state a.cost b.state b.cost ≡ false
 
+-- What holds of the settled labels at each moment, also after want of memory: they read right, none is a goal,
+-- and they are in order.
+pub record Stands {S : Type 0} (rules : Rules S) (kept : Books S) : Type 0 where
+  pub reads : Reads rules kept
+  pub no_goal : (place : ℕ) (label : Label S) → IsSettled kept place label → rules.is_goal label.state ≡ false
+  pub rising : IsRising rules kept
+
 -- What holds of the lists at each moment, whatever was taken care of so far.
 pub record IsSearch {S : Type 0} (rules : Rules S) (kept : Books S) : Type 0 where
-  pub reads : Reads rules kept
+  pub stands : Stands rules kept
   -- there are no more labels than numbers for them
   pub few : length kept.labels ≤ MOST_LABELS
   -- each label comes from a start or a settled label
@@ -184,9 +191,6 @@ pub record IsSearch {S : Type 0} (rules : Rules S) (kept : Books S) : Type 0 whe
       (entry : Entry) → Contains kept.queue entry →
       (label : Label S) × IsLabel kept entry.0.1 label × HasRank rules label.state label.cost entry.0.0
   pub ordered : IsHeap entry_cmp kept.queue
-  -- no settled label is a goal
-  pub no_goal : (place : ℕ) (label : Label S) → IsSettled kept place label → rules.is_goal label.state ≡ false
-  pub rising : IsRising rules kept
   -- what waits ranks no less than any settled label
   pub above :
       (place : ℕ) (label : Label S) (rank : ℕ) → IsSettled kept place label → HasRank rules label.state label.cost rank →
@@ -209,10 +213,9 @@ work_left kept = 2 * (MOST_LABELS - length kept.labels) + length kept.queue
 abbrev pub KeepsLabels : {S : Type 0} → Books S → Books S → Type 0
 KeepsLabels {S} before after = (place : ℕ) (label : Label S) → IsSettled before place label → IsSettled after place label
 
--- What a part of a turn leaves, also where memory runs out in it: all settled labels, which still read
--- right.
+-- What a part of a turn leaves, also where memory runs out in it: all settled labels, which still stand.
 pub record Leaves {S : Type 0} (rules : Rules S) (before after : Books S) : Type 0 where
-  pub reads : Reads rules after
+  pub stands : Stands rules after
   pub keeps : KeepsLabels before after
 
 -- lists in which nothing stands

@@ -6,6 +6,7 @@ pub mod Moves
 pub mod Outcome
 pub mod Rules
 pub mod Runs
+pub mod Searches
 pub mod TestDiamond
 pub mod TestDiamondLaws
 pub mod TestLine
@@ -14,3 +15,4 @@ pub mod TestPlain
 pub mod TestToll
 pub mod TestTollLaws
 pub mod Turns
+pub mod View

@@ -4,32 +4,32 @@ use Rattle.std.specs.List.{slice_get}
 use Rattle.std.specs.Prelude.{ℕ, ◌≡◌, ◌≤◌, false, Some, List, [], ◌∷◌, length}
 use Rattle.space_search.specs.Laws.{HasRank}
 use Rattle.space_search.specs.Rules.{Rules}
-use Rattle.space_search.specs.declared.label.Label.{Label}
+use Rattle.space_search.specs.View.{Reached}
 use Rattle.space_search.specs.declared.outcome.Outcome.{Outcome}
 use Rattle.space_search.specs.declared.outcome.Outcome.TheVariants.{Found, NoWay, Budget}
 
 -- the first label covers none of these, and none of them ranks below it
-abbrev pub CoversNone : {S : Type 0} → Rules S → Label S → List (Label S) → Type 0
+abbrev pub CoversNone : {S : Type 0} → Rules S → Reached S → List (Reached S) → Type 0
 CoversNone {S} rules first rest =
-    (place : ℕ) (label : Label S) → slice_get rest place ≡ Some label →
+    (place : ℕ) (label : Reached S) → slice_get rest place ≡ Some label →
     (rules.covers first.state first.cost label.state label.cost ≡ false) ×
     ((low high : ℕ) → HasRank rules first.state first.cost low → HasRank rules label.state label.cost high → low ≤ high)
 
 -- labels of valid states in order of rank, of which no earlier one covers a later one
-abbrev pub IsUncoveredChain : {S : Type 0} → Rules S → List (Label S) → Type 0
+abbrev pub IsUncoveredChain : {S : Type 0} → Rules S → List (Reached S) → Type 0
 IsUncoveredChain rules [] = Unit {0}
 IsUncoveredChain rules (label ∷ rest) =
     IsTrue (rules.is_valid label.state) × CoversNone rules label rest × IsUncoveredChain rules rest
 
 -- all of these labels lie in the cell
-abbrev pub LieIn : {S : Type 0} → Rules S → ℕ → List (Label S) → Type 0
+abbrev pub LieIn : {S : Type 0} → Rules S → ℕ → List (Reached S) → Type 0
 LieIn rules cell [] = Unit {0}
 LieIn rules cell (label ∷ rest) = (rules.cell label.state ≡ cell) × LieIn rules cell rest
 
 -- no cell can keep more labels than this
 abbrev pub HasFewPerCell : {S : Type 0} → Rules S → ℕ → Type 0
 HasFewPerCell {S} rules most =
-    (cell : ℕ) (labels : List (Label S)) → IsUncoveredChain rules labels → LieIn rules cell labels → length labels ≤ most
+    (cell : ℕ) (labels : List (Reached S)) → IsUncoveredChain rules labels → LieIn rules cell labels → length labels ≤ most
 
 -- the answer of a whole search isn't a spent limit
 abbrev pub IsUnspent : Outcome → Type 0

@@ -3,7 +3,7 @@ use Rattle.std.specs.Prelude.{ℕ, ◌+◌, ◌≤◌, List, length}
 use Rattle.space_search.specs.Rules.{Rules}
 use Rattle.space_search.specs.Runs.{IsLeastRun, IsUnreachable}
 use Rattle.space_search.specs.Turns.{IsSpent}
-use Rattle.space_search.specs.declared.label.Label.{Label}
+use Rattle.space_search.specs.View.{Reached}
 use Rattle.space_search.specs.declared.outcome.Outcome.{Outcome}
 use Rattle.space_search.specs.declared.outcome.Outcome.TheVariants.{Found, NoWay, Budget}
 
@@ -12,4 +12,4 @@ use Rattle.space_search.specs.declared.outcome.Outcome.TheVariants.{Found, NoWay
 abbrev pub Answers : {S : Type 0} → Rules S → ℕ → Outcome → Type 0
 Answers rules limit (Found choices cost) = IsLeastRun rules choices cost × (length choices ≤ limit + 1)
 Answers rules limit NoWay = IsUnreachable rules
-Answers {S} rules limit Budget = (shown : List (Label S)) × IsSpent rules limit shown
+Answers {S} rules limit Budget = (shown : List (Reached S)) × IsSpent rules limit shown

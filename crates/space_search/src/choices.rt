@@ -3,7 +3,7 @@
 ghost use Rattle.std.specs.Prelude.{◌≡◌, ◌≤◌, ◌+◌, IfOk, length};
 ghost use Rattle.space_search.specs.Books.{books, Reads, Follows};
 ghost use Rattle.space_search.specs.Rules.{Rules};
-ghost use Rattle.space_search.specs.Runs.{IsRun};
+ghost use Rattle.space_search.specs.View.{reached, settled_of};
 
 use crate::label::Label;
 use crate::lists::Lists;
@@ -20,9 +20,8 @@ pub(crate) fn choices_of<T: Copy + Drop>(
 ) -> Result<Items<u32>, AllocError>
     requires reads { (rules : Rules T) × Reads rules (books lists.now) ×
         Follows rules (books lists.now) below label }
-    ensures run { IfOk result (λ choices.
-        (rules : Rules T) → Reads rules (books lists.now) →
-        Follows rules (books lists.now) below label → IsRun rules choices label.state label.cost) }
+    ensures exact { IfOk result (λ choices.
+        choices ≡ (reached (settled_of (books lists.now)) label).choices) }
     ensures short { IfOk result (λ choices. length choices ≤ below + 1) }
 {
     let mut below = below;

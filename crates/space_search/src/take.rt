@@ -3,7 +3,7 @@
 ghost use Rattle.std.specs.Prelude.{◌≡◌, ◌≤◌, ◌<◌, ◌^◌, IfOk, length};
 ghost use Rattle.space_search.specs.Books.{books, IsSearch, IsClosed, Leaves};
 ghost use Rattle.space_search.specs.Moves.{Takes};
-ghost use Rattle.space_search.specs.Turns.{Turns};
+ghost use Rattle.space_search.specs.Searches.{Turns, held_after};
 
 use crate::lists::Lists;
 use crate::next::next;
@@ -75,9 +75,8 @@ pub(crate) fn take_many<T: Copy + Drop, S: Space<State = T>>(
     requires closed { IsClosed (S.rules space.now) (books lists.old) }
     requires small { limit < 2 ^ 32 }
     requires within { length (books lists.old).settled ≤ limit }
-    ensures turns { IfOk result (λ answer.
-        Turns (S.rules space.now) limit quota (books lists.old)
-        (books lists.new) answer.0 answer.1) }
+    ensures turns { IfOk result (λ answer. Turns (S.rules space.now) quota (books lists.old)
+        (held_after limit (books lists.new) answer) answer.0) }
     ensures leaves { Leaves (S.rules space.now) (books lists.old) (books lists.new) }
     ensures fits { length (books lists.new).settled ≤ limit }
 {

@@ -1,13 +1,13 @@
 //! The turns of a search, and what is read of it between them.
 
-ghost use Rattle.std.specs.Prelude.{ℕ, ◌≡◌, ◌≤◌, ◌*◌, ◌<◌, ◌^◌, ◌+◌, List, IfOk, OnErr, length, Ok, Err, alloc_error};
-ghost use Rattle.space_search.specs.Books.{books, KeepsLabels};
-ghost use Rattle.space_search.specs.Laws.{IsSpace};
+ghost use Rattle.std.specs.Prelude.{ℕ, ◌≡◌, ◌≤◌, ◌*◌, ◌<◌, ◌^◌, ◌+◌, List, [], IfOk, OnErr, length, Ok, Err, alloc_error};
+ghost use Rattle.space_search.specs.Books.{books, Follows};
 ghost use Rattle.space_search.specs.Limits.{HasFewPerCell};
 ghost use Rattle.space_search.specs.Rules.{Rules};
 ghost use Rattle.space_search.specs.Runs.{IsRun};
-ghost use Rattle.space_search.specs.Turns.{IsSearchOf, Ends, Counts, EndsWith, IsUnspentTurn, LabelOf, IsReadable};
-ghost use Rattle.space_search.specs.declared.label.Label.{Label as TheLabel};
+ghost use Rattle.space_search.specs.Searches.{IsSearchOf};
+ghost use Rattle.space_search.specs.Turns.{GoesOn, Ends, Counts, IsUnspentTurn};
+ghost use Rattle.space_search.specs.View.{Reached, view, reached, labels_of, IsShown, phase_after};
 
 use crate::begin::begin;
 use crate::choices::choices_of;
@@ -26,9 +26,9 @@ impl<T: Copy + Drop> Search<T> {
     pub fn new(alloc: Global, limit: u64) -> Self
         requires small { limit < 2 ^ 32 }
         ensures of { (rules : Rules T) → IsSearchOf rules result }
-        ensures limit { result.limit ≡ limit }
-        ensures fresh { result.phase ≡ Phase.New }
-        ensures none { length result.lists.settled.items ≡ 0 }
+        ensures limit { (view result).limit ≡ limit }
+        ensures fresh { (view result).phase ≡ Phase.New }
+        ensures none { (view result).settled ≡ [] }
     {
         Search {
             lists: Lists::new(alloc),
@@ -47,21 +47,20 @@ impl<T: Copy + Drop> Search<T> {
         requires some { 1 ≤ quota }
 
         ensures of { IsSearchOf (S.rules space.now) self.new }
-        ensures ends { IfOk result (λ turn.
-            Ends (S.rules space.now) self.new.limit (books self.new.lists) self.new.found turn) }
-        ensures counts { IfOk result (λ turn.
-            Counts quota (books self.old.lists) (books self.new.lists) turn) }
-        ensures last { IfOk result (λ turn. EndsWith self.new.phase turn) }
-        ensures enough { (most : ℕ) → HasFewPerCell (S.rules space.now) most →
-            (S.rules space.now).cells * most ≤ self.old.limit → IfOk result IsUnspentTurn }
+        ensures kept { GoesOn (S.rules space.now) (view self.old) (view self.new) }
 
-        ensures limit { self.new.limit ≡ self.old.limit }
-        ensures kept { KeepsLabels (books self.old.lists) (books self.new.lists) }
-        ensures again { (turn : _) → self.old.phase ≡ Phase.Ended turn → (result ≡ Ok turn) ×
+        ensures ends { IfOk result (λ turn. Ends (S.rules space.now) (view self.new) turn) }
+        ensures counts { IfOk result (λ turn.
+            Counts quota (length (view self.old).settled) (length (view self.new).settled) turn) }
+        ensures last { IfOk result (λ turn. (view self.new).phase ≡ phase_after turn) }
+        ensures enough { (most : ℕ) → HasFewPerCell (S.rules space.now) most →
+            (S.rules space.now).cells * most ≤ (view self.old).limit → IfOk result IsUnspentTurn }
+
+        ensures again { (turn : _) → (view self.old).phase ≡ Phase.Ended turn → (result ≡ Ok turn) ×
             (self.new ≡ self.old) }
-        ensures failed { OnErr result (self.new.phase ≡ Phase.Failed) }
-        ensures fails_again { self.old.phase ≡ Phase.Failed → result ≡ Err alloc_error }
-        ensures same { self.old.phase ≡ Phase.Failed → self.new ≡ self.old }
+        ensures failed { OnErr result ((view self.new).phase ≡ Phase.Failed) }
+        ensures fails_again { (view self.old).phase ≡ Phase.Failed → result ≡ Err alloc_error }
+        ensures same { (view self.old).phase ≡ Phase.Failed → self.new ≡ self.old }
     {
         let phase = self.phase;
         match phase {
@@ -86,52 +85,58 @@ impl<T: Copy + Drop> Search<T> {
     /// How many labels are settled.
     pub fn labels(&self) -> u32
         requires of { (rules : Rules T) × IsSearchOf rules self.now }
-        ensures value { result ≡ length self.now.lists.settled.items }
+        ensures value { result ≡ length (view self.now).settled }
     {
         self.lists.settled.len() as u32
     }
 
     /// The label of a number: a settled one, or after `Found` the goal, which is numbered after them.
-    fn label_of(&self, label: u32) -> Label<T>
+    fn label_of(&self, label: u32) -> &Label<T>
         requires of { (rules : Rules T) × IsSearchOf rules self.now }
-        requires readable { IsReadable self.now label }
-        ensures value { LabelOf self.now label result }
+        requires readable { label < length (labels_of (view self.now)) }
+        ensures value { IsShown (view self.now) label
+            (reached (view self.now).settled result.now) }
+        ensures follows { (rules : Rules T) → IsSearchOf rules self.now →
+            Follows rules (books self.now.lists) label result.now }
     {
         let place = label as usize;
         if place < self.lists.settled.len() {
-            self.lists.labels[self.lists.settled[place] as usize]
+            &self.lists.labels[self.lists.settled[place] as usize]
         } else {
-            self.lists.labels[self.found as usize]
+            &self.lists.labels[self.found as usize]
         }
     }
 
     /// What a run to the label costs.
     pub fn cost_of(&self, label: u32) -> u128
         requires of { (rules : Rules T) × IsSearchOf rules self.now }
-        requires readable { IsReadable self.now label }
-        ensures value { (one : TheLabel T) → LabelOf self.now label one → result ≡ one.cost }
+        requires readable { label < length (labels_of (view self.now)) }
+        ensures exact { (one : Reached T) → IsShown (view self.now) label one → result ≡ one.cost }
     {
         self.label_of(label).cost
     }
 
     /// The state of a label.
-    pub fn state_of(&self, label: u32) -> T
+    pub fn state_of(&self, label: u32) -> &T
         requires of { (rules : Rules T) × IsSearchOf rules self.now }
-        requires readable { IsReadable self.now label }
-        ensures value { (one : TheLabel T) → LabelOf self.now label one → result ≡ one.state }
+        requires readable { label < length (labels_of (view self.now)) }
+        ensures exact { (one : Reached T) → IsShown (view self.now) label one →
+            result.now ≡ one.state }
     {
-        self.label_of(label).state
+        &self.label_of(label).state
     }
 
     /// The choices of the run to a label: its start's number and then its steps' numbers.
     pub fn choices(&self, alloc: Global, label: u32) -> Result<Items<u32>, AllocError>
         requires of { (rules : Rules T) × IsSearchOf rules self.now }
-        requires readable { IsReadable self.now label }
-        ensures run { IfOk result (λ choices.
-            (rules : Rules T) (one : TheLabel T) → IsSearchOf rules self.now →
-            LabelOf self.now label one → IsRun rules choices one.state one.cost) }
+        requires readable { label < length (labels_of (view self.now)) }
+        ensures exact { IfOk result (λ choices. (one : Reached T) →
+            IsShown (view self.now) label one → choices ≡ one.choices) }
+        ensures run { IfOk result (λ choices. (rules : Rules T) (one : Reached T) →
+            IsSearchOf rules self.now → IsShown (view self.now) label one →
+            IsRun rules choices one.state one.cost) }
         ensures short { IfOk result (λ choices. length choices ≤ label + 1) }
     {
-        choices_of(alloc, &self.lists, self.label_of(label), label)
+        choices_of(alloc, &self.lists, *self.label_of(label), label)
     }
 }

@@ -1,16 +1,15 @@
-use Rattle.std.proofs.Common.{◌≤◌, ◌+◌, length, reverse}
+use Rattle.std.proofs.Common.{◌≡◌, ◌≤◌, ◌+◌, ◌++◌, length, reverse}
 use Rattle.space_search.specs.Books.{books, Reads, Follows}
 use Rattle.space_search.specs.Rules.{Rules}
-use Rattle.space_search.specs.Runs.{Walks}
+use Rattle.space_search.specs.View.{reached, settled_of}
 use Rattle.space_search.proofs.choices.choices_of.Given as goal
 
 abbrev pub invariant-back : goal.invariant-back
 invariant-back g l =
     record {
-      follows : (rules : Rules g.row.T.Denot) → Reads rules (books l.lists) → Follows rules (books l.lists) l.fn.below l.fn.label →
-          Follows rules (books l.lists) l.below l.at;
-      walks : (rules : Rules g.row.T.Denot) → Reads rules (books l.lists) → Follows rules (books l.lists) l.fn.below l.fn.label →
-          Walks rules l.at.state l.at.cost (reverse l.back.items) l.fn.label.state l.fn.label.cost;
+      follows : (rules : Rules g.row.T.Denot) × Reads rules (books l.lists) × Follows rules (books l.lists) l.below l.at;
+      choices : (reached (settled_of (books l.lists)) l.at).choices ++ reverse l.back.items ≡
+          (reached (settled_of (books l.lists)) l.fn.label).choices;
       short : length l.back.items + l.below ≤ l.fn.below;
     }
 

@@ -1,13 +1,14 @@
 use Rattle.std.proofs.Common.{◌≡◌, ◌-◌, length}
-use Rattle.space_search.specs.Turns.{IsSearchOf}
+use Rattle.space_search.specs.Searches.{IsSearchOf}
+use Rattle.space_search.specs.View.{view}
 use Rattle.space_search.proofs.finding.least_in_turns.Given as goal
 
 abbrev pub invariant-search : goal.invariant-search
 invariant-search g l =
     record {
       of : IsSearchOf (g.S.Space.rules l.space) l.search;
-      limit : l.search.limit ≡ l.limit;
+      limit : (view l.search).limit ≡ l.limit;
     }
 
 abbrev pub decreases-search : goal.decreases-search
-decreases-search g l = l.limit - length l.search.lists.settled.items
+decreases-search g l = l.limit - length (view l.search).settled

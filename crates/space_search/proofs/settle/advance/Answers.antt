@@ -96,7 +96,7 @@ returns-clause-advances g c =
 pub returns-clause-leaves : goal.returns-clause-leaves
 returns-clause-leaves g c =
     record {
-      reads = c.steps.invariant.kept.reads;
+      stands = c.steps.invariant.kept.stands;
       keeps =
           settled-extended (g.S.Space.rules c.args.space.now) (books c.args.lists.now) (books c.steps.lists)
           c.steps.invariant.extends;

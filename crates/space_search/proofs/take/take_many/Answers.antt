@@ -25,4 +25,4 @@ pub returns-clause-turns : goal.returns-clause-turns
 returns-clause-turns g c =
     turns-more (g.S.Space.rules c.args.space.now) (g.met.S.Space.keeps_laws c.args.space.now) c.args.limit c.args.quota
     c.turn.count (books c.args.lists.now) (books c.turn.lists) c.turn.invariant.counted c.turn.invariant.kept
-    c.turn.invariant.closed c.turn.invariant.within (omega arith)
+    c.turn.invariant.closed (omega arith)

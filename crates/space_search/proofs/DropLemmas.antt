@@ -1,0 +1,82 @@
+-- What a search's lists are once the next label was dropped.
+use Rattle.std.proofs.Common.{◌≡◌, ℕ, ◌<◌, ◌+◌, ◌↔◌, List, ◌∷◌, length, get_or, Option, Some, None, refl, arith, sym, ◌∙◌, subst}
+use Rattle.std.proofs.lemmas.List.Sorted.{length_permutation}
+use Rattle.std.proofs.lemmas.Option.{slice_get_within, get_or_from_slice_get}
+use Rattle.std.specs.BinaryHeap.{PopsGreatest}
+use Rattle.std.specs.List.{slice_get}
+use Rattle.std.specs.List.Sorted.{IsPermutation}
+use Rattle.std.specs.Option.{IfSome, IsSome}
+use Rattle.space_search.specs.Books.{Books, Entry, entry_cmp, IsLabel, IsCovered, IsAccounted, IsSearch, IsClosed, KeepsLabels}
+use Rattle.space_search.specs.Laws.{HasRank}
+use Rattle.space_search.specs.Moves.{IsNext, Drops}
+use Rattle.space_search.specs.Rules.{Rules}
+use Rattle.space_search.specs.declared.label.Label.{Label}
+use Rattle.space_search.proofs.SameLemmas.{follows-moved, keeps-same, keeps-back, stands-same, index-same}
+use Rattle.space_search.proofs.TakeLemmas.{Popped, accounted-popped, left-queued}
+
+-- what a pop gives is the entry at the front
+pub popped-front :
+    (queue rest : List Entry) (r : Option Entry) (top : Entry) (n : ℕ) →
+    IfSome r (λ x. x ≡ get_or queue 0 x) → IfSome r (λ x. IsPermutation queue (x ∷ rest)) →
+    IfSome r (λ x. PopsGreatest entry_cmp queue x rest) → (IsSome r ↔ (0 < n)) → n ≡ length queue →
+    slice_get queue 0 ≡ Some top → Popped queue top rest
+popped-front queue rest None top n first moved ordered some is there =
+    let none = some.1 (omega (arith, is, slice_get_within queue 0 top there)) in cc
+popped-front queue rest (Some x) top n first moved ordered some is there =
+    let same : x ≡ top = first ∙ get_or_from_slice_get queue 0 top x there in
+    record { permutation = subst (λ y. IsPermutation queue (y ∷ rest)) same moved; ordered = λ h. (ordered h).0 }
+
+-- two ranks of one state at one cost are equal
+pub rank-unique :
+    {S : Type 0} (rules : Rules S) (state : S) (cost a b : ℕ) → HasRank rules state cost a → HasRank rules state cost b → a ≡ b
+rank-unique rules state cost a b p q =
+    let one : Some p.low ≡ Some q.low = sym p.is ∙ q.is in
+    let same : p.low ≡ q.low = cc in
+    omega (arith, p.sum, q.sum)
+
+-- the lists once the front entry was dropped
+abbrev pub dropped : {S : Type 0} → Books S → List Entry → Books S
+dropped kept rest =
+    record { labels = kept.labels; queue = rest; settled = kept.settled; newest = kept.newest; older = kept.older }
+
+-- the next label leaves the queue of a search in which everything is taken care of
+pub record Leaving {S : Type 0} (rules : Rules S) (kept : Books S) (number : ℕ) (label : Label S) (rest : List Entry) : Type 0 where
+  pub search : IsSearch rules kept
+  pub closed : IsClosed rules kept
+  pub next : IsNext rules kept number label
+  pub popped : Popped kept.queue (record { 0 = (next.rank, number) }) rest
+
+module _ {S : Type 0} (rules : Rules S) (kept : Books S) (number : ℕ) (label : Label S) (rest : List Entry)
+    (leaving : Leaving rules kept number label rest) where
+  -- a covered label leaves the queue, and everything else stays
+  pub drops : IsCovered rules kept label.state label.cost → Drops rules kept (dropped kept rest)
+  drops covered =
+      let same : (n : ℕ) (l : Label S) → IsLabel kept n l → IsLabel (dropped kept rest) n l = λ n l h. h in
+      let to : KeepsLabels kept (dropped kept rest) = keeps-same rules kept (dropped kept rest) same leaving.search.stands refl in
+      let back : KeepsLabels (dropped kept rest) kept = keeps-back rules kept (dropped kept rest) same leaving.search.stands refl in
+      let moves : (state : S) (cost : ℕ) → IsAccounted rules kept state cost → IsAccounted rules (dropped kept rest) state cost =
+      accounted-popped rules kept (dropped kept rest) number label (record { 0 = (leaving.next.rank, number) }) leaving.popped refl
+      leaving.next.there refl to
+      (record { place = covered.place; label = covered.label; settled = to covered.place covered.label covered.settled; covers = covered.covers }) in
+      record {
+        kept =
+            record {
+              stands = stands-same rules kept (dropped kept rest) same leaving.search.stands refl;
+              few = leaving.search.few;
+              follows = λ n l h. follows-moved rules kept (dropped kept rest) _ _ l to (omega arith) (leaving.search.follows n l h);
+              queued = λ e h. leaving.search.queued e (left-queued kept.queue (record { 0 = (leaving.next.rank, number) }) rest leaving.popped e h);
+              ordered = leaving.popped.ordered leaving.search.ordered;
+              above = λ p l r s h e inside.
+                  leaving.search.above p l r (back p l s) h e (left-queued kept.queue (record { 0 = (leaving.next.rank, number) }) rest leaving.popped e inside);
+              index = index-same rules kept (dropped kept rest) same leaving.search.stands refl refl refl leaving.search.index;
+            };
+        closed =
+            record {
+              starts = λ n s c below is. moves s c (leaving.closed.starts n s c below is);
+              steps = λ p l below s i st c within step. moves st (l.cost + c) (leaving.closed.steps p l below (back p l s) i st c within step);
+            };
+        labels = refl;
+        settled = refl;
+        work = omega (arith, length_permutation _ _ leaving.popped.permutation);
+      }
+
