@@ -1,19 +1,14 @@
 -- The values of a look, joined to how the code finds them.
-use Rattle.std.proofs.Common.{◌≡◌, ℕ, suc, ◌+◌, Bool, true, false, not, cond, List, [], ◌∷◌, length, take, drop, nat_eq, refl, sym, ◌∙◌, ap, arith}
+use Rattle.std.proofs.Common.{◌≡◌, ℕ, ◌+◌, Bool, true, false, not, cond, List, [], ◌∷◌, length, take, drop, nat_eq, refl, sym, ◌∙◌, ap, arith}
 use Rattle.std.proofs.lemmas.Bool.Decides.{nat_tests}
 use Rattle.std.specs.List.{prefix_len, onto_first}
+use Rattle.item_list.proofs.ListLemmas.{front_more}
 use Rattle.profile_text.specs.Look.{is_value_byte, pieces}
 
 -- the pieces after the first, which ends before a bar or with the text
 abbrev pub later : List ℕ → List (List ℕ)
 later [] = []
 later (c ∷ cs) = pieces cs
-
--- one more in a front
-front_more : (n : ℕ) (c : ℕ) (cs : List ℕ) → (take (1 + n) (c ∷ cs) ≡ c ∷ take n cs) × (drop (1 + n) (c ∷ cs) ≡ drop n cs)
-front_more n c cs =
-    let e : 1 + n ≡ suc n = omega arith in
-    (ap (λ m. take m (c ∷ cs)) e, ap (λ m. drop m (c ∷ cs)) e)
 
 -- the pieces of a text whose first has so many bytes
 abbrev pub begins_with : ℕ → List ℕ → List (List ℕ)

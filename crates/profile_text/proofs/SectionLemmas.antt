@@ -1,5 +1,5 @@
 -- Sections: what is spelled so is read, and what is read is spelled so.
-use Rattle.std.proofs.Common.{◌≡◌, ℕ, zero, suc, ◌<◌, ◌≤◌, Bool, true, false, cond, List, [], ◌∷◌, length, refl, sym, ◌∙◌, ap, subst, inl, inr, ◌⊎◌, Option, Some, None, Result, Ok, Err, arith}
+use Rattle.std.proofs.Common.{◌≡◌, ℕ, zero, suc, ◌<◌, ◌≤◌, false, List, [], ◌∷◌, length, refl, sym, ◌∙◌, ap, subst, inl, inr, ◌⊎◌, Option, Some, None, Result, Ok, Err, arith}
 use Rattle.profile_text.specs.declared.error.TextError.{TextError}
 use Rattle.profile_text.specs.declared.error.TextError.TheVariants.{NoMemory}
 use Rattle.profile_text.specs.declared.expected.Expected.TheVariants.{Variable}
@@ -9,11 +9,12 @@ use Rattle.profile_text.specs.declared.kind.Kind.TheVariants.{Opens, Assign, Equ
 use Rattle.profile_text.specs.Grammar.{SpellsExpr, a_number, a_true, a_false, a_name, a_look, a_not, a_two, a_switch, an_if, a_bracket, SpellsSections, the_end, a_section, assigned, assigned_by, Spells}
 use Rattle.profile_text.specs.Kind.{kind_of}
 use Rattle.profile_text.specs.Read.{Read, read, and_then, name_fault, taken, expr_of, most_depth, after_equals, past_equals, assignment_of, put_first, with_first, no_sections, from_front, sections_within, profile_of}
-use Rattle.profile_text.specs.Token.{Token, Place, is_ink, is_joined, prepend, comment_after, line_after, tokens_from}
+use Rattle.profile_text.specs.Token.{Token, Place, tokens_from}
 use Rattle.profile_text.specs.Tree.{Tree, Assignment, Sections}
 use Rattle.profile_text.proofs.FoundLemmas.{went_on, taken_is_first, read_is_spelled, same_value}
 use Rattle.profile_text.proofs.GrammarLemmas.{before, taken_first, spelled_is_read}
 use Rattle.profile_text.proofs.PartLemmas.{one_part, no_part, rest_of}
+use Rattle.profile_text.proofs.TokenLemmas.{few_tokens}
 
 -- an expression takes tokens
 pub expr_takes : (depth : ℕ) (ts : List Token) (e : Tree) (rest : List Token) → SpellsExpr depth ts e rest → length rest < length ts
@@ -90,21 +91,6 @@ spelled_sections _ _ _ (assigned_by section t name equals ts rest a s k named by
     let less = expr_takes most_depth ts a rest spells in
     let x = assignment_read t.line name (equals ∷ ts) ts equals.line a rest named (ap (λ x. after_equals x equals ts (before name.line (equals ∷ ts))) by) spells in
     part_read n last section t (name ∷ equals ∷ ts) rest x.0 (assign_is name a) s k x.1 (spelled_sections (Some section) rest s more n x.0 (omega (arith, enough, less)))
-
--- one more byte in front adds no token
-prepend_len : (c : ℕ) (ts : List Token) → length (prepend c ts) ≤ length ts
-prepend_len c [] = omega arith
-prepend_len c (t ∷ ts) = omega arith
-
--- a text has at most as many tokens as bytes
-pub few_tokens : (comment : Bool) (line : ℕ) (text : List ℕ) → length (tokens_from comment line text) ≤ length text
-few_tokens comment line [] = omega arith
-few_tokens comment line (c ∷ cs) = by_test (λ comment line. few_tokens comment line cs) (is_ink comment c) (is_joined c cs)
-  where
-    by_test : ((comment : Bool) (line : ℕ) → length (tokens_from comment line cs) ≤ length cs) → (ink joined : Bool) → length (cond ink (cond joined (prepend c (tokens_from false line cs)) (record { line = line; text = c ∷ [] } ∷ tokens_from false line cs)) (tokens_from (comment_after comment c) (line_after line c) cs)) ≤ suc (length cs)
-    by_test few true true = let h = few false line in let i = prepend_len c (tokens_from false line cs) in omega (arith, h, i)
-    by_test few true false = let h = few false line in omega (arith, h)
-    by_test few false joined = let h = few (comment_after comment c) (line_after line c) in omega (arith, h)
 
 -- a profile that is spelled so is read
 pub spelled_profile : (text : List ℕ) (s : Sections) → Spells text s → profile_of text ≡ Ok s
@@ -214,3 +200,11 @@ pub only_memory : (text : List ℕ) (e : TextError) (p : Sections) → (e ≡ No
 only_memory text e p (inl memory) spells = memory
 only_memory text e p (inr h) spells =
     let clash : ◌≡◌ {A = Result Sections TextError} (Err e) (Ok p) = sym h ∙ spelled_profile text p spells in cc
+
+-- an assignment that was read takes tokens
+pub assignment_takes : (from to : Place) (a : Assignment) → assignment_of from ≡ read a to → length to.tokens < length from.tokens
+assignment_takes from to a reading =
+    let was = assignment_spelled from.last from.tokens (record { value = a; place = to }) reading in
+    let len : length from.tokens ≡ suc (length was.after) = ap length was.tokens in
+    let less = expr_takes most_depth (past_equals was.name.line was.after).tokens was.tree to.tokens was.spells in
+    let past = past_len was.name.line was.after in omega (arith, len, less, past)

@@ -1,3 +1,4 @@
+pub mod Evaluated
 pub mod Expr
 pub mod Grammar
 pub mod Kind

@@ -5,6 +5,7 @@ use Rattle.std.specs.Ordering.{int_eq}
 use Rattle.std.specs.Map.{lookup}
 use Rattle.std.specs.Str.{bytes_eq}
 use lib.Chars.{codes}
+pub use Rattle.item_list.specs.Answer.{and_then}
 use Rattle.fixed_num.specs.Arithmetic.{sum_of, difference_of, product_of, quotient_of}
 use Rattle.fixed_num.specs.declared.arithmetic.Arith.{Arith}
 use Rattle.lookup_table.specs.First.{TagTable, rows_of}
@@ -19,11 +20,6 @@ use Rattle.profile_text.specs.Tree.{Tree, Constant, Variable, TagLook, Negation,
 pub data Fault : Type 0 where
   Unknown : ℕ → Fault
   Faulty : Arith → Fault
-
--- goes on with a value, or keeps the fault
-abbrev pub and_then : {A B F : Type 0} → Result A F → (A → Result B F) → Result B F
-and_then (Ok a) go = go a
-and_then (Err f) go = Err f
 
 -- ---- Numbers
 

@@ -13,8 +13,7 @@ use Rattle.profile_text.specs.declared.expected.Expected.{Expected}
 use Rattle.profile_text.specs.declared.expected.Expected.TheVariants.{Expression, Closing, Variable, ThenWord, ElseWord}
 use Rattle.profile_text.specs.Kind.{kind_of, has_dashes}
 use Rattle.profile_text.specs.Look.{tag_of, values_of}
-use Rattle.profile_text.specs.Source.{start_of}
-use Rattle.profile_text.specs.Token.{Token, Place}
+use Rattle.profile_text.specs.Token.{Token, Place, start_of}
 use Rattle.profile_text.specs.Tree.{Tree, Constant, TagLook, Negation, Operation, Choice, Assignment, Sections}
 use Rattle.profile_text.specs.Tree as T
 

@@ -1,14 +1,11 @@
 -- The tokens of a profile's text. This project's own rule.
-use Rattle.std.specs.Prelude.{ℕ, ◌+◌, Bool, false, not, ◌&&◌, ◌||◌, List, [], ◌∷◌, nat_le, ◌==◌, if◌then◌else◌}
+use Rattle.std.specs.Prelude.{ℕ, ◌+◌, Bool, false, not, ◌&&◌, ◌||◌, List, [], ◌∷◌, ◌==◌, if◌then◌else◌}
+use Rattle.item_list.specs.Bytes.{is_space}
 
 -- a token with its line, from 1
 pub record Token : Type 0 where
   pub line : ℕ
   pub text : List ℕ
-
--- white space: the bytes 9 to 13, and 32
-abbrev pub is_space : ℕ → Bool
-is_space c = (nat_le 9 c && nat_le c 13) || (c == 32)
 
 -- a byte that belongs to a token: outside comments, and neither white space nor `#`
 abbrev pub is_ink : Bool → ℕ → Bool
@@ -48,3 +45,7 @@ tokens_from comment line (c ∷ cs) =
 pub record Place : Type 0 where
   pub last : ℕ
   pub tokens : List Token
+
+-- the place before a text's first token
+abbrev pub start_of : List ℕ → Place
+start_of text = record { last = 1; tokens = tokens_from false 1 text }

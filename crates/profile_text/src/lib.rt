@@ -33,10 +33,3 @@ pub use profile::{Assign, Profile};
 pub use value_error::ValueError;
 pub use values::section_values;
 pub use vars::Vars;
-
-#[cfg(test)]
-mod tests;
-#[cfg(test)]
-mod tests_data;
-#[cfg(test)]
-mod tests_values;
