@@ -1,5 +1,5 @@
-//! Computes so many heights of drawn places on a tile, steps of a buffer and coverings of drawn labels, and prints
-//! what came of them.
+//! Computes so many heights of drawn places on a tile, steps of a buffer and coverings of drawn
+//! labels, and prints what came of them.
 #![tactic(auto)]
 
 ghost use Rattle.elev_buffer.specs.Covers.{IsPair};

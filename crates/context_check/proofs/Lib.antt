@@ -1,4 +1,5 @@
 pub mod CallerLemmas
 pub mod DefinedLemmas
 pub mod FaultLemmas
+pub mod NameLemmas
 pub mod OverrideLemmas

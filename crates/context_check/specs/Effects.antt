@@ -2,7 +2,7 @@
 use Rattle.std.specs.Prelude.{ℕ, List, [], ◌∷◌, ℤ, pos, map}
 use lib.Chars.{codes}
 
--- The seven names of the global section in their order, each with its default.
+-- the seven names of the global section in their order, each with its default
 abbrev pub global_effects : List (List ℕ × ℤ)
 global_effects =
     (codes "uphillcost", pos 0)
@@ -14,10 +14,10 @@ global_effects =
     ∷ (codes "elevationbufferreduce", pos 0)
     ∷ []
 
--- The seven names of the global section.
+-- the seven names of the global section
 abbrev pub global_names : List (List ℕ)
 global_names = map (λ e. e.0) global_effects
 
--- The name that each way section assigns.
+-- the name that each way section assigns
 abbrev pub costfactor_name : List ℕ
 costfactor_name = codes "costfactor"

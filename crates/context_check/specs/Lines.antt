@@ -5,7 +5,7 @@ use lib.Chars.{codes}
 use Rattle.context_check.specs.declared.error.CheckError.{CheckError}
 use Rattle.context_check.specs.declared.error.CheckError.TheVariants.{UnknownOverride, WrongSection, UnknownName, UnknownTag, UnknownValue, NoCostfactor, NoMemory}
 
--- The line, without an end of line.
+-- the line, without an end of line
 abbrev pub check_line : CheckError → List ℕ
 check_line (UnknownOverride place) = codes "override " ++ decimal place ++ codes ": unknown name"
 check_line (WrongSection line) = codes "profile line " ++ decimal line ++ codes ": wrong section"

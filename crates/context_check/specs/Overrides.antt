@@ -3,16 +3,16 @@ use Rattle.std.specs.Prelude.{◌≡◌, ◌<◌, ◌^◌, ℕ, Bool, false, is_
 use Rattle.std.specs.Map.{lookup}
 use Rattle.std.specs.Str.{bytes_eq}
 
--- A name has an override.
+-- a name has an override
 abbrev pub is_overridden : List (List ℕ × ℤ) → List ℕ → Bool
 is_overridden overrides name = is_some (lookup (bytes_eq name) overrides)
 
--- No name comes twice.
+-- no name comes twice
 abbrev pub HaveDistinctNames : List (List ℕ × ℤ) → Type 0
 HaveDistinctNames [] = Unit {0}
 HaveDistinctNames (o ∷ os) = (is_overridden os o.0 ≡ false) × HaveDistinctNames os
 
--- So they are, and their places are 32-bit numbers.
+-- so they are, and their places are 32-bit numbers
 pub record AreOverrides (overrides : List (List ℕ × ℤ)) : Type 0 where
   pub distinct : HaveDistinctNames overrides
   pub few : length overrides < 2 ^ 32

@@ -7,7 +7,8 @@ use crate::overrides::Overrides;
 use lookup_table::Table;
 use profile_text::Profile;
 
-/// A profile with the tag table and the overrides that it was checked with. Nothing is at fault in it.
+/// A profile with the tag table and the overrides that it was checked with. Nothing is at fault in
+/// it.
 #[derive(Clone, Copy)]
 pub struct Checked<'a> {
     pub(crate) profile: &'a Profile,

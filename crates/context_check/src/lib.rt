@@ -2,6 +2,7 @@
 #![tactic(auto)]
 
 mod checked;
+mod context;
 mod error;
 mod expr;
 mod look;
@@ -13,6 +14,3 @@ pub use checked::Checked;
 pub use error::CheckError;
 pub use overrides::Overrides;
 pub use profile::check;
-
-#[cfg(test)]
-mod tests;

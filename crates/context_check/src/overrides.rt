@@ -58,13 +58,13 @@ impl Overrides {
 
     /// The number that replaces the value of a name, if there is one.
     pub fn find(&self, name: &[u8]) -> Option<Num>
-        ensures value { result ≡ lookup (bytes_eq name.now) self.now }
+        ensures exact { result ≡ lookup (bytes_eq name.now) self.now }
     {
         found(self.items.as_slice(), name)
     }
 
-    /// Puts an override at the end. Where memory runs out, nothing changes; 2^32 - 1 are the most, and one
-    /// more is answered as want of memory.
+    /// Puts an override at the end. Where memory runs out, nothing changes; 2^32 - 1 are the most,
+    /// and one more is answered as want of memory.
     pub fn push(&mut self, item: (Name, Num)) -> Result<(), AllocError>
         requires new { is_overridden self.old item.0 ≡ false }
         ensures value { OnOk result (self.new ≡ self.old ++ item ∷ []) }
@@ -86,7 +86,7 @@ impl TryClone for Overrides {
 
 /// The number of the first of these overrides that has a name.
 fn found(items: &[(Name, Num)], name: &[u8]) -> Option<Num>
-    ensures value { result ≡ lookup (bytes_eq name.now) items.now }
+    ensures exact { result ≡ lookup (bytes_eq name.now) items.now }
 {
     'items: for item in items {
         if name == item.0.as_slice() {
@@ -98,7 +98,7 @@ fn found(items: &[(Name, Num)], name: &[u8]) -> Option<Num>
 
 /// A copy of a list of overrides.
 fn copied(alloc: Global, items: &[(Name, Num)]) -> Result<Items<(Name, Num)>, AllocError>
-    ensures value { IfOk result (λ copy. copy ≡ items.now) }
+    ensures exact { IfOk result (λ copy. copy ≡ items.now) }
 {
     let mut copy = Items::new(alloc);
     'items: for item in items {

@@ -1,12 +1,14 @@
 //! Whether a profile may be used with a tag table and overrides.
-ghost use Rattle.std.specs.Prelude.{◌≡◌, ◌⊎◌, ◌<◌, ◌^◌, length, map, Some, None, IfOk, IfErr, OnOk};
+ghost use Rattle.std.specs.Prelude.{◌≡◌, ◌<◌, ◌^◌, length, map, IfOk};
 ghost use Rattle.context_check.specs.Checked.{IsDefined, Subject};
 ghost use Rattle.context_check.specs.Refusal.{names_in, override_refusal, refusal_of, sections_refusal};
 ghost use Rattle.context_check.specs.Subject.{subject_of};
 ghost use Rattle.context_check.specs.declared.error.CheckError.TheVariants.{NoMemory};
+ghost use Rattle.item_list.specs.Answer.{Passes};
 ghost use Rattle.profile_text.specs.Expr.{assignment_in, sections_in};
 
 use crate::checked::Checked;
+use crate::context::Context;
 use crate::error::CheckError;
 use crate::overrides::Overrides;
 use crate::section::section_names;
@@ -15,8 +17,8 @@ use lookup_table::{Name, Table};
 use profile_text::{Assign, Names, Profile, Section};
 use std::alloc::{AllocError, Global};
 
-/// The profile with the tag table and the overrides, or the first thing at fault: in the overrides, then
-/// in the global section, that of the ways and that of the nodes.
+/// The profile with the tag table and the overrides, or the first thing at fault: in the overrides,
+/// then in the global section, that of the ways and that of the nodes.
 #[tactic(auto, unfolding(crate::specs::Refusal::refusal_of))]
 pub fn check<'a>(
     alloc: Global,
@@ -30,12 +32,9 @@ pub fn check<'a>(
       overrides = overrides.now;
     } in
         IfOk result (λ c. subject_of c ≡ subject) }
-    ensures exact { IfOk result
-        (λ _. refusal_of table.now (sections_in profile.now) overrides.now ≡ None) }
+    ensures exact { Passes (refusal_of table.now (sections_in profile.now) overrides.now)
+        NoMemory result }
     ensures sound { IfOk result (λ _. IsDefined table.now (sections_in profile.now)) }
-
-    ensures refused { IfErr result (λ e. (e ≡ NoMemory)
-        ⊎ (refusal_of table.now (sections_in profile.now) overrides.now ≡ Some e)) }
 {
     let global = names_of(alloc, profile.global.as_slice())?;
     if let Some(fault) = override_fault(overrides.as_slice(), &global) {
@@ -51,7 +50,7 @@ pub fn check<'a>(
 
 /// The names of assignments.
 fn names_of(alloc: Global, assignments: &[Assign]) -> Result<Names, AllocError>
-    ensures value { IfOk result (λ names. names ≡ names_in (map assignment_in assignments.now)) }
+    ensures exact { IfOk result (λ names. names ≡ names_in (map assignment_in assignments.now)) }
 {
     let mut names = Names::new(alloc);
     'assignments: for assign in assignments {
@@ -63,7 +62,7 @@ fn names_of(alloc: Global, assignments: &[Assign]) -> Result<Names, AllocError>
 /// The first override whose name isn't one of these.
 fn override_fault(overrides: &[(Name, Num)], names: &Names) -> Option<CheckError>
     requires fits { length overrides.now < 2 ^ 32 }
-    ensures value { result ≡ override_refusal 0 overrides.now names.now }
+    ensures exact { result ≡ override_refusal 0 overrides.now names.now }
 {
     'overrides: for (place, item) in overrides.iter().enumerate() {
         if names.last(item.0.as_slice()).is_none() {
@@ -83,20 +82,27 @@ fn check_sections(
     global: &Names,
 ) -> Result<(), CheckError>
     requires names { global.now ≡ names_in (sections_in profile.now).global }
-    ensures exact { OnOk result (sections_refusal table.now (sections_in profile.now) ≡ None) }
-    ensures refused { IfErr result (λ e. (e ≡ NoMemory)
-        ⊎ (sections_refusal table.now (sections_in profile.now) ≡ Some e)) }
+    ensures exact { Passes (sections_refusal table.now (sections_in profile.now)) NoMemory result }
 {
     let none = Names::new(alloc);
-    let _ = section_names(
-        alloc,
+    let first = Context {
         table,
-        Section::Global,
-        &none,
-        profile.global.as_slice(),
-    )?;
-    let way = section_names(alloc, table, Section::Way, global, profile.way.as_slice())?;
-    let _ = section_names(alloc, table, Section::Node, global, profile.node.as_slice())?;
+        section: Section::Global,
+        global: &none,
+    };
+    let _ = section_names(alloc, &first, profile.global.as_slice())?;
+    let of_ways = Context {
+        table,
+        section: Section::Way,
+        global,
+    };
+    let way = section_names(alloc, &of_ways, profile.way.as_slice())?;
+    let of_nodes = Context {
+        table,
+        section: Section::Node,
+        global,
+    };
+    let _ = section_names(alloc, &of_nodes, profile.node.as_slice())?;
     match way.last(b"costfactor".as_slice()) {
         None => Err(CheckError::NoCostfactor),
         Some(_) => Ok(()),

@@ -32,11 +32,6 @@ pub is_fraction_is : (text : List ℕ) → nat_eq (length text) 0 ≡ false → 
 is_fraction_is [] some = cc
 is_fraction_is (c ∷ cs) some = leading_digits-all (c ∷ cs)
 
--- a text whose test says that it isn't empty has a byte
-pub some_from_test : (text : List ℕ) → false ≡ nat_eq (length text) 0 → 0 < length text
-some_from_test [] test = cc
-some_from_test (c ∷ cs) test = omega arith
-
 -- a digit in front adds one to the digits at the front
 leading_digits-digit : (c : ℕ) (cs : List ℕ) → is_ascii_digit c ≡ true → leading_digits (c ∷ cs) ≡ suc (leading_digits cs)
 leading_digits-digit c cs digit = ap (λ v. cond v (1 + leading_digits cs) 0) digit ∙ omega arith

@@ -3,7 +3,7 @@ use Rattle.std.proofs.Common.{◌≡◌, ℕ, suc, ◌+◌, ◌*◌, ◌/◌, �
 use Rattle.std.proofs.lemmas.Bool.Decides.{nat_tests}
 use Rattle.std.proofs.lemmas.Int.{ints}
 use Rattle.hgt_tiles.specs.File.{samples_of, sample_of}
-use Rattle.hgt_tiles.proofs.NameLemmas.{tail}
+use Rattle.item_list.proofs.ListLemmas.{tail}
 
 -- two more are one more half
 half : (n : ℕ) → suc (n / 2) ≡ suc (suc n) / 2

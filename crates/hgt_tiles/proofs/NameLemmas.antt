@@ -1,6 +1,5 @@
 -- What stands after the last slash, found from the front.
-use Rattle.std.proofs.Common.{◌≡◌, ℕ, List, [], ◌∷◌, Bool, true, false, cond, ◌||◌, ◌==◌, refl, sym, ap, ◌∙◌, arith, ◌-◌, take, drop, get_or, length, ◌<◌, ◌+◌, add-one, drop-cons}
-use Rattle.std.proofs.lemmas.List.{take_all, length-drop}
+use Rattle.std.proofs.Common.{◌≡◌, ℕ, List, [], ◌∷◌, Bool, true, false, cond, ◌||◌, ◌==◌, refl, sym, ap, ◌∙◌, arith, drop, get_or, length, ◌<◌, ◌+◌, add-one, drop-cons}
 use Rattle.std.proofs.lemmas.Bool.Decides.{nat_tests}
 use Rattle.hgt_tiles.specs.Name.{has_slash, last_part}
 
@@ -54,7 +53,3 @@ chosen X m n x y h = grind (arith, nat_tests)
 -- a choice by one that does not
 pub other : (X : Type 0) (m n : ℕ) (x y : X) → (m ≡ n → ⊥) → cond (m == n) x y ≡ y
 other X m n x y h = grind (arith, nat_tests)
-
--- what stands from a place to the end
-pub tail : (bytes : List ℕ) (k : ℕ) → take (length bytes - k) (drop k bytes) ≡ drop k bytes
-tail bytes k = take_all (length bytes - k) (drop k bytes) (omega (arith, length-drop k bytes))

@@ -1,6 +1,7 @@
 -- The corner that the name of a file of heights tells, as N49E008.hgt (the HGT naming).
 use Rattle.std.specs.Prelude.{ℕ, ◌+◌, ◌-◌, ◌*◌, ℤ, pos, neg_ℤ, List, [], ◌∷◌, length, slice_index, Bool, true, false, cond, ◌&&◌, ◌||◌, ◌==◌, nat_le, Option, Some, None}
 use Rattle.hgt_tiles.specs.declared.names.Corner.{Corner}
+use Rattle.item_list.specs.Bytes.{is_digit}
 
 -- one of the bytes is a slash
 abbrev pub has_slash : List ℕ → Bool
@@ -15,10 +16,6 @@ last_part (byte ∷ rest) = cond (has_slash (byte ∷ rest)) (last_part rest) (b
 -- a letter in either case, by its capital
 abbrev pub is_letter : ℕ → ℕ → Bool
 is_letter capital byte = (byte == capital) || (byte == capital + 32)
-
--- a decimal digit
-abbrev pub is_digit : ℕ → Bool
-is_digit byte = nat_le 48 byte && nat_le byte 57
 
 -- the two digits of a latitude and the three of a longitude are there
 abbrev pub digits_are_there : List ℕ → Bool

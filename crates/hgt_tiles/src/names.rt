@@ -2,7 +2,9 @@
 
 ghost use Rattle.std.specs.Prelude.{◌≡◌, ◌+◌, ◌-◌, ◌<◌, ◌≤◌, ◌&&◌, ◌||◌, length, IsTrue, Some, IfSome, pos, neg_ℤ, ◌≤ℤ◌, ◌<ℤ◌};
 ghost use Rattle.hgt_tiles.specs.Relief.{IsCorner};
-ghost use Rattle.hgt_tiles.specs.Name.{last_part, is_spelled, letters_are_there, digits_are_there, is_letter, is_digit, lat_digits, lon_digits, signed_degrees, corner_of_name};
+ghost use Rattle.hgt_tiles.specs.Name.{last_part, is_spelled, letters_are_there, digits_are_there, is_letter, lat_digits, lon_digits, signed_degrees, corner_of_name};
+
+use item_list::is_digit;
 
 /// A south-west corner in whole degrees, east of Greenwich and north of the equator.
 #[derive(Clone, Copy, Debug, PartialEq, Eq, PartialOrd, Ord)]
@@ -64,18 +66,11 @@ fn are_digits(part: &[u8]) -> bool
     requires { length part.now ≡ 11 }
     ensures exact { result ≡ digits_are_there part.now }
 {
-    is_decimal(part[1])
-        && is_decimal(part[2])
-        && is_decimal(part[4])
-        && is_decimal(part[5])
-        && is_decimal(part[6])
-}
-
-/// Whether a byte is a decimal digit.
-fn is_decimal(byte: u8) -> bool
-    ensures exact { result ≡ is_digit byte }
-{
-    byte >= b'0' && byte <= b'9'
+    is_digit(part[1])
+        && is_digit(part[2])
+        && is_digit(part[4])
+        && is_digit(part[5])
+        && is_digit(part[6])
 }
 
 /// A letter in either case, by its capital.

@@ -1,5 +1,6 @@
 use Rattle.std.proofs.Common.{List, ℕ, ap, ◌≡◌, ◌==◌, ◌+◌, cond, get_or, drop, sym, ◌∙◌}
-use Rattle.hgt_tiles.proofs.NameLemmas.{last_part-next, last_part-start, chosen, other, tail}
+use Rattle.hgt_tiles.proofs.NameLemmas.{last_part-next, last_part-start, chosen, other}
+use Rattle.item_list.proofs.ListLemmas.{tail}
 use Rattle.hgt_tiles.proofs.names.after_last_slash.Goals as goal
 use Rattle.hgt_tiles.proofs.names.after_last_slash.Goals.{then-byte-eq47, else-byte-eq47}
 

@@ -1,6 +1,7 @@
 use Rattle.std.proofs.Common.{◌∙◌, ap, take}
 use Rattle.std.specs.Str.{all_ascii_digits}
-use Rattle.fixed_num.proofs.GrammarLemmas.{some_from_test, all_ascii_digits-front, tail_of_sound}
+use Rattle.fixed_num.proofs.GrammarLemmas.{all_ascii_digits-front, tail_of_sound}
+use Rattle.item_list.proofs.ListLemmas.{some_from_test}
 use Rattle.fixed_num.proofs.decimal.Parts.unsigned.Goals as goal
 
 pub invariant_of-result : goal.invariant_of-result
