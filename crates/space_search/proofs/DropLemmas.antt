@@ -79,4 +79,3 @@ module _ {S : Type 0} (rules : Rules S) (kept : Books S) (number : ℕ) (label :
         settled = refl;
         work = omega (arith, length_permutation _ _ leaving.popped.permutation);
       }
-

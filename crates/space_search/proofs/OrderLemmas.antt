@@ -1,13 +1,12 @@
 -- The settled labels that a search shows are in order, and so they are with the next label.
-use Rattle.std.proofs.Common.{◌≡◌, ℕ, ◌<◌, ◌≤◌, ◌+◌, inl, inr, List, [], ◌∷◌, ◌++◌, length, Some, false, arith, sym, subst}
+use Rattle.std.proofs.Common.{◌≡◌, ℕ, ◌≤◌, ◌+◌, inl, inr, List, [], ◌∷◌, ◌++◌, length, Some, false, arith, sym, subst}
 use Rattle.std.proofs.lemmas.Option.{slice_get_within}
 use Rattle.std.specs.List.{slice_get}
 use Rattle.space_search.specs.Books.{Books, Stands}
 use Rattle.space_search.specs.Laws.{HasRank}
 use Rattle.space_search.specs.Rules.{Rules}
 use Rattle.space_search.specs.Turns.{IsPassed, AreInOrder}
-use Rattle.space_search.specs.View.{Reached, reached, settled_of}
-use Rattle.space_search.specs.declared.label.Label.{Label}
+use Rattle.space_search.specs.View.{Reached, settled_of}
 use Rattle.space_search.proofs.DropLemmas.{rank-unique}
 use Rattle.space_search.proofs.ListLemmas.{slice_get-push_cases}
 use Rattle.space_search.proofs.RunLemmas.{run-to}

@@ -1,8 +1,8 @@
 -- What a search's lists are once the next label was settled.
-use Rattle.std.proofs.Common.{◌≡◌, ℕ, ◌<◌, ◌≤◌, ◌+◌, ◌⊎◌, inl, inr, List, length, Some, false, refl, arith, sym, subst}
+use Rattle.std.proofs.Common.{◌≡◌, ℕ, ◌≤◌, ◌+◌, ◌⊎◌, inl, inr, List, length, false, refl, arith, sym, subst}
 use Rattle.std.proofs.lemmas.List.Sorted.{length_permutation}
 use Rattle.std.proofs.lemmas.Option.{slice_get_within, get_or_from_slice_get}
-use Rattle.std.specs.List.{slice_get, Contains}
+use Rattle.std.specs.List.{Contains}
 use Rattle.space_search.specs.Books.{Books, Entry, IsLabel, IsSettled, Follows, IsCovered, IsAccounted, Reads, IsRising, Stands, IsSearch, KeepsLabels, Leaves}
 use Rattle.space_search.specs.Laws.{IsSpace, HasRank}
 use Rattle.space_search.specs.Moves.{Settles}

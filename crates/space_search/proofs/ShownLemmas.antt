@@ -1,8 +1,8 @@
 -- What a search shows of its settled labels is what its lists say of them.
-use Rattle.std.proofs.Common.{◌≡◌, ℕ, zero, suc, ◌<◌, ◌≤◌, ◌+◌, List, [], ◌∷◌, ◌++◌, length, Option, Some, None, refl, ap, arith, sym, ◌∙◌, subst, length-append}
+use Rattle.std.proofs.Common.{◌≡◌, ℕ, zero, suc, ◌<◌, ◌≤◌, ◌+◌, List, [], ◌∷◌, ◌++◌, length, Option, Some, refl, ap, arith, sym, ◌∙◌, subst, length-append}
 use Rattle.std.proofs.lemmas.Option.{slice_get_within}
 use Rattle.std.specs.List.{slice_get}
-use Rattle.space_search.specs.Books.{Books, IsLabel, IsSettled, CameFrom, from_start, from_label, Follows, Reads, KeepsLabels}
+use Rattle.space_search.specs.Books.{Books, IsSettled, CameFrom, from_start, from_label, Reads, KeepsLabels}
 use Rattle.space_search.specs.Rules.{Rules}
 use Rattle.space_search.specs.View.{Reached, reached, shown_from, choices_in, choices_before, consed, pick, settled_of, KeepsPlaces}
 use Rattle.space_search.specs.declared.label.Label.{Label}

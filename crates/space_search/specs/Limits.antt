@@ -15,11 +15,12 @@ CoversNone {S} rules first rest =
     (rules.covers first.state first.cost label.state label.cost ≡ false) ×
     ((low high : ℕ) → HasRank rules first.state first.cost low → HasRank rules label.state label.cost high → low ≤ high)
 
--- labels of valid states in order of rank, of which no earlier one covers a later one
+-- labels of valid states that have ranks, in order of rank, of which no earlier one covers a later one
 abbrev pub IsUncoveredChain : {S : Type 0} → Rules S → List (Reached S) → Type 0
 IsUncoveredChain rules [] = Unit {0}
 IsUncoveredChain rules (label ∷ rest) =
-    IsTrue (rules.is_valid label.state) × CoversNone rules label rest × IsUncoveredChain rules rest
+    IsTrue (rules.is_valid label.state) × ((rank : ℕ) × HasRank rules label.state label.cost rank) ×
+    CoversNone rules label rest × IsUncoveredChain rules rest
 
 -- all of these labels lie in the cell
 abbrev pub LieIn : {S : Type 0} → Rules S → ℕ → List (Reached S) → Type 0

@@ -1,8 +1,8 @@
 use Rattle.std.proofs.Common.{subst, arith}
-use Rattle.space_search.specs.Turns.{IsUnspentTurn, Ends}
+use Rattle.space_search.specs.Turns.{Ends}
 use Rattle.space_search.specs.View.{view}
 use Rattle.space_search.proofs.TurnsLemmas.{least-run}
-use Rattle.space_search.proofs.finding.least_in_turns.Goals as goal
+use Rattle.space_search.proofs.finding.least.Goals as goal
 
 pub search-init : goal.search-init
 search-init g c =
