@@ -20,7 +20,8 @@ use Rattle.space_search.proofs.ShownLemmas.{Settled, shown-count, shown-settled,
 
 module _ {S : Type 0} (rules : Rules S) (laws : IsSpace rules) (kept : Books S)
     (search : IsSearch rules kept) (closed : IsClosed rules kept) where
-  done-covered : (floor : Option ℕ) (state : S) (cost : ℕ) → IsCovered rules kept state cost → IsDone rules (settled_of kept) floor state cost
+  done-covered :
+      (floor : Option ℕ) (state : S) (cost : ℕ) → IsCovered rules kept state cost → IsDone rules (settled_of kept) floor state cost
   done-covered floor state cost c =
       covered (
       record {

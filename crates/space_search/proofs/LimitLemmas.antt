@@ -21,17 +21,26 @@ module _ {S : Type 0} (rules : Rules S) where
   in_cell cell (label ∷ rest) =
       either (equal-or_not (rules.cell label.state) cell) (label ∷ in_cell cell rest) (in_cell cell rest)
 
+  -- a label lies in the cell, or it doesn't
+  abbrev Lies : Reached S → ℕ → Type 0
+  Lies label cell = (rules.cell label.state ≡ cell) ⊎ (rules.cell label.state ≢ cell)
+
+  -- the labels of one cell with one more before them, where it lies there
+  abbrev with_one : (cell : ℕ) (first : Reached S) → List (Reached S) → Lies first cell → List (Reached S)
+  with_one cell first rest lies = either lies (first ∷ in_cell cell rest) (in_cell cell rest)
+
+  -- these are labels of all
+  abbrev AreFrom : List (Reached S) → List (Reached S) → Type 0
+  AreFrom some all =
+      (place : ℕ) (label : Reached S) → slice_get some place ≡ Some label → (from : ℕ) × (slice_get all from ≡ Some label)
+
   -- a label of the cell is one of all
-  from-cell :
-      (cell : ℕ) (labels : List (Reached S)) (place : ℕ) (label : Reached S) → slice_get (in_cell cell labels) place ≡ Some label →
-      (from : ℕ) × (slice_get labels from ≡ Some label)
+  from-cell : (cell : ℕ) (labels : List (Reached S)) → AreFrom (in_cell cell labels) labels
   from-cell cell [] place label at = (place, at)
   from-cell cell (first ∷ rest) place label at = go (from-cell cell rest) (equal-or_not (rules.cell first.state) cell) place at where
     go :
-        ((place : ℕ) (label : Reached S) → slice_get (in_cell cell rest) place ≡ Some label → (from : ℕ) × (slice_get rest from ≡ Some label)) →
-        (d : (rules.cell first.state ≡ cell) ⊎ (rules.cell first.state ≢ cell)) (place : ℕ) →
-        slice_get (either d (first ∷ in_cell cell rest) (in_cell cell rest)) place ≡ Some label →
-        (from : ℕ) × (slice_get (first ∷ rest) from ≡ Some label)
+        AreFrom (in_cell cell rest) rest → (d : Lies first cell) (place : ℕ) →
+        slice_get (with_one cell first rest d) place ≡ Some label → (from : ℕ) × (slice_get (first ∷ rest) from ≡ Some label)
     go again (inl e) zero at = (0, at)
     go again (inl e) (suc place) at = let f = again place label at in (suc f.0, f.1)
     go again (inr e) place at = let f = again place label at in (suc f.0, f.1)
@@ -42,8 +51,8 @@ module _ {S : Type 0} (rules : Rules S) where
   chain-in_cell cell (first ∷ rest) chain = go (chain-in_cell cell rest chain.3) (equal-or_not (rules.cell first.state) cell) where
     go :
         IsUncoveredChain rules (in_cell cell rest) →
-        (d : (rules.cell first.state ≡ cell) ⊎ (rules.cell first.state ≢ cell)) →
-        IsUncoveredChain rules (either d (first ∷ in_cell cell rest) (in_cell cell rest))
+        (d : Lies first cell) →
+        IsUncoveredChain rules (with_one cell first rest d)
     go tail (inl e) =
         (chain.0, chain.1, (λ place label at. let f = from-cell cell rest place label at in chain.2 f.0 label f.1), tail)
     go tail (inr e) = tail
@@ -53,8 +62,8 @@ module _ {S : Type 0} (rules : Rules S) where
   lie-in_cell cell (first ∷ rest) = go (lie-in_cell cell rest) (equal-or_not (rules.cell first.state) cell) where
     go :
         LieIn rules cell (in_cell cell rest) →
-        (d : (rules.cell first.state ≡ cell) ⊎ (rules.cell first.state ≢ cell)) →
-        LieIn rules cell (either d (first ∷ in_cell cell rest) (in_cell cell rest))
+        (d : Lies first cell) →
+        LieIn rules cell (with_one cell first rest d)
     go tail (inl e) = (e, tail)
     go tail (inr e) = tail
 
@@ -70,9 +79,9 @@ module _ {S : Type 0} (rules : Rules S) where
       ((rules.cell first.state ≢ cell) × (length (in_cell cell (first ∷ rest)) ≡ length (in_cell cell rest)))
   length-in_cell cell first rest = go (equal-or_not (rules.cell first.state) cell) where
     go :
-        (d : (rules.cell first.state ≡ cell) ⊎ (rules.cell first.state ≢ cell)) →
-        ((rules.cell first.state ≡ cell) × (length (either d (first ∷ in_cell cell rest) (in_cell cell rest)) ≡ length (in_cell cell rest) + 1)) ⊎
-        ((rules.cell first.state ≢ cell) × (length (either d (first ∷ in_cell cell rest) (in_cell cell rest)) ≡ length (in_cell cell rest)))
+        (d : Lies first cell) →
+        ((rules.cell first.state ≡ cell) × (length (with_one cell first rest d) ≡ length (in_cell cell rest) + 1)) ⊎
+        ((rules.cell first.state ≢ cell) × (length (with_one cell first rest d) ≡ length (in_cell cell rest)))
     go (inl e) = inl (e, omega arith)
     go (inr e) = inr (e, refl)
 
@@ -143,8 +152,10 @@ module _ {S : Type 0} (rules : Rules S) where
       let c : IsPassedAt first = chain.each 0 first refl in (
         c.valid,
         (c.rank, c.ranked),
-        (λ place label at.
-            (chain.apart 0 (suc place) first label (omega arith) refl at, λ low high a b. chain.rising 0 (suc place) first label low high (omega arith) refl at a b)),
+        (λ place label at. (
+          chain.apart 0 (suc place) first label (omega arith) refl at,
+          λ low high a b. chain.rising 0 (suc place) first label low high (omega arith) refl at a b,
+        )),
         chain-from rest
             (
             record {

@@ -137,8 +137,17 @@ module _ {S : Type 0} (rules : Rules S) (laws : IsSpace rules) (kept : Books S) 
       (state : S) (cost : ℕ) → IsAccounted rules kept state cost →
       IsAccounted rules next_books state cost
   moves =
-      accounted-popped rules kept next_books number label
-      entry w.leaving.popped refl w.leaving.next.there refl more own
+      accounted-popped rules kept next_books number label entry
+      (
+      record {
+        popped = w.leaving.popped;
+        is = refl;
+        there = w.leaving.next.there;
+        same_labels = refl;
+        grows = more;
+        covered = own;
+      }
+      )
 
   search-new : IsSearch rules next_books
   search-new =

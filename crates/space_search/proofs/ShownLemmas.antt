@@ -9,10 +9,14 @@ use Rattle.space_search.specs.declared.label.Label.{Label}
 use Rattle.space_search.proofs.ListLemmas.{slice_get-append, slice_get-pushed, slice_get-same, slice_get-there}
 use Rattle.space_search.proofs.SameLemmas.{settled-within}
 
+-- each of these numbers has a label
+abbrev HaveLabels : {S : Type 0} → List (Label S) → List ℕ → Type 0
+HaveLabels {S} labels numbers =
+    (place number : ℕ) → slice_get numbers place ≡ Some number → (label : Label S) × (slice_get labels number ≡ Some label)
+
 -- where each number has a label, the labels stand at the places of their numbers
 pick-at :
-    {S : Type 0} (labels : List (Label S)) (numbers : List ℕ) →
-    ((place number : ℕ) → slice_get numbers place ≡ Some number → (label : Label S) × (slice_get labels number ≡ Some label)) →
+    {S : Type 0} (labels : List (Label S)) (numbers : List ℕ) → HaveLabels labels numbers →
     (place number : ℕ) (label : Label S) → slice_get numbers place ≡ Some number → slice_get labels number ≡ Some label →
     slice_get (pick labels numbers) place ≡ Some label
 pick-at labels [] all place number label at there = cc
@@ -27,8 +31,7 @@ pick-at {S} labels (n ∷ ns) all (suc place) number label at there =
 
 -- and there are as many
 pick-length :
-    {S : Type 0} (labels : List (Label S)) (numbers : List ℕ) →
-    ((place number : ℕ) → slice_get numbers place ≡ Some number → (label : Label S) × (slice_get labels number ≡ Some label)) →
+    {S : Type 0} (labels : List (Label S)) (numbers : List ℕ) → HaveLabels labels numbers →
     length (pick labels numbers) ≡ length numbers
 pick-length labels [] all = refl
 pick-length {S} labels (n ∷ ns) all =

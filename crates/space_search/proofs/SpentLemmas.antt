@@ -99,7 +99,8 @@ module _ {S : Type 0} (rules : Rules S) (laws : IsSpace rules) (kept : Books S) 
             record {
               count = omega (arith, length-append (settled_of kept) (last ∷ []), count, full);
               ordered =
-                  order-more rules (settled_of kept) last (in-order rules kept r.search.stands) passed under apart;
+                  order-more rules (settled_of kept) last (in-order rules kept r.search.stands)
+                  (record { passed = passed; under = under; uncovered = apart });
               below = below;
             };
         closed = closed-below rules laws kept r.search r.closed r.next.rank r.next.least;

@@ -6,8 +6,11 @@ use Rattle.space_search.specs.TestLine.{line_rules, line_step}
 use Rattle.space_search.specs.TestPlain.{plain-space}
 
 -- the next cell lies in the line
-move : (cells goal from number state cost : ℕ) → line_step cells from ≡ Some (state, cost) → IsMove (line_rules cells goal) state cost
-move cells goal from number state cost is = record { valid = grind (arith, nat_tests); cheap = grind (arith, nat_tests) }
+move :
+    (cells goal from number state cost : ℕ) → line_step cells from ≡ Some (state, cost) →
+    IsMove (line_rules cells goal) state cost
+move cells goal from number state cost is =
+    record { valid = grind (arith, nat_tests); cheap = grind (arith, nat_tests) }
 
 -- a line of at least one cell keeps the laws
 pub line-keeps_laws : (cells goal : ℕ) → 1 ≤ cells → IsSpace (line_rules cells goal)

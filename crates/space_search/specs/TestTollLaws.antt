@@ -25,13 +25,19 @@ covers-these (p, d) (p', d') ca cb place due cost = grind (arith, nat_tests)
 
 -- a step leads to a state of the space
 move :
-    (bounded : Bool) (place due number : ℕ) (state : ℕ × ℕ) (cost : ℕ) → due < 10 → toll_step (place, due) number ≡ Some (state, cost) →
+    (bounded : Bool) (place due number : ℕ) (state : ℕ × ℕ) (cost : ℕ) → due < 10 →
+    toll_step (place, due) number ≡ Some (state, cost) →
     IsMove (toll_rules bounded) state cost
-move bounded zero due zero state cost small is = record { valid = grind (arith, nat_tests); cheap = grind (arith, nat_tests) }
-move bounded zero due (suc zero) state cost small is = record { valid = grind (arith, nat_tests); cheap = grind (arith, nat_tests) }
-move bounded zero due (suc (suc n)) state cost small is = record { valid = grind (arith, nat_tests); cheap = grind (arith, nat_tests) }
-move bounded (suc zero) due n state cost small is = record { valid = grind (arith, nat_tests); cheap = grind (arith, nat_tests) }
-move bounded (suc (suc m)) due n state cost small is = record { valid = grind (arith, nat_tests); cheap = grind (arith, nat_tests) }
+move bounded zero due zero state cost small is =
+    record { valid = grind (arith, nat_tests); cheap = grind (arith, nat_tests) }
+move bounded zero due (suc zero) state cost small is =
+    record { valid = grind (arith, nat_tests); cheap = grind (arith, nat_tests) }
+move bounded zero due (suc (suc n)) state cost small is =
+    record { valid = grind (arith, nat_tests); cheap = grind (arith, nat_tests) }
+move bounded (suc zero) due n state cost small is =
+    record { valid = grind (arith, nat_tests); cheap = grind (arith, nat_tests) }
+move bounded (suc (suc m)) due n state cost small is =
+    record { valid = grind (arith, nat_tests); cheap = grind (arith, nat_tests) }
 
 -- what is due at a state of the space is small
 due-small : (bounded : Bool) (state : ℕ × ℕ) → IsTrue ((toll_rules bounded).is_valid state) → state.1 < 10
@@ -40,7 +46,8 @@ due-small bounded (p, d) valid = grind (arith, nat_tests)
 -- two states of one place go to the same state by the same step, the one with no more due at no greater cost
 along :
     (place due due' number : ℕ) (first second : ℕ × ℕ) (more other : ℕ) → due ≤ due' →
-    toll_step (place, due) number ≡ Some (first, more) → toll_step (place, due') number ≡ Some (second, other) →
+    toll_step (place, due) number ≡ Some (first, more) →
+    toll_step (place, due') number ≡ Some (second, other) →
     (first ≡ second) × (more ≤ other)
 along zero due due' zero first second more other less is is' = (grind (arith, nat_tests), grind (arith, nat_tests))
 along zero due due' (suc zero) first second more other less is is' = (grind (arith, nat_tests), grind (arith, nat_tests))
@@ -49,7 +56,9 @@ along (suc zero) due due' n first second more other less is is' = (grind (arith,
 along (suc (suc m)) due due' n first second more other less is is' = (grind (arith, nat_tests), grind (arith, nat_tests))
 
 -- a step that is permitted at a place is permitted whatever is due
-permitted : (place due due' number : ℕ) → is_some (toll_step (place, due) number) ≡ is_some (toll_step (place, due') number)
+permitted :
+    (place due due' number : ℕ) →
+    is_some (toll_step (place, due) number) ≡ is_some (toll_step (place, due') number)
 permitted zero due due' zero = refl
 permitted zero due due' (suc zero) = refl
 permitted zero due due' (suc (suc n)) = grind (arith, nat_tests)
@@ -57,12 +66,16 @@ permitted (suc zero) due due' n = refl
 permitted (suc (suc m)) due due' n = grind (arith, nat_tests)
 
 -- the bound is small
-low-small : (bounded : Bool) (state : ℕ × ℕ) (low : ℕ) → state.1 < 10 → toll_low bounded state ≡ Some low → low < LOW_BOUND
+low-small :
+    (bounded : Bool) (state : ℕ × ℕ) (low : ℕ) → state.1 < 10 → toll_low bounded state ≡ Some low →
+    low < LOW_BOUND
 low-small true (p, d) low small is = grind (arith, nat_tests)
 low-small false (p, d) low small is = grind (arith, nat_tests)
 
 -- it is 0 at the goal
-low-goal : (bounded : Bool) (state : ℕ × ℕ) → IsTrue ((toll_rules bounded).is_goal state) → toll_low bounded state ≡ Some 0
+low-goal :
+    (bounded : Bool) (state : ℕ × ℕ) → IsTrue ((toll_rules bounded).is_goal state) →
+    toll_low bounded state ≡ Some 0
 low-goal true (p, d) goal = grind (arith, nat_tests)
 low-goal false (p, d) goal = refl
 

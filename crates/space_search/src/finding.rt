@@ -13,8 +13,8 @@ use std::alloc::{AllocError, Global};
 /// How many labels one turn of `least` settles at most.
 const QUOTA: u32 = 1048576;
 
-/// A run of least cost from a start to a goal, or that no run reaches a goal, or that `limit` labels are
-/// settled and one more would be.
+/// A run of least cost from a start to a goal, or that no run reaches a goal, or that `limit`
+/// labels are settled and one more would be.
 pub fn least<S: Space>(alloc: Global, space: &S, limit: u64) -> Result<Outcome, AllocError>
     requires small { limit < 2 ^ 32 }
     ensures answers { IfOk result (λ outcome. Answers (S.rules space.now) limit outcome) }

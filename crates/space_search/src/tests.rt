@@ -1,10 +1,8 @@
 //! What searches over spaces of the tests' own settle, and what is read of them.
 
-ghost use Rattle.std.specs.Prelude.{◌<◌, ◌≤◌, ◌^◌, false, length};
-ghost use Rattle.space_search.specs.Searches.{IsSearchOf};
+ghost use Rattle.std.specs.Prelude.{◌<◌, ◌≤◌, ◌^◌};
+ghost use Rattle.space_search.specs.Searches.{IsSearchOf, IsReadable};
 ghost use Rattle.space_search.specs.TestLine.{line_rules};
-ghost use Rattle.space_search.specs.TestToll.{toll_rules};
-ghost use Rattle.space_search.specs.View.{view, labels_of};
 
 use super::*;
 use crate::tests_line::Line;
@@ -12,7 +10,8 @@ use crate::tests_toll::Toll;
 use std::alloc::{AllocError, Global};
 use std::test::Fail;
 
-// The answer of a whole search over a line: the choices and the cost of a run, or `none`, or `spent`.
+// The answer of a whole search over a line: the choices and the cost of a run, or `none`, or
+// `spent`.
 fn told(alloc: Global, cells: u32, goal: u32, limit: u64) -> Result<String, AllocError>
     requires some { 1 ≤ cells }
     requires small { limit < 2 ^ 32 }
@@ -35,8 +34,7 @@ fn a_whole_search_has_three_outcomes(rt: HostRuntime) -> Result<(), Fail> {
 
 // State, cost and choices of a label.
 fn label(alloc: Global, search: &Search<(u32, u32)>, label: u32) -> Result<String, AllocError>
-    requires of { IsSearchOf (toll_rules false) search.now }
-    requires readable { label < length (labels_of (view search.now)) }
+    requires readable { IsReadable search.now label }
 {
     let choices = search.choices(alloc, label)?;
     let (place, due) = *search.state_of(label);
@@ -108,7 +106,8 @@ fn reads_right(search: &Search<u32>, line: &Line) -> bool
     true
 }
 
-// In a run of the tests in which one allocation fails, this also reaches a search that met want of memory.
+// In a run of the tests in which one allocation fails, this also reaches a search that met want of
+// memory.
 #[test]
 fn each_turn_works_for_its_quota_alone_and_labels_always_read(rt: HostRuntime) -> Result<(), Fail> {
     let line = Line::new(1000, 999);

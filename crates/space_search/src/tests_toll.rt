@@ -2,8 +2,8 @@
 
 use crate::space::Space;
 
-/// Three steps lead from the place 0 to the place 1, and leave more or less due there; one leads on to
-/// the goal 2. With a bound the space says what is still to pay at the place 1.
+/// Three steps lead from the place 0 to the place 1, and leave more or less due there; one leads on
+/// to the goal 2. With a bound the space says what is still to pay at the place 1.
 #[derive(Drop)]
 pub(crate) struct Toll {
     pub(crate) bounded: bool,
