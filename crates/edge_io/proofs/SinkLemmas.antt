@@ -1,18 +1,29 @@
--- What a sink tells after several pieces.
-use Rattle.std.proofs.Common.{◌≡◌, ℕ, ◌+◌, List, ◌++◌, take, drop, Option, Some, None, refl, ap, append_assoc}
+-- What a sink shows after several pieces.
+use Rattle.std.proofs.Common.{ℕ, ◌+◌, ◌<◌, List, [], ◌++◌, length, take, drop, refl, sym, ◌∙◌, subst}
+use Rattle.std.proofs.KnownBytes.{Appends-trans, Appends-nil, Appends-kept}
 use Rattle.std.proofs.Math.Seq.{take-add}
-use Rattle.edge_io.specs.Sink.{followed_by}
+use Rattle.std.specs.Io.KnownBytes.{Appends}
+use Rattle.edge_io.specs.Sink.{SinkSeen, Grows, FailsToTake, BreaksOff}
 
--- what follows in two pieces follows as one
-pub followed_by-followed_by : (held : Option (List ℕ)) (a b : List ℕ) → followed_by (followed_by held a) b ≡ followed_by held (a ++ b)
-followed_by-followed_by None a b = refl
-followed_by-followed_by (Some bytes) a b = ap (λ (xs : List ℕ). Some xs) (append_assoc bytes a b)
+-- nothing follows where nothing happened
+pub Grows-none : (seen : SinkSeen) → Grows seen seen []
+Grows-none seen = record { held = Appends-nil seen.held; faults = refl }
 
 -- after the first bytes and then the next ones, so many first bytes follow
-pub followed_by-take_more : (first held new : Option (List ℕ)) (bytes : List ℕ) (sent taken : ℕ)
-    → held ≡ followed_by first (take sent bytes) → new ≡ followed_by held (take taken (drop sent bytes))
-    → new ≡ followed_by first (take (sent + taken) bytes)
-followed_by-take_more first held new bytes sent taken before added =
-    let joined : followed_by (followed_by first (take sent bytes)) (take taken (drop sent bytes)) ≡ followed_by first (take sent bytes ++ take taken (drop sent bytes)) = followed_by-followed_by first (take sent bytes) (take taken (drop sent bytes)) in
-    let split : take (sent + taken) bytes ≡ take sent bytes ++ take taken (drop sent bytes) = take-add sent taken bytes in
-    cc
+pub Grows-more : (first mid new : SinkSeen) (bytes : List ℕ) (sent taken : ℕ) → Grows first mid (take sent bytes) → Grows mid new (take taken (drop sent bytes)) → Grows first new (take (sent + taken) bytes)
+Grows-more first mid new bytes sent taken before more =
+    let joined : Appends first.held new.held (take sent bytes ++ take taken (drop sent bytes)) =
+    Appends-trans first.held mid.held new.held (take sent bytes) (take taken (drop sent bytes)) before.held more.held in
+    record {
+      held = subst (Appends first.held new.held) (sym (take-add sent taken bytes)) joined;
+      faults = more.faults ∙ before.faults;
+    }
+
+-- a call that failed after the first bytes breaks off there
+pub BreaksOff-after : (first mid new : SinkSeen) (bytes : List ℕ) (sent : ℕ) → sent < length bytes → Grows first mid (take sent bytes) → FailsToTake mid new → BreaksOff first new bytes
+BreaksOff-after first mid new bytes sent within before fails = record {
+  sent = sent;
+  within = within;
+  held = Appends-kept first.held mid.held new.held (take sent bytes) before.held fails.held;
+  rose = rw (← before.faults) fails.rose;
+}

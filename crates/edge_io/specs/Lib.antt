@@ -5,5 +5,5 @@ pub mod MemoryView
 pub mod Files
 pub mod MemoryFiles
 pub mod MemoryFilesView
-pub mod SystemFiles
+pub mod System
 pub mod Whole

@@ -1,6 +1,7 @@
 -- This project's own rule: what a sink in memory takes, when it fails, and what it then leaves.
-use Rattle.std.specs.Prelude.{ℕ, ◌-◌, ◌≤◌, ◌⊎◌, min, List, [], ◌++◌, length, take, Contains}
+use Rattle.std.specs.Prelude.{ℕ, ◌-◌, ◌≤◌, ◌⊎◌, min, List, [], ◌++◌, length, take, Contains, Some}
 use Rattle.edge_io.specs.Faults.{next_count}
+use Rattle.edge_io.specs.Sink.{SinkSeen}
 
 -- a sink in memory: its bytes, its limits, the numbers of the calls that fail, and its counts
 pub record Store : Type 0 where
@@ -10,6 +11,10 @@ pub record Store : Type 0 where
   pub failing : List ℕ
   pub calls : ℕ
   pub faults : ℕ
+
+-- what it shows as a sink
+abbrev pub seen_of : Store → SinkSeen
+seen_of s = record { held = Some s.bytes; faults = s.faults }
 
 -- a sink that was not written to
 abbrev pub fresh_store : ℕ → ℕ → List ℕ → Store

@@ -6,14 +6,13 @@ use Rattle.edge_io.specs.declared.memory_files.MemFiles.TheInside.{Inside}
 -- the folder that the fields make
 abbrev pub folder_of : Inside → Folder
 folder_of s = record {
-  shelf = record {
-    files = listed s.files.items;
-    left = if s.opened then Some (drop s.at (content_at (listed s.files.items) s.place)) else None;
-    opens = s.opens;
-  };
+  files = listed s.files.items;
+  left = if s.opened then Some (drop s.at (content_at (listed s.files.items) s.place)) else None;
   piece = s.piece;
   failing = s.failing.items;
   calls = s.calls;
+  opens = s.opens;
+  reads = s.reads;
   faults = s.faults;
 }
 

@@ -1,24 +1,41 @@
--- This project's own rule: the bytes of a file that is read as a whole.
-use Rattle.std.specs.Prelude.{ℕ, ◌<◌, ◌≡◌, List, length, Option, Some, None}
-use Rattle.edge_io.specs.Files.{Shelf, after_read}
+-- This project's own rule: a file that is read as a whole.
+use Rattle.std.specs.Prelude.{ℕ, ◌+◌, ◌<◌, ◌≤◌, ◌≡◌, List, length, Option, Some, None, Result, Ok, Err}
+use Rattle.std.specs.Io.KnownBytes.{Consumes}
+use Rattle.edge_io.specs.Faults.{CountRose, count_after}
+use Rattle.edge_io.specs.Files.{FilesSeen}
+use Rattle.edge_io.specs.declared.whole_error.WholeError.{WholeError}
+use Rattle.edge_io.specs.declared.whole_error.WholeError.TheVariants.{Fault, TooLong, NoMemory}
 
 -- the bytes are all that was left of the open file, where it is told
-abbrev pub IsAllLeft : Option Shelf → List ℕ → Type 0
+abbrev pub IsAllLeft : Option (List ℕ) → List ℕ → Type 0
 IsAllLeft None bytes = Unit {0}
-IsAllLeft (Some s) bytes = s.left ≡ Some bytes
-
--- more bytes than the limit were left of an open file
-pub record IsLong (left : Option (List ℕ)) (limit : ℕ) : Type 0 where
-  pub rest : List ℕ
-  pub is_open : left ≡ Some rest
-  pub long : limit < length rest
+IsAllLeft (Some rest) bytes = rest ≡ bytes
 
 -- more bytes than the limit were left of the open file, where it is told
-abbrev pub IsTooLong : Option Shelf → ℕ → Type 0
+abbrev pub IsTooLong : Option (List ℕ) → ℕ → Type 0
 IsTooLong None limit = Unit {0}
-IsTooLong (Some s) limit = IsLong s.left limit
+IsTooLong (Some rest) limit = limit < length rest
 
--- some bytes of the open file were read, and nothing else happened
-pub record ReadsOn (old new : Option Shelf) : Type 0 where
-  pub read : ℕ
-  pub held : new ≡ after_read old read
+-- these bytes of the open file were read, by so many reads: at most one more than bytes, and at most one more than the
+-- limit; nothing else happened but what the count of faults tells
+pub record ReadsBytes (limit : ℕ) (old new : FilesSeen) (bytes : List ℕ) : Type 0 where
+  pub times : ℕ
+  pub few : times ≤ length bytes + 1
+  pub limited : times ≤ limit + 1
+  pub left : Consumes old.left new.left bytes
+  pub is_open : new.is_open ≡ old.is_open
+  pub files : new.files ≡ old.files
+  pub opens : new.opens ≡ old.opens
+  pub reads : new.reads ≡ count_after times old.reads
+
+-- some bytes of the open file were read
+pub record ReadsOn (limit : ℕ) (old new : FilesSeen) : Type 0 where
+  pub bytes : List ℕ
+  pub how : ReadsBytes limit old new bytes
+
+-- a fault is answered where the count of faults rose, and every other answer leaves it
+abbrev pub CountsFault : {T : Type 0} → ℕ → ℕ → Result T WholeError → Type 0
+CountsFault old new (Ok a) = new ≡ old
+CountsFault old new (Err Fault) = CountRose old new
+CountsFault old new (Err TooLong) = new ≡ old
+CountsFault old new (Err NoMemory) = new ≡ old

@@ -7,12 +7,12 @@ mod memory;
 mod memory_files;
 mod send;
 mod sink;
-mod standard;
 mod system_files;
 #[cfg(test)]
 mod tests;
 mod whole;
 mod whole_error;
+mod writer;
 
 pub use failed::Failed;
 pub use files::Files;
@@ -20,7 +20,7 @@ pub use memory::MemSink;
 pub use memory_files::MemFiles;
 pub use send::send_all;
 pub use sink::Sink;
-pub use standard::StdSink;
 pub use system_files::DirFiles;
 pub use whole::read_whole;
 pub use whole_error::WholeError;
+pub use writer::{StdSink, WriteSink};

@@ -1,9 +1,8 @@
 //! A sink in memory, which tells what it holds and fails where it is told to.
 
-ghost use Rattle.std.specs.Prelude.{◌≡◌, ◌≤◌, ◌↔◌, IfOk, OnOk, OnErr, IsErr, Some, take};
-ghost use Rattle.edge_io.specs.Faults.{CountsFaults};
-ghost use Rattle.edge_io.specs.Sink.{followed_by, TakesFront};
-ghost use Rattle.edge_io.specs.Memory.{fresh_store, FailsNext, taken_of, after_write, after_fault};
+ghost use Rattle.std.specs.Prelude.{◌≡◌, ◌≤◌, ◌↔◌, IfOk, OnOk, OnErr, IsErr, take};
+ghost use Rattle.edge_io.specs.Sink.{TakesFront, Grows, FailsToTake};
+ghost use Rattle.edge_io.specs.Memory.{seen_of, fresh_store, FailsNext, taken_of, after_write, after_fault};
 
 use crate::failed::{Failed, next};
 use crate::sink::Sink;
@@ -65,9 +64,7 @@ impl MemSink {
 }
 
 impl Sink for MemSink {
-    ghost held = { λ s. Some s.bytes };
-
-    ghost faults = { λ s. s.faults };
+    ghost seen = { seen_of };
 
     fn write(&mut self, piece: &[u8]) -> Result<usize, Failed>
         ensures refused { IsErr result ↔ FailsNext self.old }
@@ -77,9 +74,8 @@ impl Sink for MemSink {
 
         // What each sink promises.
         ensures fits { IfOk result (TakesFront piece.now) }
-        ensures value { IfOk result (λ n. Some self.new.bytes ≡ followed_by (Some self.old.bytes) (take n piece.now)) }
-        ensures kept { OnErr result (Some self.new.bytes ≡ Some self.old.bytes) }
-        ensures cause { CountsFaults self.old.faults self.new.faults result }
+        ensures value { IfOk result (λ n. Grows (seen_of self.old) (seen_of self.new) (take n piece.now)) }
+        ensures kept { OnErr result (FailsToTake (seen_of self.old) (seen_of self.new)) }
     {
         let call = self.calls;
         self.calls = next(call);

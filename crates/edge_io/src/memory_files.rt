@@ -1,13 +1,12 @@
 //! Files in memory, which tell what they hold and fail where they are told to.
 
-ghost use Rattle.std.specs.Prelude.{◌≡◌, ◌<◌, ◌≤◌, ◌↔◌, true, length, Some, option_map, IfOk, OnOk, OnErr, IsErr, is_some};
-ghost use Rattle.edge_io.specs.Faults.{CountsFaults};
-ghost use Rattle.edge_io.specs.Files.{content_of, IsFound, GivesNext, after_open, after_failed_open, after_read};
-ghost use Rattle.edge_io.specs.MemoryFiles.{fresh_folder, listed, content_at, FailsCall, given_of, buffer_after, after_opening, after_reading, after_failed_opening, after_failed_read};
+ghost use Rattle.std.specs.Prelude.{◌≡◌, ◌<◌, ◌≤◌, ◌↔◌, true, length, option_map, IfOk, OnOk, OnErr, IsErr, is_some};
+ghost use Rattle.edge_io.specs.Files.{content_of, Opens, FailsToOpen, Reads, FailsToRead};
+ghost use Rattle.edge_io.specs.MemoryFiles.{seen_of, fresh_folder, listed, content_at, FailsCall, given_of, buffer_after, after_opening, after_reading, after_failed_opening, after_failed_read};
 
 use crate::failed::{Failed, next};
 use crate::files::Files;
-use lookup_table::Name;
+use item_list::Name;
 use std::alloc::Global;
 use std::marker::Model;
 
@@ -22,6 +21,7 @@ pub struct MemFiles {
     at: usize,
     calls: u64,
     opens: u64,
+    reads: u64,
     faults: u64,
 }
 
@@ -59,13 +59,14 @@ impl MemFiles {
             at: 0,
             calls: 0,
             opens: 0,
+            reads: 0,
             faults: 0,
         }
     }
 
     /// How often `open` was called, failed calls too; the count stands still at its last value.
     pub fn opens(&self) -> u64
-        ensures value { result ≡ self.now.shelf.opens }
+        ensures value { result ≡ self.now.opens }
     {
         self.opens
     }
@@ -97,25 +98,17 @@ fn content(files: &[(Name, Vec<u8>)], place: usize) -> &[u8]
 }
 
 impl Files for MemFiles {
-    ghost held = { λ s. Some s.shelf };
-
-    ghost is_open = { λ s. is_some s.shelf.left };
-
-    ghost faults = { λ s. s.faults };
+    ghost seen = { seen_of };
 
     fn open(&mut self, name: &str) -> Result<bool, Failed>
         ensures refused { IsErr result ↔ FailsCall self.old }
-        ensures exact { IfOk result (λ found. found ≡ is_some (content_of self.old.shelf.files name.now)) }
+        ensures exact { IfOk result (λ found. found ≡ is_some (content_of self.old.files name.now)) }
         ensures written { OnOk result (self.new ≡ after_opening self.old name.now) }
         ensures counted { OnErr result (self.new ≡ after_failed_opening self.old) }
 
         // What all files promise.
-        ensures found { IfOk result (IsFound (Some self.old.shelf) name.now) }
-        ensures value { OnOk result (Some self.new.shelf ≡ after_open (Some self.old.shelf) name.now) }
-        ensures opened { IfOk result (λ found. is_some self.new.shelf.left ≡ found) }
-        ensures kept { OnErr result (Some self.new.shelf ≡ after_failed_open (Some self.old.shelf)) }
-        ensures same { OnErr result (is_some self.new.shelf.left ≡ is_some self.old.shelf.left) }
-        ensures cause { CountsFaults self.old.faults self.new.faults result }
+        ensures found { IfOk result (Opens (seen_of self.old) (seen_of self.new) name.now) }
+        ensures kept { OnErr result (FailsToOpen (seen_of self.old) (seen_of self.new)) }
     {
         let call = self.calls;
         self.calls = next(call);
@@ -139,7 +132,7 @@ impl Files for MemFiles {
     }
 
     fn read(&mut self, buf: &mut [u8]) -> Result<usize, Failed>
-        requires ready { is_some self.old.shelf.left ≡ true }
+        requires ready { is_some self.old.left ≡ true }
         requires some { 0 < length buf.old }
         ensures refused { IsErr result ↔ FailsCall self.old }
         ensures exact { IfOk result (λ n. n ≡ given_of self.old (length buf.old)) }
@@ -150,14 +143,12 @@ impl Files for MemFiles {
 
         // What all files promise.
         ensures fits { IfOk result (λ n. n ≤ length buf.new) }
-        ensures found { IfOk result (GivesNext (Some self.old.shelf) buf.new) }
-        ensures value { IfOk result (λ n. Some self.new.shelf ≡ after_read (Some self.old.shelf) n) }
-        ensures same { is_some self.new.shelf.left ≡ is_some self.old.shelf.left }
-        ensures kept { OnErr result (Some self.new.shelf ≡ Some self.old.shelf) }
-        ensures cause { CountsFaults self.old.faults self.new.faults result }
+        ensures found { IfOk result (Reads (seen_of self.old) (seen_of self.new) buf.new) }
+        ensures kept { OnErr result (FailsToRead (seen_of self.old) (seen_of self.new)) }
     {
         let call = self.calls;
         self.calls = next(call);
+        self.reads = next(self.reads);
         if self.failing.contains(&call) {
             self.faults = next(self.faults);
             return Err(Failed);

@@ -1,64 +1,79 @@
 //! The files of the system, which tell nothing of what they hold.
 
-ghost use Rattle.std.specs.Prelude.{◌≡◌, None};
-ghost use Rattle.edge_io.specs.SystemFiles.{fresh_system};
+ghost use Rattle.std.specs.Prelude.{◌≡◌};
+ghost use Rattle.edge_io.specs.System.{fresh_system, TellsOpened};
 
 use crate::failed::{Failed, next};
 use crate::files::Files;
 use std::io::{ErrorKind, Read};
 use std::marker::Model;
-use std::{fs, rt};
+use std::{fs, io, rt};
 
-/// The files of the runtime's system; contracts see whether one is open, and the count of faults.
+/// The files of the runtime's system; they tell no more than the open file does.
 #[derive(Drop)]
 pub struct DirFiles<'a, R: rt::Files> {
     rt: &'a R,
     file: Option<R::File>,
+    opens: u64,
+    reads: u64,
     faults: u64,
 }
 
 impl<'a, R: rt::Files> Model for DirFiles<'a, R> {
-    ghost use Rattle.std.specs.Prelude.{is_some};
-    ghost use Rattle.edge_io.specs.SystemFiles.{SystemFiles};
+    ghost use Rattle.std.specs.Prelude.{None, is_some, option_and_then};
+    ghost use Rattle.edge_io.specs.Files.{FilesSeen};
 
-    ghost Value = { SystemFiles };
+    ghost Value = { FilesSeen };
 
-    ghost view = { λ s. record { is_open = is_some s.file; faults = s.faults } };
+    ghost view = { λ s. record {
+      files = None;
+      left = option_and_then R.File.remaining s.file;
+      is_open = is_some s.file;
+      opens = s.opens;
+      reads = s.reads;
+      faults = s.faults;
+    } };
 }
 
 impl<'a, R: rt::Files> DirFiles<'a, R> {
-    /// The files of the system of `rt`, with none open and no fault so far.
+    /// The files of the system of `rt`, with none open and no call so far.
     pub fn new(rt: &'a R) -> Self
         ensures value { result ≡ fresh_system }
     {
         DirFiles {
             rt,
             file: None,
+            opens: 0,
+            reads: 0,
             faults: 0,
         }
     }
 }
 
+/// What the system's answer to an opening means: the file, that none has the name, or a failure.
+fn opened<T>(answer: io::Result<T>) -> Result<Option<T>, Failed>
+    ensures exact { TellsOpened answer result }
+{
+    match answer {
+        Ok(file) => Ok(Some(file)),
+        Err(error) if error.kind() == ErrorKind::NotFound => Ok(None),
+        Err(_) => Err(Failed),
+    }
+}
+
 impl<R: rt::Files> Files for DirFiles<'_, R> {
-    ghost held = { λ s. None };
-
-    ghost is_open = { λ s. s.is_open };
-
-    ghost faults = { λ s. s.faults };
+    ghost seen = { λ s. s };
 
     fn open(&mut self, name: &str) -> Result<bool, Failed> {
-        match fs::open(self.rt, name) {
+        self.opens = next(self.opens);
+        match opened(fs::open(self.rt, name)) {
             Ok(file) => {
-                self.file = Some(file);
-                Ok(true)
+                self.file = file;
+                Ok(self.file.is_some())
             }
-            Err(error) if error.kind() == ErrorKind::NotFound => {
-                self.file = None;
-                Ok(false)
-            }
-            Err(_) => {
+            Err(failed) => {
                 self.faults = next(self.faults);
-                Err(Failed)
+                Err(failed)
             }
         }
     }
@@ -67,6 +82,7 @@ impl<R: rt::Files> Files for DirFiles<'_, R> {
         let Some(file) = &mut self.file else {
             unreachable!();
         };
+        self.reads = next(self.reads);
         match file.read(buf) {
             Ok(given) => Ok(given),
             Err(_) => {

@@ -1,9 +1,7 @@
 //! Reading the open file as a whole.
 
 ghost use Rattle.std.specs.Prelude.{◌≡◌, ◌≤◌, true, length, IfOk, Err};
-ghost use Rattle.edge_io.specs.Faults.{CountRose};
-ghost use Rattle.edge_io.specs.Files.{after_read};
-ghost use Rattle.edge_io.specs.Whole.{IsAllLeft, IsTooLong, ReadsOn};
+ghost use Rattle.edge_io.specs.Whole.{IsAllLeft, IsTooLong, ReadsBytes, ReadsOn, CountsFault};
 ghost use Rattle.edge_io.specs.declared.whole_error.WholeError.{WholeError};
 
 use crate::files::Files;
@@ -17,18 +15,15 @@ pub fn read_whole<F: Files>(
     files: &mut F,
     limit: usize,
 ) -> Result<Vec<u8>, WholeError>
-    requires ready { F.is_open files.old ≡ true }
-    ensures exact { IfOk result (λ bytes. IsAllLeft (F.held files.old) bytes.items) }
+    requires ready { (F.seen files.old).is_open ≡ true }
+    ensures exact { IfOk result (λ bytes. IsAllLeft (F.seen files.old).left bytes.items) }
     ensures fits { IfOk result (λ bytes. length bytes.items ≤ limit) }
-    ensures too_long { result ≡ Err WholeError.TooLong → IsTooLong (F.held files.old) limit }
+    ensures too_long { result ≡ Err WholeError.TooLong → IsTooLong (F.seen files.old).left limit }
 
     // What stands afterwards.
-    ensures value { IfOk result (λ bytes. F.held files.new ≡ after_read (F.held files.old) (length bytes.items)) }
-    ensures kept { ReadsOn (F.held files.old) (F.held files.new) }
-    ensures same { F.is_open files.new ≡ true }
-
-    ensures never_falls { F.faults files.old ≤ F.faults files.new }
-    ensures cause { result ≡ Err WholeError.Fault → CountRose (F.faults files.old) (F.faults files.new) }
+    ensures value { IfOk result (λ bytes. ReadsBytes limit (F.seen files.old) (F.seen files.new) bytes.items) }
+    ensures kept { ReadsOn limit (F.seen files.old) (F.seen files.new) }
+    ensures cause { CountsFault (F.seen files.old).faults (F.seen files.new).faults result }
 {
     let mut bytes = Vec::new(alloc);
     let mut buf = [0u8; 4096];

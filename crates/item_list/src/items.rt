@@ -37,6 +37,13 @@ impl<T> Items<T> {
         Items { items }
     }
 
+    /// The vector of the list's items; it takes no memory.
+    pub fn into_vec(self) -> Vec<T>
+        ensures value { result.items ≡ self }
+    {
+        self.items
+    }
+
     /// How many items the list has.
     pub fn len(&self) -> usize
         ensures value { result ≡ length self.now }

@@ -1,10 +1,16 @@
-//! One list type for every public field and result that contracts see as a list, and a clone that is equal.
+//! One list type for every public field and result that contracts see as a list, names, and what all replies are built of.
 #![tactic(auto)]
 
+mod append;
+mod bytes;
+mod compared;
 mod items;
-#[cfg(test)]
-mod tests;
+mod names;
+mod numbers;
 mod try_clone;
 
+pub use append::{append_bytes, append_named, append_number, append_signed, append_wide, bytes_of};
+pub use bytes::{is_digit, is_space};
 pub use items::Items;
+pub use names::{Name, Tags};
 pub use try_clone::TryClone;

@@ -11,30 +11,6 @@ pub trait TryClone: Sized {
         ensures same { IfOk result (λ copy. copy ≡ self.now) };
 }
 
-impl TryClone for u8 {
-    fn try_clone(&self, _alloc: Global) -> Result<u8, AllocError> {
-        Ok(*self)
-    }
-}
-
-impl TryClone for u16 {
-    fn try_clone(&self, _alloc: Global) -> Result<u16, AllocError> {
-        Ok(*self)
-    }
-}
-
-impl TryClone for u32 {
-    fn try_clone(&self, _alloc: Global) -> Result<u32, AllocError> {
-        Ok(*self)
-    }
-}
-
-impl TryClone for u64 {
-    fn try_clone(&self, _alloc: Global) -> Result<u64, AllocError> {
-        Ok(*self)
-    }
-}
-
 impl<A: TryClone + Drop, B: TryClone + Drop> TryClone for (A, B) {
     fn try_clone(&self, alloc: Global) -> Result<(A, B), AllocError> {
         let first = self.0.try_clone(alloc)?;
