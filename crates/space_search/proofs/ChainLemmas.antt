@@ -54,76 +54,82 @@ module _ {S : Type 0} (rules : Rules S) (laws : IsSpace rules) (kept : Books S) 
         let covered : rules.covers label.state label.cost state cost ≡ true = covers in
         cc)
 
-    module _ (cursor : ℕ) (some : 0 < cursor) (t : IsTested rules kept state cost cursor) where
-      found : (label : Label S) × IsSettled kept (cursor - 1) label × (rules.cell label.state ≡ rules.cell state)
-      found = t.here (cursor - 1) (omega arith)
+-- The covering test stands at the label before the cursor.
+pub record Tests {S : Type 0} (rules : Rules S) (kept : Books S) (state : S) (cost cursor : ℕ) : Type 0 where
+  pub search : IsSearch rules kept
+  pub some : 0 < cursor
+  pub tested : IsTested rules kept state cost cursor
 
-      pub within-settled : cursor - 1 < length kept.settled
-      within-settled = settled-within kept (cursor - 1) found.0 found.1
+module _ {S : Type 0} (rules : Rules S) (kept : Books S) (state : S) (cost cursor : ℕ) (t : Tests rules kept state cost cursor) where
+  found : (label : Label S) × IsSettled kept (cursor - 1) label × (rules.cell label.state ≡ rules.cell state)
+  found = t.tested.here (cursor - 1) (omega (arith, t.some))
 
-      pub within-older : cursor - 1 < length kept.older
-      within-older = omega (arith, within-settled, search.index.places)
+  pub within-settled : cursor - 1 < length kept.settled
+  within-settled = settled-within kept (cursor - 1) found.0 found.1
 
-      module _ (number : ℕ) (read : number ≡ get_or kept.settled (cursor - 1) number) where
-        at : slice_get kept.settled (cursor - 1) ≡ Some number
-        at = slice_get_read kept.settled (length kept.settled) (cursor - 1) number refl within-settled read
+  pub within-older : cursor - 1 < length kept.older
+  within-older = omega (arith, within-settled, t.search.index.places)
 
-        same-number : found.1.number ≡ number
-        same-number = slice_get-same kept.settled (cursor - 1) found.1.number number found.1.at at
+  module _ (number : ℕ) (read : number ≡ get_or kept.settled (cursor - 1) number) where
+    at : slice_get kept.settled (cursor - 1) ≡ Some number
+    at = slice_get_read kept.settled (length kept.settled) (cursor - 1) number refl within-settled read
 
-        there : IsLabel kept number found.0
-        there = subst (λ n. IsLabel kept n found.0) same-number found.1.there
+    same-number : found.1.number ≡ number
+    same-number = slice_get-same kept.settled (cursor - 1) found.1.number number found.1.at at
 
-        pub within-labels : number < length kept.labels
-        within-labels = slice_get_within kept.labels number found.0 there
+    there : IsLabel kept number found.0
+    there = subst (λ n. IsLabel kept n found.0) same-number found.1.there
 
-        module _ (label : Label S) (reads : label ≡ get_or kept.labels number label) where
-          -- the label before the cursor
-          pub settled-here : IsSettled kept (cursor - 1) label
-          settled-here =
-              record {
-                number = number;
-                at = at;
-                there = slice_get_read kept.labels (length kept.labels) number label refl within-labels reads;
-              }
+    pub within-labels : number < length kept.labels
+    within-labels = slice_get_within kept.labels number found.0 there
 
-          same-cell : rules.cell label.state ≡ rules.cell state
-          same-cell =
-              let same : found.0 ≡ label = settled-unique kept (cursor - 1) found.0 label found.1 settled-here in
-              ap (λ (l : Label S). rules.cell l.state) (sym same) ∙ found.2
+    module _ (label : Label S) (reads : label ≡ get_or kept.labels number label) where
+      -- the label before the cursor
+      pub settled-here : IsSettled kept (cursor - 1) label
+      settled-here =
+          record {
+            number = number;
+            at = at;
+            there = slice_get_read kept.labels (length kept.labels) number label refl within-labels reads;
+          }
 
-          module _ (next : ℕ) (reads_next : next ≡ get_or kept.older (cursor - 1) next) where
-            latest : IsLatest rules kept (rules.cell label.state) (cursor - 1) next
-            latest =
-                search.index.older (cursor - 1) next label
-                (slice_get_read kept.older (length kept.older) (cursor - 1) next refl within-older reads_next) settled-here
+      same-cell : rules.cell label.state ≡ rules.cell state
+      same-cell =
+          let same : found.0 ≡ label = settled-unique kept (cursor - 1) found.0 label found.1 settled-here in
+          ap (λ (l : Label S). rules.cell l.state) (sym same) ∙ found.2
 
-            -- the chain goes down
-            pub next-below : next < cursor
-            next-below = below next refl where
-              below : (n : ℕ) → next ≡ n → next < cursor
-              below zero e = omega arith
-              below (suc m) e = let h = latest.inside m (omega arith) in omega (arith, h.0)
+      module _ (next : ℕ) (reads_next : next ≡ get_or kept.older (cursor - 1) next) where
+        latest : IsLatest rules kept (rules.cell label.state) (cursor - 1) next
+        latest =
+            t.search.index.older (cursor - 1) next label
+            (slice_get_read kept.older (length kept.older) (cursor - 1) next refl within-older reads_next) settled-here
 
-            -- and where this label doesn't cover, the test has gone one label further
-            pub tested-next : rules.covers label.state label.cost state cost ≡ false → IsTested rules kept state cost next
-            tested-next uncovers =
-                record {
-                  tested = λ place other s same later. go place other s same later (equal-or_not place (cursor - 1));
-                  here = λ place is. let h = latest.inside place is in (h.1.0, h.1.1, h.1.2 ∙ same-cell);
-                } where
-                  go :
-                      (place : ℕ) (other : Label S) → IsSettled kept place other → rules.cell other.state ≡ rules.cell state →
-                      next ≤ place → (place ≡ cursor - 1) ⊎ (place ≢ cursor - 1) →
-                      rules.covers other.state other.cost state cost ≡ false
-                  go place other s same later (inl is) =
-                      let one : label ≡ other =
-                      settled-unique kept place label other (subst (λ n. IsSettled kept n label) (sym is) settled-here) s in
-                      subst (λ (l : Label S). rules.covers l.state l.cost state cost ≡ false) one uncovers
-                  go place other s same later (inr elsewhere) =
-                      elim (most-or_below cursor place) [
-                        | inl h ↦ t.tested place other s same h
-                        | inr h ↦
-                            let early : place < cursor - 1 = omega arith in
-                            absurd (omega (arith, latest.last place other s (same ∙ sym same-cell) early))
-                      ]
+        -- the chain goes down
+        pub next-below : next < cursor
+        next-below = below next refl where
+          below : (n : ℕ) → next ≡ n → next < cursor
+          below zero e = omega arith
+          below (suc m) e = let h = latest.inside m (omega arith) in omega (arith, h.0)
+
+        -- and where this label doesn't cover, the test has gone one label further
+        pub tested-next : rules.covers label.state label.cost state cost ≡ false → IsTested rules kept state cost next
+        tested-next uncovers =
+            record {
+              tested = λ place other s same later. go place other s same later (equal-or_not place (cursor - 1));
+              here = λ place is. let h = latest.inside place is in (h.1.0, h.1.1, h.1.2 ∙ same-cell);
+            } where
+              go :
+                  (place : ℕ) (other : Label S) → IsSettled kept place other → rules.cell other.state ≡ rules.cell state →
+                  next ≤ place → (place ≡ cursor - 1) ⊎ (place ≢ cursor - 1) →
+                  rules.covers other.state other.cost state cost ≡ false
+              go place other s same later (inl is) =
+                  let one : label ≡ other =
+                  settled-unique kept place label other (subst (λ n. IsSettled kept n label) (sym is) settled-here) s in
+                  subst (λ (l : Label S). rules.covers l.state l.cost state cost ≡ false) one uncovers
+              go place other s same later (inr elsewhere) =
+                  elim (most-or_below cursor place) [
+                    | inl h ↦ t.tested.tested place other s same h
+                    | inr h ↦
+                        let early : place < cursor - 1 = omega arith in
+                        absurd (omega (arith, latest.last place other s (same ∙ sym same-cell) early))
+                  ]

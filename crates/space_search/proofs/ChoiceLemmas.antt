@@ -1,13 +1,12 @@
 -- The way back from a label to its start.
-use Rattle.std.proofs.Common.{◌≡◌, ℕ, ◌<◌, ◌+◌, ◌-◌, List, [], ◌∷◌, ◌++◌, length, get_or, reverse, Some, refl, ap, arith, sym, ◌∙◌, subst, append_assoc}
+use Rattle.std.proofs.Common.{◌≡◌, ℕ, ◌<◌, ◌-◌, List, [], ◌∷◌, ◌++◌, length, get_or, reverse, Some, refl, ap, arith, sym, ◌∙◌, subst, append_assoc}
 use Rattle.std.proofs.lemmas.List.{reverse-append}
 use Rattle.std.proofs.lemmas.Option.{slice_get_read, slice_get_within}
 use Rattle.std.specs.List.{slice_get}
-use Rattle.space_search.specs.Books.{Books, IsLabel, IsSettled, CameFrom, from_start, from_label, Follows, Reads}
+use Rattle.space_search.specs.Books.{Books, IsSettled, CameFrom, from_start, from_label, Follows, Reads}
 use Rattle.space_search.specs.Rules.{Rules}
 use Rattle.space_search.specs.View.{reached, choices_before, settled_of}
 use Rattle.space_search.specs.declared.label.Label.{Label}
-use Rattle.space_search.proofs.ListLemmas.{slice_get-same}
 use Rattle.space_search.proofs.RunLemmas.{choices-start, choices-parent}
 use Rattle.space_search.proofs.SameLemmas.{settled-within}
 

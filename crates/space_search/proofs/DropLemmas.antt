@@ -16,15 +16,15 @@ use Rattle.space_search.proofs.TakeLemmas.{Popped, accounted-popped, left-queued
 
 -- what a pop gives is the entry at the front
 pub popped-front :
-    (queue rest : List Entry) (r : Option Entry) (top : Entry) (n : ℕ) →
-    IfSome r (λ x. x ≡ get_or queue 0 x) → IfSome r (λ x. IsPermutation queue (x ∷ rest)) →
-    IfSome r (λ x. PopsGreatest entry_cmp queue x rest) → (IsSome r ↔ (0 < n)) → n ≡ length queue →
-    slice_get queue 0 ≡ Some top → Popped queue top rest
-popped-front queue rest None top n first moved ordered some is there =
-    let none = some.1 (omega (arith, is, slice_get_within queue 0 top there)) in cc
-popped-front queue rest (Some x) top n first moved ordered some is there =
-    let same : x ≡ top = first ∙ get_or_from_slice_get queue 0 top x there in
-    record { permutation = subst (λ y. IsPermutation queue (y ∷ rest)) same moved; ordered = λ h. (ordered h).0 }
+    (all rest : List Entry) (r : Option Entry) (top : Entry) (n : ℕ) →
+    IfSome r (λ x. x ≡ get_or all 0 x) → IfSome r (λ x. IsPermutation all (x ∷ rest)) →
+    IfSome r (λ x. PopsGreatest entry_cmp all x rest) → (IsSome r ↔ (0 < n)) → n ≡ length all →
+    slice_get all 0 ≡ Some top → Popped all top rest
+popped-front all rest None top n first moved ordered some is there =
+    let none = some.1 (omega (arith, is, slice_get_within all 0 top there)) in cc
+popped-front all rest (Some x) top n first moved ordered some is there =
+    let same : x ≡ top = first ∙ get_or_from_slice_get all 0 top x there in
+    record { permutation = subst (λ y. IsPermutation all (y ∷ rest)) same moved; ordered = λ h. (ordered h).0 }
 
 -- two ranks of one state at one cost are equal
 pub rank-unique :
@@ -55,9 +55,18 @@ module _ {S : Type 0} (rules : Rules S) (kept : Books S) (number : ℕ) (label :
       let to : KeepsLabels kept (dropped kept rest) = keeps-same rules kept (dropped kept rest) same leaving.search.stands refl in
       let back : KeepsLabels (dropped kept rest) kept = keeps-back rules kept (dropped kept rest) same leaving.search.stands refl in
       let moves : (state : S) (cost : ℕ) → IsAccounted rules kept state cost → IsAccounted rules (dropped kept rest) state cost =
-      accounted-popped rules kept (dropped kept rest) number label (record { 0 = (leaving.next.rank, number) }) leaving.popped refl
-      leaving.next.there refl to
-      (record { place = covered.place; label = covered.label; settled = to covered.place covered.label covered.settled; covers = covered.covers }) in
+      accounted-popped rules kept (dropped kept rest) number label (record { 0 = (leaving.next.rank, number) })
+      (
+      record {
+        popped = leaving.popped;
+        is = refl;
+        there = leaving.next.there;
+        same_labels = refl;
+        grows = to;
+        covered =
+            record { place = covered.place; label = covered.label; settled = to covered.place covered.label covered.settled; covers = covered.covers };
+      }
+      ) in
       record {
         kept =
             record {
@@ -79,4 +88,3 @@ module _ {S : Type 0} (rules : Rules S) (kept : Books S) (number : ℕ) (label :
         settled = refl;
         work = omega (arith, length_permutation _ _ leaving.popped.permutation);
       }
-

@@ -1,13 +1,13 @@
 -- What the answers of a turn say, from what a search keeps.
-use Rattle.std.proofs.Common.{◌≡◌, ℕ, ◌<◌, ◌≤◌, ◌+◌, List, [], length, Option, Some, None, refl, ap, arith, sym, ◌∙◌, subst}
+use Rattle.std.proofs.Common.{◌≡◌, ℕ, ◌<◌, ◌≤◌, ◌+◌, [], length, Option, Some, None, refl, ap, arith, sym, ◌∙◌, subst}
 use Rattle.std.specs.Bool.{IsTrue}
-use Rattle.std.specs.List.{slice_get, Contains}
+use Rattle.std.specs.List.{Contains}
 use Rattle.space_search.specs.Books.{Books, Entry, Follows, IsCovered, IsAccounted, by_label, by_queue, by_bound, IsSearch, IsClosed}
 use Rattle.space_search.specs.Laws.{IsSpace, HasRank}
 use Rattle.space_search.specs.Moves.{IsNext}
 use Rattle.space_search.specs.Rules.{Rules}
-use Rattle.space_search.specs.Turns.{IsCoveredBy, IsDone, covered, hopeless, ranks, RanksBelowGoals, IsClosedAndOrdered, EndsFound, EndsNoWay, Ends}
-use Rattle.space_search.specs.View.{Reached, View, Held, view_of, reached, reached_by, settled_of}
+use Rattle.space_search.specs.Turns.{IsDone, covered, hopeless, ranks, RanksBelowGoals, IsClosedAndOrdered, EndsFound, EndsNoWay, Ends}
+use Rattle.space_search.specs.View.{Reached, view_of, reached, reached_by, settled_of}
 use Rattle.space_search.specs.declared.label.Label.{Label}
 use Rattle.space_search.specs.declared.phase.Phase.TheVariants.{Running, Ended}
 use Rattle.space_search.specs.declared.turn.Turn.TheVariants.{More, Found, NoWay}
@@ -20,7 +20,8 @@ use Rattle.space_search.proofs.ShownLemmas.{Settled, shown-count, shown-settled,
 
 module _ {S : Type 0} (rules : Rules S) (laws : IsSpace rules) (kept : Books S)
     (search : IsSearch rules kept) (closed : IsClosed rules kept) where
-  done-covered : (floor : Option ℕ) (state : S) (cost : ℕ) → IsCovered rules kept state cost → IsDone rules (settled_of kept) floor state cost
+  done-covered :
+      (floor : Option ℕ) (state : S) (cost : ℕ) → IsCovered rules kept state cost → IsDone rules (settled_of kept) floor state cost
   done-covered floor state cost c =
       covered (
       record {

@@ -21,17 +21,26 @@ module _ {S : Type 0} (rules : Rules S) where
   in_cell cell (label ∷ rest) =
       either (equal-or_not (rules.cell label.state) cell) (label ∷ in_cell cell rest) (in_cell cell rest)
 
+  -- a label lies in the cell, or it doesn't
+  abbrev Lies : Reached S → ℕ → Type 0
+  Lies label cell = (rules.cell label.state ≡ cell) ⊎ (rules.cell label.state ≢ cell)
+
+  -- the labels of one cell with one more before them, where it lies there
+  abbrev with_one : (cell : ℕ) (first : Reached S) → List (Reached S) → Lies first cell → List (Reached S)
+  with_one cell first rest lies = either lies (first ∷ in_cell cell rest) (in_cell cell rest)
+
+  -- these are labels of all
+  abbrev AreFrom : List (Reached S) → List (Reached S) → Type 0
+  AreFrom some all =
+      (place : ℕ) (label : Reached S) → slice_get some place ≡ Some label → (from : ℕ) × (slice_get all from ≡ Some label)
+
   -- a label of the cell is one of all
-  from-cell :
-      (cell : ℕ) (labels : List (Reached S)) (place : ℕ) (label : Reached S) → slice_get (in_cell cell labels) place ≡ Some label →
-      (from : ℕ) × (slice_get labels from ≡ Some label)
+  from-cell : (cell : ℕ) (labels : List (Reached S)) → AreFrom (in_cell cell labels) labels
   from-cell cell [] place label at = (place, at)
   from-cell cell (first ∷ rest) place label at = go (from-cell cell rest) (equal-or_not (rules.cell first.state) cell) place at where
     go :
-        ((place : ℕ) (label : Reached S) → slice_get (in_cell cell rest) place ≡ Some label → (from : ℕ) × (slice_get rest from ≡ Some label)) →
-        (d : (rules.cell first.state ≡ cell) ⊎ (rules.cell first.state ≢ cell)) (place : ℕ) →
-        slice_get (either d (first ∷ in_cell cell rest) (in_cell cell rest)) place ≡ Some label →
-        (from : ℕ) × (slice_get (first ∷ rest) from ≡ Some label)
+        AreFrom (in_cell cell rest) rest → (d : Lies first cell) (place : ℕ) →
+        slice_get (with_one cell first rest d) place ≡ Some label → (from : ℕ) × (slice_get (first ∷ rest) from ≡ Some label)
     go again (inl e) zero at = (0, at)
     go again (inl e) (suc place) at = let f = again place label at in (suc f.0, f.1)
     go again (inr e) place at = let f = again place label at in (suc f.0, f.1)
@@ -39,13 +48,13 @@ module _ {S : Type 0} (rules : Rules S) where
   -- the labels of one cell are such a chain, too
   chain-in_cell : (cell : ℕ) (labels : List (Reached S)) → IsUncoveredChain rules labels → IsUncoveredChain rules (in_cell cell labels)
   chain-in_cell cell [] chain = tt
-  chain-in_cell cell (first ∷ rest) chain = go (chain-in_cell cell rest chain.2) (equal-or_not (rules.cell first.state) cell) where
+  chain-in_cell cell (first ∷ rest) chain = go (chain-in_cell cell rest chain.3) (equal-or_not (rules.cell first.state) cell) where
     go :
         IsUncoveredChain rules (in_cell cell rest) →
-        (d : (rules.cell first.state ≡ cell) ⊎ (rules.cell first.state ≢ cell)) →
-        IsUncoveredChain rules (either d (first ∷ in_cell cell rest) (in_cell cell rest))
+        (d : Lies first cell) →
+        IsUncoveredChain rules (with_one cell first rest d)
     go tail (inl e) =
-        (chain.0, (λ place label at. let f = from-cell cell rest place label at in chain.1 f.0 label f.1), tail)
+        (chain.0, chain.1, (λ place label at. let f = from-cell cell rest place label at in chain.2 f.0 label f.1), tail)
     go tail (inr e) = tail
 
   lie-in_cell : (cell : ℕ) (labels : List (Reached S)) → LieIn rules cell (in_cell cell labels)
@@ -53,8 +62,8 @@ module _ {S : Type 0} (rules : Rules S) where
   lie-in_cell cell (first ∷ rest) = go (lie-in_cell cell rest) (equal-or_not (rules.cell first.state) cell) where
     go :
         LieIn rules cell (in_cell cell rest) →
-        (d : (rules.cell first.state ≡ cell) ⊎ (rules.cell first.state ≢ cell)) →
-        LieIn rules cell (either d (first ∷ in_cell cell rest) (in_cell cell rest))
+        (d : Lies first cell) →
+        LieIn rules cell (with_one cell first rest d)
     go tail (inl e) = (e, tail)
     go tail (inr e) = tail
 
@@ -70,9 +79,9 @@ module _ {S : Type 0} (rules : Rules S) where
       ((rules.cell first.state ≢ cell) × (length (in_cell cell (first ∷ rest)) ≡ length (in_cell cell rest)))
   length-in_cell cell first rest = go (equal-or_not (rules.cell first.state) cell) where
     go :
-        (d : (rules.cell first.state ≡ cell) ⊎ (rules.cell first.state ≢ cell)) →
-        ((rules.cell first.state ≡ cell) × (length (either d (first ∷ in_cell cell rest) (in_cell cell rest)) ≡ length (in_cell cell rest) + 1)) ⊎
-        ((rules.cell first.state ≢ cell) × (length (either d (first ∷ in_cell cell rest) (in_cell cell rest)) ≡ length (in_cell cell rest)))
+        (d : Lies first cell) →
+        ((rules.cell first.state ≡ cell) × (length (with_one cell first rest d) ≡ length (in_cell cell rest) + 1)) ⊎
+        ((rules.cell first.state ≢ cell) × (length (with_one cell first rest d) ≡ length (in_cell cell rest)))
     go (inl e) = inl (e, omega arith)
     go (inr e) = inr (e, refl)
 
@@ -119,34 +128,54 @@ module _ {S : Type 0} (rules : Rules S) where
       let before : count cells labels ≤ cells * most = count-few most cells labels few chain in
       omega arith
 
-  -- labels that are such a chain by their places are one from the first on
-  chain-from :
-      (labels : List (Reached S)) →
-      ((place : ℕ) (label : Reached S) → slice_get labels place ≡ Some label → IsTrue (rules.is_valid label.state)) →
-      ((first second : ℕ) (a b : Reached S) → first < second → slice_get labels first ≡ Some a → slice_get labels second ≡ Some b →
-      rules.covers a.state a.cost b.state b.cost ≡ false) →
-      ((first second : ℕ) (a b : Reached S) (low high : ℕ) → first ≤ second → slice_get labels first ≡ Some a → slice_get labels second ≡ Some b →
-      HasRank rules a.state a.cost low → HasRank rules b.state b.cost high → low ≤ high) →
-      IsUncoveredChain rules labels
-  chain-from [] valid apart rising = tt
-  chain-from (first ∷ rest) valid apart rising = (
-    valid 0 first refl,
-    (λ place label at.
-        (apart 0 (suc place) first label (omega arith) refl at, λ low high a b. rising 0 (suc place) first label low high (omega arith) refl at a b)),
-    chain-from rest (λ place label at. valid (suc place) label at)
-        (λ i j a b up p q. apart (suc i) (suc j) a b (omega arith) p q)
-        (λ i j a b low high up p q ra rb. rising (suc i) (suc j) a b low high (omega arith) p q ra rb),
-  )
+  -- a label of a valid state that has a rank
+  record IsPassedAt (label : Reached S) : Type 0 where
+    valid : IsTrue (rules.is_valid label.state)
+    rank : ℕ
+    ranked : HasRank rules label.state label.cost rank
 
--- a limit of cells times the most labels of a cell isn't spent
+  -- such labels in order of rank, by their places
+  record IsChain (labels : List (Reached S)) : Type 0 where
+    each : (place : ℕ) (label : Reached S) → slice_get labels place ≡ Some label → IsPassedAt label
+    rising :
+        (first second : ℕ) (a b : Reached S) (low high : ℕ) → first ≤ second →
+        slice_get labels first ≡ Some a → slice_get labels second ≡ Some b →
+        HasRank rules a.state a.cost low → HasRank rules b.state b.cost high → low ≤ high
+    apart :
+        (first second : ℕ) (a b : Reached S) → first < second → slice_get labels first ≡ Some a → slice_get labels second ≡ Some b →
+        rules.covers a.state a.cost b.state b.cost ≡ false
+
+  -- labels in order are such a chain
+  chain-from : (labels : List (Reached S)) → IsChain labels → IsUncoveredChain rules labels
+  chain-from [] chain = tt
+  chain-from (first ∷ rest) chain =
+      let c : IsPassedAt first = chain.each 0 first refl in (
+        c.valid,
+        (c.rank, c.ranked),
+        (λ place label at. (
+          chain.apart 0 (suc place) first label (omega arith) refl at,
+          λ low high a b. chain.rising 0 (suc place) first label low high (omega arith) refl at a b,
+        )),
+        chain-from rest
+            (
+            record {
+              each = λ place label at. chain.each (suc place) label at;
+              rising = λ i j a b low high up p q ra rb. chain.rising (suc i) (suc j) a b low high (omega arith) p q ra rb;
+              apart = λ i j a b up p q. chain.apart (suc i) (suc j) a b (omega arith) p q;
+            }
+            ),
+      )
+
+  -- a limit of cells times the most labels of a cell isn't spent
   pub never-spent :
       (laws : IsSpace rules) (most limit : ℕ) (shown : List (Reached S)) → HasFewPerCell rules most →
       rules.cells * most ≤ limit → IsSpent rules limit shown → ⊥
   never-spent laws most limit shown few enough spent =
-      let valid : (place : ℕ) (label : Reached S) → slice_get shown place ≡ Some label → IsTrue (rules.is_valid label.state) =
-      λ place label at. (spent.ordered.each place label at).valid in
-      let chain : IsUncoveredChain rules shown = chain-from shown valid spent.ordered.apart spent.ordered.rising in
+      let passed : (place : ℕ) (label : Reached S) → slice_get shown place ≡ Some label → IsPassedAt label =
+      λ place label at. let p = spent.ordered.each place label at in record { valid = p.valid; rank = p.rank; ranked = p.ranked } in
+      let chain : IsUncoveredChain rules shown =
+      chain-from shown (record { each = passed; rising = spent.ordered.rising; apart = spent.ordered.apart }) in
       let counted : length shown ≤ count rules.cells shown =
-      count-all rules.cells shown (λ place label at. laws.moves.cell label.state (valid place label at)) in
+      count-all rules.cells shown (λ place label at. laws.moves.cell label.state (passed place label at).valid) in
       let small : count rules.cells shown ≤ rules.cells * most = count-few most rules.cells shown few chain in
       omega (arith, counted, small, spent.count)

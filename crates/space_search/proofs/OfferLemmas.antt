@@ -33,6 +33,18 @@ abbrev pub offered : {S : Type 0} → Books S → List (Label S) → List Entry 
 offered kept labels queue =
     record { labels = labels; queue = queue; settled = kept.settled; newest = kept.newest; older = kept.older }
 
+-- a label goes to the end of the labels and into the queue
+pub record Queues {S : Type 0} (rules : Rules S) (kept : Books S) (label : Label S) (queue : List Entry) : Type 0 where
+  pub entry : Entry
+  pub rank : ℕ
+  pub follows : Follows rules kept (length kept.settled) label
+  pub above : RanksAbove rules kept label.state label.cost
+  pub ranked : HasRank rules label.state label.cost rank
+  pub room : length kept.labels < MOST_LABELS
+  pub is : entry.0 ≡ (rank, length kept.labels)
+  pub queued : IsPermutation (entry ∷ kept.queue) queue
+  pub ordered : IsHeap entry_cmp kept.queue → IsHeap entry_cmp queue
+
 module _ {S : Type 0} (rules : Rules S) (kept : Books S) (label : Label S) (labels : List (Label S)) (queue : List Entry)
     (search : IsSearch rules kept) (pushed : labels ≡ kept.labels ++ label ∷ []) where
   stays : (number : ℕ) (old : Label S) → IsLabel kept number old → slice_get labels number ≡ Some old
@@ -49,20 +61,14 @@ module _ {S : Type 0} (rules : Rules S) (kept : Books S) (label : Label S) (labe
         keeps = keeps-same rules kept (offered kept labels queue) stays search.stands refl;
       }
 
-  -- the label goes to the end of the labels and into the queue
-  module _ (entry : Entry) (rank : ℕ) (follows : Follows rules kept (length kept.settled) label)
-      (above : RanksAbove rules kept label.state label.cost) (ranked : HasRank rules label.state label.cost rank)
-      (room : length kept.labels < MOST_LABELS)
-      (is : entry.0 ≡ (rank, length kept.labels))
-      (queued : IsPermutation (entry ∷ kept.queue) queue)
-      (ordered : IsHeap entry_cmp kept.queue → IsHeap entry_cmp queue) where
-    from_queue : (e : Entry) → Contains queue e → (entry ≡ e) ⊎ Contains kept.queue e
+  module _ (q : Queues rules kept label queue) where
+    from_queue : (e : Entry) → Contains queue e → (q.entry ≡ e) ⊎ Contains kept.queue e
     from_queue e h =
-        Contains-cons_cases entry kept.queue e
-        (Contains-permutation queue (entry ∷ kept.queue) e (IsPermutation-sym _ _ queued) h)
+        Contains-cons_cases q.entry kept.queue e
+        (Contains-permutation queue (q.entry ∷ kept.queue) e (IsPermutation-sym _ _ q.queued) h)
 
-    into_queue : (e : Entry) → Contains (entry ∷ kept.queue) e → Contains queue e
-    into_queue e h = Contains-permutation (entry ∷ kept.queue) queue e queued h
+    into_queue : (e : Entry) → Contains (q.entry ∷ kept.queue) e → Contains queue e
+    into_queue e h = Contains-permutation (q.entry ∷ kept.queue) queue e q.queued h
 
     longer : length labels ≡ length kept.labels + 1
     longer = rw pushed (length-append kept.labels (label ∷ []))
@@ -73,13 +79,13 @@ module _ {S : Type 0} (rules : Rules S) (kept : Books S) (label : Label S) (labe
     back : KeepsLabels (offered kept labels queue) kept
     back = keeps-back rules kept (offered kept labels queue) stays search.stands refl
 
-    entry_rank : entry.0.0 ≡ rank
-    entry_rank = ap (λ (p : ℕ × ℕ). p.0) is
+    entry_rank : q.entry.0.0 ≡ q.rank
+    entry_rank = ap (λ (p : ℕ × ℕ). p.0) q.is
 
-    entry_number : entry.0.1 ≡ length kept.labels
-    entry_number = ap (λ (p : ℕ × ℕ). p.1) is
+    entry_number : q.entry.0.1 ≡ length kept.labels
+    entry_number = ap (λ (p : ℕ × ℕ). p.1) q.is
 
-    entry_there : slice_get labels entry.0.1 ≡ Some label
+    entry_there : slice_get labels q.entry.0.1 ≡ Some label
     entry_there = subst (λ n. slice_get labels n ≡ Some label) (sym entry_number) arrives
 
     follows-next :
@@ -90,7 +96,7 @@ module _ {S : Type 0} (rules : Rules S) (kept : Books S) (label : Label S) (labe
           | inl there ↦ follows-moved rules kept (offered kept labels queue) _ _ old to (omega arith) (search.follows number old there)
           | inr (at, same) ↦
               subst (λ l. Follows rules (offered kept labels queue) (length kept.settled) l) same
-              (follows-moved rules kept (offered kept labels queue) _ _ label to (omega arith) follows)
+              (follows-moved rules kept (offered kept labels queue) _ _ label to (omega arith) q.follows)
         ]
 
     queued-next :
@@ -102,8 +108,8 @@ module _ {S : Type 0} (rules : Rules S) (kept : Books S) (label : Label S) (labe
               subst
               (λ (f : Entry). (old : Label S) × IsLabel (offered kept labels queue) f.0.1 old × HasRank rules old.state old.cost f.0.0)
               same
-              (label, entry_there, subst (λ r. HasRank rules label.state label.cost r) (sym entry_rank) ranked)
-          | inr old ↦ let q = search.queued e old in (q.0, stays e.0.1 q.0 q.1, q.2)
+              (label, entry_there, subst (λ r. HasRank rules label.state label.cost r) (sym entry_rank) q.ranked)
+          | inr old ↦ let w = search.queued e old in (w.0, stays e.0.1 w.0 w.1, w.2)
         ]
 
     above-next :
@@ -113,7 +119,7 @@ module _ {S : Type 0} (rules : Rules S) (kept : Books S) (label : Label S) (labe
         elim (from_queue e h) [
           | inl same ↦
               subst (λ (f : Entry). low ≤ f.0.0) same
-              (subst (λ n. low ≤ n) (sym entry_rank) (above place old low rank (back place old s) r ranked))
+              (subst (λ n. low ≤ n) (sym entry_rank) (q.above place old low q.rank (back place old s) r q.ranked))
           | inr there ↦ search.above place old low (back place old s) r e there
         ]
 
@@ -121,10 +127,10 @@ module _ {S : Type 0} (rules : Rules S) (kept : Books S) (label : Label S) (labe
     search-next =
         record {
           stands = stands-same rules kept (offered kept labels queue) stays search.stands refl;
-          few = omega (arith, longer);
+          few = omega (arith, longer, q.room);
           follows = follows-next;
           queued = queued-next;
-          ordered = ordered search.ordered;
+          ordered = q.ordered search.ordered;
           above = above-next;
           index = index-same rules kept (offered kept labels queue) stays search.stands refl refl refl search.index;
         }
@@ -137,8 +143,8 @@ module _ {S : Type 0} (rules : Rules S) (kept : Books S) (label : Label S) (labe
               by_queue (
               record {
                 label = label;
-                entry = entry;
-                queued = into_queue entry (Contains-first entry kept.queue);
+                entry = q.entry;
+                queued = into_queue q.entry (Contains-first q.entry kept.queue);
                 there = entry_there;
                 state_is = refl;
                 cost_is = refl;
@@ -147,10 +153,10 @@ module _ {S : Type 0} (rules : Rules S) (kept : Books S) (label : Label S) (labe
           extends =
               record {
                 labels = stays;
-                queue = λ e h. into_queue e (Contains-rest entry kept.queue e h);
+                queue = λ e h. into_queue e (Contains-rest q.entry kept.queue e h);
                 settled = refl;
                 newest = refl;
                 older = refl;
               };
-          work = omega (arith, longer, length_permutation (entry ∷ kept.queue) queue queued);
+          work = omega (arith, longer, length_permutation (q.entry ∷ kept.queue) queue q.queued);
         }

@@ -1,8 +1,8 @@
 -- What the labels of a search that can be read are.
-use Rattle.std.proofs.Common.{◌≡◌, ℕ, ◌<◌, ◌≤◌, ◌+◌, List, [], ◌∷◌, ◌++◌, length, get_or, Option, Some, refl, ap, arith, sym, subst, length-append}
+use Rattle.std.proofs.Common.{◌≡◌, ℕ, ◌<◌, ◌≤◌, List, [], ◌∷◌, ◌++◌, length, get_or, Option, Some, refl, ap, arith, sym, subst, length-append}
 use Rattle.std.proofs.lemmas.Option.{slice_get_read, slice_get_within}
 use Rattle.std.specs.List.{slice_get}
-use Rattle.space_search.specs.Books.{Books, books, IsLabel, IsSettled, Follows, Stands}
+use Rattle.space_search.specs.Books.{Books, books, IsLabel, IsSettled, Follows, Reads, Stands}
 use Rattle.space_search.specs.Rules.{Rules}
 use Rattle.space_search.specs.Runs.{IsRun}
 use Rattle.space_search.specs.Searches.{IsPhase, IsSearchOf}
@@ -18,19 +18,19 @@ use Rattle.space_search.proofs.ShownLemmas.{shown-count, shown-settled}
 
 -- what stands at a settled label's number is that label
 pub settled-at :
-    {S : Type 0} (rules : Rules S) (search : Search S) (place number : ℕ) (label : Label S) → IsSearchOf rules search →
-    place < length search.lists.settled.items → number ≡ get_or search.lists.settled.items place number →
-    label ≡ get_or search.lists.labels.items number label → IsSettled (books search.lists) place label
-settled-at rules search place number label of below read reads_label =
-    let at : slice_get search.lists.settled.items place ≡ Some number =
-    slice_get_read search.lists.settled.items (length search.lists.settled.items) place number refl below read in
-    let there = of.stands.reads.settled_there place number at in
+    {S : Type 0} (rules : Rules S) (kept : Books S) (place number : ℕ) (label : Label S) → Reads rules kept →
+    place < length kept.settled → number ≡ get_or kept.settled place number →
+    label ≡ get_or kept.labels number label → IsSettled kept place label
+settled-at rules kept place number label reads below read reads_label =
+    let at : slice_get kept.settled place ≡ Some number =
+    slice_get_read kept.settled (length kept.settled) place number refl below read in
+    let there = reads.settled_there place number at in
     record {
       number = number;
       at = at;
       there =
-          slice_get_read search.lists.labels.items (length search.lists.labels.items) number label refl
-          (slice_get_within search.lists.labels.items number there.0 there.1) reads_label;
+          slice_get_read kept.labels (length kept.labels) number label refl
+          (slice_get_within kept.labels number there.0 there.1) reads_label;
     }
 
 -- a settled label can be read at its place
@@ -49,40 +49,46 @@ pub record ReadsGoal {S : Type 0} (rules : Rules S) (held : Held S) (number : �
   pub shown : IsShown (view_of held) number (reached (settled_of held.kept) label)
   pub follows : Follows rules held.kept number label
 
+-- the number can be read and isn't a settled label's
+record Beyond {S : Type 0} (rules : Rules S) (held : Held S) (number : ℕ) : Type 0 where
+  stands : Stands rules held.kept
+  is : IsPhase rules held held.phase
+  beyond : length held.kept.settled ≤ number
+  within : number < length (labels_of (view_of held))
+
 goal-at :
-    {S : Type 0} (rules : Rules S) (limit : ℕ) (kept : Books S) (found : ℕ) (phase : Phase) (number : ℕ) → Stands rules kept →
-    IsPhase rules (record { limit = limit; kept = kept; found = found; phase = phase }) phase → length kept.settled ≤ number →
-    number < length (settled_of kept ++ listed (goal_of kept found phase)) →
+    {S : Type 0} (rules : Rules S) (limit : ℕ) (kept : Books S) (found : ℕ) (phase : Phase) (number : ℕ) →
+    Beyond rules (record { limit = limit; kept = kept; found = found; phase = phase }) number →
     ReadsGoal rules (record { limit = limit; kept = kept; found = found; phase = phase }) number
-goal-at rules limit kept found New number stands is beyond within =
-    absurd (omega (arith, length-append (settled_of kept) [], shown-count rules kept stands.reads))
-goal-at rules limit kept found Running number stands is beyond within =
-    absurd (omega (arith, length-append (settled_of kept) [], shown-count rules kept stands.reads))
-goal-at rules limit kept found Failed number stands is beyond within =
-    absurd (omega (arith, length-append (settled_of kept) [], shown-count rules kept stands.reads))
-goal-at rules limit kept found (Ended More) number stands is beyond within = absurd is.0
-goal-at rules limit kept found (Ended NoWay) number stands is beyond within =
-    absurd (omega (arith, length-append (settled_of kept) [], shown-count rules kept stands.reads))
-goal-at rules limit kept found (Ended Budget) number stands is beyond within =
-    absurd (omega (arith, length-append (settled_of kept) [], shown-count rules kept stands.reads))
-goal-at {S} rules limit kept found (Ended (Found last)) number stands is beyond within =
-    let label : Label S = is.2.0 in
+goal-at rules limit kept found New number b =
+    absurd (omega (arith, b.beyond, b.within, length-append (settled_of kept) [], shown-count rules kept b.stands.reads))
+goal-at rules limit kept found Running number b =
+    absurd (omega (arith, b.beyond, b.within, length-append (settled_of kept) [], shown-count rules kept b.stands.reads))
+goal-at rules limit kept found Failed number b =
+    absurd (omega (arith, b.beyond, b.within, length-append (settled_of kept) [], shown-count rules kept b.stands.reads))
+goal-at rules limit kept found (Ended More) number b = absurd b.is.0
+goal-at rules limit kept found (Ended NoWay) number b =
+    absurd (omega (arith, b.beyond, b.within, length-append (settled_of kept) [], shown-count rules kept b.stands.reads))
+goal-at rules limit kept found (Ended Budget) number b =
+    absurd (omega (arith, b.beyond, b.within, length-append (settled_of kept) [], shown-count rules kept b.stands.reads))
+goal-at {S} rules limit kept found (Ended (Found last)) number b =
+    let label : Label S = b.is.2.0 in
     let goal : goal_of kept found (Ended (Found last)) ≡ Some (reached (settled_of kept) label) =
-    ap (λ l. reached_by (settled_of kept) l) is.2.1 in
+    ap (λ l. reached_by (settled_of kept) l) b.is.2.1 in
     let inside : number < length (settled_of kept ++ reached (settled_of kept) label ∷ []) =
-    subst (λ (g : Option (Reached S)). number < length (settled_of kept ++ listed g)) goal within in
+    subst (λ (g : Option (Reached S)). number < length (settled_of kept ++ listed g)) goal b.within in
     let at : number ≡ length (settled_of kept) =
-    omega (arith, inside, length-append (settled_of kept) (reached (settled_of kept) label ∷ []), shown-count rules kept stands.reads) in
-    let numbered : last ≡ number = omega (arith, at, is.1.numbered) in
+    omega (arith, b.beyond, inside, length-append (settled_of kept) (reached (settled_of kept) label ∷ []), shown-count rules kept b.stands.reads) in
+    let numbered : last ≡ number = omega (arith, at, b.is.1.numbered) in
     record {
       label = label;
-      there = is.2.1;
+      there = b.is.2.1;
       shown =
           subst (λ (g : Option (Reached S)). slice_get (settled_of kept ++ listed g) number ≡ Some (reached (settled_of kept) label))
           (sym goal)
           (subst (λ n. slice_get (settled_of kept ++ reached (settled_of kept) label ∷ []) n ≡ Some (reached (settled_of kept) label))
           (sym at) (slice_get-pushed (settled_of kept) (reached (settled_of kept) label)));
-      follows = subst (λ n. Follows rules kept n label) numbered is.2.2;
+      follows = subst (λ n. Follows rules kept n label) numbered b.is.2.2;
     }
 
 -- a number that can be read and isn't a settled label's is the goal's
@@ -91,7 +97,8 @@ pub goal-read :
     length search.lists.settled.items ≤ number → number < length (labels_of (view search)) →
     ReadsGoal rules (held search) number
 goal-read rules search number of beyond within =
-    goal-at rules search.limit (books search.lists) search.found search.phase number of.stands of.is_phase beyond within
+    goal-at rules search.limit (books search.lists) search.found search.phase number
+    (record { stands = of.stands; is = of.is_phase; beyond = beyond; within = within })
 
 module _ {S : Type 0} (rules : Rules S) (search : Search S) (number : ℕ) (label : Label S) (of : IsSearchOf rules search)
     (beyond : length search.lists.settled.items ≤ number) (within : number < length (labels_of (view search)))
@@ -113,14 +120,15 @@ module _ {S : Type 0} (rules : Rules S) (search : Search S) (number : ℕ) (labe
   pub goal-follows : Follows rules (books search.lists) number label
   goal-follows = subst (λ (l : Label S). Follows rules (books search.lists) number l) same found.follows
 
--- a label that can be read is reached by the choices that are shown of it
-pub run-read :
-    {S : Type 0} (rules : Rules S) (search : Search S) (number : ℕ) (label : Label S) (one : Reached S) (choices : List ℕ) →
-    IsSearchOf rules search → Follows rules (books search.lists) number label →
-    IsShown (view search) number (reached (settled_of (books search.lists)) label) → IsShown (view search) number one →
-    choices ≡ (reached (settled_of (books search.lists)) label).choices → IsRun rules choices one.state one.cost
-run-read {S} rules search number label one choices of follows shown is choices_are =
-    let same : reached (settled_of (books search.lists)) label ≡ one = slice_get-same (labels_of (view search)) number _ one shown is in
-    subst (λ (k : Reached S). IsRun rules choices k.state k.cost) same
-    (subst (λ c. IsRun rules c label.state label.cost) (sym choices_are)
-    (run-to rules (books search.lists) of.stands.reads number label follows).run)
+module _ {S : Type 0} (rules : Rules S) (search : Search S) (number : ℕ) (label : Label S) (of : IsSearchOf rules search)
+    (follows : Follows rules (books search.lists) number label)
+    (shown : IsShown (view search) number (reached (settled_of (books search.lists)) label)) where
+  -- a label that can be read is reached by the choices that are shown of it
+  pub run-read :
+      (one : Reached S) (choices : List ℕ) → IsShown (view search) number one →
+      choices ≡ (reached (settled_of (books search.lists)) label).choices → IsRun rules choices one.state one.cost
+  run-read one choices is choices_are =
+      let same : reached (settled_of (books search.lists)) label ≡ one = slice_get-same (labels_of (view search)) number _ one shown is in
+      subst (λ (k : Reached S). IsRun rules choices k.state k.cost) same
+      (subst (λ c. IsRun rules c label.state label.cost) (sym choices_are)
+      (run-to rules (books search.lists) of.stands.reads number label follows).run)

@@ -1,11 +1,10 @@
 -- The choices that a search shows of a label are a run to it.
 use Rattle.std.proofs.Common.{◌≡◌, ℕ, zero, suc, ◌<◌, ◌≤◌, ◌+◌, List, [], ◌∷◌, ◌++◌, length, Some, ap, arith, sym, subst, length-append}
-use Rattle.std.specs.List.{slice_get}
 use Rattle.space_search.specs.Books.{Books, IsSettled, Follows, CameFrom, from_start, from_label, Reads}
 use Rattle.space_search.specs.Rules.{Rules}
 use Rattle.space_search.specs.Runs.{Walks, rests, steps, IsRun, starts}
 use Rattle.space_search.specs.Turns.{IsRunTo}
-use Rattle.space_search.specs.View.{Reached, reached, choices_in, choices_before, settled_of}
+use Rattle.space_search.specs.View.{reached, choices_in, choices_before, settled_of}
 use Rattle.space_search.specs.declared.label.Label.{Label}
 use Rattle.space_search.proofs.ShownLemmas.{shown-settled}
 

@@ -1,8 +1,8 @@
 -- What a search's lists are once the next label was settled.
-use Rattle.std.proofs.Common.{◌≡◌, ℕ, ◌<◌, ◌≤◌, ◌+◌, ◌⊎◌, inl, inr, List, length, Some, false, refl, arith, sym, subst}
+use Rattle.std.proofs.Common.{◌≡◌, ℕ, ◌≤◌, ◌+◌, ◌⊎◌, inl, inr, List, length, false, refl, arith, sym, subst}
 use Rattle.std.proofs.lemmas.List.Sorted.{length_permutation}
 use Rattle.std.proofs.lemmas.Option.{slice_get_within, get_or_from_slice_get}
-use Rattle.std.specs.List.{slice_get, Contains}
+use Rattle.std.specs.List.{Contains}
 use Rattle.space_search.specs.Books.{Books, Entry, IsLabel, IsSettled, Follows, IsCovered, IsAccounted, Reads, IsRising, Stands, IsSearch, KeepsLabels, Leaves}
 use Rattle.space_search.specs.Laws.{IsSpace, HasRank}
 use Rattle.space_search.specs.Moves.{Settles}
@@ -137,8 +137,17 @@ module _ {S : Type 0} (rules : Rules S) (laws : IsSpace rules) (kept : Books S) 
       (state : S) (cost : ℕ) → IsAccounted rules kept state cost →
       IsAccounted rules next_books state cost
   moves =
-      accounted-popped rules kept next_books number label
-      entry w.leaving.popped refl w.leaving.next.there refl more own
+      accounted-popped rules kept next_books number label entry
+      (
+      record {
+        popped = w.leaving.popped;
+        is = refl;
+        there = w.leaving.next.there;
+        same_labels = refl;
+        grows = more;
+        covered = own;
+      }
+      )
 
   search-new : IsSearch rules next_books
   search-new =

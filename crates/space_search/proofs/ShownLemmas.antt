@@ -1,18 +1,22 @@
 -- What a search shows of its settled labels is what its lists say of them.
-use Rattle.std.proofs.Common.{◌≡◌, ℕ, zero, suc, ◌<◌, ◌≤◌, ◌+◌, List, [], ◌∷◌, ◌++◌, length, Option, Some, None, refl, ap, arith, sym, ◌∙◌, subst, length-append}
+use Rattle.std.proofs.Common.{◌≡◌, ℕ, zero, suc, ◌<◌, ◌≤◌, ◌+◌, List, [], ◌∷◌, ◌++◌, length, Option, Some, refl, ap, arith, sym, ◌∙◌, subst, length-append}
 use Rattle.std.proofs.lemmas.Option.{slice_get_within}
 use Rattle.std.specs.List.{slice_get}
-use Rattle.space_search.specs.Books.{Books, IsLabel, IsSettled, CameFrom, from_start, from_label, Follows, Reads, KeepsLabels}
+use Rattle.space_search.specs.Books.{Books, IsSettled, CameFrom, from_start, from_label, Reads, KeepsLabels}
 use Rattle.space_search.specs.Rules.{Rules}
 use Rattle.space_search.specs.View.{Reached, reached, shown_from, choices_in, choices_before, consed, pick, settled_of, KeepsPlaces}
 use Rattle.space_search.specs.declared.label.Label.{Label}
 use Rattle.space_search.proofs.ListLemmas.{slice_get-append, slice_get-pushed, slice_get-same, slice_get-there}
 use Rattle.space_search.proofs.SameLemmas.{settled-within}
 
+-- each of these numbers has a label
+abbrev HaveLabels : {S : Type 0} → List (Label S) → List ℕ → Type 0
+HaveLabels {S} labels numbers =
+    (place number : ℕ) → slice_get numbers place ≡ Some number → (label : Label S) × (slice_get labels number ≡ Some label)
+
 -- where each number has a label, the labels stand at the places of their numbers
 pick-at :
-    {S : Type 0} (labels : List (Label S)) (numbers : List ℕ) →
-    ((place number : ℕ) → slice_get numbers place ≡ Some number → (label : Label S) × (slice_get labels number ≡ Some label)) →
+    {S : Type 0} (labels : List (Label S)) (numbers : List ℕ) → HaveLabels labels numbers →
     (place number : ℕ) (label : Label S) → slice_get numbers place ≡ Some number → slice_get labels number ≡ Some label →
     slice_get (pick labels numbers) place ≡ Some label
 pick-at labels [] all place number label at there = cc
@@ -27,8 +31,7 @@ pick-at {S} labels (n ∷ ns) all (suc place) number label at there =
 
 -- and there are as many
 pick-length :
-    {S : Type 0} (labels : List (Label S)) (numbers : List ℕ) →
-    ((place number : ℕ) → slice_get numbers place ≡ Some number → (label : Label S) × (slice_get labels number ≡ Some label)) →
+    {S : Type 0} (labels : List (Label S)) (numbers : List ℕ) → HaveLabels labels numbers →
     length (pick labels numbers) ≡ length numbers
 pick-length labels [] all = refl
 pick-length {S} labels (n ∷ ns) all =

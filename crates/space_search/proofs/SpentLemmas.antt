@@ -1,12 +1,12 @@
 -- The evidence of a spent limit, from what a search keeps.
-use Rattle.std.proofs.Common.{◌≡◌, ℕ, ◌<◌, ◌≤◌, ◌+◌, inl, inr, List, [], ◌∷◌, ◌++◌, length, Some, false, arith, sym, ◌∙◌, subst, length-append}
+use Rattle.std.proofs.Common.{◌≡◌, ℕ, ◌≤◌, ◌+◌, inl, inr, [], ◌∷◌, ◌++◌, length, Some, false, arith, sym, ◌∙◌, subst, length-append}
 use Rattle.std.proofs.lemmas.Option.{slice_get_within, get_or_from_slice_get}
 use Rattle.std.specs.List.{slice_get, Contains}
-use Rattle.space_search.specs.Books.{Books, Entry, Follows, IsUncovered, IsSearch, IsClosed}
+use Rattle.space_search.specs.Books.{Books, Follows, IsUncovered, IsSearch, IsClosed}
 use Rattle.space_search.specs.Laws.{IsSpace, HasRank}
 use Rattle.space_search.specs.Moves.{IsNext}
 use Rattle.space_search.specs.Rules.{Rules}
-use Rattle.space_search.specs.Turns.{IsPassed, AreInOrder, RanksBelowGoals, EndsSpent}
+use Rattle.space_search.specs.Turns.{IsPassed, RanksBelowGoals, EndsSpent}
 use Rattle.space_search.specs.View.{Reached, view_of, reached, settled_of}
 use Rattle.space_search.specs.declared.label.Label.{Label}
 use Rattle.space_search.specs.declared.phase.Phase.TheVariants.{Ended}
@@ -99,7 +99,8 @@ module _ {S : Type 0} (rules : Rules S) (laws : IsSpace rules) (kept : Books S) 
             record {
               count = omega (arith, length-append (settled_of kept) (last ∷ []), count, full);
               ordered =
-                  order-more rules (settled_of kept) last (in-order rules kept r.search.stands) passed under apart;
+                  order-more rules (settled_of kept) last (in-order rules kept r.search.stands)
+                  (record { passed = passed; under = under; uncovered = apart });
               below = below;
             };
         closed = closed-below rules laws kept r.search r.closed r.next.rank r.next.least;

@@ -92,30 +92,37 @@ pub record Popped (queue : List Entry) (top : Entry) (rest : List Entry) : Type 
   pub permutation : IsPermutation queue (top ∷ rest)
   pub ordered : IsHeap entry_cmp queue → IsHeap entry_cmp rest
 
+-- the next label left the queue, and it is covered now
+pub record PopsCovered {S : Type 0} (rules : Rules S) (kept after : Books S) (number : ℕ) (label : Label S) (top : Entry) : Type 0 where
+  pub popped : Popped kept.queue top after.queue
+  pub is : top.0.1 ≡ number
+  pub there : IsLabel kept number label
+  pub same_labels : after.labels ≡ kept.labels
+  pub grows : KeepsLabels kept after
+  pub covered : IsCovered rules after label.state label.cost
+
 module _ {S : Type 0} (rules : Rules S) (kept after : Books S) (number : ℕ) (label : Label S) (top : Entry)
-    (popped : Popped kept.queue top after.queue) (is : top.0.1 ≡ number) (there : IsLabel kept number label)
-    (same_labels : after.labels ≡ kept.labels) (grows : KeepsLabels kept after)
-    (covered : IsCovered rules after label.state label.cost) where
+    (p : PopsCovered rules kept after number label top) where
   -- what was taken care of still is, once the label of the top entry is covered
   pub accounted-popped : (state : S) (cost : ℕ) → IsAccounted rules kept state cost → IsAccounted rules after state cost
   accounted-popped state cost (by_label c) =
-      by_label (record { place = c.place; label = c.label; settled = grows c.place c.label c.settled; covers = c.covers })
+      by_label (record { place = c.place; label = c.label; settled = p.grows c.place c.label c.settled; covers = c.covers })
   accounted-popped state cost (by_bound none) = by_bound none
   accounted-popped state cost (by_queue w) =
       elim (
       Contains-cons_cases top after.queue w.entry
-      (Contains-permutation kept.queue (top ∷ after.queue) w.entry popped.permutation w.queued)
+      (Contains-permutation kept.queue (top ∷ after.queue) w.entry p.popped.permutation w.queued)
       ) [
         | inl first ↦
-            let number_is : number ≡ w.entry.0.1 = sym is ∙ ap (λ (e : Entry). e.0.1) first in
+            let number_is : number ≡ w.entry.0.1 = sym p.is ∙ ap (λ (e : Entry). e.0.1) first in
             let same : label ≡ w.label =
             slice_get-same kept.labels w.entry.0.1 label w.label
-            (subst (λ k. IsLabel kept k label) number_is there) w.there in
+            (subst (λ k. IsLabel kept k label) number_is p.there) w.there in
             let state_is : label.state ≡ state = ap (λ (l : Label S). l.state) same ∙ w.state_is in
             let cost_is : label.cost ≡ cost = ap (λ (l : Label S). l.cost) same ∙ w.cost_is in
             by_label (
             subst (λ c. IsCovered rules after state c) cost_is
-            (subst (λ s. IsCovered rules after s label.cost) state_is covered)
+            (subst (λ s. IsCovered rules after s label.cost) state_is p.covered)
             )
         | inr later ↦
             by_queue (
@@ -123,7 +130,7 @@ module _ {S : Type 0} (rules : Rules S) (kept after : Books S) (number : ℕ) (l
               label = w.label;
               entry = w.entry;
               queued = later;
-              there = rw same_labels w.there;
+              there = rw p.same_labels w.there;
               state_is = w.state_is;
               cost_is = w.cost_is;
             }
@@ -132,7 +139,8 @@ module _ {S : Type 0} (rules : Rules S) (kept after : Books S) (number : ℕ) (l
 
 -- an entry that is left was there before
 pub left-queued :
-    (queue : List Entry) (top : Entry) (rest : List Entry) → Popped queue top rest → (entry : Entry) → Contains rest entry → Contains queue entry
+    (queue : List Entry) (top : Entry) (rest : List Entry) → Popped queue top rest → (entry : Entry) → Contains rest entry →
+    Contains queue entry
 left-queued queue top rest popped entry h =
     Contains-permutation (top ∷ rest) queue entry (IsPermutation-sym _ _ popped.permutation) (Contains-rest top rest entry h)
 

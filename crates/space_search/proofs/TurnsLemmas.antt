@@ -85,33 +85,36 @@ counts-through rules before between after quota turn of first turns =
     (subst (λ n. Counts quota (length between.lists.settled.items) n turn)
     (sym (shown-count rules after.kept turns.kept.stands.reads)) turns.counts)
 
--- a search that found a goal shows a least run to it
-pub least-run :
-    {S : Type 0} (rules : Rules S) (search : Search S) (number : ℕ) (choices : List ℕ) (cost : ℕ) →
-    EndsFound rules (view search) number → length (view search).settled ≤ (view search).limit →
-    ((one : Reached S) → IsShown (view search) number one → choices ≡ one.choices) →
-    ((one : Reached S) → IsShown (view search) number one → cost ≡ one.cost) →
-    IsLeastRun rules choices cost × (length choices ≤ (view search).limit + 1)
-least-run {S} rules search number choices cost e within choices_are cost_is =
-    let there : IsShown (view search) number e.goal =
-    subst (λ n. slice_get (labels_of (view search)) n ≡ Some e.goal) (sym e.numbered)
-    (subst (λ (g : Option (Reached S)). slice_get ((view search).settled ++ listed g) (length (view search).settled) ≡ Some e.goal)
-    (sym e.there) (slice_get-pushed (view search).settled e.goal)) in
-    let cost_same : e.goal.cost ≡ cost = sym (cost_is e.goal there) in
-    let choices_same : e.goal.choices ≡ choices = sym (choices_are e.goal there) in (
-      record {
-        reaches =
-            record {
-              end = e.goal.state;
-              run =
-                  subst (λ c. IsRun rules choices e.goal.state c) cost_same
-                  (subst (λ c. IsRun rules c e.goal.state e.goal.cost) choices_same e.least.run.run);
-              goal = e.least.goal;
-            };
-        least = λ others other reaches. subst (λ c. c ≤ other) cost_same (e.least.least others other reaches);
-      },
-      subst (λ (c : List ℕ). length c ≤ (view search).limit + 1) choices_same (omega (arith, e.least.run.short, e.numbered, within)),
-    )
+module _ {S : Type 0} (rules : Rules S) (search : Search S) (number : ℕ) (e : EndsFound rules (view search) number)
+    (within : length (view search).settled ≤ (view search).limit) where
+  -- the goal that was found can be read
+  goal-there : IsShown (view search) number e.goal
+  goal-there =
+      subst (λ n. slice_get (labels_of (view search)) n ≡ Some e.goal) (sym e.numbered)
+      (subst (λ (g : Option (Reached S)). slice_get ((view search).settled ++ listed g) (length (view search).settled) ≡ Some e.goal)
+      (sym e.there) (slice_get-pushed (view search).settled e.goal))
+
+  -- a search that found a goal shows a least run to it
+  pub least-run :
+      (choices : List ℕ) (cost : ℕ) → ((one : Reached S) → IsShown (view search) number one → choices ≡ one.choices) →
+      ((one : Reached S) → IsShown (view search) number one → cost ≡ one.cost) →
+      IsLeastRun rules choices cost × (length choices ≤ (view search).limit + 1)
+  least-run choices cost choices_are cost_is =
+      let cost_same : e.goal.cost ≡ cost = sym (cost_is e.goal goal-there) in
+      let choices_same : e.goal.choices ≡ choices = sym (choices_are e.goal goal-there) in (
+        record {
+          reaches =
+              record {
+                end = e.goal.state;
+                run =
+                    subst (λ c. IsRun rules choices e.goal.state c) cost_same
+                    (subst (λ c. IsRun rules c e.goal.state e.goal.cost) choices_same e.least.run.run);
+                goal = e.least.goal;
+              };
+          least = λ others other reaches. subst (λ c. c ≤ other) cost_same (e.least.least others other reaches);
+        },
+        subst (λ (c : List ℕ). length c ≤ (view search).limit + 1) choices_same (omega (arith, e.least.run.short, e.numbered, within)),
+      )
 
 -- where no cell can keep more than the limit divides into, a turn doesn't end with a spent limit
 pub unspent :

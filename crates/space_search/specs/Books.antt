@@ -1,5 +1,5 @@
 -- What a search keeps while it runs: the labels that it made, the queue of those that wait, those that it
--- settled, and for each cell the chain of its settled ones. This project's own rule.
+-- settled, and for each cell the chain of its settled ones. This project's own rule
 use Rattle.std.specs.BinaryHeap.{heap_items, IsHeap}
 use Rattle.std.specs.Bool.{IsTrue}
 use Rattle.std.specs.List.{slice_get, Contains}
@@ -55,8 +55,8 @@ pub record IsSettled {S : Type 0} (kept : Books S) (place : ℕ) (label : Label 
   pub at : slice_get kept.settled place ≡ Some number
   pub there : IsLabel kept number label
 
--- A label comes from a permitted start at its cost, or from a permitted step of a label that is settled
--- below this place, whose cost and the step's give its own. Its parent is that place plus 1, or 0.
+-- a label comes from a permitted start at its cost, or from a permitted step of a label that is settled
+-- below this place, whose cost and the step's give its own. Its parent is that place plus 1, or 0
 pub data CameFrom {S : Type 0} (rules : Rules S) (kept : Books S) (below : ℕ) (label : Label S) : Type 0 where
   from_start :
       label.parent ≡ 0 → label.choice < rules.starts →
@@ -70,9 +70,10 @@ pub data CameFrom {S : Type 0} (rules : Rules S) (kept : Books S) (below : ℕ) 
       label.cost ≡ parent.cost + cost →
       CameFrom rules kept below label
 
--- A label whose state is valid, whose cost is bounded by the place below which its parent is settled, and
--- which comes from a start or from such a parent.
-pub record Follows {S : Type 0} (rules : Rules S) (kept : Books S) (below : ℕ) (label : Label S) : Type 0 where
+-- a label whose state is valid, whose cost is bounded by the place below which its parent is settled, and
+-- which comes from a start or from such a parent
+pub record Follows {S : Type 0} (rules : Rules S) (kept : Books S) (below : ℕ) (label : Label S)
+    : Type 0 where
   pub valid : IsTrue (rules.is_valid label.state)
   pub bounded : label.cost < (below + 1) * COST_BOUND
   pub came : CameFrom rules kept below label
@@ -99,8 +100,8 @@ pub record Waits {S : Type 0} (kept : Books S) (state : S) (cost : ℕ) : Type 0
   pub state_is : label.state ≡ state
   pub cost_is : label.cost ≡ cost
 
--- What a start or a step gives is taken care of: a settled label covers it, or it waits, or no goal is
--- reached from it.
+-- what a start or a step gives is taken care of: a settled label covers it, or it waits, or no goal is
+-- reached from it
 pub data IsAccounted {S : Type 0} (rules : Rules S) (kept : Books S) (state : S) (cost : ℕ) : Type 0 where
   by_label : IsCovered rules kept state cost → IsAccounted rules kept state cost
   by_queue : Waits kept state cost → IsAccounted rules kept state cost
@@ -130,14 +131,15 @@ pub record IsClosed {S : Type 0} (rules : Rules S) (kept : Books S) : Type 0 whe
   pub starts : HasStarts rules kept rules.starts
   pub steps : HasStepsBelow rules kept (length kept.settled)
 
--- The cursor names the newest label of a cell that was settled below a place, by its place plus 1; it is
--- 0 where there is none.
+-- the cursor names the newest label of a cell that was settled below a place, by its place plus 1; it is
+-- 0 where there is none
 pub record IsLatest {S : Type 0} (rules : Rules S) (kept : Books S) (cell below cursor : ℕ) : Type 0 where
   pub inside :
       (place : ℕ) → cursor ≡ place + 1 →
       (place < below) × ((label : Label S) × IsSettled kept place label × (rules.cell label.state ≡ cell))
   pub last :
-      (place : ℕ) (label : Label S) → IsSettled kept place label → rules.cell label.state ≡ cell → place < below →
+      (place : ℕ) (label : Label S) → IsSettled kept place label → rules.cell label.state ≡ cell →
+      place < below →
       place < cursor
 
 -- the chain of each cell's settled labels
@@ -148,22 +150,27 @@ pub record IsIndex {S : Type 0} (rules : Rules S) (kept : Books S) : Type 0 wher
       (cell cursor : ℕ) → slice_get kept.newest cell ≡ Some cursor →
       IsLatest rules kept cell (length kept.settled) cursor
   pub older :
-      (place cursor : ℕ) (label : Label S) → slice_get kept.older place ≡ Some cursor → IsSettled kept place label →
+      (place cursor : ℕ) (label : Label S) → slice_get kept.older place ≡ Some cursor →
+      IsSettled kept place label →
       IsLatest rules kept (rules.cell label.state) place cursor
 
--- What a settled label's run and cost can be read from, also after want of memory.
+-- what a settled label's run and cost can be read from, also after want of memory
 pub record Reads {S : Type 0} (rules : Rules S) (kept : Books S) : Type 0 where
   -- a place and the place after it have 32 bits
   pub few_settled : length kept.settled < 2 ^ 32
   -- each place has a label
   pub settled_there :
-      (place number : ℕ) → slice_get kept.settled place ≡ Some number → (label : Label S) × IsLabel kept number label
+      (place number : ℕ) → slice_get kept.settled place ≡ Some number → (label : Label S) ×
+      IsLabel kept number label
   -- each settled label comes from a start or from one that was settled before it
-  pub settled_follows : (place : ℕ) (label : Label S) → IsSettled kept place label → Follows rules kept place label
+  pub settled_follows :
+      (place : ℕ) (label : Label S) → IsSettled kept place label → Follows rules kept place label
 
--- Of two settled labels the later has no smaller rank, and the earlier doesn't cover it.
+-- of two settled labels the later has no smaller rank, and the earlier doesn't cover it
 pub record IsRising {S : Type 0} (rules : Rules S) (kept : Books S) : Type 0 where
-  pub ranked : (place : ℕ) (label : Label S) → IsSettled kept place label → (rank : ℕ) × HasRank rules label.state label.cost rank
+  pub ranked :
+      (place : ℕ) (label : Label S) → IsSettled kept place label → (rank : ℕ) ×
+      HasRank rules label.state label.cost rank
   pub rising :
       (first second : ℕ) (a b : Label S) (low high : ℕ) → first ≤ second →
       IsSettled kept first a → IsSettled kept second b →
@@ -172,20 +179,22 @@ pub record IsRising {S : Type 0} (rules : Rules S) (kept : Books S) : Type 0 whe
       (first second : ℕ) (a b : Label S) → first < second → IsSettled kept first a → IsSettled kept second b →
       rules.covers a.state a.cost b.state b.cost ≡ false
 
--- What holds of the settled labels at each moment, also after want of memory: they read right, none is a goal,
--- and they are in order.
+-- what holds of the settled labels at each moment, also after want of memory: they read right, none is a
+-- goal, and they are in order
 pub record Stands {S : Type 0} (rules : Rules S) (kept : Books S) : Type 0 where
   pub reads : Reads rules kept
   pub no_goal : (place : ℕ) (label : Label S) → IsSettled kept place label → rules.is_goal label.state ≡ false
   pub rising : IsRising rules kept
 
--- What holds of the lists at each moment, whatever was taken care of so far.
+-- what holds of the lists at each moment, whatever was taken care of so far
 pub record IsSearch {S : Type 0} (rules : Rules S) (kept : Books S) : Type 0 where
   pub stands : Stands rules kept
   -- there are no more labels than numbers for them
   pub few : length kept.labels ≤ MOST_LABELS
   -- each label comes from a start or a settled label
-  pub follows : (number : ℕ) (label : Label S) → IsLabel kept number label → Follows rules kept (length kept.settled) label
+  pub follows :
+      (number : ℕ) (label : Label S) → IsLabel kept number label →
+      Follows rules kept (length kept.settled) label
   -- each entry of the queue is a label with its rank
   pub queued :
       (entry : Entry) → Contains kept.queue entry →
@@ -193,7 +202,8 @@ pub record IsSearch {S : Type 0} (rules : Rules S) (kept : Books S) : Type 0 whe
   pub ordered : IsHeap entry_cmp kept.queue
   -- what waits ranks no less than any settled label
   pub above :
-      (place : ℕ) (label : Label S) (rank : ℕ) → IsSettled kept place label → HasRank rules label.state label.cost rank →
+      (place : ℕ) (label : Label S) (rank : ℕ) → IsSettled kept place label →
+      HasRank rules label.state label.cost rank →
       (entry : Entry) → Contains kept.queue entry → rank ≤ entry.0.0
   pub index : IsIndex rules kept
 
@@ -211,9 +221,10 @@ work_left kept = 2 * (MOST_LABELS - length kept.labels) + length kept.queue
 
 -- each settled label keeps its place
 abbrev pub KeepsLabels : {S : Type 0} → Books S → Books S → Type 0
-KeepsLabels {S} before after = (place : ℕ) (label : Label S) → IsSettled before place label → IsSettled after place label
+KeepsLabels {S} before after =
+    (place : ℕ) (label : Label S) → IsSettled before place label → IsSettled after place label
 
--- What a part of a turn leaves, also where memory runs out in it: all settled labels, which still stand.
+-- what a part of a turn leaves, also where memory runs out in it: all settled labels, which still stand
 pub record Leaves {S : Type 0} (rules : Rules S) (before after : Books S) : Type 0 where
   pub stands : Stands rules after
   pub keeps : KeepsLabels before after

@@ -4,9 +4,10 @@ use Rattle.space_search.specs.Books.{Books, IsSettled}
 use Rattle.space_search.specs.Rules.{Rules}
 use Rattle.space_search.specs.declared.label.Label.{Label}
 
--- No label of the state's cell at or after the cursor covers the state at this cost, and before the
--- cursor stands one of that cell, unless the cursor is 0.
-pub record IsTested {S : Type 0} (rules : Rules S) (kept : Books S) (state : S) (cost cursor : ℕ) : Type 0 where
+-- no label of the state's cell at or after the cursor covers the state at this cost, and before the
+-- cursor stands one of that cell, unless the cursor is 0
+pub record IsTested {S : Type 0} (rules : Rules S) (kept : Books S) (state : S) (cost cursor : ℕ)
+    : Type 0 where
   pub tested :
       (place : ℕ) (label : Label S) → IsSettled kept place label → rules.cell label.state ≡ rules.cell state →
       cursor ≤ place → rules.covers label.state label.cost state cost ≡ false

@@ -1,5 +1,5 @@
 -- The laws of a search space, in five groups. They speak of valid states alone.
--- This project's own rule.
+-- this project's own rule
 use Rattle.std.specs.Prelude.{ℕ, ◌≡◌, ◌<◌, ◌≤◌, ◌+◌, IsTrue, Some, None, List}
 use Rattle.std.specs.Option.{is_some}
 use Rattle.space_search.specs.Rules.{Rules, COST_BOUND, LOW_BOUND}
@@ -10,8 +10,8 @@ pub record IsMove {S : Type 0} (rules : Rules S) (state : S) (cost : ℕ) : Type
   pub valid : IsTrue (rules.is_valid state)
   pub cheap : cost < COST_BOUND
 
--- First group: what starts and steps give is a state of the space at a bounded cost, and each state lies
--- in one of the cells.
+-- first group: what starts and steps give is a state of the space at a bounded cost, and each state lies
+-- in one of the cells
 pub record HasMoves {S : Type 0} (rules : Rules S) : Type 0 where
   pub starts :
       (number : ℕ) (state : S) (cost : ℕ) → number < rules.starts →
@@ -21,29 +21,32 @@ pub record HasMoves {S : Type 0} (rules : Rules S) : Type 0 where
       number < rules.steps from → rules.step from number ≡ Some (state, cost) → IsMove rules state cost
   pub cell : (state : S) → IsTrue (rules.is_valid state) → rules.cell state < rules.cells
 
--- Second group: covering holds only in one cell, is reflexive and transitive, and what covers costs no
--- more.
+-- second group: covering holds only in one cell, is reflexive and transitive, and what covers costs no
+-- more
 pub record HasCovering {S : Type 0} (rules : Rules S) : Type 0 where
   pub one_cell :
       (a b : S) (ca cb : ℕ) → IsTrue (rules.is_valid a) → IsTrue (rules.is_valid b) →
       IsTrue (rules.covers a ca b cb) → rules.cell a ≡ rules.cell b
   pub itself : (a : S) (ca : ℕ) → IsTrue (rules.is_valid a) → IsTrue (rules.covers a ca a ca)
   pub through :
-      (a b c : S) (ca cb cc : ℕ) → IsTrue (rules.is_valid a) → IsTrue (rules.is_valid b) → IsTrue (rules.is_valid c) →
+      (a b c : S) (ca cb cc : ℕ) → IsTrue (rules.is_valid a) → IsTrue (rules.is_valid b) →
+      IsTrue (rules.is_valid c) →
       IsTrue (rules.covers a ca b cb) → IsTrue (rules.covers b cb c cc) → IsTrue (rules.covers a ca c cc)
   pub cheaper :
       (a b : S) (ca cb : ℕ) → IsTrue (rules.is_valid a) → IsTrue (rules.is_valid b) →
       IsTrue (rules.covers a ca b cb) → ca ≤ cb
 
--- Third group: covering is kept by every step.
+-- third group: covering is kept by every step
 abbrev pub KeepsCovering : {S : Type 0} → Rules S → Type 0
 KeepsCovering {S} rules =
-    (a b : S) (ca cb : ℕ) → IsTrue (rules.is_valid a) → IsTrue (rules.is_valid b) → IsTrue (rules.covers a ca b cb) →
+    (a b : S) (ca cb : ℕ) → IsTrue (rules.is_valid a) → IsTrue (rules.is_valid b) →
+    IsTrue (rules.covers a ca b cb) →
     (number : ℕ) → number < rules.steps b →
-    (first second : S) (more other : ℕ) → rules.step a number ≡ Some (first, more) → rules.step b number ≡ Some (second, other) →
+    (first second : S) (more other : ℕ) → rules.step a number ≡ Some (first, more) →
+    rules.step b number ≡ Some (second, other) →
     IsTrue (rules.covers first (ca + more) second (cb + other))
 
--- Fourth group: a covered state has the permitted steps and the goal answer of what covers it.
+-- fourth group: a covered state has the permitted steps and the goal answer of what covers it
 pub record CoveredAlike {S : Type 0} (rules : Rules S) : Type 0 where
   pub steps :
       (a b : S) (ca cb : ℕ) → IsTrue (rules.is_valid a) → IsTrue (rules.is_valid b) →
@@ -56,13 +59,16 @@ pub record CoveredAlike {S : Type 0} (rules : Rules S) : Type 0 where
       (a b : S) (ca cb : ℕ) → IsTrue (rules.is_valid a) → IsTrue (rules.is_valid b) →
       IsTrue (rules.covers a ca b cb) → rules.is_goal a ≡ rules.is_goal b
 
--- Fifth group: the lower bound is bounded, is 0 at a goal, is none only where no goal is reached, and
--- falls along a step by no more than the step costs.
+-- fifth group: the lower bound is bounded, is 0 at a goal, is none only where no goal is reached, and
+-- falls along a step by no more than the step costs
 pub record HasBound {S : Type 0} (rules : Rules S) : Type 0 where
-  pub small : (state : S) (low : ℕ) → IsTrue (rules.is_valid state) → rules.low state ≡ Some low → low < LOW_BOUND
-  pub goal : (state : S) → IsTrue (rules.is_valid state) → IsTrue (rules.is_goal state) → rules.low state ≡ Some 0
+  pub small :
+      (state : S) (low : ℕ) → IsTrue (rules.is_valid state) → rules.low state ≡ Some low → low < LOW_BOUND
+  pub goal :
+      (state : S) → IsTrue (rules.is_valid state) → IsTrue (rules.is_goal state) → rules.low state ≡ Some 0
   pub hopeless :
-      (state end : S) (cost total : ℕ) (numbers : List ℕ) → IsTrue (rules.is_valid state) → rules.low state ≡ None →
+      (state end : S) (cost total : ℕ) (numbers : List ℕ) → IsTrue (rules.is_valid state) →
+      rules.low state ≡ None →
       Walks rules state cost numbers end total → IsTrue (rules.is_goal end) → ⊥
   pub step :
       (from : S) (number : ℕ) (state : S) (cost before after : ℕ) → IsTrue (rules.is_valid from) →
@@ -77,7 +83,7 @@ pub record IsSpace {S : Type 0} (rules : Rules S) : Type 0 where
   pub alike : CoveredAlike rules
   pub bound : HasBound rules
 
--- The rank of a state that was reached at a cost: the cost plus the lower bound, where that is a number.
+-- the rank of a state that was reached at a cost: the cost plus the lower bound, where that is a number
 pub record HasRank {S : Type 0} (rules : Rules S) (state : S) (cost rank : ℕ) : Type 0 where
   pub low : ℕ
   pub is : rules.low state ≡ Some low

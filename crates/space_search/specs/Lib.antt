@@ -7,8 +7,6 @@ pub mod Outcome
 pub mod Rules
 pub mod Runs
 pub mod Searches
-pub mod TestDiamond
-pub mod TestDiamondLaws
 pub mod TestLine
 pub mod TestLineLaws
 pub mod TestPlain

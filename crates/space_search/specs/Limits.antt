@@ -13,13 +13,15 @@ abbrev pub CoversNone : {S : Type 0} → Rules S → Reached S → List (Reached
 CoversNone {S} rules first rest =
     (place : ℕ) (label : Reached S) → slice_get rest place ≡ Some label →
     (rules.covers first.state first.cost label.state label.cost ≡ false) ×
-    ((low high : ℕ) → HasRank rules first.state first.cost low → HasRank rules label.state label.cost high → low ≤ high)
+    ((low high : ℕ) → HasRank rules first.state first.cost low → HasRank rules label.state label.cost high →
+    low ≤ high)
 
--- labels of valid states in order of rank, of which no earlier one covers a later one
+-- labels of valid states that have ranks, in order of rank, of which no earlier one covers a later one
 abbrev pub IsUncoveredChain : {S : Type 0} → Rules S → List (Reached S) → Type 0
 IsUncoveredChain rules [] = Unit {0}
 IsUncoveredChain rules (label ∷ rest) =
-    IsTrue (rules.is_valid label.state) × CoversNone rules label rest × IsUncoveredChain rules rest
+    IsTrue (rules.is_valid label.state) × ((rank : ℕ) × HasRank rules label.state label.cost rank) ×
+    CoversNone rules label rest × IsUncoveredChain rules rest
 
 -- all of these labels lie in the cell
 abbrev pub LieIn : {S : Type 0} → Rules S → ℕ → List (Reached S) → Type 0
@@ -29,7 +31,8 @@ LieIn rules cell (label ∷ rest) = (rules.cell label.state ≡ cell) × LieIn r
 -- no cell can keep more labels than this
 abbrev pub HasFewPerCell : {S : Type 0} → Rules S → ℕ → Type 0
 HasFewPerCell {S} rules most =
-    (cell : ℕ) (labels : List (Reached S)) → IsUncoveredChain rules labels → LieIn rules cell labels → length labels ≤ most
+    (cell : ℕ) (labels : List (Reached S)) → IsUncoveredChain rules labels → LieIn rules cell labels →
+    length labels ≤ most
 
 -- the answer of a whole search isn't a spent limit
 abbrev pub IsUnspent : Outcome → Type 0

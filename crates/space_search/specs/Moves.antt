@@ -28,8 +28,9 @@ pub record Begins {S : Type 0} (rules : Rules S) (after : Books S) : Type 0 wher
   pub closed : IsClosed rules after
   pub none : length after.settled ≡ 0
 
--- This label is the next to take: it stands first in the queue, and nothing that waits ranks below it.
-pub record IsNext {S : Type 0} (rules : Rules S) (kept : Books S) (number : ℕ) (label : Label S) : Type 0 where
+-- this label is the next to take: it stands first in the queue, and nothing that waits ranks below it
+pub record IsNext {S : Type 0} (rules : Rules S) (kept : Books S) (number : ℕ) (label : Label S)
+    : Type 0 where
   pub there : IsLabel kept number label
   pub rank : ℕ
   pub ranked : HasRank rules label.state label.cost rank
@@ -45,7 +46,8 @@ pub record Drops {S : Type 0} (rules : Rules S) (before after : Books S) : Type 
   pub work : work_left after < work_left before
 
 -- the next label was settled, and its steps are still to be offered
-pub record Settles {S : Type 0} (rules : Rules S) (before after : Books S) (number : ℕ) (label : Label S) : Type 0 where
+pub record Settles {S : Type 0} (rules : Rules S) (before after : Books S) (number : ℕ)
+    (label : Label S) : Type 0 where
   pub kept : IsSearch rules after
   pub starts : HasStarts rules after rules.starts
   pub steps : HasStepsBelow rules after (length before.settled)
@@ -61,8 +63,8 @@ pub record Advances {S : Type 0} (rules : Rules S) (before after : Books S) : Ty
   pub extends : Extends before after
   pub work : work_left after ≤ work_left before
 
--- What was done with the next label: it was dropped or settled; or it is a goal, or the limit doesn't let
--- it be settled, or nothing waits, and then the queue still has it.
+-- what was done with the next label: it was dropped or settled; or it is a goal, or the limit doesn't let
+-- it be settled, or nothing waits, and then the queue still has it
 abbrev pub WhatTaken : {S : Type 0} → Rules S → ℕ → Books S → Books S → Taken → Type 0
 WhatTaken rules limit before after Dropped =
     (length after.settled ≡ length before.settled) × (work_left after < work_left before)
@@ -78,7 +80,8 @@ WhatTaken {S} rules limit before after Spent =
     IsUncovered rules after label.state label.cost)
 
 -- the next label was looked at
-pub record Takes {S : Type 0} (rules : Rules S) (limit : ℕ) (before after : Books S) (taken : Taken) : Type 0 where
+pub record Takes {S : Type 0} (rules : Rules S) (limit : ℕ) (before after : Books S) (taken : Taken)
+    : Type 0 where
   pub kept : IsSearch rules after
   pub closed : IsClosed rules after
   pub within : length after.settled ≤ limit

@@ -1,10 +1,10 @@
 -- A search over a space: what holds of all that it keeps. Crates above pass this word on and look no further;
--- what they read stands in what a search shows of itself. This project's own rule.
-use Rattle.std.specs.Prelude.{ℕ, ◌≡◌, ◌<◌, ◌≤◌, ◌^◌, length}
+-- what they read stands in what a search shows of itself. This project's own rule
+use Rattle.std.specs.Prelude.{ℕ, ◌<◌, ◌≤◌, ◌^◌, length}
 use Rattle.space_search.specs.Books.{Books, books, IsLabel, Follows, IsSearch, IsClosed, Stands, IsFresh}
 use Rattle.space_search.specs.Rules.{Rules}
 use Rattle.space_search.specs.Turns.{Ends, IsLast, Counts}
-use Rattle.space_search.specs.View.{Held, held, view_of, phase_after}
+use Rattle.space_search.specs.View.{Held, held, view, view_of, labels_of, phase_after}
 use Rattle.space_search.specs.declared.label.Label.{Label}
 use Rattle.space_search.specs.declared.phase.Phase.{Phase}
 use Rattle.space_search.specs.declared.phase.Phase.TheVariants.{New, Running, Ended, Failed}
@@ -15,19 +15,20 @@ use Rattle.space_search.specs.declared.turn.Turn.TheVariants.{More, Found, NoWay
 -- the label that was found comes from a start or from a settled label
 abbrev pub FoundFollows : {S : Type 0} → Rules S → Held S → Turn → Type 0
 FoundFollows rules held More = Unit {0}
-FoundFollows {S} rules held (Found label) = (goal : Label S) × IsLabel held.kept held.found goal × Follows rules held.kept label goal
+FoundFollows {S} rules held (Found label) =
+    (goal : Label S) × IsLabel held.kept held.found goal × Follows rules held.kept label goal
 FoundFollows rules held NoWay = Unit {0}
 FoundFollows rules held Budget = Unit {0}
 
--- What a search in this phase is: a new one has settled nothing; a running one is closed; one that ended is
--- what its answer says; of one that met want of memory nothing more is said.
+-- what a search in this phase is: a new one has settled nothing; a running one is closed; one that ended is
+-- what its answer says; of one that met want of memory nothing more is said
 abbrev pub IsPhase : {S : Type 0} → Rules S → Held S → Phase → Type 0
 IsPhase rules held New = IsFresh held.kept
 IsPhase rules held Running = IsSearch rules held.kept × IsClosed rules held.kept
 IsPhase rules held (Ended turn) = IsLast turn × Ends rules (view_of held) turn × FoundFollows rules held turn
 IsPhase rules held Failed = Unit {0}
 
--- The search is one over a space that answers by these rules.
+-- the search is one over a space that answers by these rules
 pub record IsSearchOf {S : Type 0} (rules : Rules S) (search : Search S) : Type 0 where
   pub small : search.limit < 2 ^ 32
   -- no more labels are settled than the limit allows
@@ -43,9 +44,17 @@ held_after limit kept answer =
     record { limit = limit; kept = kept; found = answer.1; phase = phase_after answer.0 }
 
 -- what a part of a turn that came to an end says
-pub record Turns {S : Type 0} (rules : Rules S) (quota : ℕ) (before : Books S) (after : Held S) (turn : Turn) : Type 0 where
+pub record Turns {S : Type 0} (rules : Rules S) (quota : ℕ) (before : Books S) (after : Held S)
+    (turn : Turn) : Type 0 where
   pub kept : IsSearch rules after.kept
   pub closed : IsClosed rules after.kept
   pub ends : Ends rules (view_of after) turn
   pub goal : FoundFollows rules after turn
   pub counts : Counts quota (length before.settled) (length after.kept.settled) turn
+
+-- the label of this number can be read: it is a settled one of a search over some space, or the goal after
+-- them
+pub record IsReadable {S : Type 0} (search : Search S) (number : ℕ) : Type 0 where
+  pub rules : Rules S
+  pub of : IsSearchOf rules search
+  pub within : number < length (labels_of (view search))

@@ -6,16 +6,19 @@ use Rattle.space_search.specs.TestLine.{line_rules, line_step}
 use Rattle.space_search.specs.TestPlain.{plain-space}
 
 -- the next cell lies in the line
-move : (cells from number state cost : ℕ) → line_step cells from ≡ Some (state, cost) → IsMove (line_rules cells) state cost
-move cells from number state cost is = record { valid = grind (arith, nat_tests); cheap = grind (arith, nat_tests) }
+move :
+    (cells goal from number state cost : ℕ) → line_step cells from ≡ Some (state, cost) →
+    IsMove (line_rules cells goal) state cost
+move cells goal from number state cost is =
+    record { valid = grind (arith, nat_tests); cheap = grind (arith, nat_tests) }
 
 -- a line of at least one cell keeps the laws
-pub line-keeps_laws : (cells : ℕ) → 1 ≤ cells → IsSpace (line_rules cells)
-line-keeps_laws cells some =
-    plain-space (line_rules cells) refl
+pub line-keeps_laws : (cells goal : ℕ) → 1 ≤ cells → IsSpace (line_rules cells goal)
+line-keeps_laws cells goal some =
+    plain-space (line_rules cells goal) refl
     (record {
       starts = λ number state cost within is. record { valid = grind (arith, nat_tests); cheap = grind (arith, nat_tests) };
-      steps = λ from number state cost valid within is. move cells from number state cost is;
+      steps = λ from number state cost valid within is. move cells goal from number state cost is;
       cell = λ state valid. grind (arith, nat_tests);
     })
     (record {

@@ -1,5 +1,5 @@
 -- The laws of covering where it means the same state at no greater cost, as the small spaces of the tests
--- have it.
+-- have it
 use Rattle.std.proofs.Common.{◌≡◌, ℕ, ◌≤◌, ◌+◌, Bool, true, false, Option, Some, ap, arith, sym, ◌∙◌, subst}
 use Rattle.std.proofs.lemmas.Bool.Decides.{nat_tests}
 use Rattle.std.specs.Bool.{IsTrue}
@@ -26,7 +26,8 @@ covers-itself a ca cb less = grind (arith, nat_tests)
 
 -- one step leads to one state at one cost
 one-answer :
-    (first second more other : ℕ) (answer : Option (ℕ × ℕ)) → answer ≡ Some (first, more) → answer ≡ Some (second, other) →
+    (first second more other : ℕ) (answer : Option (ℕ × ℕ)) → answer ≡ Some (first, more) →
+    answer ≡ Some (second, other) →
     (first ≡ second) × (more ≡ other)
 one-answer first second more other answer is is' =
     let same : ◌≡◌ {A = ℕ × ℕ} (first, more) (second, other) = cc in

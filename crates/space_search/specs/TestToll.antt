@@ -1,5 +1,5 @@
 -- A space of the tests: a state is a place and what is due at its next step. Three steps lead from the
--- place 0 to the place 1, and leave more or less due there; one leads on to the goal 2.
+-- place 0 to the place 1, and leave more or less due there; one leads on to the goal 2
 use Rattle.std.specs.Prelude.{ℕ, ◌+◌, Bool, true, false, cond, ◌==◌, nat_lt, Option, Some, None}
 use Rattle.space_search.specs.Rules.{Rules}
 
@@ -14,9 +14,13 @@ toll_step state number =
 abbrev pub toll_covers : ℕ × ℕ → ℕ → ℕ × ℕ → ℕ → Bool
 toll_covers a ca b cb = cond (a.0 == b.0) (cond (nat_lt b.1 a.1) false (cond (nat_lt cb ca) false true)) false
 
--- the space of the tolls
-abbrev pub toll_rules : Rules (ℕ × ℕ)
-toll_rules =
+-- what is still to pay: of places with a bound, the last step with what is due
+abbrev pub toll_low : Bool → ℕ × ℕ → Option ℕ
+toll_low bounded state = cond bounded (cond (state.0 == 1) (Some (2 + state.1)) (Some 0)) (Some 0)
+
+-- the space of the tolls, with a lower bound or without
+abbrev pub toll_rules : Bool → Rules (ℕ × ℕ)
+toll_rules bounded =
     record {
       is_valid = λ state. cond (nat_lt state.0 3) (nat_lt state.1 10) false;
       cells = 3;
@@ -27,5 +31,5 @@ toll_rules =
       step = toll_step;
       is_goal = λ state. state.0 == 2;
       covers = toll_covers;
-      low = λ state. Some 0;
+      low = toll_low bounded;
     }

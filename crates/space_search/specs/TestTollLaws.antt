@@ -1,10 +1,11 @@
 -- The tolls of the tests keep the laws.
-use Rattle.std.proofs.Common.{◌≡◌, ℕ, zero, suc, ◌<◌, ◌≤◌, ◌+◌, Some, refl, ap, arith, sym, ◌∙◌, subst}
+use Rattle.std.proofs.Common.{◌≡◌, ℕ, zero, suc, ◌<◌, ◌≤◌, ◌+◌, Bool, true, false, Some, None, refl, ap, arith, sym, ◌∙◌, subst}
 use Rattle.std.proofs.lemmas.Bool.Decides.{nat_tests}
 use Rattle.std.specs.Bool.{IsTrue}
 use Rattle.std.specs.Option.{is_some}
 use Rattle.space_search.specs.Laws.{IsMove, IsSpace}
-use Rattle.space_search.specs.TestToll.{toll_rules, toll_step, toll_covers}
+use Rattle.space_search.specs.Rules.{LOW_BOUND}
+use Rattle.space_search.specs.TestToll.{toll_rules, toll_step, toll_covers, toll_low}
 
 -- what covers stands at the same place
 same-place : (a b : ℕ × ℕ) (ca cb : ℕ) → IsTrue (toll_covers a ca b cb) → a.0 ≡ b.0
@@ -24,22 +25,29 @@ covers-these (p, d) (p', d') ca cb place due cost = grind (arith, nat_tests)
 
 -- a step leads to a state of the space
 move :
-    (place due number : ℕ) (state : ℕ × ℕ) (cost : ℕ) → due < 10 → toll_step (place, due) number ≡ Some (state, cost) →
-    IsMove toll_rules state cost
-move zero due zero state cost small is = record { valid = grind (arith, nat_tests); cheap = grind (arith, nat_tests) }
-move zero due (suc zero) state cost small is = record { valid = grind (arith, nat_tests); cheap = grind (arith, nat_tests) }
-move zero due (suc (suc n)) state cost small is = record { valid = grind (arith, nat_tests); cheap = grind (arith, nat_tests) }
-move (suc zero) due n state cost small is = record { valid = grind (arith, nat_tests); cheap = grind (arith, nat_tests) }
-move (suc (suc m)) due n state cost small is = record { valid = grind (arith, nat_tests); cheap = grind (arith, nat_tests) }
+    (bounded : Bool) (place due number : ℕ) (state : ℕ × ℕ) (cost : ℕ) → due < 10 →
+    toll_step (place, due) number ≡ Some (state, cost) →
+    IsMove (toll_rules bounded) state cost
+move bounded zero due zero state cost small is =
+    record { valid = grind (arith, nat_tests); cheap = grind (arith, nat_tests) }
+move bounded zero due (suc zero) state cost small is =
+    record { valid = grind (arith, nat_tests); cheap = grind (arith, nat_tests) }
+move bounded zero due (suc (suc n)) state cost small is =
+    record { valid = grind (arith, nat_tests); cheap = grind (arith, nat_tests) }
+move bounded (suc zero) due n state cost small is =
+    record { valid = grind (arith, nat_tests); cheap = grind (arith, nat_tests) }
+move bounded (suc (suc m)) due n state cost small is =
+    record { valid = grind (arith, nat_tests); cheap = grind (arith, nat_tests) }
 
 -- what is due at a state of the space is small
-due-small : (state : ℕ × ℕ) → IsTrue (toll_rules.is_valid state) → state.1 < 10
-due-small (p, d) valid = grind (arith, nat_tests)
+due-small : (bounded : Bool) (state : ℕ × ℕ) → IsTrue ((toll_rules bounded).is_valid state) → state.1 < 10
+due-small bounded (p, d) valid = grind (arith, nat_tests)
 
 -- two states of one place go to the same state by the same step, the one with no more due at no greater cost
 along :
     (place due due' number : ℕ) (first second : ℕ × ℕ) (more other : ℕ) → due ≤ due' →
-    toll_step (place, due) number ≡ Some (first, more) → toll_step (place, due') number ≡ Some (second, other) →
+    toll_step (place, due) number ≡ Some (first, more) →
+    toll_step (place, due') number ≡ Some (second, other) →
     (first ≡ second) × (more ≤ other)
 along zero due due' zero first second more other less is is' = (grind (arith, nat_tests), grind (arith, nat_tests))
 along zero due due' (suc zero) first second more other less is is' = (grind (arith, nat_tests), grind (arith, nat_tests))
@@ -48,20 +56,52 @@ along (suc zero) due due' n first second more other less is is' = (grind (arith,
 along (suc (suc m)) due due' n first second more other less is is' = (grind (arith, nat_tests), grind (arith, nat_tests))
 
 -- a step that is permitted at a place is permitted whatever is due
-permitted : (place due due' number : ℕ) → is_some (toll_step (place, due) number) ≡ is_some (toll_step (place, due') number)
+permitted :
+    (place due due' number : ℕ) →
+    is_some (toll_step (place, due) number) ≡ is_some (toll_step (place, due') number)
 permitted zero due due' zero = refl
 permitted zero due due' (suc zero) = refl
 permitted zero due due' (suc (suc n)) = grind (arith, nat_tests)
 permitted (suc zero) due due' n = refl
 permitted (suc (suc m)) due due' n = grind (arith, nat_tests)
 
-pub toll-keeps_laws : IsSpace toll_rules
-toll-keeps_laws =
+-- the bound is small
+low-small :
+    (bounded : Bool) (state : ℕ × ℕ) (low : ℕ) → state.1 < 10 → toll_low bounded state ≡ Some low →
+    low < LOW_BOUND
+low-small true (p, d) low small is = grind (arith, nat_tests)
+low-small false (p, d) low small is = grind (arith, nat_tests)
+
+-- it is 0 at the goal
+low-goal :
+    (bounded : Bool) (state : ℕ × ℕ) → IsTrue ((toll_rules bounded).is_goal state) →
+    toll_low bounded state ≡ Some 0
+low-goal true (p, d) goal = grind (arith, nat_tests)
+low-goal false (p, d) goal = refl
+
+-- each place has one
+low-some : (bounded : Bool) (state : ℕ × ℕ) → toll_low bounded state ≡ None → ⊥
+low-some true (p, d) none = grind (arith, nat_tests)
+low-some false (p, d) none = cc
+
+-- and a step lets it fall by no more than it costs
+low-step :
+    (bounded : Bool) (place due number : ℕ) (state : ℕ × ℕ) (cost before after : ℕ) →
+    toll_step (place, due) number ≡ Some (state, cost) →
+    toll_low bounded (place, due) ≡ Some before → toll_low bounded state ≡ Some after → before ≤ cost + after
+low-step true zero due number state cost before after is low low' = grind (arith, nat_tests)
+low-step true (suc zero) due number state cost before after is low low' = grind (arith, nat_tests)
+low-step true (suc (suc m)) due number state cost before after is low low' = grind (arith, nat_tests)
+low-step false place due number state cost before after is low low' = grind (arith, nat_tests)
+
+-- the tolls keep the laws
+pub toll-keeps_laws : (bounded : Bool) → IsSpace (toll_rules bounded)
+toll-keeps_laws bounded =
     record {
       moves =
           record {
             starts = λ number state cost within is. record { valid = grind (arith, nat_tests); cheap = grind (arith, nat_tests) };
-            steps = λ from number state cost valid within is. move from.0 from.1 number state cost (due-small from valid) is;
+            steps = λ from number state cost valid within is. move bounded from.0 from.1 number state cost (due-small bounded from valid) is;
             cell = λ state valid. grind (arith, nat_tests);
           };
       covering =
@@ -82,17 +122,18 @@ toll-keeps_laws =
           (covers-these first first (ca + more) (cb + other) refl (omega arith) (omega (arith, same.1, no-more a b ca cb h)));
       alike =
           record {
-            steps = λ a b ca cb va vb h. ap (λ (p : ℕ). toll_rules.steps (p, 0)) (same-place a b ca cb h);
+            steps = λ a b ca cb va vb h. ap (λ (p : ℕ). (toll_rules bounded).steps (p, 0)) (same-place a b ca cb h);
             permitted = λ a b ca cb va vb h number within.
                 subst (λ (p : ℕ). is_some (toll_step (p, a.1) number) ≡ is_some (toll_step (b.0, b.1) number))
                 (sym (same-place a b ca cb h)) (permitted b.0 a.1 b.1 number);
-            goal = λ a b ca cb va vb h. ap (λ (p : ℕ). toll_rules.is_goal (p, 0)) (same-place a b ca cb h);
+            goal = λ a b ca cb va vb h. ap (λ (p : ℕ). (toll_rules bounded).is_goal (p, 0)) (same-place a b ca cb h);
           };
       bound =
           record {
-            small = λ state low valid is. grind (arith, nat_tests);
-            goal = λ state valid goal. refl;
-            hopeless = λ state end cost total numbers valid is walks goal. cc;
-            step = λ from number state cost before after valid within is low low'. grind (arith, nat_tests);
+            small = λ state low valid is. low-small bounded state low (due-small bounded state valid) is;
+            goal = λ state valid goal. low-goal bounded state goal;
+            hopeless = λ state end cost total numbers valid is walks goal. low-some bounded state is;
+            step = λ from number state cost before after valid within is low low'.
+                low-step bounded from.0 from.1 number state cost before after is low low';
           };
     }

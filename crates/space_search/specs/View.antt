@@ -1,5 +1,5 @@
 -- What a search shows of itself: its limit, how far it is, and the labels that can be read. This project's
--- own rule.
+-- own rule
 use Rattle.std.specs.List.{slice_get}
 use Rattle.std.specs.Prelude.{ℕ, zero, suc, ◌≡◌, List, [], ◌∷◌, ◌++◌, Option, Some, None}
 use Rattle.space_search.specs.Books.{Books, books}
@@ -121,7 +121,8 @@ IsShown view number label = slice_get (labels_of view) number ≡ Some label
 
 -- each of these labels keeps its place
 abbrev pub KeepsPlaces : {S : Type 0} → List (Reached S) → List (Reached S) → Type 0
-KeepsPlaces {S} before after = (place : ℕ) (label : Reached S) → slice_get before place ≡ Some label → slice_get after place ≡ Some label
+KeepsPlaces {S} before after =
+    (place : ℕ) (label : Reached S) → slice_get before place ≡ Some label → slice_get after place ≡ Some label
 
 -- how far a search is after this answer
 abbrev pub phase_after : Turn → Phase

@@ -10,8 +10,8 @@ use crate::lists::Lists;
 use item_list::Items;
 use std::alloc::{AllocError, Global};
 
-/// The choices of a run to a label whose parent is settled below a place: its start's number and then its
-/// steps' numbers.
+/// The choices of a run to a label whose parent is settled below a place: its start's number and
+/// then its steps' numbers.
 pub(crate) fn choices_of<T: Copy + Drop>(
     alloc: Global,
     lists: &Lists<T>,

@@ -13,33 +13,17 @@ use std::alloc::{AllocError, Global};
 /// How many labels one turn of `least` settles at most.
 const QUOTA: u32 = 1048576;
 
-/// A run of least cost from a start to a goal, or that no run reaches a goal, or that `limit` labels are
-/// settled and one more would be.
+/// A run of least cost from a start to a goal, or that no run reaches a goal, or that `limit`
+/// labels are settled and one more would be.
 pub fn least<S: Space>(alloc: Global, space: &S, limit: u64) -> Result<Outcome, AllocError>
     requires small { limit < 2 ^ 32 }
     ensures answers { IfOk result (λ outcome. Answers (S.rules space.now) limit outcome) }
     ensures enough { (most : ℕ) → HasFewPerCell (S.rules space.now) most →
         (S.rules space.now).cells * most ≤ limit → IfOk result IsUnspent }
 {
-    least_in_turns(alloc, space, limit, QUOTA)
-}
-
-/// The same, in turns of the given quota.
-pub(crate) fn least_in_turns<S: Space>(
-    alloc: Global,
-    space: &S,
-    limit: u64,
-    quota: u32,
-) -> Result<Outcome, AllocError>
-    requires small { limit < 2 ^ 32 }
-    requires some { 1 ≤ quota }
-    ensures answers { IfOk result (λ outcome. Answers (S.rules space.now) limit outcome) }
-    ensures enough { (most : ℕ) → HasFewPerCell (S.rules space.now) most →
-        (S.rules space.now).cells * most ≤ limit → IfOk result IsUnspent }
-{
     let mut search: Search<S::State> = Search::new(alloc, limit);
     'search: loop {
-        match search.turn(space, quota)? {
+        match search.turn(space, QUOTA)? {
             Turn::More => {}
             Turn::Found { label } => {
                 let choices = search.choices(alloc, label)?;

@@ -17,15 +17,9 @@ mod take;
 #[cfg(test)]
 mod tests;
 #[cfg(test)]
-mod tests_diamond;
-#[cfg(test)]
 mod tests_line;
 #[cfg(test)]
-mod tests_memory;
-#[cfg(test)]
 mod tests_toll;
-#[cfg(test)]
-mod tests_turns;
 mod turn;
 mod turns;
 

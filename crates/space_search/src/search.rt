@@ -3,8 +3,8 @@
 use crate::lists::Lists;
 use crate::phase::Phase;
 
-/// A search for a goal of least cost. It keeps states of the type `T` and borrows no space: each turn is
-/// given the space again.
+/// A search for a goal of least cost. It keeps states of the type `T` and borrows no space: each
+/// turn is given the space again.
 #[derive(Drop)]
 pub struct Search<T> {
     pub(crate) lists: Lists<T>,

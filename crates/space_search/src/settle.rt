@@ -26,7 +26,8 @@ pub(crate) fn drop_next<T: Copy + Drop, S: Space<State = T>>(
     let _taken = lists.queue.pop();
 }
 
-/// Takes the next label, which is no goal and which no settled label covers, from the queue and settles it.
+/// Takes the next label, which is no goal and which no settled label covers, from the queue and
+/// settles it.
 pub(crate) fn settle_next<T: Copy + Drop, S: Space<State = T>>(
     space: &S,
     lists: &mut Lists<T>,

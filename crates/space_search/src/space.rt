@@ -6,9 +6,9 @@ ghost use Rattle.space_search.specs.Laws.{IsSpace};
 
 /// A space of states with starts, steps and goals, all by number. No call takes memory.
 ///
-/// `rules` says in one record what all calls answer, and `keeps_laws` that the record keeps the laws of
-/// a space. A start or step that isn't permitted is `None`; else it gives the state that is reached and
-/// what reaching it costs.
+/// `rules` says in one record what all calls answer, and `keeps_laws` that the record keeps the
+/// laws of a space. A start or step that isn't permitted is `None`; else it gives the state that is
+/// reached and what reaching it costs.
 pub trait Space {
     /// A state; it is small, since a search keeps many.
     type State: Copy;

@@ -28,8 +28,8 @@ pub enum Taken {
     Spent,
 }
 
-/// Takes the next label from the queue: it is dropped, or it is settled and its steps are offered. Where
-/// it is a goal, or the limit is spent, or nothing waits, the queue stays as it is.
+/// Takes the next label from the queue: it is dropped, or it is settled and its steps are offered.
+/// Where it is a goal, or the limit is spent, or nothing waits, the queue stays as it is.
 pub(crate) fn take<T: Copy + Drop, S: Space<State = T>>(
     space: &S,
     lists: &mut Lists<T>,
@@ -63,8 +63,8 @@ pub(crate) fn take<T: Copy + Drop, S: Space<State = T>>(
     Ok(Taken::Settled)
 }
 
-/// Takes labels until as many are settled as the quota says, or the search is at its end; with the number
-/// of the goal's label, where one was found.
+/// Takes labels until as many are settled as the quota says, or the search is at its end; with the
+/// number of the goal's label, where one was found.
 pub(crate) fn take_many<T: Copy + Drop, S: Space<State = T>>(
     space: &S,
     lists: &mut Lists<T>,

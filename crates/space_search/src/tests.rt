@@ -1,18 +1,22 @@
-//! What searches over the small spaces of the tests answer.
+//! What searches over spaces of the tests' own settle, and what is read of them.
 
-ghost use Rattle.std.specs.Prelude.{◌<◌, ◌^◌};
+ghost use Rattle.std.specs.Prelude.{◌<◌, ◌≤◌, ◌^◌};
+ghost use Rattle.space_search.specs.Searches.{IsSearchOf, IsReadable};
+ghost use Rattle.space_search.specs.TestLine.{line_rules};
 
 use super::*;
-use crate::finding::least_in_turns;
-use crate::tests_diamond::Diamond;
 use crate::tests_line::Line;
 use crate::tests_toll::Toll;
 use std::alloc::{AllocError, Global};
 use std::test::Fail;
 
-// An answer in words: the choices and the cost of a run, or `none`, or `spent`.
-fn told(alloc: Global, answer: Outcome) -> Result<String, AllocError> {
-    match answer {
+// The answer of a whole search over a line: the choices and the cost of a run, or `none`, or
+// `spent`.
+fn told(alloc: Global, cells: u32, goal: u32, limit: u64) -> Result<String, AllocError>
+    requires some { 1 ≤ cells }
+    requires small { limit < 2 ^ 32 }
+{
+    match least(alloc, &Line::new(cells, goal), limit)? {
         Outcome::Found { choices, cost } => format!(in alloc; "{:?} {cost}", choices.as_slice()),
         Outcome::NoWay => String::from_str(alloc, "none"),
         Outcome::Budget => String::from_str(alloc, "spent"),
@@ -20,69 +24,104 @@ fn told(alloc: Global, answer: Outcome) -> Result<String, AllocError> {
 }
 
 #[test]
-fn a_diamond_is_crossed_by_the_cheaper_way(rt: HostRuntime) -> Result<(), Fail> {
+fn a_whole_search_has_three_outcomes(rt: HostRuntime) -> Result<(), Fail> {
     let alloc = rt.alloc();
-    let rows = [
-        ("a cheaper detour", Some(10), Some(5), 3, "[0, 1, 0] 6"),
-        ("a dearer detour", Some(3), Some(5), 3, "[0, 0] 3"),
-        ("a forbidden step", None, Some(5), 3, "[0, 1, 0] 6"),
-        ("a closed detour", Some(3), None, 3, "[0, 0] 3"),
-        ("no way", None, None, 3, "none"),
-        ("one label short", Some(10), Some(5), 2, "spent"),
-        ("one short of no way", None, None, 2, "spent"),
-        ("no label at all", Some(0), None, 0, "spent"),
-    ];
-    for (what, direct, detour, limit, want) in rows {
-        let space = Diamond::new(direct, detour, false);
-        let answer = told(alloc, least(alloc, &space, limit)?)?;
-        assert_eq!(rt; answer.as_str(), want, "{what}");
-    }
+    assert_eq!(rt; told(alloc, 4, 3, 3)?.as_str(), "[0, 0, 0, 0] 3");
+    assert_eq!(rt; told(alloc, 4, 4, 4)?.as_str(), "none");
+    assert_eq!(rt; told(alloc, 4, 3, 2)?.as_str(), "spent");
     Ok(())
 }
 
-#[test]
-fn the_quota_changes_no_answer(rt: HostRuntime) -> Result<(), Fail> {
-    let alloc = rt.alloc();
-    for quota in [1, 2, 7, 1000000] {
-        let diamond = Diamond::new(Some(10), Some(5), false);
-        let found = told(alloc, least_in_turns(alloc, &diamond, 3, quota)?)?;
-        assert_eq!(rt; found.as_str(), "[0, 1, 0] 6", "quota {quota}");
-        let spent = told(alloc, least_in_turns(alloc, &diamond, 2, quota)?)?;
-        assert_eq!(rt; spent.as_str(), "spent", "quota {quota}");
-        let closed = Diamond::new(None, None, false);
-        let none = told(alloc, least_in_turns(alloc, &closed, 3, quota)?)?;
-        assert_eq!(rt; none.as_str(), "none", "quota {quota}");
-        let toll = told(alloc, least_in_turns(alloc, &Toll, 3, quota)?)?;
-        assert_eq!(rt; toll.as_str(), "[0, 1, 0] 7", "quota {quota}");
-    }
-    Ok(())
-}
-
-// The answers of a turn that comes to the end and of one more, and how many labels are settled then.
-fn answers_twice(
-    alloc: Global,
-    space: &Diamond,
-    limit: u64,
-) -> Result<(Turn, Turn, u32), AllocError>
-    requires small { limit < 2 ^ 32 }
+// State, cost and choices of a label.
+fn label(alloc: Global, search: &Search<(u32, u32)>, label: u32) -> Result<String, AllocError>
+    requires readable { IsReadable search.now label }
 {
-    let mut search: Search<u32> = Search::new(alloc, limit);
-    let first = search.turn(space, 9)?;
-    let again = search.turn(space, 1)?;
-    Ok((first, again, search.labels()))
+    let choices = search.choices(alloc, label)?;
+    let (place, due) = *search.state_of(label);
+    format!(in alloc;
+        "{place} {due} {} {:?}",
+        search.cost_of(label),
+        choices.as_slice()
+    )
 }
 
 #[test]
-fn a_last_answer_is_given_again(rt: HostRuntime) -> Result<(), Fail> {
-    let rows = [
-        (Some(10), Some(5), 3, Turn::Found { label: 3 }, 3),
-        (None, None, 3, Turn::NoWay, 3),
-        (Some(10), Some(5), 2, Turn::Budget, 2),
-    ];
-    for (direct, detour, limit, want, labels) in rows {
-        let space = Diamond::new(direct, detour, false);
-        let answers = answers_twice(rt.alloc(), &space, limit)?;
-        assert_eq!(rt; answers, (want, want, labels));
+fn a_cell_keeps_labels_that_do_not_cover_each_other(rt: HostRuntime) -> Result<(), Fail> {
+    let alloc = rt.alloc();
+    let toll = Toll { bounded: false };
+    let mut search: Search<(u32, u32)> = Search::new(alloc, 3);
+    assert_eq!(rt; search.turn(&toll, 3)?, Turn::More);
+    assert_eq!(rt; label(alloc, &search, 0)?.as_str(), "0 0 0 [0]");
+    assert_eq!(rt; label(alloc, &search, 1)?.as_str(), "1 9 1 [0, 0]");
+    assert_eq!(rt; label(alloc, &search, 2)?.as_str(), "1 2 3 [0, 1]");
+    // The state with 5 due at cost 4 is covered by the one with 2 due at cost 3.
+    let Turn::Found { label: goal } = search.turn(&toll, 1)? else {
+        return Err("no goal".into());
+    };
+    assert_eq!(rt; label(alloc, &search, goal)?.as_str(), "2 0 7 [0, 1, 0]");
+    Ok(())
+}
+
+// How many labels a search over the tolls settles.
+fn settled(alloc: Global, bounded: bool) -> Result<u32, AllocError> {
+    let mut search: Search<(u32, u32)> = Search::new(alloc, 9);
+    search.turn(&Toll { bounded }, 9)?;
+    Ok(search.labels())
+}
+
+#[test]
+fn a_lower_bound_saves_labels(rt: HostRuntime) -> Result<(), Fail> {
+    // 0, and 1 with 9 due at cost 1 and with 2 due at cost 3, before the goal at cost 7.
+    assert_eq!(rt; settled(rt.alloc(), false)?, 3);
+    // With 9 due it ranks at 12.
+    assert_eq!(rt; settled(rt.alloc(), true)?, 2);
+    Ok(())
+}
+
+// The most calls of `step` in so many turns of quota 1; none after want of memory.
+fn most_calls(search: &mut Search<u32>, line: &Line, turns: u32) -> Option<u64>
+    requires of { IsSearchOf (line_rules line.now.cells line.now.goal) search.old }
+    ensures of { IsSearchOf (line_rules line.now.cells line.now.goal) search.new }
+{
+    let mut most = 0u64;
+    'turns: for _ in 0..turns {
+        let before = line.calls();
+        if search.turn(line, 1).is_err() {
+            return None;
+        }
+        most = most.max(line.calls().wrapping_sub(before));
+    }
+    Some(most)
+}
+
+// Whether the settled labels of a line are its first cells, each at its distance.
+fn reads_right(search: &Search<u32>, line: &Line) -> bool
+    requires of { IsSearchOf (line_rules line.now.cells line.now.goal) search.now }
+{
+    'labels: for label in 0..search.labels() {
+        if *search.state_of(label) != label || search.cost_of(label) != label as u128 {
+            return false;
+        }
+    }
+    true
+}
+
+// In a run of the tests in which one allocation fails, this also reaches a search that met want of
+// memory.
+#[test]
+fn each_turn_works_for_its_quota_alone_and_labels_always_read(rt: HostRuntime) -> Result<(), Fail> {
+    let line = Line::new(1000, 999);
+    let mut search: Search<u32> = Search::new(rt.alloc(), 1000);
+    let most = most_calls(&mut search, &line, 999);
+    assert!(rt; reads_right(&search, &line));
+    let last = search.turn(&line, 1);
+    assert!(rt; reads_right(&search, &line));
+    match most {
+        Some(calls) => {
+            assert!(rt; calls <= 8);
+            assert_eq!(rt; last?, Turn::Found { label: 999 });
+        }
+        None => assert!(rt; last.is_err()),
     }
     Ok(())
 }

@@ -5,21 +5,23 @@ ghost use Rattle.std.specs.Prelude.{◌≤◌};
 use crate::space::Space;
 use std::cell::Cell;
 
-/// A line of cells, the first of which is the one start and the last the one goal.
+/// A line of cells, the first of which is the one start; the goal may lie beyond it.
 #[derive(Drop)]
 pub(crate) struct Line {
     cells: u32,
+    goal: u32,
     calls: Cell<u64>,
     ghost some: { 1 ≤ cells },
 }
 
 impl Line {
-    /// A line of so many cells.
-    pub(crate) fn new(cells: u32) -> Self
+    /// A line of so many cells with its goal.
+    pub(crate) fn new(cells: u32, goal: u32) -> Self
         requires some { 1 ≤ cells }
     {
         Line {
             cells,
+            goal,
             calls: Cell::new(0),
         }
     }
@@ -36,9 +38,9 @@ impl Space for Line {
 
     type State = u32;
 
-    ghost rules = { λ line. line_rules line.cells };
+    ghost rules = { λ line. line_rules line.cells line.goal };
 
-    ghost keeps_laws = { λ line. line-keeps_laws line.cells line.some };
+    ghost keeps_laws = { λ line. line-keeps_laws line.cells line.goal line.some };
 
     fn cells(&self) -> u32 {
         self.cells
@@ -68,8 +70,7 @@ impl Space for Line {
     }
 
     fn goal(&self, state: &u32) -> bool {
-        let cells = self.cells;
-        *state + 1 == cells
+        *state == self.goal
     }
 
     fn covers(&self, a: &u32, ca: u128, b: &u32, cb: u128) -> bool {

@@ -2,10 +2,12 @@
 
 use crate::space::Space;
 
-/// Three steps lead from the place 0 to the place 1, and leave more or less due there; one leads on to
-/// the goal 2.
+/// Three steps lead from the place 0 to the place 1, and leave more or less due there; one leads on
+/// to the goal 2. With a bound the space says what is still to pay at the place 1.
 #[derive(Drop)]
-pub(crate) struct Toll;
+pub(crate) struct Toll {
+    pub(crate) bounded: bool,
+}
 
 impl Space for Toll {
     ghost use Rattle.space_search.specs.TestToll.{toll_rules};
@@ -13,9 +15,9 @@ impl Space for Toll {
 
     type State = (u32, u32);
 
-    ghost rules = { λ toll. toll_rules };
+    ghost rules = { λ toll. toll_rules toll.bounded };
 
-    ghost keeps_laws = { λ toll. toll-keeps_laws };
+    ghost keeps_laws = { λ toll. toll-keeps_laws toll.bounded };
 
     fn cells(&self) -> u32 {
         3
@@ -68,7 +70,11 @@ impl Space for Toll {
         a.0 == b.0 && a.1 <= b.1 && ca <= cb
     }
 
-    fn low(&self, _state: &(u32, u32)) -> Option<u128> {
-        Some(0)
+    fn low(&self, state: &(u32, u32)) -> Option<u128> {
+        if self.bounded && state.0 == 1 {
+            Some(2 + state.1 as u128)
+        } else {
+            Some(0)
+        }
     }
 }

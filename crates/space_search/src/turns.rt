@@ -5,9 +5,9 @@ ghost use Rattle.space_search.specs.Books.{books, Follows};
 ghost use Rattle.space_search.specs.Limits.{HasFewPerCell};
 ghost use Rattle.space_search.specs.Rules.{Rules};
 ghost use Rattle.space_search.specs.Runs.{IsRun};
-ghost use Rattle.space_search.specs.Searches.{IsSearchOf};
+ghost use Rattle.space_search.specs.Searches.{IsSearchOf, IsReadable};
 ghost use Rattle.space_search.specs.Turns.{GoesOn, Ends, Counts, IsUnspentTurn};
-ghost use Rattle.space_search.specs.View.{Reached, view, reached, labels_of, IsShown, phase_after};
+ghost use Rattle.space_search.specs.View.{Reached, view, reached, IsShown, phase_after};
 
 use crate::begin::begin;
 use crate::choices::choices_of;
@@ -38,10 +38,11 @@ impl<T: Copy + Drop> Search<T> {
         }
     }
 
-    /// Settles at most `quota` labels, over a space that answers every call as that of the first turn.
+    /// Settles at most `quota` labels, over a space that answers every call as that of the first
+    /// turn.
     ///
-    /// After its last answer a search gives that answer again, and after want of memory it answers want of
-    /// memory; what it settled before can still be read.
+    /// After its last answer a search gives that answer again, and after want of memory it answers
+    /// want of memory; what it settled before can still be read.
     pub fn turn<S: Space<State = T>>(&mut self, space: &S, quota: u32) -> Result<Turn, AllocError>
         requires of { IsSearchOf (S.rules space.now) self.old }
         requires some { 1 ≤ quota }
@@ -90,10 +91,10 @@ impl<T: Copy + Drop> Search<T> {
         self.lists.settled.len() as u32
     }
 
-    /// The label of a number: a settled one, or after `Found` the goal, which is numbered after them.
+    /// The label of a number: a settled one, or after `Found` the goal, which is numbered after
+    /// them.
     fn label_of(&self, label: u32) -> &Label<T>
-        requires of { (rules : Rules T) × IsSearchOf rules self.now }
-        requires readable { label < length (labels_of (view self.now)) }
+        requires readable { IsReadable self.now label }
         ensures value { IsShown (view self.now) label
             (reached (view self.now).settled result.now) }
         ensures follows { (rules : Rules T) → IsSearchOf rules self.now →
@@ -109,8 +110,7 @@ impl<T: Copy + Drop> Search<T> {
 
     /// What a run to the label costs.
     pub fn cost_of(&self, label: u32) -> u128
-        requires of { (rules : Rules T) × IsSearchOf rules self.now }
-        requires readable { label < length (labels_of (view self.now)) }
+        requires readable { IsReadable self.now label }
         ensures exact { (one : Reached T) → IsShown (view self.now) label one → result ≡ one.cost }
     {
         self.label_of(label).cost
@@ -118,8 +118,7 @@ impl<T: Copy + Drop> Search<T> {
 
     /// The state of a label.
     pub fn state_of(&self, label: u32) -> &T
-        requires of { (rules : Rules T) × IsSearchOf rules self.now }
-        requires readable { label < length (labels_of (view self.now)) }
+        requires readable { IsReadable self.now label }
         ensures exact { (one : Reached T) → IsShown (view self.now) label one →
             result.now ≡ one.state }
     {
@@ -128,8 +127,7 @@ impl<T: Copy + Drop> Search<T> {
 
     /// The choices of the run to a label: its start's number and then its steps' numbers.
     pub fn choices(&self, alloc: Global, label: u32) -> Result<Items<u32>, AllocError>
-        requires of { (rules : Rules T) × IsSearchOf rules self.now }
-        requires readable { label < length (labels_of (view self.now)) }
+        requires readable { IsReadable self.now label }
         ensures exact { IfOk result (λ choices. (one : Reached T) →
             IsShown (view self.now) label one → choices ≡ one.choices) }
         ensures run { IfOk result (λ choices. (rules : Rules T) (one : Reached T) →

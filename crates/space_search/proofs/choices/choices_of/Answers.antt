@@ -1,6 +1,5 @@
-use Rattle.std.proofs.Common.{arith, ◌∙◌, ap, reverse, ◌++◌, List, append-nil}
+use Rattle.std.proofs.Common.{arith, ◌∙◌, append-nil}
 use Rattle.space_search.specs.Books.{books}
-use Rattle.space_search.specs.View.{reached, settled_of}
 use Rattle.space_search.proofs.ChoiceLemmas.{place-below, place-within, number-within, follows-before, choices-on, choices-whole}
 use Rattle.space_search.proofs.choices.choices_of.Goals as goal
 

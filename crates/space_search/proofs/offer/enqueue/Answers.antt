@@ -4,9 +4,18 @@ use Rattle.space_search.proofs.offer.enqueue.Goals as goal
 
 pub returns-in-Ok-push-clause-offers : goal.returns-in-Ok-push-clause-offers
 returns-in-Ok-push-clause-offers g c =
-    offers-pushed _ _ _ _ _ c.requires.kept c.in-Ok.ensures.items _ c.args.rank c.requires.follows c.requires.above c.requires.ranked
-    (omega arith) (ap (λ n. (c.args.rank, n)) (c.len-number.ensures ∙ c.args.lists.now.labels.ok.0))
-    c.in-Ok-push.ensures.permutation c.in-Ok-push.ensures.heap_order
+    offers-pushed _ _ c.args.label _ _ c.requires.kept c.in-Ok.ensures.items
+    (record {
+      entry = _;
+      rank = c.args.rank;
+      follows = c.requires.follows;
+      above = c.requires.above;
+      ranked = c.requires.ranked;
+      room = omega arith;
+      is = ap (λ n. (c.args.rank, n)) (c.len-number.ensures ∙ c.args.lists.now.labels.ok.0);
+      queued = c.in-Ok-push.ensures.permutation;
+      ordered = c.in-Ok-push.ensures.heap_order;
+    })
 
 pub returns-in-Ok-push-clause-leaves : goal.returns-in-Ok-push-clause-leaves
 returns-in-Ok-push-clause-leaves g c = leaves-pushed _ _ c.args.label _ _ c.requires.kept c.in-Ok.ensures.items

@@ -11,8 +11,8 @@ pub index-requires : goal.index-requires
 index-requires g c =
     omega (
       arith,
-      within-settled _ (g.met.S.Space.keeps_laws c.args.space.now) _ c.requires.kept c.args.state.now c.args.cost
-          c.requires.valid c.chain.cursor c.chain-test.true c.chain.invariant,
+      within-settled _ _ c.args.state.now c.args.cost c.chain.cursor
+          (record { search = c.requires.kept; some = c.chain-test.true; tested = c.chain.invariant }),
       c.args.lists.now.settled.ok.0,
     )
 
@@ -20,23 +20,23 @@ pub index-requires-in-chain : goal.index-requires-in-chain
 index-requires-in-chain g c =
     omega (
       arith,
-      within-labels _ (g.met.S.Space.keeps_laws c.args.space.now) _ c.requires.kept c.args.state.now c.args.cost
-          c.requires.valid c.chain.cursor c.chain-test.true c.chain.invariant c.index.result.now c.index.ensures,
+      within-labels _ _ c.args.state.now c.args.cost c.chain.cursor
+          (record { search = c.requires.kept; some = c.chain-test.true; tested = c.chain.invariant }) c.index.result.now c.index.ensures,
       c.args.lists.now.labels.ok.0,
     )
 
 pub covers-requires-clause-valid_a : goal.covers-requires-clause-valid_a
 covers-requires-clause-valid_a g c =
     settled-valid _ (g.met.S.Space.keeps_laws c.args.space.now) _ c.requires.kept _ _
-    (settled-here _ (g.met.S.Space.keeps_laws c.args.space.now) _ c.requires.kept c.args.state.now c.args.cost
-    c.requires.valid c.chain.cursor c.chain-test.true c.chain.invariant c.index.result.now c.index.ensures
+    (settled-here _ _ c.args.state.now c.args.cost c.chain.cursor
+    (record { search = c.requires.kept; some = c.chain-test.true; tested = c.chain.invariant }) c.index.result.now c.index.ensures
     c.index-in-chain.result.now c.index-in-chain.ensures)
 
 pub covers-requires-clause-small_a : goal.covers-requires-clause-small_a
 covers-requires-clause-small_a g c =
     settled-small _ (g.met.S.Space.keeps_laws c.args.space.now) _ c.requires.kept _ _
-    (settled-here _ (g.met.S.Space.keeps_laws c.args.space.now) _ c.requires.kept c.args.state.now c.args.cost
-    c.requires.valid c.chain.cursor c.chain-test.true c.chain.invariant c.index.result.now c.index.ensures
+    (settled-here _ _ c.args.state.now c.args.cost c.chain.cursor
+    (record { search = c.requires.kept; some = c.chain-test.true; tested = c.chain.invariant }) c.index.result.now c.index.ensures
     c.index-in-chain.result.now c.index-in-chain.ensures)
 
 pub returns-then-covers-clause-covered : goal.returns-then-covers-clause-covered
@@ -45,8 +45,8 @@ returns-then-covers-clause-covered g c h =
       place = _;
       label = c.index-in-chain.result.now;
       settled =
-          settled-here _ (g.met.S.Space.keeps_laws c.args.space.now) _ c.requires.kept c.args.state.now c.args.cost
-          c.requires.valid c.chain.cursor c.chain-test.true c.chain.invariant c.index.result.now c.index.ensures
+          settled-here _ _ c.args.state.now c.args.cost c.chain.cursor
+          (record { search = c.requires.kept; some = c.chain-test.true; tested = c.chain.invariant }) c.index.result.now c.index.ensures
           c.index-in-chain.result.now c.index-in-chain.ensures;
       covers = sym c.covers.ensures.value ∙ c.if-covers.true;
     }
@@ -55,20 +55,20 @@ pub index-cursor-requires-in-chain : goal.index-cursor-requires-in-chain
 index-cursor-requires-in-chain g c =
     omega (
       arith,
-      within-older _ (g.met.S.Space.keeps_laws c.args.space.now) _ c.requires.kept c.args.state.now c.args.cost
-          c.requires.valid c.chain.cursor c.chain-test.true c.chain.invariant,
+      within-older _ _ c.args.state.now c.args.cost c.chain.cursor
+          (record { search = c.requires.kept; some = c.chain-test.true; tested = c.chain.invariant }),
       c.args.lists.now.older.ok.0,
     )
 
 pub chain-smaller : goal.chain-smaller
 chain-smaller g c =
-    next-below _ (g.met.S.Space.keeps_laws c.args.space.now) _ c.requires.kept c.args.state.now c.args.cost
-    c.requires.valid c.chain.cursor c.chain-test.true c.chain.invariant c.index.result.now c.index.ensures
+    next-below _ _ c.args.state.now c.args.cost c.chain.cursor
+    (record { search = c.requires.kept; some = c.chain-test.true; tested = c.chain.invariant }) c.index.result.now c.index.ensures
     c.index-in-chain.result.now c.index-in-chain.ensures c.index-cursor-in-chain.result.now c.index-cursor-in-chain.ensures
 
 pub chain-preserved : goal.chain-preserved
 chain-preserved g c =
-    tested-next _ (g.met.S.Space.keeps_laws c.args.space.now) _ c.requires.kept c.args.state.now c.args.cost
-    c.requires.valid c.chain.cursor c.chain-test.true c.chain.invariant c.index.result.now c.index.ensures
+    tested-next _ _ c.args.state.now c.args.cost c.chain.cursor
+    (record { search = c.requires.kept; some = c.chain-test.true; tested = c.chain.invariant }) c.index.result.now c.index.ensures
     c.index-in-chain.result.now c.index-in-chain.ensures c.index-cursor-in-chain.result.now c.index-cursor-in-chain.ensures
     (sym c.covers.ensures.value ∙ c.if-covers.false)

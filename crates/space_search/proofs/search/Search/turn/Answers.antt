@@ -1,7 +1,5 @@
-use Rattle.std.proofs.Common.{◌≡◌, refl, ap, length, arith, ◌∙◌}
+use Rattle.std.proofs.Common.{◌≡◌, refl, ap, length, arith}
 use Rattle.space_search.specs.Books.{books}
-use Rattle.space_search.specs.Searches.{held_after}
-use Rattle.space_search.specs.View.{Held}
 use Rattle.space_search.specs.declared.phase.Phase.TheVariants.{Failed}
 use Rattle.space_search.proofs.TurnsLemmas.{goes-on, goes-same, goes-through, counts-through, Between, between-same, unspent, ends-again}
 use Rattle.space_search.proofs.search.Search.turn.Goals as goal

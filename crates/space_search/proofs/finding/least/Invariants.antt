@@ -1,7 +1,7 @@
 use Rattle.std.proofs.Common.{◌≡◌, ◌-◌, length}
 use Rattle.space_search.specs.Searches.{IsSearchOf}
 use Rattle.space_search.specs.View.{view}
-use Rattle.space_search.proofs.finding.least_in_turns.Given as goal
+use Rattle.space_search.proofs.finding.least.Given as goal
 
 abbrev pub invariant-search : goal.invariant-search
 invariant-search g l =
