@@ -7,7 +7,7 @@ use Rattle.profile_text.specs.Kind.{kind_of}
 use Rattle.profile_text.specs.Look.{tag_of, values_of}
 use Rattle.profile_text.specs.Read.{most_depth, no_sections, put_first}
 use Rattle.profile_text.specs.Token.{Token, tokens_from}
-use Rattle.profile_text.specs.Tree.{Tree, Constant, Variable, TagLook, Negation, Operation, Choice, Sections}
+use Rattle.profile_text.specs.Tree.{Tree, Constant, Variable, TagLook, Negation, Operation, Choice, Assignment, Sections}
 
 -- these tokens begin with an expression of at most this depth that spells the tree, and the rest follows it
 pub data SpellsExpr : ℕ → List Token → Tree → List Token → Type 0 where
@@ -22,13 +22,25 @@ pub data SpellsExpr : ℕ → List Token → Tree → List Token → Type 0 wher
   an_if : (depth : ℕ) (t u v : Token) (ts us vs : List Token) (a b c : Tree) (rest : List Token) → kind_of t.text ≡ If → SpellsExpr depth ts a (u ∷ us) → kind_of u.text ≡ Then → SpellsExpr depth us b (v ∷ vs) → kind_of v.text ≡ Else → SpellsExpr depth vs c rest → SpellsExpr (suc depth) (t ∷ ts) (Choice a b c) rest
   a_bracket : (depth : ℕ) (t u : Token) (ts : List Token) (a : Tree) (rest : List Token) → kind_of t.text ≡ Open → SpellsExpr depth ts a (u ∷ rest) → kind_of u.text ≡ Close → SpellsExpr (suc depth) (t ∷ ts) a rest
 
--- these tokens spell sections, where one may be open already
-pub data SpellsSections : Option Section → List Token → Sections → Type 0 where
-  the_end : (current : Option Section) → SpellsSections current [] no_sections
-  a_section : (current : Option Section) (t : Token) (section : Section) (ts : List Token) (s : Sections) → kind_of t.text ≡ Opens section → SpellsSections (Some section) ts s → SpellsSections current (t ∷ ts) s
-  assigned : (section : Section) (t name : Token) (ts rest : List Token) (a : Tree) (s : Sections) → kind_of t.text ≡ Assign → kind_of name.text ≡ Name → SpellsExpr most_depth ts a rest → SpellsSections (Some section) rest s → SpellsSections (Some section) (t ∷ name ∷ ts) (put_first section (record { name = name.text; line = name.line; value = a }) s)
-  assigned_by : (section : Section) (t name equals : Token) (ts rest : List Token) (a : Tree) (s : Sections) → kind_of t.text ≡ Assign → kind_of name.text ≡ Name → kind_of equals.text ≡ Equals → SpellsExpr most_depth ts a rest → SpellsSections (Some section) rest s → SpellsSections (Some section) (t ∷ name ∷ equals ∷ ts) (put_first section (record { name = name.text; line = name.line; value = a }) s)
+-- the assignment of a tree to the name of a token
+abbrev pub assigned_to : Token → Tree → Assignment
+assigned_to name a = record { name = name.text; line = name.line; value = a }
+
+-- these tokens spell sections whose expressions have at most this depth, where one may be open already
+pub data SpellsSections (depth : ℕ) : Option Section → List Token → Sections → Type 0 where
+  the_end : (current : Option Section) → SpellsSections depth current [] no_sections
+  a_section : (current : Option Section) (t : Token) (section : Section) (ts : List Token) (s : Sections)
+      → kind_of t.text ≡ Opens section → SpellsSections depth (Some section) ts s
+      → SpellsSections depth current (t ∷ ts) s
+  assigned : (section : Section) (t name : Token) (ts rest : List Token) (a : Tree) (s : Sections)
+      → kind_of t.text ≡ Assign → kind_of name.text ≡ Name
+      → SpellsExpr depth ts a rest → SpellsSections depth (Some section) rest s
+      → SpellsSections depth (Some section) (t ∷ name ∷ ts) (put_first section (assigned_to name a) s)
+  assigned_by : (section : Section) (t name equals : Token) (ts rest : List Token) (a : Tree) (s : Sections)
+      → kind_of t.text ≡ Assign → kind_of name.text ≡ Name → kind_of equals.text ≡ Equals
+      → SpellsExpr depth ts a rest → SpellsSections depth (Some section) rest s
+      → SpellsSections depth (Some section) (t ∷ name ∷ equals ∷ ts) (put_first section (assigned_to name a) s)
 
 -- the text spells the sections of a profile
 abbrev pub Spells : List ℕ → Sections → Type 0
-Spells text s = SpellsSections None (tokens_from false 1 text) s
+Spells text s = SpellsSections most_depth None (tokens_from false 1 text) s

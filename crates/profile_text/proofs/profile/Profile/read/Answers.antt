@@ -1,5 +1,6 @@
 use Rattle.std.proofs.lemmas.Result.{err_from_is_err_and}
 use Rattle.profile_text.proofs.PartLemmas.{reads_first, reads_all, reads_part, reads_refusal}
+use Rattle.profile_text.proofs.SectionFaultLemmas.{profile_cause}
 use Rattle.profile_text.proofs.SectionLemmas.{read_profile, only_read, only_memory}
 use Rattle.profile_text.proofs.profile.Profile.read.Goals as goal
 
@@ -29,3 +30,9 @@ returns-clause-found c = read_profile _ _ (reads_all _ _ c.parts.invariant c.in_
 
 pub returns-clause-only : goal.returns-clause-only
 returns-clause-only c = λ p spells. only_read _ _ p (reads_all _ _ c.parts.invariant c.in_default.ensures.value) spells
+
+pub returns-in_err-section-clause-cause : goal.returns-in_err-section-clause-cause
+returns-in_err-section-clause-cause c =
+    let p = err_from_is_err_and c.from_residual.result c.from_residual.ensures.1 in
+    rw (p.1, p.2)
+    (profile_cause c.args.text.now _ (reads_refusal _ _ _ _ c.parts.invariant c.in-Some.ensures.value _ c.in_err-section.ensures.exact))
