@@ -68,7 +68,8 @@ takes _ _ _ _ (a_two depth t op ts us a b rest k x y) =
     record {
       front = one t (joined f.front g.front);
       tokens = ap (λ ts. t ∷ ts) (f.tokens ∙ ap f.front.fill g.tokens);
-      spells = λ tail. a_two depth t op (f.front.fill (g.front.fill tail)) (g.front.fill tail) a b tail k (f.spells (g.front.fill tail)) (g.spells tail);
+      spells =
+          λ tail. a_two depth t op (f.front.fill (g.front.fill tail)) (g.front.fill tail) a b tail k (f.spells (g.front.fill tail)) (g.spells tail);
     }
 takes _ _ _ _ (a_switch depth t ts us vs a b c rest k x y z) =
     let f : Takes depth ts a us = takes depth ts a us x in

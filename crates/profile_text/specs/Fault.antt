@@ -15,15 +15,16 @@ pub record BeginsProfile (front : List Token) : Type 0 where
   pub sections : Sections
   pub spells : SpellsSections (suc most_depth) None (front ++ more) sections
 
--- the refusal is told at the first of these tokens, since those before it and itself begin no profile, whatever follows;
--- where there is none, it is that of the text's end
+-- the refusal is told at the first of these tokens, since those before it and itself begin no profile,
+-- whatever follows; where there is none, it is that of the text's end
 abbrev pub IsToldAt : List Token → List Token → TextError → Type 0
 IsToldAt front [] e = (line : ℕ) × (e ≡ At line End)
 IsToldAt front (bad ∷ rest) e =
     ((kind : TextKind) × (e ≡ At bad.line kind))
     × ((more : List Token) (s : Sections) → SpellsSections most_depth None (front ++ bad ∷ more) s → ⊥)
 
--- the refusal is told at the first token of the text that can't stand where it is: those before it begin a profile
+-- the refusal is told at the first token of the text that can't stand where it is: those before it begin a
+-- profile
 pub record IsFirstFault (text : List ℕ) (e : TextError) : Type 0 where
   pub front : List Token
   pub rest : List Token

@@ -1,4 +1,5 @@
--- The parts of a look: a tag, `=`, and the values that the tag is compared with. After the routing profiles of the developers guide.
+-- The parts of a look: a tag, `=`, and the values that the tag is compared with. After the routing profiles
+-- of the developers guide.
 use Rattle.std.specs.Prelude.{ℕ, ◌+◌, Bool, true, false, not, ◌&&◌, List, [], ◌∷◌, length, take, drop, nat_lt, ◌==◌, if◌then◌else◌}
 use Rattle.std.specs.List.{prefix_len, slice_split}
 

@@ -1,4 +1,5 @@
--- What reading one section line or assignment does to the profile that was read so far; this joins the code to the words on readings.
+-- What reading one section line or assignment does to the profile that was read so far; this joins the code
+-- to the words on readings.
 use Rattle.std.specs.Prelude.{◌≡◌, ◌++◌, Option, Result, Ok, Err}
 use Rattle.profile_text.specs.declared.error.TextError.{TextError}
 use Rattle.profile_text.specs.declared.kind.Section.{Section}

@@ -17,8 +17,8 @@ impl Profile {
     ghost use Rattle.profile_text.specs.Read.{profile_of};
     ghost use Rattle.profile_text.specs.Tree.{Sections};
 
-    /// The profile of a text of fewer than 2^32 bytes, or the refusal of the first token that can't stand
-    /// where it is.
+    /// The profile of a text of fewer than 2^32 bytes, or the refusal of the first token that can't
+    /// stand where it is.
     pub fn read(alloc: Global, text: &[u8]) -> Result<Profile, TextError>
         requires fits { length text.now < 2 ^ 32 }
         ensures exact { Answers sections_in (profile_of text.now) NoMemory result }

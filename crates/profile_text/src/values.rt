@@ -20,8 +20,9 @@ use fixed_num::Num;
 use lookup_table::{Part, Table};
 use std::alloc::Global;
 
-/// The variables of a profile for the tag numbers of a way or a node: the global section is evaluated, without overrides,
-/// and then the part's own. Of a name that is assigned more than once the later value is kept.
+/// The variables of a profile for the tag numbers of a way or a node: the global section is
+/// evaluated, without overrides, and then the part's own. Of a name that is assigned more than once
+/// the later value is kept.
 pub fn section_values<'a>(
     alloc: Global,
     profile: &Profile,

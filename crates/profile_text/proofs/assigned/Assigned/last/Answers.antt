@@ -11,5 +11,6 @@ returns-in_err-place c = record {
 
 pub returns : goal.returns
 returns c = record {
-  value = last_found c.self.inside.names c.self.inside.numbers.items c.args.self.now c.args.name.now c.in_ok-place.place c.index.result.now c.self.view_is c.self.invariant (sym c.in_ok-place.was ∙ c.last.ensures.value) c.index.ensures;
+  value =
+      last_found c.self.inside.names c.self.inside.numbers.items c.args.self.now c.args.name.now c.in_ok-place.place c.index.result.now c.self.view_is c.self.invariant (sym c.in_ok-place.was ∙ c.last.ensures.value) c.index.ensures;
 }

@@ -20,7 +20,8 @@ returns-in_err-section-clause-only c = λ p spells.
     (only_memory c.args.text.now _ p (reads_refusal _ _ _ _ c.parts.invariant c.in-Some.ensures.value _ c.in_err-section.ensures.exact) spells)
 
 pub parts-preserved : goal.parts-preserved
-parts-preserved c = reads_part _ _ _ _ c.parts.invariant c.in-Some.ensures.value _ c.in_ok-section.ensures.exact c.in_ok-section.ensures.more
+parts-preserved c =
+    reads_part _ _ _ _ c.parts.invariant c.in-Some.ensures.value _ c.in_ok-section.ensures.exact c.in_ok-section.ensures.more
 
 pub returns-clause-exact : goal.returns-clause-exact
 returns-clause-exact c = reads_all _ _ c.parts.invariant c.in_default.ensures.value
