@@ -14,7 +14,8 @@ use Rattle.profile_text.specs.Kind.{kind_of}
 use Rattle.profile_text.specs.Read.{Read, read, and_then, form_of, expr_of, most_depth, after_equals, past_equals, assignment_of, put_first, no_sections}
 use Rattle.profile_text.specs.Token.{Token, Place}
 use Rattle.profile_text.specs.Tree.{Tree, Constant, Assignment, Sections}
-use Rattle.profile_text.proofs.ExprFaultLemmas.{not_err, Viable, expr_stops, operand_then}
+use Rattle.profile_text.proofs.ExprFaultLemmas.{expr_stops}
+use Rattle.profile_text.proofs.OperandLemmas.{not_err, Viable, operand_then}
 use Rattle.profile_text.proofs.FrontLemmas.{Front, nothing, one, deeper, Takes, takes}
 use Rattle.profile_text.proofs.GrammarLemmas.{before}
 use Rattle.profile_text.proofs.SectionLemmas.{expr_takes, no_equals, assignment_read, assignment_spelled, name_word, Assigned}
@@ -63,9 +64,11 @@ module _ (section : Section) (t : Token) (k : kind_of t.text ≡ Assign) where
   -- with a name and a number they are whole
   whole :
       (name : Token) → kind_of name.text ≡ Name →
-      SpellsSections (suc most_depth) (Some section) (t ∷ name ∷ with_true []) (put_first section (assigned_to name (Constant (pos 1000000))) no_sections)
+      SpellsSections (suc most_depth) (Some section) (t ∷ name ∷ with_true [])
+      (put_first section (assigned_to name (Constant (pos 1000000))) no_sections)
   whole name named =
-      assigned section t name (with_true []) [] (Constant (pos 1000000)) no_sections k named (some_expr most_depth []) (the_end (Some section))
+      assigned section t name (with_true []) [] (Constant (pos 1000000)) no_sections k named (some_expr most_depth [])
+      (the_end (Some section))
 
   -- the name and the front begin an assignment
   abbrev WithName : Token → (List Token → List Token) → Type 0
@@ -96,15 +99,27 @@ module _ (section : Section) (t : Token) (k : kind_of t.text ≡ Assign) where
       after_name name (before name.line (u ∷ us)) ≡ Err e → Stops (after_name name) (WithName name) (u ∷ us) e
   equals_stops name u us e named is h =
       let go : Tree → Place → Result (Read Assignment) TextError = λ value q. read (assigned_to name value) q in
-      let passes : (last : ℕ) (ws : List Token) → after_name name (before last (u ∷ ws)) ≡ and_then (expr_of most_depth (before u.line ws)) go =
+      let passes : (last : ℕ) (ws : List Token)
+      → after_name name (before last (u ∷ ws)) ≡ and_then (expr_of most_depth (before u.line ws)) go =
       λ last ws. ap (λ x. and_then (expr_of most_depth (after_equals x u ws (before last (u ∷ ws)))) go) is in
       let s : Stops (λ p. and_then (expr_of most_depth p) go) (λ fill. WithName name (λ tail. u ∷ fill tail)) us e =
-      operand_then most_depth go (λ fill. WithName name (λ tail. u ∷ fill tail)) u.line us e (expr_stops most_depth) (equals_viable name u named is) (λ a used l us spells h. absurd (not_err _ _ h)) (sym (passes name.line us) ∙ h) in
-      record { front = one u s.front; rest = s.rest; tokens = ap (λ ts. u ∷ ts) s.tokens; viable = s.viable; told = by_rest passes s.front.fill s.rest s.told }
+      operand_then most_depth go (λ fill. WithName name (λ tail. u ∷ fill tail)) u.line us e (expr_stops most_depth)
+      (equals_viable name u named is) (λ a used l us spells h. absurd (not_err _ _ h)) (sym (passes name.line us) ∙ h) in
+      record {
+        front = one u s.front;
+        rest = s.rest;
+        tokens = ap (λ ts. u ∷ ts) s.tokens;
+        viable = s.viable;
+        told = by_rest passes s.front.fill s.rest s.told;
+      }
     where
       by_rest :
           ((last : ℕ) (ws : List Token) →
-          after_name name (before last (u ∷ ws)) ≡ and_then (expr_of most_depth (before u.line ws)) (λ value q. read (assigned_to name value) q)) → (fill : List Token → List Token) (rest : List Token) → StopsAt (λ p. and_then (expr_of most_depth p) (λ value q. read (assigned_to name value) q)) fill rest e → StopsAt (after_name name) (λ tail. u ∷ fill tail) rest e
+          after_name name (before last (u ∷ ws))
+          ≡ and_then (expr_of most_depth (before u.line ws)) (λ value q. read (assigned_to name value) q))
+          → (fill : List Token → List Token) (rest : List Token)
+          → StopsAt (λ p. and_then (expr_of most_depth p) (λ value q. read (assigned_to name value) q)) fill rest e
+          → StopsAt (after_name name) (λ tail. u ∷ fill tail) rest e
       by_rest passes fill [] told = told
       by_rest passes fill (bad ∷ rest) told = (told.0, λ last more. passes last (fill (bad ∷ more)) ∙ told.1 u.line more)
 
@@ -116,7 +131,8 @@ module _ (section : Section) (t : Token) (k : kind_of t.text ≡ Assign) where
   plain_stops name u us e named plain h =
       let go : Tree → Place → Result (Read Assignment) TextError = λ value q. read (assigned_to name value) q in
       let s : Stops (λ p. and_then (expr_of most_depth p) go) (WithName name) (u ∷ us) e =
-      operand_then most_depth go (WithName name) name.line (u ∷ us) e (expr_stops most_depth) (named_viable name named) (λ a used l us spells h. absurd (not_err _ _ h)) (sym (ap (λ p. and_then (expr_of most_depth p) go) (plain name.line us)) ∙ h) in
+      operand_then most_depth go (WithName name) name.line (u ∷ us) e (expr_stops most_depth) (named_viable name named)
+      (λ a used l us spells h. absurd (not_err _ _ h)) (sym (ap (λ p. and_then (expr_of most_depth p) go) (plain name.line us)) ∙ h) in
       record { front = s.front; rest = s.rest; tokens = s.tokens; viable = s.viable; told = by_rest s.front s.rest s.tokens s.told }
     where
       by_rest :
@@ -130,7 +146,8 @@ module _ (section : Section) (t : Token) (k : kind_of t.text ≡ Assign) where
             let w : BeginsWith u (f.fill (bad ∷ more)) = first_stays f u bad us rest more same in
             let go : Place → Result (Read Assignment) TextError =
             λ p. and_then (expr_of most_depth p) (λ value q. read (assigned_to name value) q) in
-            ap (λ ts. go (past_equals last ts)) w.is ∙ ap go (plain last w.later) ∙ ap (λ ts. go (before last ts)) (sym w.is) ∙ told.1 last more,
+            ap (λ ts. go (past_equals last ts)) w.is ∙ ap go (plain last w.later) ∙ ap (λ ts. go (before last ts)) (sym w.is)
+            ∙ told.1 last more,
       )
 
   -- what follows a name stops so
@@ -142,9 +159,16 @@ module _ (section : Section) (t : Token) (k : kind_of t.text ≡ Assign) where
     rest = [];
     tokens = refl;
     viable =
-        record { more = with_true []; sections = put_first section (assigned_to name (Constant (pos 1000000))) no_sections; spells = whole name named };
-    told =
-        (name.line, sym (same_error {A = Read Assignment} (At name.line Fault.TheVariants.End) e (sym (ap (λ r. and_then r (λ value q. read (assigned_to name value) q)) (expr_none most_depth name.line)) ∙ h)));
+        record {
+          more = with_true [];
+          sections = put_first section (assigned_to name (Constant (pos 1000000))) no_sections;
+          spells = whole name named;
+        };
+    told = (
+      name.line,
+      sym (same_error {A = Read Assignment} (At name.line Fault.TheVariants.End) e
+          (sym (ap (λ r. and_then r (λ value q. read (assigned_to name value) q)) (expr_none most_depth name.line)) ∙ h)),
+    );
   }
   name_stops name (u ∷ us) e named h = by_kind (kind_of u.text) refl
     where
@@ -157,7 +181,12 @@ module _ (section : Section) (t : Token) (k : kind_of t.text ≡ Assign) where
       (last : ℕ) (ts : List Token) (e : TextError) → assignment_of (before last ts) ≡ Err e → Stops assignment_of WithWord ts e
   unfolding assignment_of
   assignment_stops last ts e h = token_then Variable after_name WithWord last ts e
-      (record { more = token (codes "a") ∷ with_true []; sections = put_first section (assigned_to (token (codes "a")) (Constant (pos 1000000))) no_sections; spells = whole (token (codes "a")) name_is })
+      (record {
+        more = token (codes "a") ∷ with_true [];
+        sections = put_first section (assigned_to (token (codes "a")) (Constant (pos 1000000))) no_sections;
+        spells =
+            whole (token (codes "a")) name_is;
+      })
       (λ name us fits h. name_stops name us e (name_word (kind_of name.text) fits) h)
       h
 
@@ -196,9 +225,11 @@ takes_assignment last ts r h =
               front = one name (one u f.front);
               tokens = ap (λ ts. name ∷ u ∷ ts) f.tokens;
               reads =
-                  λ last tail. assignment_read last name (u ∷ f.front.fill tail) (f.front.fill tail) u.line tree tail named (ap (λ x. after_equals x u (f.front.fill tail) (before name.line (u ∷ f.front.fill tail))) is) (f.spells tail);
+                  λ last tail. assignment_read last name (u ∷ f.front.fill tail) (f.front.fill tail) u.line tree tail named
+                  (ap (λ x. after_equals x u (f.front.fill tail) (before name.line (u ∷ f.front.fill tail))) is) (f.spells tail);
               spells =
-                  λ section t k tail s more. assigned_by section t name u (f.front.fill tail) tail tree s k named is (deeper most_depth _ _ _ (f.spells tail)) more;
+                  λ section t k tail s more. assigned_by section t name u (f.front.fill tail) tail tree s k named is
+                  (deeper most_depth _ _ _ (f.spells tail)) more;
             }
         by_kind _ is spells =
             let f : Takes most_depth (u ∷ us) tree rest = takes most_depth (u ∷ us) tree rest spells in
@@ -206,7 +237,9 @@ takes_assignment last ts r h =
               front = one name f.front;
               tokens = ap (λ ts. name ∷ ts) f.tokens;
               reads =
-                  λ last tail. assignment_read last name (f.front.fill tail) (f.front.fill tail) name.line tree tail named (no_equals name.line most_depth (f.front.fill tail) tree tail (f.spells tail)) (f.spells tail);
+                  λ last tail. assignment_read last name (f.front.fill tail) (f.front.fill tail) name.line tree tail named
+                  (no_equals name.line most_depth (f.front.fill tail) tree tail (f.spells tail)) (f.spells tail);
               spells =
-                  λ section t k tail s more. assigned section t name (f.front.fill tail) tail tree s k named (deeper most_depth _ _ _ (f.spells tail)) more;
+                  λ section t k tail s more. assigned section t name (f.front.fill tail) tail tree s k named
+                  (deeper most_depth _ _ _ (f.spells tail)) more;
             }

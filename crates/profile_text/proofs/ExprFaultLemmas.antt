@@ -1,5 +1,5 @@
 -- Expressions that are refused: what stands before the fault begins one that may be one deeper.
-use Rattle.std.proofs.Common.{◌≡◌, ℕ, zero, suc, List, [], ◌∷◌, refl, sym, ap, ◌∙◌, pos, Option, Some, None, Result, Ok, Err}
+use Rattle.std.proofs.Common.{◌≡◌, ℕ, zero, suc, List, [], ◌∷◌, refl, sym, ap, ◌∙◌, Option, Some, None, Result, Err}
 use lib.Chars.{codes}
 use Rattle.profile_text.specs.declared.error.TextError.{TextError}
 use Rattle.profile_text.specs.declared.error.TextError.TheVariants.{At}
@@ -9,70 +9,16 @@ use Rattle.profile_text.specs.declared.expected.Expected.TheVariants.{Expression
 use Rattle.profile_text.specs.declared.expr.Op.{Op}
 use Rattle.profile_text.specs.declared.kind.Kind.{Kind}
 use Rattle.profile_text.specs.declared.kind.Kind.TheVariants.{Open, Not, Switch, If, Two}
-use Rattle.profile_text.specs.Grammar.{SpellsExpr, a_not, a_two, a_switch, an_if, a_bracket}
+use Rattle.profile_text.specs.Grammar.{a_not, a_two, a_switch, an_if, a_bracket}
 use Rattle.profile_text.specs.Kind.{kind_of}
 use Rattle.profile_text.specs.Read.{Read, read, and_then, expression_fault, taken, form_of, expr_of}
 use Rattle.profile_text.specs.Token.{Token, Place}
-use Rattle.profile_text.specs.Tree.{Tree, Constant, Negation, Operation, Choice}
-use Rattle.profile_text.proofs.FoundLemmas.{then_word, else_word, read_is_spelled}
-use Rattle.profile_text.proofs.FrontLemmas.{Front, nothing, deeper, Takes, takes}
-use Rattle.profile_text.proofs.GrammarLemmas.{before, spelled_is_read}
-use Rattle.profile_text.proofs.StopLemmas.{token, with_true, some_expr, then_is, else_is, close_is, Stops, stops_first, stops_second, taken_by, taken_none, same_error, token_then}
-
--- a value is no refusal
-pub not_err : {A : Type 0} (a : A) (e : TextError) → ◌≡◌ {A = Result A TextError} (Ok a) (Err e) → ⊥
-not_err a e same = cc
-
--- the front begins an expression of at most this depth, which other tokens make whole whatever follows it
-pub record Viable (depth : ℕ) (fill : List Token → List Token) : Type 0 where
-  pub more : List Token → List Token
-  pub tree : Tree
-  pub spells : (tail : List Token) → SpellsExpr depth (fill (more tail)) tree tail
-
--- no token begins one
-viable_none : (depth : ℕ) → Viable (suc depth) (λ tail. tail)
-viable_none depth = record { more = with_true; tree = Constant (pos 1000000); spells = some_expr depth }
-
--- expressions of at most this depth stop so
-abbrev pub ExprStops : ℕ → Type 0
-ExprStops room =
-    (last : ℕ) (ts : List Token) (e : TextError) → expr_of room (before last ts) ≡ Err e → Stops (expr_of room) (Viable (suc room)) ts e
-
--- an expression is read and then more
-pub operand_then :
-    {B : Type 0} (room : ℕ) (go : Tree → Place → Result B TextError) (W : (List Token → List Token) →
-    Type 0) (last : ℕ) (ts : List Token) (e : TextError) → ExprStops room → ((fill : List Token → List Token) → Viable (suc room) fill →
-    W fill) → ((a : Tree) (used : Front) (l : ℕ) (us : List Token) → ((tail : List Token) → SpellsExpr room (used.fill tail) a tail) →
-    go a (before l us) ≡ Err e →
-    Stops (go a) (λ fill. W (λ tail. used.fill (fill tail))) us e) → and_then (expr_of room (before last ts)) go ≡ Err e →
-    Stops (λ p. and_then (expr_of room p) go) W ts e
-operand_then {B} room go W last ts e stops within later h = by_result (expr_of room (before last ts)) refl h
-  where
-    by_result :
-        (r : Result (Read Tree) TextError) → expr_of room (before last ts) ≡ r → and_then r go ≡ Err e →
-        Stops (λ p. and_then (expr_of room p) go) W ts e
-    by_result (Err d) is h =
-        stops_first (expr_of room) go (Viable (suc room)) W ts e (stops last ts e (is ∙ ap Err (same_error {A = B} d e h))) within
-    by_result (Ok r) is h =
-        let f : Takes room ts r.value r.place.tokens = takes room ts r.value r.place.tokens (read_is_spelled room (before last ts) r is) in
-        stops_second (expr_of room) go (λ fill. W (λ tail. f.front.fill (fill tail))) W ts r.place.tokens e r.value f.front
-        (λ last tail. spelled_is_read room (f.front.fill tail) r.value tail (f.spells tail) last) f.tokens
-        (later r.value f.front r.place.last r.place.tokens f.spells h)
-        (λ fill viable. viable)
-
--- the number that makes an expression whole
-abbrev number : Tree
-number = Constant (pos 1000000)
-
--- the tokens `else` and `true`
-abbrev with_else : List Token → List Token
-with_else tail = token (codes "else") ∷ with_true tail
-
--- the tokens `then`, `true`, `else` and `true`
-abbrev with_then : List Token → List Token
-with_then tail = token (codes "then") ∷ with_true (with_else tail)
-
--- ---- Forms
+use Rattle.profile_text.specs.Tree.{Tree, Negation, Operation, Choice}
+use Rattle.profile_text.proofs.FoundLemmas.{then_word, else_word}
+use Rattle.profile_text.proofs.FrontLemmas.{nothing, deeper}
+use Rattle.profile_text.proofs.GrammarLemmas.{before}
+use Rattle.profile_text.proofs.StopLemmas.{token, with_true, some_expr, then_is, else_is, close_is, Stops, taken_by, taken_none, same_error, token_then}
+use Rattle.profile_text.proofs.OperandLemmas.{not_err, Viable, viable_none, ExprStops, operand_then, number, with_else, with_then}
 
 -- a token that begins a form whose operands stop so
 module _ (room : ℕ) (stops : ExprStops room) (t : Token) (last : ℕ) (ts : List Token) (e : TextError) where
@@ -87,7 +33,11 @@ module _ (room : ℕ) (stops : ExprStops room) (t : Token) (last : ℕ) (ts : Li
   -- the operand of `not`
   not_stops : kind_of t.text ≡ Not → FormStops (λ p. and_then (expr_of room p) (λ a p. read (Negation a) p))
   not_stops k h = operand_then room (λ a p. read (Negation a) p) WithToken last ts e stops
-      (λ fill v. record { more = v.more; tree = Negation v.tree; spells = λ tail. a_not (suc room) t (fill (v.more tail)) v.tree tail k (v.spells tail) })
+      (λ fill v. record {
+        more = v.more;
+        tree = Negation v.tree;
+        spells = λ tail. a_not (suc room) t (fill (v.more tail)) v.tree tail k (v.spells tail);
+      })
       (λ a used l us spells h. absurd (not_err _ _ h))
       h
 
@@ -100,14 +50,17 @@ module _ (room : ℕ) (stops : ExprStops room) (t : Token) (last : ℕ) (ts : Li
         more = λ tail. v.more (with_true tail);
         tree = Operation op v.tree number;
         spells =
-            λ tail. a_two (suc room) t op (fill (v.more (with_true tail))) (with_true tail) v.tree number tail k (v.spells (with_true tail)) (some_expr room tail);
+            λ tail. a_two (suc room) t op (fill (v.more (with_true tail))) (with_true tail) v.tree number tail k (v.spells (with_true tail))
+            (some_expr room tail);
       })
-      (λ a used l us first h. operand_then room (λ b q. read (Operation op a b) q) (λ fill. WithToken (λ tail. used.fill (fill tail))) l us e stops
+      (λ a used l us first h. operand_then room (λ b q. read (Operation op a b) q)
+      (λ fill. WithToken (λ tail. used.fill (fill tail))) l us e stops
       (λ fill v. record {
         more = v.more;
         tree = Operation op a v.tree;
         spells =
-            λ tail. a_two (suc room) t op (used.fill (fill (v.more tail))) (fill (v.more tail)) a v.tree tail k (deeper room _ _ _ (first (fill (v.more tail)))) (v.spells tail);
+            λ tail. a_two (suc room) t op (used.fill (fill (v.more tail))) (fill (v.more tail)) a v.tree tail k
+            (deeper room _ _ _ (first (fill (v.more tail)))) (v.spells tail);
       })
       (λ b used2 l us spells h. absurd (not_err _ _ h))
       h)
@@ -116,30 +69,37 @@ module _ (room : ℕ) (stops : ExprStops room) (t : Token) (last : ℕ) (ts : Li
   -- the three operands of `switch`
   switch_stops :
       kind_of t.text ≡ Switch →
-      FormStops (λ p. and_then (expr_of room p) (λ a p. and_then (expr_of room p) (λ b q. and_then (expr_of room q) (λ c r. read (Choice a b c) r))))
+      FormStops (λ p. and_then (expr_of room p)
+      (λ a p. and_then (expr_of room p) (λ b q. and_then (expr_of room q) (λ c r. read (Choice a b c) r))))
   switch_stops k h =
-      operand_then room (λ a p. and_then (expr_of room p) (λ b q. and_then (expr_of room q) (λ c r. read (Choice a b c) r))) WithToken last ts e stops
+      operand_then room (λ a p. and_then (expr_of room p) (λ b q. and_then (expr_of room q) (λ c r. read (Choice a b c) r))) WithToken last
+      ts e stops
       (λ fill v. record {
         more = λ tail. v.more (with_true (with_true tail));
         tree = Choice v.tree number number;
         spells =
-            λ tail. a_switch (suc room) t (fill (v.more (with_true (with_true tail)))) (with_true (with_true tail)) (with_true tail) v.tree number number tail k
+            λ tail. a_switch (suc room) t (fill (v.more (with_true (with_true tail)))) (with_true (with_true tail))
+            (with_true tail) v.tree number number tail k
             (v.spells (with_true (with_true tail))) (some_expr room (with_true tail)) (some_expr room tail);
       })
-      (λ a used l us first h. operand_then room (λ b q. and_then (expr_of room q) (λ c r. read (Choice a b c) r)) (λ fill. WithToken (λ tail. used.fill (fill tail))) l us e stops
+      (λ a used l us first h. operand_then room (λ b q. and_then (expr_of room q) (λ c r. read (Choice a b c) r))
+      (λ fill. WithToken (λ tail. used.fill (fill tail))) l us e stops
       (λ fill v. record {
         more = λ tail. v.more (with_true tail);
         tree = Choice a v.tree number;
         spells =
-            λ tail. a_switch (suc room) t (used.fill (fill (v.more (with_true tail)))) (fill (v.more (with_true tail))) (with_true tail) a v.tree number tail k
+            λ tail. a_switch (suc room) t (used.fill (fill (v.more (with_true tail)))) (fill (v.more (with_true tail)))
+            (with_true tail) a v.tree number tail k
             (deeper room _ _ _ (first (fill (v.more (with_true tail))))) (v.spells (with_true tail)) (some_expr room tail);
       })
-      (λ b used2 l us second h. operand_then room (λ c r. read (Choice a b c) r) (λ fill. WithToken (λ tail. used.fill (used2.fill (fill tail)))) l us e stops
+      (λ b used2 l us second h. operand_then room (λ c r. read (Choice a b c) r)
+      (λ fill. WithToken (λ tail. used.fill (used2.fill (fill tail)))) l us e stops
       (λ fill v. record {
         more = v.more;
         tree = Choice a b v.tree;
         spells =
-            λ tail. a_switch (suc room) t (used.fill (used2.fill (fill (v.more tail)))) (used2.fill (fill (v.more tail))) (fill (v.more tail)) a b v.tree tail k
+            λ tail. a_switch (suc room) t (used.fill (used2.fill (fill (v.more tail)))) (used2.fill (fill (v.more tail)))
+            (fill (v.more tail)) a b v.tree tail k
             (deeper room _ _ _ (first (used2.fill (fill (v.more tail))))) (deeper room _ _ _ (second (fill (v.more tail)))) (v.spells tail);
       })
       (λ c used3 l us spells h. absurd (not_err _ _ h))
@@ -154,14 +114,16 @@ module _ (room : ℕ) (stops : ExprStops room) (t : Token) (last : ℕ) (ts : Li
         more = λ tail. v.more (token (codes ")") ∷ tail);
         tree = v.tree;
         spells =
-            λ tail. a_bracket (suc room) t (token (codes ")")) (fill (v.more (token (codes ")") ∷ tail))) v.tree tail k (v.spells (token (codes ")") ∷ tail)) close_is;
+            λ tail. a_bracket (suc room) t (token (codes ")")) (fill (v.more (token (codes ")") ∷ tail))) v.tree tail k
+            (v.spells (token (codes ")") ∷ tail)) close_is;
       })
       (λ a used l us first h. token_then Closing (λ t q. read a q) (λ fill. WithToken (λ tail. used.fill (fill tail))) l us e
       (record {
         more = λ tail. token (codes ")") ∷ tail;
         tree = a;
         spells =
-            λ tail. a_bracket (suc room) t (token (codes ")")) (used.fill (token (codes ")") ∷ tail)) a tail k (deeper room _ _ _ (first (token (codes ")") ∷ tail))) close_is;
+            λ tail. a_bracket (suc room) t (token (codes ")")) (used.fill (token (codes ")") ∷ tail)) a tail k
+            (deeper room _ _ _ (first (token (codes ")") ∷ tail))) close_is;
       })
       (λ u us fits h. absurd (not_err _ _ h))
       h)
@@ -170,47 +132,68 @@ module _ (room : ℕ) (stops : ExprStops room) (t : Token) (last : ℕ) (ts : Li
   -- the three operands of `if`, parted by `then` and `else`
   if_stops :
       kind_of t.text ≡ If →
-      FormStops (λ p. and_then (expr_of room p) (λ a p. and_then (taken ThenWord p) (λ t p2. and_then (expr_of room p2) (λ b q. and_then (taken ElseWord q) (λ u q2. and_then (expr_of room q2) (λ c r. read (Choice a b c) r))))))
+      FormStops (λ p. and_then (expr_of room p)
+      (λ a p. and_then (taken ThenWord p)
+      (λ t p2. and_then (expr_of room p2)
+      (λ b q. and_then (taken ElseWord q) (λ u q2. and_then (expr_of room q2) (λ c r. read (Choice a b c) r))))))
   if_stops k h =
-      operand_then room (λ a p. and_then (taken ThenWord p) (λ t p2. and_then (expr_of room p2) (λ b q. and_then (taken ElseWord q) (λ u q2. and_then (expr_of room q2) (λ c r. read (Choice a b c) r))))) WithToken last ts e stops
+      operand_then room (λ a p. and_then (taken ThenWord p)
+      (λ t p2. and_then (expr_of room p2)
+      (λ b q. and_then (taken ElseWord q) (λ u q2. and_then (expr_of room q2) (λ c r. read (Choice a b c) r))))) WithToken last ts e
+      stops
       (λ fill v. record {
         more = λ tail. v.more (with_then tail);
         tree = Choice v.tree number number;
         spells =
-            λ tail. an_if (suc room) t (token (codes "then")) (token (codes "else")) (fill (v.more (with_then tail))) (with_true (with_else tail)) (with_true tail) v.tree number number tail k
+            λ tail. an_if (suc room) t (token (codes "then")) (token (codes "else")) (fill (v.more (with_then tail)))
+            (with_true (with_else tail)) (with_true tail) v.tree number number tail k
             (v.spells (with_then tail)) then_is (some_expr room (with_else tail)) else_is (some_expr room tail);
       })
-      (λ a used l us first h. token_then ThenWord (λ t p2. and_then (expr_of room p2) (λ b q. and_then (taken ElseWord q) (λ u q2. and_then (expr_of room q2) (λ c r. read (Choice a b c) r)))) (λ fill. WithToken (λ tail. used.fill (fill tail))) l us e
+      (λ a used l us first h. token_then ThenWord
+      (λ t p2. and_then (expr_of room p2)
+      (λ b q. and_then (taken ElseWord q) (λ u q2. and_then (expr_of room q2) (λ c r. read (Choice a b c) r))))
+      (λ fill. WithToken (λ tail. used.fill (fill tail))) l us e
       (record {
         more = with_then;
         tree = Choice a number number;
         spells =
-            λ tail. an_if (suc room) t (token (codes "then")) (token (codes "else")) (used.fill (with_then tail)) (with_true (with_else tail)) (with_true tail) a number number tail k
+            λ tail. an_if (suc room) t (token (codes "then")) (token (codes "else")) (used.fill (with_then tail))
+            (with_true (with_else tail)) (with_true tail) a number number tail k
             (deeper room _ _ _ (first (with_then tail))) then_is (some_expr room (with_else tail)) else_is (some_expr room tail);
       })
-      (λ u us u_fits h. operand_then room (λ b q. and_then (taken ElseWord q) (λ u q2. and_then (expr_of room q2) (λ c r. read (Choice a b c) r))) (λ fill. WithToken (λ tail. used.fill (u ∷ fill tail))) u.line us e stops
+      (λ u us u_fits h. operand_then room
+      (λ b q. and_then (taken ElseWord q) (λ u q2. and_then (expr_of room q2) (λ c r. read (Choice a b c) r)))
+      (λ fill. WithToken (λ tail. used.fill (u ∷ fill tail))) u.line us e stops
       (λ fill v. record {
         more = λ tail. v.more (with_else tail);
         tree = Choice a v.tree number;
         spells =
-            λ tail. an_if (suc room) t u (token (codes "else")) (used.fill (u ∷ fill (v.more (with_else tail)))) (fill (v.more (with_else tail))) (with_true tail) a v.tree number tail k
-            (deeper room _ _ _ (first (u ∷ fill (v.more (with_else tail))))) (then_word (kind_of u.text) u_fits) (v.spells (with_else tail)) else_is (some_expr room tail);
+            λ tail. an_if (suc room) t u (token (codes "else")) (used.fill (u ∷ fill (v.more (with_else tail))))
+            (fill (v.more (with_else tail))) (with_true tail) a v.tree number tail k
+            (deeper room _ _ _ (first (u ∷ fill (v.more (with_else tail))))) (then_word (kind_of u.text) u_fits)
+            (v.spells (with_else tail)) else_is (some_expr room tail);
       })
-      (λ b used2 l us second h. token_then ElseWord (λ u q2. and_then (expr_of room q2) (λ c r. read (Choice a b c) r)) (λ fill. WithToken (λ tail. used.fill (u ∷ used2.fill (fill tail)))) l us e
+      (λ b used2 l us second h. token_then ElseWord (λ u q2. and_then (expr_of room q2) (λ c r. read (Choice a b c) r))
+      (λ fill. WithToken (λ tail. used.fill (u ∷ used2.fill (fill tail)))) l us e
       (record {
         more = with_else;
         tree = Choice a b number;
         spells =
-            λ tail. an_if (suc room) t u (token (codes "else")) (used.fill (u ∷ used2.fill (with_else tail))) (used2.fill (with_else tail)) (with_true tail) a b number tail k
-            (deeper room _ _ _ (first (u ∷ used2.fill (with_else tail)))) (then_word (kind_of u.text) u_fits) (deeper room _ _ _ (second (with_else tail))) else_is (some_expr room tail);
+            λ tail. an_if (suc room) t u (token (codes "else")) (used.fill (u ∷ used2.fill (with_else tail))) (used2.fill (with_else tail))
+            (with_true tail) a b number tail k
+            (deeper room _ _ _ (first (u ∷ used2.fill (with_else tail)))) (then_word (kind_of u.text) u_fits)
+            (deeper room _ _ _ (second (with_else tail))) else_is (some_expr room tail);
       })
-      (λ v us v_fits h. operand_then room (λ c r. read (Choice a b c) r) (λ fill. WithToken (λ tail. used.fill (u ∷ used2.fill (v ∷ fill tail)))) v.line us e stops
+      (λ v us v_fits h. operand_then room (λ c r. read (Choice a b c) r)
+      (λ fill. WithToken (λ tail. used.fill (u ∷ used2.fill (v ∷ fill tail)))) v.line us e stops
       (λ fill w. record {
         more = w.more;
         tree = Choice a b w.tree;
         spells =
-            λ tail. an_if (suc room) t u v (used.fill (u ∷ used2.fill (v ∷ fill (w.more tail)))) (used2.fill (v ∷ fill (w.more tail))) (fill (w.more tail)) a b w.tree tail k
-            (deeper room _ _ _ (first (u ∷ used2.fill (v ∷ fill (w.more tail))))) (then_word (kind_of u.text) u_fits) (deeper room _ _ _ (second (v ∷ fill (w.more tail)))) (else_word (kind_of v.text) v_fits) (w.spells tail);
+            λ tail. an_if (suc room) t u v (used.fill (u ∷ used2.fill (v ∷ fill (w.more tail)))) (used2.fill (v ∷ fill (w.more tail)))
+            (fill (w.more tail)) a b w.tree tail k
+            (deeper room _ _ _ (first (u ∷ used2.fill (v ∷ fill (w.more tail))))) (then_word (kind_of u.text) u_fits)
+            (deeper room _ _ _ (second (v ∷ fill (w.more tail)))) (else_word (kind_of v.text) v_fits) (w.spells tail);
       })
       (λ c used3 l us spells h. absurd (not_err _ _ h))
       h)

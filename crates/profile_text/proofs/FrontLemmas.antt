@@ -39,7 +39,8 @@ deeper _ _ _ _ (a_two depth t op ts us a b rest k x y) =
 deeper _ _ _ _ (a_switch depth t ts us vs a b c rest k x y z) =
     a_switch (suc depth) t ts us vs a b c rest k (deeper depth ts a us x) (deeper depth us b vs y) (deeper depth vs c rest z)
 deeper _ _ _ _ (an_if depth t u v ts us vs a b c rest k x th y el z) =
-    an_if (suc depth) t u v ts us vs a b c rest k (deeper depth ts a (u ∷ us) x) th (deeper depth us b (v ∷ vs) y) el (deeper depth vs c rest z)
+    an_if (suc depth) t u v ts us vs a b c rest k (deeper depth ts a (u ∷ us) x) th (deeper depth us b (v ∷ vs) y) el
+    (deeper depth vs c rest z)
 deeper _ _ _ _ (a_bracket depth t u ts a rest k x cl) = a_bracket (suc depth) t u ts a rest k (deeper depth ts a (u ∷ rest) x) cl
 
 -- the tokens that an expression takes spell it whatever follows
@@ -69,7 +70,8 @@ takes _ _ _ _ (a_two depth t op ts us a b rest k x y) =
       front = one t (joined f.front g.front);
       tokens = ap (λ ts. t ∷ ts) (f.tokens ∙ ap f.front.fill g.tokens);
       spells =
-          λ tail. a_two depth t op (f.front.fill (g.front.fill tail)) (g.front.fill tail) a b tail k (f.spells (g.front.fill tail)) (g.spells tail);
+          λ tail. a_two depth t op (f.front.fill (g.front.fill tail)) (g.front.fill tail) a b tail k (f.spells (g.front.fill tail))
+          (g.spells tail);
     }
 takes _ _ _ _ (a_switch depth t ts us vs a b c rest k x y z) =
     let f : Takes depth ts a us = takes depth ts a us x in
@@ -79,7 +81,8 @@ takes _ _ _ _ (a_switch depth t ts us vs a b c rest k x y z) =
       front = one t (joined f.front (joined g.front h.front));
       tokens = ap (λ ts. t ∷ ts) (f.tokens ∙ ap f.front.fill (g.tokens ∙ ap g.front.fill h.tokens));
       spells = λ tail.
-          a_switch depth t (f.front.fill (g.front.fill (h.front.fill tail))) (g.front.fill (h.front.fill tail)) (h.front.fill tail) a b c tail k
+          a_switch depth t (f.front.fill (g.front.fill (h.front.fill tail))) (g.front.fill (h.front.fill tail))
+          (h.front.fill tail) a b c tail k
           (f.spells (g.front.fill (h.front.fill tail))) (g.spells (h.front.fill tail)) (h.spells tail);
     }
 takes _ _ _ _ (an_if depth t u v ts us vs a b c rest k x th y el z) =
@@ -90,7 +93,8 @@ takes _ _ _ _ (an_if depth t u v ts us vs a b c rest k x th y el z) =
       front = one t (joined f.front (one u (joined g.front (one v h.front))));
       tokens = ap (λ ts. t ∷ ts) (f.tokens ∙ ap (λ ts. f.front.fill (u ∷ ts)) (g.tokens ∙ ap (λ ts. g.front.fill (v ∷ ts)) h.tokens));
       spells = λ tail.
-          an_if depth t u v (f.front.fill (u ∷ g.front.fill (v ∷ h.front.fill tail))) (g.front.fill (v ∷ h.front.fill tail)) (h.front.fill tail) a b c tail k
+          an_if depth t u v (f.front.fill (u ∷ g.front.fill (v ∷ h.front.fill tail))) (g.front.fill (v ∷ h.front.fill tail))
+          (h.front.fill tail) a b c tail k
           (f.spells (u ∷ g.front.fill (v ∷ h.front.fill tail))) th (g.spells (v ∷ h.front.fill tail)) el (h.spells tail);
     }
 takes _ _ _ _ (a_bracket depth t u ts a rest k x cl) =

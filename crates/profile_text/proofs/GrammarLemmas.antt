@@ -68,10 +68,18 @@ spelled_is_read _ _ _ _ (an_if depth t u v ts us vs a b c rest k first then_is s
     let z = spelled_is_read depth vs c rest third v.line in (
       z.0,
       expr_form depth last t ts If k refl
-          ∙ ap (λ r. and_then r (λ a p. and_then (taken ThenWord p) (λ t p2. and_then (expr_of depth p2) (λ b q. and_then (taken ElseWord q) (λ u q2. and_then (expr_of depth q2) (λ c r. read (Choice a b c) r)))))) x.1
-          ∙ ap (λ r. and_then r (λ t p2. and_then (expr_of depth p2) (λ b q. and_then (taken ElseWord q) (λ u q2. and_then (expr_of depth q2) (λ c r. read (Choice a b c) r))))) (taken_first ThenWord x.0 u us Then then_is refl)
-          ∙ ap (λ r. and_then r (λ b q. and_then (taken ElseWord q) (λ u q2. and_then (expr_of depth q2) (λ c r. read (Choice a b c) r)))) y.1
-          ∙ ap (λ r. and_then r (λ u q2. and_then (expr_of depth q2) (λ c r. read (Choice a b c) r))) (taken_first ElseWord y.0 v vs Else else_is refl)
+          ∙ ap (λ r. and_then r
+          (λ a p. and_then (taken ThenWord p)
+          (λ t p2. and_then (expr_of depth p2)
+          (λ b q. and_then (taken ElseWord q) (λ u q2. and_then (expr_of depth q2) (λ c r. read (Choice a b c) r)))))) x.1
+          ∙ ap (λ r. and_then r
+          (λ t p2. and_then (expr_of depth p2)
+          (λ b q. and_then (taken ElseWord q) (λ u q2. and_then (expr_of depth q2) (λ c r. read (Choice a b c) r)))))
+          (taken_first ThenWord x.0 u us Then then_is refl)
+          ∙ ap (λ r. and_then r (λ b q. and_then (taken ElseWord q) (λ u q2. and_then (expr_of depth q2) (λ c r. read (Choice a b c) r))))
+          y.1
+          ∙ ap (λ r. and_then r (λ u q2. and_then (expr_of depth q2) (λ c r. read (Choice a b c) r)))
+          (taken_first ElseWord y.0 v vs Else else_is refl)
           ∙ ap (λ r. and_then r (λ c r. read (Choice a b c) r)) z.1,
     )
 spelled_is_read _ _ _ _ (a_bracket depth t u ts a rest k inner close_is) last =

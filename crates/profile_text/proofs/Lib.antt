@@ -7,6 +7,7 @@ mod FrontLemmas
 mod GrammarLemmas
 mod LookLemmas
 mod NameLemmas
+mod OperandLemmas
 mod PartLemmas
 mod ReadLemmas
 mod SectionFaultLemmas

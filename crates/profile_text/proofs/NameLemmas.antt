@@ -24,7 +24,8 @@ last_place-append (n ∷ ns) last name = ap (later_place (bytes_eq name n)) (las
   where
     by_test :
         (b : Bool) →
-        later_place (bytes_eq name n) (cond b (Some (length ns)) (last_place ns name)) ≡ cond b (Some (suc (length ns))) (later_place (bytes_eq name n) (last_place ns name))
+        later_place (bytes_eq name n) (cond b (Some (length ns)) (last_place ns name))
+        ≡ cond b (Some (suc (length ns))) (later_place (bytes_eq name n) (last_place ns name))
     by_test true = refl
     by_test false = refl
 
@@ -42,19 +43,28 @@ last_place-lt (n ∷ ns) name = by_rest (bytes_eq name n) (last_place ns name) (
 -- a look-up after a key was put in finds its value by its name, and for every other name what it found
 pub lookup-insert :
     {X : Type 0} (name : List ℕ) (entries : List (Vec ℕ Global × X)) (key : Vec ℕ Global) (place : X) →
-    lookup (λ k. bytes_eq name k.items) (insert_entry (λ x y. bytes_eq x.items y.items) entries key place) ≡ cond (bytes_eq name key.items) (Some place) (lookup (λ k. bytes_eq name k.items) entries)
+    lookup (λ k. bytes_eq name k.items) (insert_entry (λ x y. bytes_eq x.items y.items) entries key place)
+    ≡ cond (bytes_eq name key.items) (Some place) (lookup (λ k. bytes_eq name k.items) entries)
 lookup-insert {X} name [] key place = refl
 lookup-insert {X} name (e ∷ es) key place = by_test (bytes_eq key.items e.0.items) refl (lookup-insert name es key place)
   where
     by_test :
         (b : Bool) → bytes_eq key.items e.0.items ≡ b →
-        lookup (λ k. bytes_eq name k.items) (insert_entry (λ x y. bytes_eq x.items y.items) es key place) ≡ cond (bytes_eq name key.items) (Some place) (lookup (λ k. bytes_eq name k.items) es) → lookup (λ k. bytes_eq name k.items) (cond b ((e.0, place) ∷ es) (e ∷ insert_entry (λ x y. bytes_eq x.items y.items) es key place)) ≡ cond (bytes_eq name key.items) (Some place) (cond (bytes_eq name e.0.items) (Some e.1) (lookup (λ k. bytes_eq name k.items) es))
+        lookup (λ k. bytes_eq name k.items) (insert_entry (λ x y. bytes_eq x.items y.items) es key place)
+        ≡ cond (bytes_eq name key.items) (Some place) (lookup (λ k. bytes_eq name k.items) es)
+        → lookup (λ k. bytes_eq name k.items)
+        (cond b ((e.0, place) ∷ es) (e ∷ insert_entry (λ x y. bytes_eq x.items y.items) es key place))
+        ≡ cond (bytes_eq name key.items) (Some place)
+        (cond (bytes_eq name e.0.items) (Some e.1) (lookup (λ k. bytes_eq name k.items) es))
     by_test true test rest =
-        let same : bytes_eq name key.items ≡ bytes_eq name e.0.items = bytes_eq-same name key.items e.0.items test in ap (λ b. cond b (Some place) (lookup (λ k. bytes_eq name k.items) es)) (sym same) ∙ by_key (bytes_eq name key.items) (bytes_eq name e.0.items) same
+        let same : bytes_eq name key.items ≡ bytes_eq name e.0.items =
+        bytes_eq-same name key.items e.0.items test in ap (λ b. cond b (Some place) (lookup (λ k. bytes_eq name k.items) es)) (sym same)
+        ∙ by_key (bytes_eq name key.items) (bytes_eq name e.0.items) same
       where
         by_key :
             (b c : Bool) → b ≡ c →
-            cond b (Some place) (lookup (λ k. bytes_eq name k.items) es) ≡ cond b (Some place) (cond c (Some e.1) (lookup (λ k. bytes_eq name k.items) es))
+            cond b (Some place) (lookup (λ k. bytes_eq name k.items) es)
+            ≡ cond b (Some place) (cond c (Some e.1) (lookup (λ k. bytes_eq name k.items) es))
         by_key true c same = refl
         by_key false true same = cc
         by_key false false same = refl
@@ -63,7 +73,8 @@ lookup-insert {X} name (e ∷ es) key place = by_test (bytes_eq key.items e.0.it
       where
         by_keys :
             (b c : Bool) → bytes_eq name key.items ≡ b → bytes_eq name e.0.items ≡ c →
-            cond c (Some e.1) (cond b (Some place) (lookup (λ k. bytes_eq name k.items) es)) ≡ cond b (Some place) (cond c (Some e.1) (lookup (λ k. bytes_eq name k.items) es))
+            cond c (Some e.1) (cond b (Some place) (lookup (λ k. bytes_eq name k.items) es))
+            ≡ cond b (Some place) (cond c (Some e.1) (lookup (λ k. bytes_eq name k.items) es))
         by_keys true true key_is entry_is =
             let one : name ≡ key.items = (bytes_eq-Decides name key.items).0 key_is in
             let other : name ≡ e.0.items = (bytes_eq-Decides name e.0.items).0 entry_is in

@@ -28,7 +28,9 @@ no_part (suc n) current last = refl
 -- a part begins with the first token
 pub one_part :
     (parts : ℕ) (current : Option Section) (last : ℕ) (t : Token) (ts : List Token) →
-    sections_within (suc parts) current last (t ∷ ts) ≡ from_front (kind_of t.text) current (λ section p. sections_within parts section p.last p.tokens) t (record { last = t.line; tokens = ts })
+    sections_within (suc parts) current last (t ∷ ts)
+    ≡ from_front (kind_of t.text) current (λ section p. sections_within parts section p.last p.tokens) t
+    (record { last = t.line; tokens = ts })
 unfolding sections_within
 one_part parts current last t ts = refl
 
@@ -59,12 +61,21 @@ from_start text = record {
 
 -- nothing was read before the first token
 pub reads_first : (text : List ℕ) (g w n : List Assign) (place : Place) → g ≡ [] → w ≡ [] → n ≡ [] → place ≡ start_of text
-    → ReadsOn text (record { sections = record { global = map assignment_in g; way = map assignment_in w; node = map assignment_in n }; current = None; place = place })
+    → ReadsOn text (record {
+      sections = record { global = map assignment_in g; way = map assignment_in w; node = map assignment_in n };
+      current = None;
+      place = place;
+    })
 reads_first text g w n place g_is w_is n_is place_is =
     let P : Stand → Type 0 = λ s. ReadsOn text s in
     let stand : List Assign → List Assign → List Assign → Place → Stand =
-    λ g w n p. record { sections = record { global = map assignment_in g; way = map assignment_in w; node = map assignment_in n }; current = None; place = p } in
-    subst P (sym (ap (λ l. stand l w n place) g_is ∙ ap (λ l. stand [] l n place) w_is ∙ ap (λ l. stand [] [] l place) n_is ∙ ap (stand [] [] []) place_is))
+    λ g w n p. record {
+      sections = record { global = map assignment_in g; way = map assignment_in w; node = map assignment_in n };
+      current = None;
+      place = p;
+    } in
+    subst P (sym (ap (λ l. stand l w n place) g_is ∙ ap (λ l. stand [] l n place) w_is ∙ ap (λ l. stand [] [] l place) n_is
+    ∙ ap (stand [] [] []) place_is))
     (from_start text)
 
 -- where no token is left, the profile so far is the whole
@@ -84,11 +95,13 @@ module _ (text : List ℕ) (old : Stand) (t : Token) (after : Place) (on : Reads
   -- the whole from the token on
   from_token :
       (n : ℕ) →
-      onto old.sections (sections_within (suc n) old.current old.place.last old.place.tokens) ≡ onto old.sections (from_front (kind_of t.text) old.current (rest_of n) t after)
+      onto old.sections (sections_within (suc n) old.current old.place.last old.place.tokens)
+      ≡ onto old.sections (from_front (kind_of t.text) old.current (rest_of n) t after)
   from_token n =
       ap (λ ts. onto old.sections (sections_within (suc n) old.current old.place.last ts)) first.tokens
       ∙ ap (onto old.sections) (one_part n old.current old.place.last t after.tokens)
-      ∙ ap (λ l. onto old.sections (from_front (kind_of t.text) old.current (rest_of n) t (record { last = l; tokens = after.tokens }))) (sym first.last)
+      ∙ ap (λ l. onto old.sections (from_front (kind_of t.text) old.current (rest_of n) t (record { last = l; tokens = after.tokens })))
+      (sym first.last)
 
   -- a part that was taken in leaves what the rest adds
   pub reads_part :

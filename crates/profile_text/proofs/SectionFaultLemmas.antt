@@ -13,7 +13,7 @@ use Rattle.profile_text.specs.Kind.{kind_of, has_dashes}
 use Rattle.profile_text.specs.Read.{Read, and_then, most_depth, assignment_of, put_first, with_first, no_sections, front_fault, from_front, sections_within, profile_of}
 use Rattle.profile_text.specs.Token.{Token, Place, tokens_from}
 use Rattle.profile_text.specs.Tree.{Assignment, Sections}
-use Rattle.profile_text.proofs.ExprFaultLemmas.{not_err}
+use Rattle.profile_text.proofs.OperandLemmas.{not_err}
 use Rattle.profile_text.proofs.FrontLemmas.{Front, nothing, one, joined}
 use Rattle.profile_text.proofs.GrammarLemmas.{before}
 use Rattle.profile_text.proofs.PartLemmas.{one_part, no_part, rest_of}
@@ -68,8 +68,11 @@ at_first n current t ts e kind refused h =
       rest = t ∷ ts;
       tokens = refl;
       viable = record { more = []; sections = no_sections; spells = the_end current };
-      told =
-          ((kind, sym e_is), λ parts last more enough. first_part parts current last t more (Err e) enough (λ n few. refused n more ∙ ap Err e_is));
+      told = (
+        (kind, sym e_is),
+        λ parts last more enough. first_part parts current last t more (Err e) enough
+            (λ n few. refused n more ∙ ap Err e_is),
+      );
     }
 
 -- a section line that is followed by a fault
@@ -81,7 +84,11 @@ opens_stops current t section ts e k s = record {
   rest = s.rest;
   tokens = ap (λ ts. t ∷ ts) s.tokens;
   viable =
-      record { more = s.viable.more; sections = s.viable.sections; spells = a_section current t section (s.front.fill s.viable.more) s.viable.sections k s.viable.spells };
+      record {
+        more = s.viable.more;
+        sections = s.viable.sections;
+        spells = a_section current t section (s.front.fill s.viable.more) s.viable.sections k s.viable.spells;
+      };
   told = by_rest s.rest s.told;
 }
   where
@@ -101,7 +108,13 @@ assign_stops :
     SectionsStop (Some section) (t ∷ ts) e
 assign_stops section t ts e k refused =
     let s = assignment_stops section t k t.line ts e refused in
-    record { front = one t s.front; rest = s.rest; tokens = ap (λ ts. t ∷ ts) s.tokens; viable = s.viable; told = by_rest s.front.fill s.rest s.told }
+    record {
+      front = one t s.front;
+      rest = s.rest;
+      tokens = ap (λ ts. t ∷ ts) s.tokens;
+      viable = s.viable;
+      told = by_rest s.front.fill s.rest s.told;
+    }
   where
     by_rest :
         (fill : List Token → List Token) (rest : List Token) → StopsAt assignment_of fill rest e →
@@ -123,7 +136,11 @@ after_stops section t ts e a us k f s = record {
   rest = s.rest;
   tokens = ap (λ ts. t ∷ ts) (f.tokens ∙ ap f.front.fill s.tokens);
   viable =
-      record { more = s.viable.more; sections = put_first section a s.viable.sections; spells = f.spells section t k (s.front.fill s.viable.more) s.viable.sections s.viable.spells };
+      record {
+        more = s.viable.more;
+        sections = put_first section a s.viable.sections;
+        spells = f.spells section t k (s.front.fill s.viable.more) s.viable.sections s.viable.spells;
+      };
   told = by_rest s.rest s.told;
 }
   where
@@ -152,7 +169,8 @@ front_stops :
 front_stops n current t ts e enough inner (Opens section) k h =
     opens_stops current t section ts e k (inner section (before t.line ts) enough h)
 front_stops n None t ts e enough inner Assign k h =
-    at_first n None t ts e Fault.TheVariants.Section (λ n ts. ap (λ x. from_front x None (rest_of n) t (before t.line ts)) k) (ap (λ x. from_front x None (rest_of n) t (before t.line ts)) k ∙ h)
+    at_first n None t ts e Fault.TheVariants.Section (λ n ts. ap (λ x. from_front x None (rest_of n) t (before t.line ts)) k)
+    (ap (λ x. from_front x None (rest_of n) t (before t.line ts)) k ∙ h)
 front_stops n (Some section) t ts e enough inner Assign k h = by_result (assignment_of (before t.line ts)) refl h
   where
     by_result :
@@ -164,7 +182,9 @@ front_stops n (Some section) t ts e enough inner Assign k h = by_result (assignm
         after_stops section t ts e r.value r.place.tokens k (takes_assignment t.line ts r is)
         (inner section r.place (omega (arith, enough, less)) (first_refused section r.value (rest_of n (Some section) r.place) e h))
 front_stops n current t ts e enough inner other k h =
-    at_first n current t ts e (front_fault (has_dashes t.text) other) (λ n ts. ap (λ x. from_front x current (rest_of n) t (before t.line ts)) k) (ap (λ x. from_front x current (rest_of n) t (before t.line ts)) k ∙ h)
+    at_first n current t ts e (front_fault (has_dashes t.text) other)
+    (λ n ts. ap (λ x. from_front x current (rest_of n) t (before t.line ts)) k)
+    (ap (λ x. from_front x current (rest_of n) t (before t.line ts)) k ∙ h)
 
 -- sections that are refused stop so
 sections_stop :
@@ -173,7 +193,8 @@ sections_stop :
 sections_stop parts current last [] e enough h = absurd (not_err _ _ (sym (no_part parts current last) ∙ h))
 sections_stop zero current last (t ∷ ts) e enough h = let none : ⊥ = omega (arith, enough) in absurd none
 sections_stop (suc n) current last (t ∷ ts) e enough h =
-    front_stops n current t ts e (omega (arith, enough)) (λ section p few was. sections_stop n (Some section) p.last p.tokens e few was) (kind_of t.text) refl (sym (one_part n current last t ts) ∙ h)
+    front_stops n current t ts e (omega (arith, enough)) (λ section p few was. sections_stop n (Some section) p.last p.tokens e few was)
+    (kind_of t.text) refl (sym (one_part n current last t ts) ∙ h)
 
 -- a text that is refused is refused at its first fault
 pub profile_stops : (text : List ℕ) (e : TextError) → profile_of text ≡ Err e → IsFirstFault text e
@@ -197,7 +218,8 @@ profile_stops text e h =
       λ more x spells.
           let ts : List Token = f.fill (bad ∷ more) in
           let Q : List Token → Type 0 = λ ts. SpellsSections most_depth None ts x in
-          not_err x e (sym (spelled_sections None ts x (subst Q (sym (f.is (bad ∷ more))) spells) (length ts) 1 (omega arith)) ∙ told.1 (length ts) 1 more (omega arith)),
+          not_err x e (sym (spelled_sections None ts x (subst Q (sym (f.is (bad ∷ more))) spells) (length ts) 1 (omega arith))
+          ∙ told.1 (length ts) 1 more (omega arith)),
     )
 
 -- the same where memory may have run out

@@ -60,7 +60,8 @@ unfolding assignment_of
 assignment_read last name us ts l a rest k place_is spells =
     let x = spelled_is_read most_depth ts a rest spells l in (
       x.0,
-      ap (λ r. and_then r (λ name p. and_then (expr_of most_depth (past_equals p.last p.tokens)) (λ value q. read (assigned_to name value) q))) (taken_first Variable last name us Name k refl)
+      ap (λ r. and_then r (λ name p. and_then (expr_of most_depth (past_equals p.last p.tokens))
+          (λ value q. read (assigned_to name value) q))) (taken_first Variable last name us Name k refl)
           ∙ ap (λ p. and_then (expr_of most_depth p) (λ value q. read (assigned_to name value) q)) place_is
           ∙ ap (λ r. and_then r (λ value q. read (assigned_to name value) q)) x.1,
     )
@@ -91,14 +92,17 @@ spelled_sections _ _ _ (assigned section t name ts rest a s k named spells more)
 spelled_sections _ _ _ (assigned section t name ts rest a s k named spells more) (suc n) last enough =
     let less = expr_takes most_depth ts a rest spells in
     let x = assignment_read t.line name ts ts name.line a rest named (no_equals name.line most_depth ts a rest spells) spells in
-    part_read n last section t (name ∷ ts) rest x.0 (assigned_to name a) s k x.1 (spelled_sections (Some section) rest s more n x.0 (omega (arith, enough, less)))
+    part_read n last section t (name ∷ ts) rest x.0 (assigned_to name a) s k x.1
+    (spelled_sections (Some section) rest s more n x.0 (omega (arith, enough, less)))
 spelled_sections _ _ _ (assigned_by section t name equals ts rest a s k named by spells more) zero last enough =
     let none : ⊥ = omega (arith, enough) in absurd none
 spelled_sections _ _ _ (assigned_by section t name equals ts rest a s k named by spells more) (suc n) last enough =
     let less = expr_takes most_depth ts a rest spells in
     let x =
-    assignment_read t.line name (equals ∷ ts) ts equals.line a rest named (ap (λ x. after_equals x equals ts (before name.line (equals ∷ ts))) by) spells in
-    part_read n last section t (name ∷ equals ∷ ts) rest x.0 (assigned_to name a) s k x.1 (spelled_sections (Some section) rest s more n x.0 (omega (arith, enough, less)))
+    assignment_read t.line name (equals ∷ ts) ts equals.line a rest named
+    (ap (λ x. after_equals x equals ts (before name.line (equals ∷ ts))) by) spells in
+    part_read n last section t (name ∷ equals ∷ ts) rest x.0 (assigned_to name a) s k x.1
+    (spelled_sections (Some section) rest s more n x.0 (omega (arith, enough, less)))
 
 -- a profile that is spelled so is read
 pub spelled_profile : (text : List ℕ) (s : Sections) → Spells text s → profile_of text ≡ Ok s
@@ -126,7 +130,8 @@ pub assignment_spelled :
 unfolding assignment_of
 assignment_spelled last ts r h =
     let x =
-    went_on (taken Variable (before last ts)) (λ name p. and_then (expr_of most_depth (past_equals p.last p.tokens)) (λ value q. read (assigned_to name value) q)) r h in
+    went_on (taken Variable (before last ts))
+    (λ name p. and_then (expr_of most_depth (past_equals p.last p.tokens)) (λ value q. read (assigned_to name value) q)) r h in
     let y =
     went_on (expr_of most_depth (past_equals x.place.last x.place.tokens)) (λ value q. read (assigned_to x.value value) q) r x.next in
     let first = taken_is_first Variable last ts x.value x.place x.was in
@@ -140,7 +145,8 @@ assignment_spelled last ts r h =
       named = name_word (kind_of x.value.text) first.fits;
       is = refl;
       spells =
-          subst L first.last (read_is_spelled most_depth (past_equals x.place.last x.place.tokens) (record { value = y.value; place = y.place }) y.was);
+          subst L first.last (read_is_spelled most_depth (past_equals x.place.last x.place.tokens)
+          (record { value = y.value; place = y.place }) y.was);
     })
 
 -- sections with an assignment in front were read from what follows it
@@ -199,7 +205,9 @@ front_spelled n (Some section) t ts s enough inner Assign k h =
     let more = inner section x.place f.later (omega (arith, enough, len, less, past)) f.was in
     let P : List Token → Type 0 = λ us. SpellsSections most_depth (Some section) (t ∷ us) s in
     let Q : Sections → Type 0 = λ s. SpellsSections most_depth (Some section) (t ∷ a.name ∷ a.after) s in
-    subst P (sym a.tokens) (subst Q (ap (λ b. put_first section b f.later) (sym a.is) ∙ f.is) (spells_assignment section t a.name a.after a.tree x.place.tokens f.later k a.named a.spells more))
+    subst P (sym a.tokens)
+    (subst Q (ap (λ b. put_first section b f.later) (sym a.is) ∙ f.is)
+    (spells_assignment section t a.name a.after a.tree x.place.tokens f.later k a.named a.spells more))
 front_spelled n current t ts s enough inner _ k h = cc
 
 -- sections that are read are spelled so
@@ -211,7 +219,8 @@ read_sections parts current last [] s enough h =
     subst P (same_value no_sections s (sym (no_part parts current last) ∙ h)) (the_end current)
 read_sections zero current last (t ∷ ts) s enough h = let none : ⊥ = omega (arith, enough) in absurd none
 read_sections (suc n) current last (t ∷ ts) s enough h =
-    front_spelled n current t ts s (omega (arith, enough)) (λ section p s few was. read_sections n (Some section) p.last p.tokens s few was) (kind_of t.text) refl (sym (one_part n current last t ts) ∙ h)
+    front_spelled n current t ts s (omega (arith, enough)) (λ section p s few was. read_sections n (Some section) p.last p.tokens s few was)
+    (kind_of t.text) refl (sym (one_part n current last t ts) ∙ h)
 
 -- a profile that is read is spelled so
 pub read_profile : (text : List ℕ) (s : Sections) → profile_of text ≡ Ok s → Spells text s

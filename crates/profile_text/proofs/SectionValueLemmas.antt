@@ -50,7 +50,8 @@ module _ (table : TagTable) (s : Sections) (part : Part) (numbers : List ℕ) wh
   both_parts : both_values table s part numbers ≡ and_then global_part (λ global. and_then (own_part global) (λ own. Ok (global ++ own)))
   unfolding both_values global_values own_values
   both_parts =
-      ap (λ assignments. and_then (values_from no_looks [] [] assignments) (λ global. and_then (own_part global) (λ own. Ok (global ++ own)))) (no_overrides s.global)
+      ap (λ assignments. and_then (values_from no_looks [] [] assignments)
+      (λ global. and_then (own_part global) (λ own. Ok (global ++ own)))) (no_overrides s.global)
 
   -- a fault of the global section is the first
   pub refused_global : (error : ValueError) → IsRefusedBy global_part error → IsRefusedBy (both_values table s part numbers) error
@@ -61,7 +62,8 @@ module _ (table : TagTable) (s : Sections) (part : Part) (numbers : List ℕ) wh
       (error : ValueError) (global : List (List ℕ × ℤ)) → global_part ≡ Ok global → IsRefusedBy (own_part global) error →
       IsRefusedBy (both_values table s part numbers) error
   refused_own error global global_is refused =
-      subst (λ r. IsRefusedBy r error) (sym (both_parts ∙ ap (λ g. and_then g (λ values. and_then (own_part values) (λ own. Ok (values ++ own)))) global_is))
+      subst (λ r. IsRefusedBy r error)
+      (sym (both_parts ∙ ap (λ g. and_then g (λ values. and_then (own_part values) (λ own. Ok (values ++ own)))) global_is))
       (refused_then (own_part global) _ error refused)
 
   -- where neither has one, the variables are those of the values of both
@@ -69,7 +71,9 @@ module _ (table : TagTable) (s : Sections) (part : Part) (numbers : List ℕ) wh
       (global own vars : List (List ℕ × ℤ)) → global_part ≡ Ok global → own_part global ≡ Ok own → AreVars (global ++ own) vars →
       AreVarsOf (both_values table s part numbers) vars
   vars_both global own vars global_is own_is are =
-      subst (λ r. AreVarsOf r vars) (sym (both_parts ∙ ap (λ g. and_then g (λ values. and_then (own_part values) (λ own. Ok (values ++ own)))) global_is ∙ ap (λ o. and_then o (λ own. Ok (global ++ own))) own_is))
+      subst (λ r. AreVarsOf r vars)
+      (sym (both_parts ∙ ap (λ g. and_then g (λ values. and_then (own_part values) (λ own. Ok (values ++ own)))) global_is
+      ∙ ap (λ o. and_then o (λ own. Ok (global ++ own))) own_is))
       are
 
 -- what is said of the fault of one outcome is said of that of another, or memory ran out

@@ -116,7 +116,9 @@ few_tokens comment line (c ∷ cs) = by_test (λ comment line. few_tokens commen
   where
     by_test :
         ((comment : Bool) (line : ℕ) → length (tokens_from comment line cs) ≤ length cs) → (ink joined : Bool) →
-        length (cond ink (cond joined (prepend c (tokens_from false line cs)) (record { line = line; text = c ∷ [] } ∷ tokens_from false line cs)) (tokens_from (comment_after comment c) (line_after line c) cs)) ≤ suc (length cs)
+        length (cond ink (cond joined (prepend c (tokens_from false line cs))
+        (record { line = line; text = c ∷ [] } ∷ tokens_from false line cs))
+        (tokens_from (comment_after comment c) (line_after line c) cs)) ≤ suc (length cs)
     by_test few true true = let h = few false line in let i = prepend_len c (tokens_from false line cs) in omega (arith, h, i)
     by_test few true false = let h = few false line in omega (arith, h)
     by_test few false joined = let h = few (comment_after comment c) (line_after line c) in omega (arith, h)

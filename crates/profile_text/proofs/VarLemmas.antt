@@ -25,7 +25,8 @@ last_value-append (v ∷ vs) key n name =
   where
     by_test :
         (b : Bool) →
-        later_value (bytes_eq name v.0) v.1 (cond b (Some n) (last_value vs name)) ≡ cond b (Some n) (later_value (bytes_eq name v.0) v.1 (last_value vs name))
+        later_value (bytes_eq name v.0) v.1 (cond b (Some n) (last_value vs name))
+        ≡ cond b (Some n) (later_value (bytes_eq name v.0) v.1 (last_value vs name))
     by_test true = refl
     by_test false = refl
 
@@ -67,7 +68,8 @@ without-other n key (x ∷ xs) other = by_test (bytes_eq key x) (bytes_eq n x) r
         let wrong : bytes_eq n key ≡ true = (bytes_eq-Decides n key).1 (b ∙ sym a) in
         cc
     by_test true false key_is n_is rest =
-        ap (λ c. cond (not c) (x ∷ without n xs) (without n xs)) n_is ∙ sym (ap (λ b. cond b (x ∷ without n xs) (x ∷ with_name (without n xs) key)) key_is)
+        ap (λ c. cond (not c) (x ∷ without n xs) (without n xs)) n_is
+        ∙ sym (ap (λ b. cond b (x ∷ without n xs) (x ∷ with_name (without n xs) key)) key_is)
     by_test false true key_is n_is rest =
         ap (λ c. cond (not c) (x ∷ without n (with_name xs key)) (without n (with_name xs key))) n_is ∙ rest
     by_test false false key_is n_is rest =
@@ -83,9 +85,11 @@ first_names-append (n ∷ ns) key =
   where
     by_test :
         (b c : Bool) → bytes_eq n key ≡ b → bytes_eq key n ≡ c →
-        n ∷ without n (with_name (first_names ns) key) ≡ cond c (n ∷ without n (first_names ns)) (n ∷ with_name (without n (first_names ns)) key)
+        n ∷ without n (with_name (first_names ns) key)
+        ≡ cond c (n ∷ without n (first_names ns)) (n ∷ with_name (without n (first_names ns)) key)
     by_test true true b_is c_is =
-        subst (λ k. n ∷ without n (with_name (first_names ns) k) ≡ n ∷ without n (first_names ns)) ((bytes_eq-Decides n key).0 b_is) (ap (λ r. n ∷ r) (without-same n (first_names ns)))
+        subst (λ k. n ∷ without n (with_name (first_names ns) k) ≡ n ∷ without n (first_names ns)) ((bytes_eq-Decides n key).0 b_is)
+        (ap (λ r. n ∷ r) (without-same n (first_names ns)))
     by_test true false b_is c_is =
         let wrong : bytes_eq key n ≡ true = (bytes_eq-Decides key n).1 (sym ((bytes_eq-Decides n key).0 b_is)) in cc
     by_test false true b_is c_is =
@@ -97,13 +101,17 @@ first_names-append (n ∷ ns) key =
 -- the names of the entries after a key was put in
 names-insert :
     (entries : List (Vec ℕ Global × ℤ)) (key : Vec ℕ Global) (n : ℤ) →
-    map (λ v. v.0) (by_bytes (insert_entry (λ x y. bytes_eq x.items y.items) entries key n)) ≡ with_name (map (λ v. v.0) (by_bytes entries)) key.items
+    map (λ v. v.0) (by_bytes (insert_entry (λ x y. bytes_eq x.items y.items) entries key n))
+    ≡ with_name (map (λ v. v.0) (by_bytes entries)) key.items
 names-insert [] key n = refl
 names-insert (e ∷ es) key n = by_test (bytes_eq key.items e.0.items) (names-insert es key n)
   where
     by_test :
         (b : Bool) →
-        map (λ v. v.0) (by_bytes (insert_entry (λ x y. bytes_eq x.items y.items) es key n)) ≡ with_name (map (λ v. v.0) (by_bytes es)) key.items → map (λ v. v.0) (by_bytes (cond b ((e.0, n) ∷ es) (e ∷ insert_entry (λ x y. bytes_eq x.items y.items) es key n))) ≡ cond b (map (λ v. v.0) (by_bytes (e ∷ es))) (e.0.items ∷ with_name (map (λ v. v.0) (by_bytes es)) key.items)
+        map (λ v. v.0) (by_bytes (insert_entry (λ x y. bytes_eq x.items y.items) es key n))
+        ≡ with_name (map (λ v. v.0) (by_bytes es)) key.items
+        → map (λ v. v.0) (by_bytes (cond b ((e.0, n) ∷ es) (e ∷ insert_entry (λ x y. bytes_eq x.items y.items) es key n)))
+        ≡ cond b (map (λ v. v.0) (by_bytes (e ∷ es))) (e.0.items ∷ with_name (map (λ v. v.0) (by_bytes es)) key.items)
     by_test true rest = refl
     by_test false rest = ap (λ r. e.0.items ∷ r) rest
 

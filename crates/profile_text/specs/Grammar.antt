@@ -64,7 +64,8 @@ pub data SpellsSections (depth : ℕ) : Option Section → List Token → Sectio
   assigned_by : (section : Section) (t name equals : Token) (ts rest : List Token) (a : Tree) (s : Sections)
       → kind_of t.text ≡ Assign → kind_of name.text ≡ Name → kind_of equals.text ≡ Equals
       → SpellsExpr depth ts a rest → SpellsSections depth (Some section) rest s
-      → SpellsSections depth (Some section) (t ∷ name ∷ equals ∷ ts) (put_first section (assigned_to name a) s)
+      → SpellsSections depth (Some section) (t ∷ name ∷ equals ∷ ts)
+      (put_first section (assigned_to name a) s)
 
 -- the text spells the sections of a profile
 abbrev pub Spells : List ℕ → Sections → Type 0

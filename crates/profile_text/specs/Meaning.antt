@@ -77,7 +77,8 @@ operation op a None b = and_then b (λ n. arithmetic (result_of op a n))
 
 -- the value of an expression, where variables and looks have these values; operands are looked at from the
 -- left, and the arm alone that a choice picks
-abbrev pub value_of : (List ℕ → Option ℤ) → (List ℕ → List (List ℕ) → Option Bool) → Tree → Result ℤ Fault
+abbrev pub value_of : (variables : List ℕ → Option ℤ) (looks : List ℕ → List (List ℕ) → Option Bool)
+    → Tree → Result ℤ Fault
 value_of variables looks (Constant n) = Ok n
 value_of variables looks (Variable name line) = known line (variables name)
 value_of variables looks (TagLook tag values line) =
@@ -87,7 +88,8 @@ value_of variables looks (Negation a) =
 value_of variables looks (Operation op a b) =
     and_then (value_of variables looks a) (λ n. operation op n (decided_by op n) (value_of variables looks b))
 value_of variables looks (Choice a b c) =
-    and_then (value_of variables looks a) (λ n. if is_true n then value_of variables looks b else value_of variables looks c)
+    and_then (value_of variables looks a)
+    (λ n. if is_true n then value_of variables looks b else value_of variables looks c)
 
 -- ---- Looks
 
@@ -177,7 +179,8 @@ abbrev pub values_from :
     Result (List (List ℕ × ℤ)) SectionFault
 values_from looks global own [] = Ok own
 values_from looks global own (a ∷ rest) =
-    and_then (with_value own a.name (value_of (variable_in global own) looks a.value)) (λ values. values_from looks global values rest)
+    and_then (with_value own a.name (value_of (variable_in global own) looks a.value))
+    (λ values. values_from looks global values rest)
 
 -- an assignment, where an override may replace its value
 abbrev pub replaced_by : Option ℤ → Assignment → Assignment

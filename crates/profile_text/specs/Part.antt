@@ -27,7 +27,8 @@ onto so_far (Err e) = Err e
 abbrev pub TakesPart : Stand → Token → Stand → Type 0
 TakesPart old t new =
     (more : Option Section → Place → Result Sections TextError)
-    → onto old.sections (from_front (kind_of t.text) old.current more t old.place) ≡ onto new.sections (more new.current new.place)
+    → onto old.sections (from_front (kind_of t.text) old.current more t old.place)
+    ≡ onto new.sections (more new.current new.place)
 
 -- reading on after a token is refused, whatever follows
 abbrev pub RefusesPart : Stand → Token → TextError → Type 0

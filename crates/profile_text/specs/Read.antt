@@ -93,7 +93,8 @@ allowed (Some fault) t place = Err (At t.line fault)
 -- the next token, where it is what is expected
 unfoldable pub taken : Expected → Place → Result (Read Token) TextError
 taken expected place =
-    and_then (first_of place.last place.tokens) (λ t after. allowed (fault_of expected (kind_of t.text)) t after)
+    and_then (first_of place.last place.tokens)
+    (λ t after. allowed (fault_of expected (kind_of t.text)) t after)
 
 -- ---- Expressions
 
@@ -109,7 +110,8 @@ two_of operand op place =
 -- the three operands of `switch`
 abbrev pub switch_of : (Place → Result (Read Tree) TextError) → Place → Result (Read Tree) TextError
 switch_of operand place =
-    and_then (operand place) (λ a p. and_then (operand p) (λ b q. and_then (operand q) (λ c r. read (Choice a b c) r)))
+    and_then (operand place)
+    (λ a p. and_then (operand p) (λ b q. and_then (operand q) (λ c r. read (Choice a b c) r)))
 
 -- the three operands of `if`, parted by `then` and `else`
 abbrev pub if_of : (Place → Result (Read Tree) TextError) → Place → Result (Read Tree) TextError
@@ -211,7 +213,8 @@ unfoldable pub sections_within : ℕ → Option Section → ℕ → List Token �
 sections_within parts current last [] = Ok no_sections
 sections_within zero current last (t ∷ ts) = Ok no_sections
 sections_within (suc parts) current last (t ∷ ts) =
-    from_front (kind_of t.text) current (λ section p. sections_within parts section p.last p.tokens) t (record { last = t.line; tokens = ts })
+    from_front (kind_of t.text) current (λ section p. sections_within parts section p.last p.tokens) t
+    (record { last = t.line; tokens = ts })
 
 -- the profile of a text, or the refusal of the first token that can't stand where it is
 unfoldable pub profile_of : List ℕ → Result Sections TextError

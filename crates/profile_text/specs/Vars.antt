@@ -25,7 +25,8 @@ pub record AreVars (values vars : List (List ℕ × ℤ)) : Type 0 where
 -- fault
 unfoldable pub both_values : TagTable → Sections → Part → List ℕ → Result (List (List ℕ × ℤ)) SectionFault
 both_values table s part numbers =
-    and_then (global_values [] s) (λ global. and_then (own_values table s part numbers global) (λ own. Ok (global ++ own)))
+    and_then (global_values [] s)
+    (λ global. and_then (own_values table s part numbers global) (λ own. Ok (global ++ own)))
 
 -- there are values, and these are their variables
 abbrev pub AreVarsOf : Result (List (List ℕ × ℤ)) SectionFault → List (List ℕ × ℤ) → Type 0

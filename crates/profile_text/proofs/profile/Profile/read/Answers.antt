@@ -6,7 +6,8 @@ use Rattle.profile_text.proofs.profile.Profile.read.Goals as goal
 
 pub parts-init : goal.parts-init
 parts-init c =
-    reads_first c.args.text.now c.new.result c.new-2.result c.new-3.result c.new-reader.result c.new.ensures.value c.new-2.ensures.value c.new-3.ensures.value c.new-reader.ensures.value
+    reads_first c.args.text.now c.new.result c.new-2.result c.new-3.result c.new-reader.result c.new.ensures.value c.new-2.ensures.value
+    c.new-3.ensures.value c.new-reader.ensures.value
 
 pub returns-in_err-section-clause-exact : goal.returns-in_err-section-clause-exact
 returns-in_err-section-clause-exact c =
@@ -17,7 +18,8 @@ pub returns-in_err-section-clause-only : goal.returns-in_err-section-clause-only
 returns-in_err-section-clause-only c = λ p spells.
     let q = err_from_is_err_and c.from_residual.result c.from_residual.ensures.1 in
     rw (q.1, q.2)
-    (only_memory c.args.text.now _ p (reads_refusal _ _ _ _ c.parts.invariant c.in-Some.ensures.value _ c.in_err-section.ensures.exact) spells)
+    (only_memory c.args.text.now _ p
+    (reads_refusal _ _ _ _ c.parts.invariant c.in-Some.ensures.value _ c.in_err-section.ensures.exact) spells)
 
 pub parts-preserved : goal.parts-preserved
 parts-preserved c =
