@@ -31,7 +31,8 @@ pub record Went {A B : Type 0} (r : Result (Read A) TextError) (go : A → Place
   pub next : go value place ≡ Ok b
 
 -- reading that succeeds went on from a value
-pub went_on : {A B : Type 0} (r : Result (Read A) TextError) (go : A → Place → Result B TextError) (b : B) → and_then r go ≡ Ok b → Went r go b
+pub went_on :
+    {A B : Type 0} (r : Result (Read A) TextError) (go : A → Place → Result B TextError) (b : B) → and_then r go ≡ Ok b → Went r go b
 went_on (Ok x) go b h = record { value = x.value; place = x.place; was = refl; next = h }
 went_on (Err e) go b h = cc
 
@@ -42,12 +43,16 @@ pub record TakenFirst (expected : Expected) (p : Place) (t : Token) (q : Place) 
   pub fits : fault_of expected (kind_of t.text) ≡ None
 
 -- a token that is allowed may stand there, and is what was asked for
-allowed_fits : (f : Option TextKind) (t u : Token) (p q : Place) → allowed f t p ≡ read u q → (f ≡ None) × (◌≡◌ {A = Read Token} (record { value = t; place = p }) (record { value = u; place = q }))
+allowed_fits :
+    (f : Option TextKind) (t u : Token) (p q : Place) → allowed f t p ≡ read u q → (f ≡ None) ×
+    (◌≡◌ {A = Read Token} (record { value = t; place = p }) (record { value = u; place = q }))
 allowed_fits None t u p q h = (refl, same_value (record { value = t; place = p }) (record { value = u; place = q }) h)
 allowed_fits (Some k) t u p q h = cc
 
 -- so is each token that was taken
-pub taken_is_first : (expected : Expected) (last : ℕ) (ts : List Token) (t : Token) (q : Place) → taken expected (record { last = last; tokens = ts }) ≡ read t q → TakenFirst expected (record { last = last; tokens = ts }) t q
+pub taken_is_first :
+    (expected : Expected) (last : ℕ) (ts : List Token) (t : Token) (q : Place) →
+    taken expected (record { last = last; tokens = ts }) ≡ read t q → TakenFirst expected (record { last = last; tokens = ts }) t q
 unfolding taken
 taken_is_first expected last [] t q h = cc
 taken_is_first expected last (u ∷ us) t q h =
@@ -75,7 +80,9 @@ abbrev pub IsSpelled : ℕ → Place → Read Tree → Type 0
 IsSpelled depth p r = SpellsExpr depth p.tokens r.value r.place.tokens
 
 -- what is read as a form is spelled so, where what is read one deeper is
-pub form_is_spelled : (depth : ℕ) (t : Token) (p : Place) (r : Read Tree) → ((q : Place) (s : Read Tree) → expr_of depth q ≡ Ok s → IsSpelled depth q s) → (k : Kind) → kind_of t.text ≡ k → form_of (expr_of depth) t k p ≡ Ok r → SpellsExpr (suc depth) (t ∷ p.tokens) r.value r.place.tokens
+pub form_is_spelled :
+    (depth : ℕ) (t : Token) (p : Place) (r : Read Tree) → ((q : Place) (s : Read Tree) → expr_of depth q ≡ Ok s → IsSpelled depth q s) →
+    (k : Kind) → kind_of t.text ≡ k → form_of (expr_of depth) t k p ≡ Ok r → SpellsExpr (suc depth) (t ∷ p.tokens) r.value r.place.tokens
 form_is_spelled depth t p r inner (Number n) k h =
     let P : Read Tree → Type 0 = λ x. SpellsExpr (suc depth) (t ∷ p.tokens) x.value x.place.tokens in
     subst P (same_value _ r h) (a_number depth t n p.tokens k)
@@ -99,32 +106,49 @@ form_is_spelled depth t p r inner (Two op) k h =
     let P : Read Tree → Type 0 = λ x. SpellsExpr (suc depth) (t ∷ p.tokens) x.value x.place.tokens in
     let x = went_on (expr_of depth p) (λ a p. and_then (expr_of depth p) (λ b q. read (Operation op a b) q)) r h in
     let y = went_on (expr_of depth x.place) (λ b q. read (Operation op x.value b) q) r x.next in
-    subst P (same_value _ r y.next) (a_two depth t op p.tokens x.place.tokens x.value y.value y.place.tokens k (inner p _ x.was) (inner x.place _ y.was))
+    subst P (same_value _ r y.next)
+    (a_two depth t op p.tokens x.place.tokens x.value y.value y.place.tokens k (inner p _ x.was) (inner x.place _ y.was))
 form_is_spelled depth t p r inner Switch k h =
     let P : Read Tree → Type 0 = λ x. SpellsExpr (suc depth) (t ∷ p.tokens) x.value x.place.tokens in
-    let x = went_on (expr_of depth p) (λ a p. and_then (expr_of depth p) (λ b q. and_then (expr_of depth q) (λ c r. read (Choice a b c) r))) r h in
+    let x =
+    went_on (expr_of depth p) (λ a p. and_then (expr_of depth p) (λ b q. and_then (expr_of depth q) (λ c r. read (Choice a b c) r))) r h in
     let y = went_on (expr_of depth x.place) (λ b q. and_then (expr_of depth q) (λ c r. read (Choice x.value b c) r)) r x.next in
     let z = went_on (expr_of depth y.place) (λ c r. read (Choice x.value y.value c) r) r y.next in
-    subst P (same_value _ r z.next) (a_switch depth t p.tokens x.place.tokens y.place.tokens x.value y.value z.value z.place.tokens k (inner p _ x.was) (inner x.place _ y.was) (inner y.place _ z.was))
+    subst P (same_value _ r z.next)
+    (a_switch depth t p.tokens x.place.tokens y.place.tokens x.value y.value z.value z.place.tokens k (inner p _ x.was)
+    (inner x.place _ y.was) (inner y.place _ z.was))
 form_is_spelled depth t p r inner If k h =
     let P : Read Tree → Type 0 = λ x. SpellsExpr (suc depth) (t ∷ p.tokens) x.value x.place.tokens in
-    let x = went_on (expr_of depth p) (λ a p. and_then (taken ThenWord p) (λ t p2. and_then (expr_of depth p2) (λ b q. and_then (taken ElseWord q) (λ u q2. and_then (expr_of depth q2) (λ c r. read (Choice a b c) r))))) r h in
-    let u = went_on (taken ThenWord x.place) (λ t p2. and_then (expr_of depth p2) (λ b q. and_then (taken ElseWord q) (λ u q2. and_then (expr_of depth q2) (λ c r. read (Choice x.value b c) r)))) r x.next in
-    let y = went_on (expr_of depth u.place) (λ b q. and_then (taken ElseWord q) (λ u q2. and_then (expr_of depth q2) (λ c r. read (Choice x.value b c) r))) r u.next in
+    let x =
+    went_on (expr_of depth p)
+    (λ a p. and_then (taken ThenWord p)
+    (λ t p2. and_then (expr_of depth p2)
+    (λ b q. and_then (taken ElseWord q) (λ u q2. and_then (expr_of depth q2) (λ c r. read (Choice a b c) r))))) r h in
+    let u =
+    went_on (taken ThenWord x.place)
+    (λ t p2. and_then (expr_of depth p2)
+    (λ b q. and_then (taken ElseWord q) (λ u q2. and_then (expr_of depth q2) (λ c r. read (Choice x.value b c) r)))) r x.next in
+    let y =
+    went_on (expr_of depth u.place)
+    (λ b q. and_then (taken ElseWord q) (λ u q2. and_then (expr_of depth q2) (λ c r. read (Choice x.value b c) r))) r u.next in
     let v = went_on (taken ElseWord y.place) (λ u q2. and_then (expr_of depth q2) (λ c r. read (Choice x.value y.value c) r)) r y.next in
     let z = went_on (expr_of depth v.place) (λ c r. read (Choice x.value y.value c) r) r v.next in
     let then_first = taken_is_first ThenWord x.place.last x.place.tokens u.value u.place u.was in
     let else_first = taken_is_first ElseWord y.place.last y.place.tokens v.value v.place v.was in
     let A : List Token → Type 0 = λ ts. SpellsExpr depth p.tokens x.value ts in
     let B : List Token → Type 0 = λ ts. SpellsExpr depth u.place.tokens y.value ts in
-    subst P (same_value _ r z.next) (an_if depth t u.value v.value p.tokens u.place.tokens v.place.tokens x.value y.value z.value z.place.tokens k (subst A then_first.tokens (inner p _ x.was)) (then_word _ then_first.fits) (subst B else_first.tokens (inner u.place _ y.was)) (else_word _ else_first.fits) (inner v.place _ z.was))
+    subst P (same_value _ r z.next)
+    (an_if depth t u.value v.value p.tokens u.place.tokens v.place.tokens x.value y.value z.value z.place.tokens k
+    (subst A then_first.tokens (inner p _ x.was)) (then_word _ then_first.fits) (subst B else_first.tokens (inner u.place _ y.was))
+    (else_word _ else_first.fits) (inner v.place _ z.was))
 form_is_spelled depth t p r inner Open k h =
     let P : Read Tree → Type 0 = λ x. SpellsExpr (suc depth) (t ∷ p.tokens) x.value x.place.tokens in
     let x = went_on (expr_of depth p) (λ a p. and_then (taken Closing p) (λ t q. read a q)) r h in
     let u = went_on (taken Closing x.place) (λ t q. read x.value q) r x.next in
     let first = taken_is_first Closing x.place.last x.place.tokens u.value u.place u.was in
     let A : List Token → Type 0 = λ ts. SpellsExpr depth p.tokens x.value ts in
-    subst P (same_value _ r u.next) (a_bracket depth t u.value p.tokens x.value u.place.tokens k (subst A first.tokens (inner p _ x.was)) (closing_word _ first.fits))
+    subst P (same_value _ r u.next)
+    (a_bracket depth t u.value p.tokens x.value u.place.tokens k (subst A first.tokens (inner p _ x.was)) (closing_word _ first.fits))
 form_is_spelled depth t p r inner _ k h = cc
 
 -- what is read as an expression is spelled so
@@ -136,4 +160,5 @@ read_is_spelled (suc depth) p r h =
     let x = went_on (taken Expression p) (λ t p. form_of (expr_of depth) t (kind_of t.text) p) r h in
     let first = taken_is_first Expression p.last p.tokens x.value x.place x.was in
     let P : List Token → Type 0 = λ ts. SpellsExpr (suc depth) ts r.value r.place.tokens in
-    subst P (sym first.tokens) (form_is_spelled depth x.value x.place r (λ q s was. read_is_spelled depth q s was) (kind_of x.value.text) refl x.next)
+    subst P (sym first.tokens)
+    (form_is_spelled depth x.value x.place r (λ q s was. read_is_spelled depth q s was) (kind_of x.value.text) refl x.next)

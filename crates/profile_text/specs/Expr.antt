@@ -21,4 +21,9 @@ assignment_in a = record { name = a.name; line = a.line; value = tree_of a.value
 
 -- the sections of a profile
 abbrev pub sections_in : Profile → Sections
-sections_in p = record { global = map assignment_in p.global; way = map assignment_in p.way; node = map assignment_in p.node }
+sections_in p =
+    record {
+      global = map assignment_in p.global;
+      way = map assignment_in p.way;
+      node = map assignment_in p.node;
+    }

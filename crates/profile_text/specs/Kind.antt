@@ -1,4 +1,5 @@
--- What a token is. The words are those of the routing profiles of the developers guide; names, looks and literals are this project's own rule.
+-- What a token is. The words are those of the routing profiles of the developers guide; names, looks and
+-- literals are this project's own rule.
 use Rattle.std.specs.Prelude.{ℕ, Bool, false, not, ◌&&◌, ◌||◌, List, [], ◌∷◌, length, nat_eq, ◌==◌, if◌then◌else◌, Option, Some, None, ℤ, Result, Ok, Err, codes, bytes_eq}
 use Rattle.std.specs.Char.{is_ascii_digit, is_ascii_alphanumeric}
 use Rattle.std.specs.List.{prefix_len, starts_with}

@@ -1,4 +1,5 @@
--- The parts of a look: a tag, `=`, and the values that the tag is compared with. After the routing profiles of the developers guide.
+-- The parts of a look: a tag, `=`, and the values that the tag is compared with. After the routing profiles
+-- of the developers guide.
 use Rattle.std.specs.Prelude.{ℕ, ◌+◌, Bool, true, false, not, ◌&&◌, List, [], ◌∷◌, length, take, drop, nat_lt, ◌==◌, if◌then◌else◌}
 use Rattle.std.specs.List.{prefix_len, slice_split}
 
@@ -44,4 +45,5 @@ values_of text = listed_values (drop (tag_len text + 1) text)
 -- the token is a look: a nonempty tag, `=`, and nothing or nonempty values
 abbrev pub is_look : List ℕ → Bool
 is_look text =
-    nat_lt 0 (tag_len text) && (nat_lt (tag_len text) (length text) && are_values (drop (tag_len text + 1) text))
+    nat_lt 0 (tag_len text)
+    && (nat_lt (tag_len text) (length text) && are_values (drop (tag_len text + 1) text))

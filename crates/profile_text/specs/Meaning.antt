@@ -1,4 +1,5 @@
--- What a profile means, after the routing profiles of the developers guide; the order of evaluation and its faults are this project's own.
+-- What a profile means, after the routing profiles of the developers guide; the order of evaluation and its
+-- faults are this project's own.
 use Rattle.std.specs.Prelude.{ℕ, Bool, true, false, not, ◌||◌, List, [], ◌∷◌, ◌++◌, length, map, slice_index_or, ℤ, pos, negsuc, zero, suc, int_lt, Option, Some, None, Result, Ok, Err, ◌==◌, if◌then◌else◌, option_map}
 use Rattle.std.specs.Int.{int_max, int_min}
 use Rattle.std.specs.Ordering.{int_eq}
@@ -16,7 +17,8 @@ use Rattle.profile_text.specs.declared.expr.Op.{Op}
 use Rattle.profile_text.specs.declared.expr.Op.TheVariants.{Or, And, Xor, Multiply, Divide, Add, Sub, Max, Min, Equal, Greater, Lesser}
 use Rattle.profile_text.specs.Tree.{Tree, Constant, Variable, TagLook, Negation, Operation, Choice, Assignment, Sections}
 
--- why an expression has no value: it names a variable, a tag or a value that isn't known, on this line; or a fault of arithmetic
+-- why an expression has no value: it names a variable, a tag or a value that isn't known, on this line; or a
+-- fault of arithmetic
 pub data Fault : Type 0 where
   Unknown : ℕ → Fault
   Faulty : Arith → Fault
@@ -67,22 +69,27 @@ abbrev pub known : {A : Type 0} → ℕ → Option A → Result A Fault
 known line (Some a) = Ok a
 known line None = Err (Unknown line)
 
--- what an operator comes to, its first operand being known: the second is looked at where the first doesn't decide
+-- what an operator comes to, its first operand being known: the second is looked at where the first doesn't
+-- decide
 abbrev pub operation : Op → ℤ → Option ℤ → Result ℤ Fault → Result ℤ Fault
 operation op a (Some decided) b = Ok decided
 operation op a None b = and_then b (λ n. arithmetic (result_of op a n))
 
--- the value of an expression, where variables and looks have these values; operands are looked at from the left, and the arm alone that a choice picks
-abbrev pub value_of : (List ℕ → Option ℤ) → (List ℕ → List (List ℕ) → Option Bool) → Tree → Result ℤ Fault
+-- the value of an expression, where variables and looks have these values; operands are looked at from the
+-- left, and the arm alone that a choice picks
+abbrev pub value_of : (variables : List ℕ → Option ℤ) (looks : List ℕ → List (List ℕ) → Option Bool)
+    → Tree → Result ℤ Fault
 value_of variables looks (Constant n) = Ok n
 value_of variables looks (Variable name line) = known line (variables name)
-value_of variables looks (TagLook tag values line) = and_then (known line (looks tag values)) (λ found. Ok (truth found))
+value_of variables looks (TagLook tag values line) =
+    and_then (known line (looks tag values)) (λ found. Ok (truth found))
 value_of variables looks (Negation a) =
     and_then (value_of variables looks a) (λ n. Ok (truth (not (is_true n))))
 value_of variables looks (Operation op a b) =
     and_then (value_of variables looks a) (λ n. operation op n (decided_by op n) (value_of variables looks b))
 value_of variables looks (Choice a b c) =
-    and_then (value_of variables looks a) (λ n. if is_true n then value_of variables looks b else value_of variables looks c)
+    and_then (value_of variables looks a)
+    (λ n. if is_true n then value_of variables looks b else value_of variables looks c)
 
 -- ---- Looks
 
@@ -118,7 +125,8 @@ row_at rows place = slice_index_or rows place (empty_tag [])
 -- the place of a look's tag and the numbers that it asks for, if the tag and each value are known
 abbrev pub look_at : List TagRow → Option ℕ → List (List ℕ) → Option (ℕ × List ℕ)
 look_at rows None values = None
-look_at rows (Some place) values = option_map (λ numbers. (place, numbers)) (look_numbers (row_at rows place) values)
+look_at rows (Some place) values =
+    option_map (λ numbers. (place, numbers)) (look_numbers (row_at rows place) values)
 
 -- whether the number of a tag is one that a look asks for
 abbrev pub is_found : List ℕ → ℕ × List ℕ → Bool
@@ -166,10 +174,13 @@ with_value own name (Ok n) = Ok (own ++ (name, n) ∷ [])
 with_value own name (Err fault) = Err (record { place = length own; name = name; fault = fault })
 
 -- the values of a section: those that it has already, and then those of further assignments in order
-abbrev pub values_from : (List ℕ → List (List ℕ) → Option Bool) → List (List ℕ × ℤ) → List (List ℕ × ℤ) → List Assignment → Result (List (List ℕ × ℤ)) SectionFault
+abbrev pub values_from :
+    (List ℕ → List (List ℕ) → Option Bool) → List (List ℕ × ℤ) → List (List ℕ × ℤ) → List Assignment →
+    Result (List (List ℕ × ℤ)) SectionFault
 values_from looks global own [] = Ok own
 values_from looks global own (a ∷ rest) =
-    and_then (with_value own a.name (value_of (variable_in global own) looks a.value)) (λ values. values_from looks global values rest)
+    and_then (with_value own a.name (value_of (variable_in global own) looks a.value))
+    (λ values. values_from looks global values rest)
 
 -- an assignment, where an override may replace its value
 abbrev pub replaced_by : Option ℤ → Assignment → Assignment
@@ -190,6 +201,7 @@ assignments_of s Way = s.way
 assignments_of s Node = s.node
 
 -- the values of a part's own section after those of the global one, for the tag numbers of a way or a node
-unfoldable pub own_values : TagTable → Sections → Part → List ℕ → List (List ℕ × ℤ) → Result (List (List ℕ × ℤ)) SectionFault
+unfoldable pub own_values :
+    TagTable → Sections → Part → List ℕ → List (List ℕ × ℤ) → Result (List (List ℕ × ℤ)) SectionFault
 own_values table s part numbers global =
     values_from (looks_in (rows_of table part) numbers) global [] (assignments_of s part)

@@ -2,7 +2,8 @@
 use Rattle.std.specs.Prelude.{ℕ, suc, Bool, true, false, List, [], ◌∷◌, is_some, Option, Some, None}
 use Rattle.std.specs.Str.{bytes_eq}
 
--- the place of the last name of a list, where the one behind its first is known, and whether the first is it too
+-- the place of the last name of a list, where the one behind its first is known, and whether the first is it
+-- too
 abbrev pub later_place : Bool → Option ℕ → Option ℕ
 later_place first (Some place) = Some (suc place)
 later_place true None = Some 0

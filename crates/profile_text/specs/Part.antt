@@ -1,4 +1,5 @@
--- What reading one section line or assignment does to the profile that was read so far; this joins the code to the words on readings.
+-- What reading one section line or assignment does to the profile that was read so far; this joins the code
+-- to the words on readings.
 use Rattle.std.specs.Prelude.{◌≡◌, ◌++◌, Option, Result, Ok, Err}
 use Rattle.profile_text.specs.declared.error.TextError.{TextError}
 use Rattle.profile_text.specs.declared.kind.Section.{Section}
@@ -26,7 +27,8 @@ onto so_far (Err e) = Err e
 abbrev pub TakesPart : Stand → Token → Stand → Type 0
 TakesPart old t new =
     (more : Option Section → Place → Result Sections TextError)
-    → onto old.sections (from_front (kind_of t.text) old.current more t old.place) ≡ onto new.sections (more new.current new.place)
+    → onto old.sections (from_front (kind_of t.text) old.current more t old.place)
+    ≡ onto new.sections (more new.current new.place)
 
 -- reading on after a token is refused, whatever follows
 abbrev pub RefusesPart : Stand → Token → TextError → Type 0

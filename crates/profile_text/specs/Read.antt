@@ -27,13 +27,15 @@ abbrev pub read : {A : Type 0} → A → Place → Result (Read A) TextError
 read value place = Ok (record { value = value; place = place })
 
 -- goes on with what was read, or keeps the refusal
-abbrev pub and_then : {A B : Type 0} → Result (Read A) TextError → (A → Place → Result B TextError) → Result B TextError
+abbrev pub and_then :
+    {A B : Type 0} → Result (Read A) TextError → (A → Place → Result B TextError) → Result B TextError
 and_then (Ok r) go = go r.value r.place
 and_then (Err e) go = Err e
 
 -- ---- One token
 
--- the first token, and the place after it; where there is none, the text ends too early, at the line of the token before
+-- the first token, and the place after it; where there is none, the text ends too early, at the line of the
+-- token before
 abbrev pub first_of : ℕ → List Token → Result (Read Token) TextError
 first_of last [] = Err (At last Fault.TheVariants.End)
 first_of last (t ∷ ts) = read t (record { last = t.line; tokens = ts })
@@ -91,7 +93,8 @@ allowed (Some fault) t place = Err (At t.line fault)
 -- the next token, where it is what is expected
 unfoldable pub taken : Expected → Place → Result (Read Token) TextError
 taken expected place =
-    and_then (first_of place.last place.tokens) (λ t after. allowed (fault_of expected (kind_of t.text)) t after)
+    and_then (first_of place.last place.tokens)
+    (λ t after. allowed (fault_of expected (kind_of t.text)) t after)
 
 -- ---- Expressions
 
@@ -107,7 +110,8 @@ two_of operand op place =
 -- the three operands of `switch`
 abbrev pub switch_of : (Place → Result (Read Tree) TextError) → Place → Result (Read Tree) TextError
 switch_of operand place =
-    and_then (operand place) (λ a p. and_then (operand p) (λ b q. and_then (operand q) (λ c r. read (Choice a b c) r)))
+    and_then (operand place)
+    (λ a p. and_then (operand p) (λ b q. and_then (operand q) (λ c r. read (Choice a b c) r)))
 
 -- the three operands of `if`, parted by `then` and `else`
 abbrev pub if_of : (Place → Result (Read Tree) TextError) → Place → Result (Read Tree) TextError
@@ -122,7 +126,8 @@ bracket_of operand place =
     and_then (operand place) (λ a p. and_then (taken Closing p) (λ t q. read a q))
 
 -- the expression that a token of this kind begins; its operands are read one deeper
-abbrev pub form_of : (Place → Result (Read Tree) TextError) → Token → Kind → Place → Result (Read Tree) TextError
+abbrev pub form_of :
+    (Place → Result (Read Tree) TextError) → Token → Kind → Place → Result (Read Tree) TextError
 form_of operand t (Number n) place = read (Constant n) place
 form_of operand t True place = read (Constant (pos 1000000)) place
 form_of operand t False place = read (Constant (pos 0)) place
@@ -138,7 +143,8 @@ form_of operand t _ place = Err (At t.line Fault.TheVariants.Token)
 -- an expression, where so many expressions may still be open at once
 unfoldable pub expr_of : ℕ → Place → Result (Read Tree) TextError
 expr_of zero place = and_then (taken Expression place) (λ t p. Err (At t.line Fault.TheVariants.Deep))
-expr_of (suc room) place = and_then (taken Expression place) (λ t p. form_of (expr_of room) t (kind_of t.text) p)
+expr_of (suc room) place =
+    and_then (taken Expression place) (λ t p. form_of (expr_of room) t (kind_of t.text) p)
 
 -- ---- Sections
 
@@ -186,23 +192,29 @@ front_fault false BadNumber = Fault.TheVariants.Number
 front_fault false _ = Fault.TheVariants.Token
 
 -- the assignment of the open section, and then those that follow
-abbrev pub assigned : Option Section → (Option Section → Place → Result Sections TextError) → Token → Place → Result Sections TextError
+abbrev pub assigned :
+    Option Section → (Option Section → Place → Result Sections TextError) → Token → Place →
+    Result Sections TextError
 assigned None more t place = Err (At t.line Fault.TheVariants.Section)
 assigned (Some section) more t place =
     and_then (assignment_of place) (λ a p. with_first section a (more (Some section) p))
 
 -- the assignments from a token of this kind on
-abbrev pub from_front : Kind → Option Section → (Option Section → Place → Result Sections TextError) → Token → Place → Result Sections TextError
+abbrev pub from_front :
+    Kind → Option Section → (Option Section → Place → Result Sections TextError) → Token → Place →
+    Result Sections TextError
 from_front (Opens section) current more t place = more (Some section) place
 from_front Assign current more t place = assigned current more t place
 from_front kind current more t place = Err (At t.line (front_fault (has_dashes t.text) kind))
 
--- the assignments of these tokens, where a section may be open; each part takes bytes of the text, so as many parts as bytes are enough
+-- the assignments of these tokens, where a section may be open; each part takes bytes of the text, so as many
+-- parts as bytes are enough
 unfoldable pub sections_within : ℕ → Option Section → ℕ → List Token → Result Sections TextError
 sections_within parts current last [] = Ok no_sections
 sections_within zero current last (t ∷ ts) = Ok no_sections
 sections_within (suc parts) current last (t ∷ ts) =
-    from_front (kind_of t.text) current (λ section p. sections_within parts section p.last p.tokens) t (record { last = t.line; tokens = ts })
+    from_front (kind_of t.text) current (λ section p. sections_within parts section p.last p.tokens) t
+    (record { last = t.line; tokens = ts })
 
 -- the profile of a text, or the refusal of the first token that can't stand where it is
 unfoldable pub profile_of : List ℕ → Result Sections TextError

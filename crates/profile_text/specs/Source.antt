@@ -1,4 +1,5 @@
--- A place in a text, as the tokens that are left there; this joins the code to the words on tokens and readings.
+-- A place in a text, as the tokens that are left there; this joins the code to the words on tokens and
+-- readings.
 use Rattle.std.specs.Prelude.{◌≡◌, ℕ, true, false, List, [], ◌∷◌, Result, if◌then◌else◌}
 use Rattle.std.specs.List.{prefix_len}
 use Rattle.item_list.specs.Answer.{Answers}
@@ -27,6 +28,8 @@ pub record IsFirst (place : Place) (t : Token) (after : Place) : Type 0 where
   pub tokens : place.tokens ≡ t ∷ after.tokens
   pub last : after.last ≡ t.line
 
--- a call gives what is read, seen so, and stands at the place after it; or it gives the refusal, or reports want of memory
+-- a call gives what is read, seen so, and stands at the place after it; or it gives the refusal, or reports
+-- want of memory
 abbrev pub Reads : {A B : Type 0} → (A → B) → Result (Read B) TextError → Place → Result A TextError → Type 0
-Reads view reading after result = Answers (λ a. record { value = view a; place = after }) reading NoMemory result
+Reads view reading after result =
+    Answers (λ a. record { value = view a; place = after }) reading NoMemory result

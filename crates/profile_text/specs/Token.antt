@@ -38,7 +38,8 @@ abbrev pub tokens_from : Bool → ℕ → List ℕ → List Token
 tokens_from comment line [] = []
 tokens_from comment line (c ∷ cs) =
     if is_ink comment c
-    then (if is_joined c cs then prepend c (tokens_from false line cs) else record { line = line; text = c ∷ [] } ∷ tokens_from false line cs)
+    then (if is_joined c cs then prepend c (tokens_from false line cs)
+    else record { line = line; text = c ∷ [] } ∷ tokens_from false line cs)
     else tokens_from (comment_after comment c) (line_after line c) cs
 
 -- a place between tokens: the line of the token before it, and the tokens after it

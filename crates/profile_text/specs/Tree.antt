@@ -2,7 +2,8 @@
 use Rattle.std.specs.Prelude.{ℕ, List, ℤ}
 use Rattle.profile_text.specs.declared.expr.Op.{Op}
 
--- an expression: a number; a variable with the line of its name; a look at a tag for values, with its line; and what `not`, an operator of two operands and a choice make of expressions
+-- an expression: a number; a variable with the line of its name; a look at a tag for values, with its line;
+-- and what `not`, an operator of two operands and a choice make of expressions
 pub data Tree : Type 0 where
   Constant : ℤ → Tree
   Variable : List ℕ → ℕ → Tree

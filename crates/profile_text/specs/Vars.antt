@@ -15,15 +15,18 @@ abbrev pub first_names : List (List ℕ) → List (List ℕ)
 first_names [] = []
 first_names (n ∷ ns) = n ∷ filter (λ m. not (bytes_eq n m)) (first_names ns)
 
--- the variables of values that were assigned one after the other: each name at the place of its first assignment, with its last value
+-- the variables of values that were assigned one after the other: each name at the place of its first
+-- assignment, with its last value
 pub record AreVars (values vars : List (List ℕ × ℤ)) : Type 0 where
   pub names : map (λ v. v.0) vars ≡ first_names (map (λ v. v.0) values)
   pub numbers : (name : List ℕ) → lookup (bytes_eq name) vars ≡ last_value values name
 
--- the values of the global section without overrides and then those of a part's own section, or the first fault
+-- the values of the global section without overrides and then those of a part's own section, or the first
+-- fault
 unfoldable pub both_values : TagTable → Sections → Part → List ℕ → Result (List (List ℕ × ℤ)) SectionFault
 both_values table s part numbers =
-    and_then (global_values [] s) (λ global. and_then (own_values table s part numbers global) (λ own. Ok (global ++ own)))
+    and_then (global_values [] s)
+    (λ global. and_then (own_values table s part numbers global) (λ own. Ok (global ++ own)))
 
 -- there are values, and these are their variables
 abbrev pub AreVarsOf : Result (List (List ℕ × ℤ)) SectionFault → List (List ℕ × ℤ) → Type 0

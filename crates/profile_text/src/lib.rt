@@ -1,4 +1,5 @@
-//! The routing profile: its text is read into a tree, and the tree has values for the tag numbers of a way or a node.
+//! The routing profile: its text is read into a tree, and the tree has values for the tag numbers
+//! of a way or a node.
 #![tactic(auto)]
 
 mod assigned;

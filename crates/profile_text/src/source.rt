@@ -26,7 +26,10 @@ impl<'a> Model for Reader<'a> {
 
     ghost Value = { Place };
 
-    ghost view = { λ r. record { last = r.last; tokens = tokens_from false (r.breaks + 1) r.rest.now } };
+    ghost view = { λ r. record {
+      last = r.last;
+      tokens = tokens_from false (r.breaks + 1) r.rest.now;
+    } };
 
     ghost invariant = { λ r. r.breaks + length r.rest.now < 2 ^ 32 };
 }

@@ -20,8 +20,9 @@ use fixed_num::Num;
 use lookup_table::{Part, Table};
 use std::alloc::Global;
 
-/// The variables of a profile for the tag numbers of a way or a node: the global section is evaluated, without overrides,
-/// and then the part's own. Of a name that is assigned more than once the later value is kept.
+/// The variables of a profile for the tag numbers of a way or a node: the global section is
+/// evaluated, without overrides, and then the part's own. Of a name that is assigned more than once
+/// the later value is kept.
 pub fn section_values<'a>(
     alloc: Global,
     profile: &Profile,
@@ -30,11 +31,11 @@ pub fn section_values<'a>(
     numbers: &'a [u16],
 ) -> Result<Vars, ValueError>
     requires fits { length numbers.now ≡ length (rows_of table.now part) }
-    ensures value { let values = both_values table.now (sections_in profile.now) part numbers.now in
-        IfOk result (λ vars. AreVarsOf values vars) }
+    ensures value { let all = both_values table.now (sections_in profile.now) part numbers.now in
+        IfOk result (λ vars. AreVarsOf all vars) }
 
-    ensures refused { let values = both_values table.now (sections_in profile.now) part numbers.now in
-        IfErr result (λ e. (e ≡ NoMemory) ⊎ IsRefusedBy values e) }
+    ensures refused { let all = both_values table.now (sections_in profile.now) part numbers.now in
+        IfErr result (λ e. (e ≡ NoMemory) ⊎ IsRefusedBy all e) }
 {
     let tagged = Tagged::new(table, part, numbers);
     let none = Assigned::new(alloc);
