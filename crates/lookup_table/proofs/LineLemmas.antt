@@ -9,11 +9,11 @@ use Rattle.lookup_table.specs.declared.part.Part.TheVariants.{Way, Node}
 use Rattle.lookup_table.specs.Line.{LineForm, Skipped, LookupVersion, MinorVersion, Opens, TagLine, Malformed, is_version, version_form, context_form, dashes_form, tag_of, tag_line, words_form, text_form, line_form}
 use Rattle.lookup_table.specs.Words.{words_of, trimmed}
 
--- A line of UTF-8 is what its text is.
+-- a line of UTF-8 is what its text is
 pub line_form-utf8 : (line : List ℕ) → IsUtf8 line → line_form line ≡ text_form (trimmed line)
 line_form-utf8 line utf8 = ap (λ b. cond b (text_form (trimmed line)) Malformed) (is_utf8-from_IsUtf8 line utf8)
 
--- Another line isn't of the table's forms.
+-- another line isn't of the table's forms
 pub line_form-other : (line : List ℕ) → ¬ (IsUtf8 line) → line_form line ≡ Malformed
 line_form-other line other = by_test (is_utf8 line) refl
   where
@@ -23,25 +23,27 @@ line_form-other line other = by_test (is_utf8 line) refl
 
 -- ---- Lines that begin with dashes
 
--- A line that is no version opens a part or is skipped.
-pub dashes_form-context : (line : List ℕ) → starts_with nat_eq line (codes "---lookupversion:") ≡ false → starts_with nat_eq line (codes "---minorversion:") ≡ false → dashes_form line ≡ context_form line
+-- a line that is no version opens a part or is skipped
+pub dashes_form-context : (line : List ℕ) → starts_with nat_eq line (codes "---lookupversion:") ≡ false
+    → starts_with nat_eq line (codes "---minorversion:") ≡ false → dashes_form line ≡ context_form line
 dashes_form-context line lookup minor =
-    ap (λ b. cond b (version_form LookupVersion (drop 17 line)) (cond (starts_with nat_eq line (codes "---minorversion:")) (version_form MinorVersion (drop 16 line)) (context_form line))) lookup
+    ap (λ b. cond b (version_form LookupVersion (drop 17 line))
+    (cond (starts_with nat_eq line (codes "---minorversion:")) (version_form MinorVersion (drop 16 line)) (context_form line))) lookup
     ∙ ap (λ b. cond b (version_form MinorVersion (drop 16 line)) (context_form line)) minor
 
 -- ---- Tag lines
 
--- A tag line has a spelling.
+-- a tag line has a spelling
 abbrev pub HasSpelling : LineForm → Type 0
 HasSpelling (TagLine tag []) = ⊥
 HasSpelling _ = Unit {0}
 
--- One of two forms has it where both have.
+-- one of two forms has it where both have
 either : (b : Bool) (x y : LineForm) → HasSpelling x → HasSpelling y → HasSpelling (cond b x y)
 either true x y hx hy = hx
 either false x y hx hy = hy
 
--- A line of words has it.
+-- a line of words has it
 words_form-HasSpelling : (words : List (List ℕ)) → HasSpelling (words_form words)
 words_form-HasSpelling [] = tt
 words_form-HasSpelling (w ∷ ws) = by_tag (tag_of w) ws
@@ -51,24 +53,29 @@ words_form-HasSpelling (w ∷ ws) = by_tag (tag_of w) ws
     by_tag (Some tag) [] = tt
     by_tag (Some tag) (s ∷ ss) = tt
 
--- A line that begins with dashes has it.
+-- a line that begins with dashes has it
 dashes_form-HasSpelling : (line : List ℕ) → HasSpelling (dashes_form line)
 dashes_form-HasSpelling line =
-    either (starts_with nat_eq line (codes "---lookupversion:")) (version_form LookupVersion (drop 17 line)) _ (either (is_version (drop 17 line)) LookupVersion Malformed tt tt)
-    (either (starts_with nat_eq line (codes "---minorversion:")) (version_form MinorVersion (drop 16 line)) _ (either (is_version (drop 16 line)) MinorVersion Malformed tt tt)
-    (either (bytes_eq line (codes "---context:way")) (Opens Way) _ tt (either (bytes_eq line (codes "---context:node")) (Opens Node) Skipped tt tt)))
+    either (starts_with nat_eq line (codes "---lookupversion:")) (version_form LookupVersion (drop 17 line)) _
+    (either (is_version (drop 17 line)) LookupVersion Malformed tt tt)
+    (either (starts_with nat_eq line (codes "---minorversion:")) (version_form MinorVersion (drop 16 line)) _
+    (either (is_version (drop 16 line)) MinorVersion Malformed tt tt)
+    (either (bytes_eq line (codes "---context:way")) (Opens Way) _ tt
+    (either (bytes_eq line (codes "---context:node")) (Opens Node) Skipped tt tt)))
 
--- Each text has it.
+-- each text has it
 text_form-HasSpelling : (line : List ℕ) → HasSpelling (text_form line)
 text_form-HasSpelling [] = tt
 text_form-HasSpelling (c ∷ cs) =
-    either (c == 35) Skipped _ tt (either (starts_with nat_eq (c ∷ cs) (codes "---")) (dashes_form (c ∷ cs)) (words_form (words_of (c ∷ cs))) (dashes_form-HasSpelling (c ∷ cs)) (words_form-HasSpelling (words_of (c ∷ cs))))
+    either (c == 35) Skipped _ tt
+    (either (starts_with nat_eq (c ∷ cs) (codes "---")) (dashes_form (c ∷ cs)) (words_form (words_of (c ∷ cs)))
+    (dashes_form-HasSpelling (c ∷ cs)) (words_form-HasSpelling (words_of (c ∷ cs))))
 
--- Each line has it.
+-- each line has it
 line_form-HasSpelling : (line : List ℕ) → HasSpelling (line_form line)
 line_form-HasSpelling line = either (is_utf8 line) (text_form (trimmed line)) Malformed (text_form-HasSpelling (trimmed line)) tt
 
--- So the spellings of a line that was read aren't none.
+-- so the spellings of a line that was read aren't none
 pub some_spelling : (line tag : List ℕ) (spellings : List (List ℕ)) → TagLine tag spellings ≡ line_form line → spellings ≢ []
 some_spelling line tag spellings form none =
     subst HasSpelling (sym form ∙ ap (TagLine tag) none) (line_form-HasSpelling line)

@@ -6,31 +6,31 @@ use Rattle.lookup_table.specs.declared.part.Part.{Part}
 use Rattle.lookup_table.specs.declared.part.Part.TheVariants.{Way, Node}
 use Rattle.lookup_table.specs.Tag.{TagRow}
 
--- The first value's first spelling is `yes`.
+-- the first value's first spelling is `yes`
 abbrev pub begins_with_yes : List (List ℕ) → Bool
 begins_with_yes [] = false
 begins_with_yes (s ∷ ss) = bytes_eq s (codes "yes")
 
--- A part begins with the tag of this name, whose first value is `yes`.
+-- a part begins with the tag of this name, whose first value is `yes`
 abbrev pub begins_with : List TagRow → List ℕ → Bool
 begins_with [] name = false
 begins_with (t ∷ ts) name = bytes_eq t.name name && begins_with_yes t.firsts
 
--- The tag that a part begins with.
+-- the tag that a part begins with
 abbrev pub first_name : Part → List ℕ
 first_name Way = codes "reversedirection"
 first_name Node = codes "nodeaccessgranted"
 
--- The tags of a part begin with that tag.
+-- the tags of a part begin with that tag
 abbrev pub begins_as : Part → List TagRow → Bool
 begins_as part rows = begins_with rows (first_name part)
 
--- The tags of ways and of nodes.
+-- the tags of ways and of nodes
 pub record TagTable : Type 0 where
   pub way : List TagRow
   pub node : List TagRow
 
--- The tags of a part.
+-- the tags of a part
 abbrev pub rows_of : TagTable → Part → List TagRow
 rows_of t Way = t.way
 rows_of t Node = t.node

@@ -5,7 +5,7 @@ use Rattle.lookup_table.specs.Line.{LineForm}
 use Rattle.lookup_table.specs.Line as form
 use Rattle.lookup_table.specs.Words.{words_of}
 
--- The form of a line that was read: the spellings of a tag line are the words of its rest.
+-- the form of a line that was read: the spellings of a tag line are the words of its rest
 abbrev pub form_of : Line → LineForm
 form_of Skip = form.Skipped
 form_of LookupVersion = form.LookupVersion

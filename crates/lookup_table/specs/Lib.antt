@@ -1,3 +1,4 @@
+pub mod Draft
 pub mod First
 pub mod Form
 pub mod Index
@@ -8,5 +9,4 @@ pub mod Numbers
 pub mod Spelled
 pub mod Table
 pub mod Tag
-pub mod Version
 pub mod Words

@@ -7,15 +7,15 @@ use Rattle.lookup_table.specs.declared.part.Part.{Part}
 use Rattle.lookup_table.specs.declared.part.Part.TheVariants.{Way, Node}
 use Rattle.lookup_table.specs.Words.{words_of, trimmed}
 
--- The lines of a text: what stands between the bytes 10.
+-- the lines of a text: what stands between the bytes 10
 abbrev pub lines_of : List ℕ → List (List ℕ)
 lines_of text = slice_split (λ b. b == 10) text
 
--- A byte that doesn't end a line.
+-- a byte that doesn't end a line
 abbrev pub is_in_line : ℕ → Bool
 is_in_line c = not (c == 10)
 
--- What a line is.
+-- what a line is
 pub data LineForm : Type 0 where
   Skipped : LineForm
   LookupVersion : LineForm
@@ -24,62 +24,65 @@ pub data LineForm : Type 0 where
   TagLine : List ℕ → List (List ℕ) → LineForm
   Malformed : LineForm
 
--- A byte that a tag's name may hold: all but `;`, `=` and `|`.
+-- a byte that a tag's name may hold: all but `;`, `=` and `|`
 abbrev pub is_tag_byte : ℕ → Bool
 is_tag_byte c = not (c == 59) && (not (c == 61) && not (c == 124))
 
--- One or more digits.
+-- one or more digits
 abbrev pub is_digits : List ℕ → Bool
 is_digits text = nat_lt 0 (length text) && all_ascii_digits text
 
--- A `;` and one or more digits.
+-- a `;` and one or more digits
 abbrev pub is_count : List ℕ → Bool
 is_count [] = false
 is_count (c ∷ cs) = (c == 59) && is_digits cs
 
--- The tag of the first word of a tag line: a name, a `;` and a count.
+-- the tag of the first word of a tag line: a name, a `;` and a count
 abbrev pub tag_of : List ℕ → Option (List ℕ)
 tag_of word =
-    if nat_lt 0 (prefix_len is_tag_byte word) && is_count (drop (prefix_len is_tag_byte word) word) then Some (take (prefix_len is_tag_byte word) word) else None
+    if nat_lt 0 (prefix_len is_tag_byte word) && is_count (drop (prefix_len is_tag_byte word) word)
+    then Some (take (prefix_len is_tag_byte word) word) else None
 
--- A tag line with this tag, if there is one, and these spellings of a value.
+-- a tag line with this tag, if there is one, and these spellings of a value
 abbrev pub tag_line : Option (List ℕ) → List (List ℕ) → LineForm
 tag_line None spellings = Malformed
 tag_line (Some tag) [] = Malformed
 tag_line (Some tag) (s ∷ ss) = TagLine tag (s ∷ ss)
 
--- The line of these words: `tag;count`, a value and any number of aliases.
+-- the line of these words: `tag;count`, a value and any number of aliases
 abbrev pub words_form : List (List ℕ) → LineForm
 words_form [] = Malformed
 words_form (w ∷ ws) = tag_line (tag_of w) ws
 
--- A version's number: 1 to 9 digits.
+-- a version's number: 1 to 9 digits
 abbrev pub is_version : List ℕ → Bool
 is_version number = nat_le (length number) 9 && is_digits number
 
--- A version line, if its number is one.
+-- a version line, if its number is one
 abbrev pub version_form : LineForm → List ℕ → LineForm
 version_form form number = if is_version number then form else Malformed
 
--- A line that begins with `---` and is no version: it opens a part or is skipped.
+-- a line that begins with `---` and is no version: it opens a part or is skipped
 abbrev pub context_form : List ℕ → LineForm
 context_form line =
     if bytes_eq line (codes "---context:way") then Opens Way
     else (if bytes_eq line (codes "---context:node") then Opens Node else Skipped)
 
--- A line that begins with `---`.
+-- a line that begins with `---`
 abbrev pub dashes_form : List ℕ → LineForm
 dashes_form line =
     if starts_with nat_eq line (codes "---lookupversion:") then version_form LookupVersion (drop 17 line)
-    else (if starts_with nat_eq line (codes "---minorversion:") then version_form MinorVersion (drop 16 line) else context_form line)
+    else (if starts_with nat_eq line (codes "---minorversion:") then version_form MinorVersion (drop 16 line)
+    else context_form line)
 
--- A line without the white space at its end.
+-- a line without the white space at its end
 abbrev pub text_form : List ℕ → LineForm
 text_form [] = Skipped
 text_form (c ∷ cs) =
     if c == 35 then Skipped
-    else (if starts_with nat_eq (c ∷ cs) (codes "---") then dashes_form (c ∷ cs) else words_form (words_of (c ∷ cs)))
+    else (if starts_with nat_eq (c ∷ cs) (codes "---") then dashes_form (c ∷ cs)
+    else words_form (words_of (c ∷ cs)))
 
--- A line: where it isn't UTF-8, it isn't of these forms.
+-- a line: where it isn't UTF-8, it isn't of these forms
 abbrev pub line_form : List ℕ → LineForm
 line_form line = if is_utf8 line then text_form (trimmed line) else Malformed

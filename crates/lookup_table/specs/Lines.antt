@@ -6,7 +6,7 @@ use Rattle.lookup_table.specs.declared.error.LookupError.{LookupError}
 use Rattle.lookup_table.specs.declared.error.LookupError.TheVariants.{Line, TooMany, Version, FirstTag, NoMemory}
 use Rattle.lookup_table.specs.declared.part.Part.TheVariants.{Way, Node}
 
--- The line, without an end of line.
+-- the line, without an end of line
 abbrev pub lookup_line : LookupError → List ℕ
 lookup_line (Line line) = codes "lookup line " ++ decimal line
 lookup_line (TooMany line) = codes "too many at line " ++ decimal line

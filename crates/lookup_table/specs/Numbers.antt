@@ -5,52 +5,54 @@ use Rattle.std.specs.Str.{bytes_eq}
 use lib.Chars.{codes}
 use Rattle.lookup_table.specs.Tag.{TagRow, number_in}
 
--- The number of a tag that is set to a value: that of the listed value, or 1.
+-- the number of a tag that is set to a value: that of the listed value, or 1
 abbrev pub value_number_of : TagRow → List ℕ → ℕ
 value_number_of row value = unwrap_or (number_in row.numbers value) 1
 
--- The number of a tag among a way's or a node's tags: the first pair of its name counts, and it is 0 where none has the name.
+-- the number of a tag among a way's or a node's tags: the first pair of its name counts, and it is 0 where
+-- none has the name
 abbrev pub tag_number_of : TagRow → List (List ℕ × List ℕ) → ℕ
 tag_number_of row [] = 0
 tag_number_of row (t ∷ ts) = if bytes_eq t.0 row.name then value_number_of row t.1 else tag_number_of row ts
 
--- One number for each tag of a part.
+-- one number for each tag of a part
 abbrev pub tag_numbers : List TagRow → List (List ℕ × List ℕ) → List ℕ
 tag_numbers rows tags = map (λ row. tag_number_of row tags) rows
 
 -- ---- The text of numbers
 
--- The value that a number other than 0 is written as: its first spelling, or `unknown` for number 1.
+-- the value that a number other than 0 is written as: its first spelling, or `unknown` for number 1
 abbrev pub value_text : TagRow → ℕ → List ℕ
 value_text row number = if number == 1 then codes "unknown" else slice_index_or row.firsts (number - 2) []
 
--- The tags with a number other than 0 and their values, in the order of the part.
+-- the tags with a number other than 0 and their values, in the order of the part
 abbrev pub printed_tags : List TagRow → List ℕ → List (List ℕ × List ℕ)
 printed_tags [] numbers = []
 printed_tags (r ∷ rs) [] = []
-printed_tags (r ∷ rs) (n ∷ ns) = if n == 0 then printed_tags rs ns else (r.name, value_text r n) ∷ printed_tags rs ns
+printed_tags (r ∷ rs) (n ∷ ns) =
+    if n == 0 then printed_tags rs ns else (r.name, value_text r n) ∷ printed_tags rs ns
 
--- A tag with its value, as it is written.
+-- a tag with its value, as it is written
 abbrev pub item_text : List ℕ × List ℕ → List ℕ
 item_text tag = tag.0 ++ 61 ∷ tag.1
 
--- The text of numbers: the items, parted by one space.
+-- the text of numbers: the items, parted by one space
 abbrev pub tag_text : List TagRow → List ℕ → List ℕ
 tag_text rows numbers = join_with_byte 32 (map item_text (printed_tags rows numbers))
 
--- The numbers are of this part: one for each tag, and none beyond its listed values.
+-- the numbers are of this part: one for each tag, and none beyond its listed values
 abbrev pub AreNumbersOf : List TagRow → List ℕ → Type 0
 AreNumbersOf [] [] = Unit {0}
 AreNumbersOf [] (n ∷ ns) = ⊥
 AreNumbersOf (r ∷ rs) [] = ⊥
 AreNumbersOf (r ∷ rs) (n ∷ ns) = (n ≤ length r.firsts + 1) × AreNumbersOf rs ns
 
--- The value that a number is written as is spelled so first under this number: `unknown` isn't listed.
+-- the value that a number is written as is spelled so first under this number: `unknown` isn't listed
 pub record IsFirstSpelling (row : TagRow) (number : ℕ) : Type 0 where
   pub unknown : number ≡ 1 → number_in row.numbers (value_text row number) ≡ None
   pub listed : 2 ≤ number → number_in row.numbers (value_text row number) ≡ Some number
 
--- Each number is written by the first spelling of its value.
+-- each number is written by the first spelling of its value
 abbrev pub AreFirstSpellings : List TagRow → List ℕ → Type 0
 AreFirstSpellings [] numbers = Unit {0}
 AreFirstSpellings (r ∷ rs) [] = Unit {0}

@@ -1,25 +1,22 @@
 -- The words of a line: what stands between white space.
-use Rattle.std.specs.Prelude.{ℕ, Bool, true, false, not, ◌&&◌, ◌||◌, List, [], ◌∷◌, filter, nat_le, ◌==◌, if◌then◌else◌}
+use Rattle.std.specs.Prelude.{ℕ, Bool, true, false, not, ◌&&◌, List, [], ◌∷◌, filter, if◌then◌else◌}
 use Rattle.std.specs.List.{slice_split}
+use Rattle.item_list.specs.Bytes.{is_space}
 
--- White space: the bytes 9, 10, 11, 12, 13 and 32.
-abbrev pub is_space : ℕ → Bool
-is_space c = (nat_le 9 c && nat_le c 13) || (c == 32)
-
--- A byte that isn't white space.
+-- a byte that isn't white space
 abbrev pub is_ink : ℕ → Bool
 is_ink c = not (is_space c)
 
--- A list that isn't empty.
+-- a list that isn't empty
 abbrev pub is_some_text : List ℕ → Bool
 is_some_text [] = false
 is_some_text (c ∷ cs) = true
 
--- The words of a text, in order.
+-- the words of a text, in order
 abbrev pub words_of : List ℕ → List (List ℕ)
 words_of text = filter is_some_text (slice_split is_space text)
 
--- A text without the white space at its end.
+-- a text without the white space at its end
 abbrev pub trimmed : List ℕ → List ℕ
 trimmed [] = []
 trimmed (c ∷ cs) = if is_space c && not (is_some_text (trimmed cs)) then [] else c ∷ trimmed cs

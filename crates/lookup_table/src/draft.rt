@@ -1,10 +1,11 @@
 //! A table while its lines are read.
-ghost use Rattle.std.specs.Prelude.{◌≡◌, ◌≢◌, [], Ok, Err, true, false, ◌⊎◌, IsTrue, IfOk, IfErr, OnOk};
+ghost use Rattle.std.specs.Prelude.{◌≡◌, ◌≢◌, [], Ok, Err, true, false, ◌⊎◌, IfErr, OnOk, MatchResult};
+ghost use Rattle.item_list.specs.Answer.{Answers};
 ghost use Rattle.lookup_table.specs.declared.error.LookupError.TheVariants.{NoMemory, TooMany};
 ghost use Rattle.lookup_table.specs.Line.{line_form};
 ghost use Rattle.lookup_table.specs.Tag.{add_line, has_room};
 ghost use Rattle.lookup_table.specs.Words.{words_of};
-ghost use Rattle.lookup_table.specs.Version.{one_more};
+ghost use Rattle.lookup_table.specs.Draft.{one_more};
 
 use crate::error::LookupError;
 use crate::line::Line;
@@ -26,7 +27,7 @@ pub(crate) struct Draft {
 }
 
 impl Draft {
-    ghost use Rattle.lookup_table.specs.Table.{empty_draft, take_line, open_part, add_tag_line};
+    ghost use Rattle.lookup_table.specs.Draft.{empty_draft, take_line, open_part, add_tag_line};
 
     /// Nothing was read yet.
     pub(crate) fn new(alloc: Global) -> Draft
@@ -51,9 +52,8 @@ impl Draft {
         number: u32,
         text: &[u8],
     ) -> Result<(), LookupError>
-        ensures value { OnOk result (take_line number (line_form text.now) self.old ≡ Ok self.new) }
-        ensures refused { let taken = take_line number (line_form text.now) self.old in
-            IfErr result (λ e. (e ≡ NoMemory) ⊎ (taken ≡ Err e)) }
+        ensures exact { let taken = take_line number (line_form text.now) self.old in
+            Answers (λ _. self.new) taken NoMemory result }
     {
         match Line::read(text) {
             Line::Skip => Ok(()),
@@ -75,8 +75,8 @@ impl Draft {
 
     /// Opens a part.
     fn open(&mut self, number: u32, part: Part) -> Result<(), LookupError>
-        ensures value { OnOk result (open_part number part self.old ≡ Ok self.new) }
-        ensures refused { IfErr result (λ e. open_part number part self.old ≡ Err e) }
+        ensures exact { let opened = open_part number part self.old in
+            MatchResult result (λ _. opened ≡ Ok self.new) (λ e. opened ≡ Err e) }
     {
         match part {
             Part::Way => {
@@ -107,12 +107,9 @@ impl Draft {
         spellings: &[u8],
     ) -> Result<(), LookupError>
         requires some { words_of spellings.now ≢ [] }
-        ensures value { let words = words_of spellings.now in
-            let line = add_tag_line number name.now words self.old.part self.old in
-            OnOk result (line ≡ Ok self.new) }
-        ensures refused { let words = words_of spellings.now in
-            let line = add_tag_line number name.now words self.old.part self.old in
-            IfErr result (λ e. (e ≡ NoMemory) ⊎ (line ≡ Err e)) }
+        ensures exact { let words = words_of spellings.now in
+            let added = add_tag_line number name.now words self.old.part self.old in
+            Answers (λ _. self.new) added NoMemory result }
     {
         match self.part {
             None => Err(LookupError::Line { line: number }),

@@ -11,8 +11,8 @@ use crate::{Name, Tags};
 use std::alloc::{AllocError, Global};
 
 impl Table {
-    /// One number for each tag of a part: 0 where the tag isn't set, 1 where its value isn't listed.
-    /// Where a name comes twice the first pair counts.
+    /// One number for each tag of a part: 0 where the tag isn't set, 1 where its value isn't
+    /// listed. Where a name comes twice the first pair counts.
     pub fn encode(&self, alloc: Global, part: Part, tags: &Tags) -> Result<Vec<u16>, AllocError>
         ensures value { IfOk result (λ v. v.items ≡ tag_numbers (rows_of self.now part) tags.now) }
         ensures fits { IfOk result (λ v. AreNumbersOf (rows_of self.now part) v.items) }

@@ -2,7 +2,7 @@
 ghost use Rattle.std.specs.Prelude.{◌≡◌, Ok, Err, IfNone, IsTrue, MatchOption};
 ghost use Rattle.lookup_table.specs.declared.part.Part.TheVariants.{Node, Way};
 ghost use Rattle.lookup_table.specs.First.{begins_as, begins_with};
-ghost use Rattle.lookup_table.specs.Table.{finish, has_versions};
+ghost use Rattle.lookup_table.specs.Draft.{finish, saw_versions};
 
 use crate::draft::Draft;
 use crate::error::LookupError;
@@ -31,7 +31,7 @@ fn refusal(draft: &Draft) -> Option<LookupError>
     ensures way { IfNone result (IsTrue (begins_as Way draft.now.way)) }
     ensures node { IfNone result (IsTrue (begins_as Node draft.now.node)) }
 {
-    if !has_versions(draft) {
+    if !saw_versions(draft) {
         Some(LookupError::Version)
     } else if !begins_with(&draft.way, b"reversedirection") {
         Some(LookupError::FirstTag { part: Part::Way })
@@ -43,8 +43,8 @@ fn refusal(draft: &Draft) -> Option<LookupError>
 }
 
 /// Whether there was exactly one line of each version kind, both before the first part.
-fn has_versions(draft: &Draft) -> bool
-    ensures value { result ≡ has_versions draft.now }
+fn saw_versions(draft: &Draft) -> bool
+    ensures value { result ≡ saw_versions draft.now }
 {
     draft.lookups == 1 && draft.minors == 1 && !draft.late
 }

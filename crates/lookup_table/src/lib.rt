@@ -15,15 +15,6 @@ mod tag;
 mod words;
 
 pub use error::LookupError;
-use item_list::Items;
+pub use item_list::{Name, Tags};
 pub use part::Part;
 pub use table::Table;
-
-/// A name as a list of bytes.
-pub type Name = Items<u8>;
-
-/// The tags of a way or a node: names with their values.
-pub type Tags = Items<(Name, Name)>;
-
-#[cfg(test)]
-mod tests;

@@ -1,8 +1,7 @@
 //! The lines of a tag table.
-ghost use Rattle.std.specs.Prelude.{◌≡◌, nat_eq, true, false, ◌≢◌, ◌<◌, ◌≤◌, [], ◌∷◌, length, drop, IsTrue, MatchOption, None, Some};
+ghost use Rattle.std.specs.Prelude.{◌≡◌, nat_eq, true, false, ◌≢◌, ◌<◌, ◌≤◌, [], ◌∷◌, length, drop, MatchOption, None, Some};
 ghost use Rattle.std.specs.List.{prefix_len, starts_with};
-ghost use Rattle.std.specs.Str.{is_utf8};
-ghost use Rattle.lookup_table.specs.Line.{LineForm, is_tag_byte, is_count, is_digits, is_version, tag_of, words_form, context_form, dashes_form, text_form, line_form};
+ghost use Rattle.lookup_table.specs.Line.{is_tag_byte, is_count, is_digits, is_version, tag_of, words_form, context_form, dashes_form, text_form, line_form};
 ghost use Rattle.lookup_table.specs.Words.{words_of};
 
 use crate::part::Part;
@@ -138,7 +137,8 @@ fn is_digits(text: &[u8]) -> bool
 
 /// The tag that a line's first word names.
 fn tag_of(word: &[u8]) -> Option<&[u8]>
-    ensures value { MatchOption result (tag_of word.now ≡ None) (λ t. tag_of word.now ≡ Some t.now) }
+    ensures value { let tag = tag_of word.now in
+        MatchOption result (tag ≡ None) (λ t. tag ≡ Some t.now) }
 {
     let (name, count) = word.split_at(name_len(word));
     if !name.is_empty() && is_count(count) {

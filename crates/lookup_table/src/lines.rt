@@ -1,9 +1,10 @@
 //! The lines of a table, one after the other.
-ghost use Rattle.std.specs.Prelude.{◌≡◌, ◌⊎◌, ◌<◌, ◌≤◌, ◌^◌, length, Ok, Err, IfOk, IfErr};
+ghost use Rattle.std.specs.Prelude.{◌≡◌, ◌<◌, ◌≤◌, ◌^◌, ◌∷◌, length};
 ghost use Rattle.std.specs.List.{prefix_len};
+ghost use Rattle.item_list.specs.Answer.{Answers};
 ghost use Rattle.lookup_table.specs.declared.error.LookupError.TheVariants.{NoMemory};
+ghost use Rattle.lookup_table.specs.Draft.{empty_draft, lines_after, take_lines};
 ghost use Rattle.lookup_table.specs.Line.{is_in_line, lines_of};
-ghost use Rattle.lookup_table.specs.Table.{empty_draft, take_lines};
 
 use crate::draft::Draft;
 use crate::error::LookupError;
@@ -12,15 +13,14 @@ use std::alloc::Global;
 /// What all lines of a text say.
 pub(crate) fn draft_of(alloc: Global, text: &[u8]) -> Result<Draft, LookupError>
     requires fits { length text.now < 2 ^ 32 }
-    ensures value { IfOk result (λ d. take_lines 1 (lines_of text.now) empty_draft ≡ Ok d) }
-    ensures refused { IfErr result
-        (λ e. (e ≡ NoMemory) ⊎ (take_lines 1 (lines_of text.now) empty_draft ≡ Err e)) }
+    ensures exact { let lines = take_lines 1 (lines_of text.now) empty_draft in
+        Answers (λ d. d) lines NoMemory result }
 {
     let mut draft = Draft::new(alloc);
     let mut rest = text;
     let mut number = 1u32;
     'lines: loop {
-        let (line, after) = rest.split_at(line_len(rest));
+        let (line, after) = first_line(rest);
         draft.take(alloc, number, line)?;
         if after.len() <= 1 {
             return Ok(draft);
@@ -29,6 +29,14 @@ pub(crate) fn draft_of(alloc: Global, text: &[u8]) -> Result<Draft, LookupError>
         rest = next;
         number += 1;
     }
+}
+
+/// The line at the front, and what follows it from its end on.
+fn first_line(text: &[u8]) -> (&[u8], &[u8])
+    ensures value { lines_of text.now ≡ result.0.now ∷ lines_after result.1.now }
+    ensures fits { length result.1.now ≤ length text.now }
+{
+    text.split_at(line_len(text))
 }
 
 /// How long the line at the front is.

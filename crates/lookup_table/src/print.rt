@@ -8,11 +8,12 @@ use crate::part::Part;
 use crate::rows::Rows;
 use crate::table::Table;
 use crate::tag::Tag;
+use item_list::append_bytes;
 use std::alloc::{AllocError, Global};
 
 impl Table {
-    /// The tags with a number other than 0, each with the first spelling of its value, or `unknown` for
-    /// number 1: `tag=value`, parted by one space. The numbers are those of the part's tags.
+    /// The tags with a number other than 0, each with the first spelling of its value, or `unknown`
+    /// for number 1: `tag=value`, parted by one space. The numbers are those of the part's tags.
     pub fn print(&self, alloc: Global, part: Part, numbers: &[u16]) -> Result<Vec<u8>, AllocError>
         requires fits { AreNumbersOf (rows_of self.now part) numbers.now }
         ensures value { IfOk result (λ v. v.items ≡ tag_text (rows_of self.now part) numbers.now) }
@@ -47,10 +48,9 @@ fn append_item(out: &mut Vec<u8>, is_first: bool, tag: &Tag, number: u16) -> Res
     if !is_first {
         out.push(b' ')?;
     }
-    out.extend_from_slice(tag.name())?;
+    append_bytes(out, tag.name())?;
     out.push(b'=')?;
-    out.extend_from_slice(value_of(tag, number))?;
-    Ok(())
+    append_bytes(out, value_of(tag, number))
 }
 
 /// What a number is written as.

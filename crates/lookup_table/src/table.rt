@@ -1,5 +1,6 @@
 //! The tag table and its look-ups.
-ghost use Rattle.std.specs.Prelude.{◌≡◌, ◌⊎◌, ◌<◌, ◌^◌, [], Ok, Err, IfOk, IfErr, IfSome, IsTrue, length, slice_index_or};
+ghost use Rattle.std.specs.Prelude.{◌≡◌, ◌<◌, ◌^◌, [], IfSome, IsTrue, length, slice_index_or};
+ghost use Rattle.item_list.specs.Answer.{Answers};
 ghost use Rattle.lookup_table.specs.declared.error.LookupError.TheVariants.{NoMemory};
 ghost use Rattle.lookup_table.specs.First.{begins_as, rows_of};
 ghost use Rattle.lookup_table.specs.Table.{table_of};
@@ -35,12 +36,11 @@ impl Model for Table {
 }
 
 impl Table {
-    /// The table of a text of fewer than 2^32 bytes, or the first refusal: that of the first line that
-    /// is refused, then that of the whole.
+    /// The table of a text of fewer than 2^32 bytes, or the first refusal: that of the first line
+    /// at fault, then that of the whole.
     pub fn read(alloc: Global, text: &[u8]) -> Result<Table, LookupError>
         requires fits { length text.now < 2 ^ 32 }
-        ensures exact { IfOk result (λ t. table_of text.now ≡ Ok t) }
-        ensures refused { IfErr result (λ e. (e ≡ NoMemory) ⊎ (table_of text.now ≡ Err e)) }
+        ensures exact { Answers (λ t. t) (table_of text.now) NoMemory result }
     {
         let draft = draft_of(alloc, text)?;
         finished(draft)
@@ -69,7 +69,8 @@ impl Table {
         }
     }
 
-    /// The number of a value of the tag at a place, which is in range; nothing where it isn't listed.
+    /// The number of a value of the tag at a place, which is in range; nothing where it isn't
+    /// listed.
     pub fn value_number(&self, part: Part, tag: u32, value: &[u8]) -> Option<u16>
         requires fits { tag < length (rows_of self.now part) }
         ensures value { let row = slice_index_or (rows_of self.now part) tag (empty_tag []) in

@@ -1,5 +1,5 @@
 //! A tag of a part with its listed values.
-ghost use Rattle.std.specs.Prelude.{◌≡◌, ◌≢◌, ◌<◌, ◌≤◌, ◌+◌, length, [], ◌∷◌, ◌++◌, map, OnOk, OnErr, IfOk, slice_get, Some, slice_index_or};
+ghost use Rattle.std.specs.Prelude.{◌≡◌, ◌≢◌, ◌<◌, ◌≤◌, ◌+◌, length, [], ◌∷◌, ◌++◌, map, OnOk, OnErr, IfOk, Some, slice_index_or};
 ghost use Rattle.lookup_table.specs.Spelled.{spelled};
 ghost use Rattle.lookup_table.specs.Tag.{KeepWithin, IsSound, TagRow, first_of, number_in, add_spelling, add_spellings, add_value, empty_tag};
 ghost use Rattle.lookup_table.specs.Words.{words_of};
@@ -7,7 +7,7 @@ ghost use Rattle.lookup_table.specs.Words.{words_of};
 use crate::Name;
 use crate::words::next_word;
 use indexmap::IndexMap;
-use item_list::Items;
+use item_list::{Items, bytes_of};
 use std::alloc::{AllocError, Global};
 use std::marker::Model;
 
@@ -27,7 +27,11 @@ impl Model for Tag {
 
     ghost Value = { TagRow };
 
-    ghost view = { λ t. record { name = t.name; firsts = t.firsts.items; numbers = spelled t.numbers } };
+    ghost view = { λ t. record {
+      name = t.name;
+      firsts = t.firsts.items;
+      numbers = spelled t.numbers;
+    } };
 
     ghost invariant = { λ t. AreWithin (length t.firsts.items) (spelled t.numbers) };
 }
@@ -79,12 +83,12 @@ impl Tag {
 pub(crate) fn copied(alloc: Global, bytes: &[u8]) -> Result<Name, AllocError>
     ensures value { IfOk result (λ n. n ≡ bytes.now) }
 {
-    Ok(Items::from_vec(Vec::from_slice(alloc, bytes)?))
+    Ok(Items::from_vec(bytes_of(alloc, bytes)?))
 }
 
 impl Tag {
-    /// Adds a value by its spellings, which are the words of a text. Where memory runs out, the name
-    /// stays.
+    /// Adds a value by its spellings, which are the words of a text. Where memory runs out, the
+    /// name stays.
     pub(crate) fn add_value(&mut self, alloc: Global, spellings: &[u8]) -> Result<(), AllocError>
         requires room { length self.old.firsts < 4096 }
         requires some { words_of spellings.now ≢ [] }
@@ -122,8 +126,8 @@ fn add_spellings(
     spellings: &[u8],
     number: u16,
 ) -> Result<(), AllocError>
-    ensures value { OnOk result
-        (spelled numbers.new ≡ add_spellings (spelled numbers.old) number (words_of spellings.now)) }
+    ensures value { let new = add_spellings (spelled numbers.old) number (words_of spellings.now) in
+        OnOk result (spelled numbers.new ≡ new) }
     ensures sound { KeepWithin number (spelled numbers.old) (spelled numbers.new) }
 {
     let mut rest = spellings;

@@ -1,14 +1,10 @@
 //! The words of a line.
 ghost use Rattle.std.specs.Prelude.{◌≡◌, ◌+◌, ◌<◌, ◌≤◌, [], ◌∷◌, length, drop, MatchOption};
 ghost use Rattle.std.specs.List.{prefix_len};
-ghost use Rattle.lookup_table.specs.Words.{is_space, is_ink, words_of, trimmed};
+ghost use Rattle.item_list.specs.Bytes.{is_space};
+ghost use Rattle.lookup_table.specs.Words.{is_ink, words_of, trimmed};
 
-/// Whether a byte is white space: 9 to 13, or 32.
-fn is_space(byte: u8) -> bool
-    ensures value { result ≡ is_space byte }
-{
-    (9 <= byte && byte <= 13) || byte == 32
-}
+use item_list::is_space;
 
 /// The first word of a text, and what follows it.
 pub(crate) fn next_word(text: &[u8]) -> Option<(&[u8], &[u8])>

@@ -10,27 +10,31 @@ use Rattle.profile_text.specs.Read.{read, and_then, allowed, fault_of, expressio
 use Rattle.profile_text.specs.Token.{Token, Place}
 use Rattle.profile_text.specs.Tree.{Tree, Negation, Operation, Choice}
 
--- The place before these tokens.
+-- the place before these tokens
 abbrev pub before : ℕ → List Token → Place
 before last ts = record { last = last; tokens = ts }
 
--- A token that may stand here is taken.
-pub taken_first : (expected : Expected) (last : ℕ) (t : Token) (ts : List Token) (k : Kind) → kind_of t.text ≡ k → fault_of expected k ≡ None → taken expected (before last (t ∷ ts)) ≡ read t (before t.line ts)
+-- a token that may stand here is taken
+pub taken_first :
+    (expected : Expected) (last : ℕ) (t : Token) (ts : List Token) (k : Kind) → kind_of t.text ≡ k → fault_of expected k ≡ None →
+    taken expected (before last (t ∷ ts)) ≡ read t (before t.line ts)
 unfolding taken
 taken_first expected last t ts k is_k fits = ap (λ f. allowed f t (before t.line ts)) (ap (fault_of expected) is_k ∙ fits)
 
--- A token that begins an expression is followed by its form.
-pub expr_form : (depth last : ℕ) (t : Token) (ts : List Token) (k : Kind) → kind_of t.text ≡ k → expression_fault k ≡ None → expr_of (suc depth) (before last (t ∷ ts)) ≡ form_of (expr_of depth) t k (before t.line ts)
+-- a token that begins an expression is followed by its form
+pub expr_form :
+    (depth last : ℕ) (t : Token) (ts : List Token) (k : Kind) → kind_of t.text ≡ k → expression_fault k ≡ None →
+    expr_of (suc depth) (before last (t ∷ ts)) ≡ form_of (expr_of depth) t k (before t.line ts)
 unfolding expr_of
 expr_form depth last t ts k is_k fits =
     ap (λ r. and_then r (λ t p. form_of (expr_of depth) t (kind_of t.text) p)) (taken_first Expression last t ts k is_k fits)
     ∙ ap (λ k. form_of (expr_of depth) t k (before t.line ts)) is_k
 
--- The tokens are read as the tree, up to the rest.
+-- the tokens are read as the tree, up to the rest
 abbrev pub IsRead : ℕ → List Token → Tree → List Token → Type 0
 IsRead depth ts e rest = (last : ℕ) → (l : ℕ) × (expr_of depth (before last ts) ≡ read e (before l rest))
 
--- What is spelled so is read.
+-- what is spelled so is read
 pub spelled_is_read : (depth : ℕ) (ts : List Token) (e : Tree) (rest : List Token) → SpellsExpr depth ts e rest → IsRead depth ts e rest
 spelled_is_read _ _ _ _ (a_number depth t n rest k) last = (t.line, expr_form depth last t rest (Number n) k refl)
 spelled_is_read _ _ _ _ (a_true depth t rest k) last = (t.line, expr_form depth last t rest True k refl)
@@ -64,10 +68,18 @@ spelled_is_read _ _ _ _ (an_if depth t u v ts us vs a b c rest k first then_is s
     let z = spelled_is_read depth vs c rest third v.line in (
       z.0,
       expr_form depth last t ts If k refl
-          ∙ ap (λ r. and_then r (λ a p. and_then (taken ThenWord p) (λ t p2. and_then (expr_of depth p2) (λ b q. and_then (taken ElseWord q) (λ u q2. and_then (expr_of depth q2) (λ c r. read (Choice a b c) r)))))) x.1
-          ∙ ap (λ r. and_then r (λ t p2. and_then (expr_of depth p2) (λ b q. and_then (taken ElseWord q) (λ u q2. and_then (expr_of depth q2) (λ c r. read (Choice a b c) r))))) (taken_first ThenWord x.0 u us Then then_is refl)
-          ∙ ap (λ r. and_then r (λ b q. and_then (taken ElseWord q) (λ u q2. and_then (expr_of depth q2) (λ c r. read (Choice a b c) r)))) y.1
-          ∙ ap (λ r. and_then r (λ u q2. and_then (expr_of depth q2) (λ c r. read (Choice a b c) r))) (taken_first ElseWord y.0 v vs Else else_is refl)
+          ∙ ap (λ r. and_then r
+          (λ a p. and_then (taken ThenWord p)
+          (λ t p2. and_then (expr_of depth p2)
+          (λ b q. and_then (taken ElseWord q) (λ u q2. and_then (expr_of depth q2) (λ c r. read (Choice a b c) r)))))) x.1
+          ∙ ap (λ r. and_then r
+          (λ t p2. and_then (expr_of depth p2)
+          (λ b q. and_then (taken ElseWord q) (λ u q2. and_then (expr_of depth q2) (λ c r. read (Choice a b c) r)))))
+          (taken_first ThenWord x.0 u us Then then_is refl)
+          ∙ ap (λ r. and_then r (λ b q. and_then (taken ElseWord q) (λ u q2. and_then (expr_of depth q2) (λ c r. read (Choice a b c) r))))
+          y.1
+          ∙ ap (λ r. and_then r (λ u q2. and_then (expr_of depth q2) (λ c r. read (Choice a b c) r)))
+          (taken_first ElseWord y.0 v vs Else else_is refl)
           ∙ ap (λ r. and_then r (λ c r. read (Choice a b c) r)) z.1,
     )
 spelled_is_read _ _ _ _ (a_bracket depth t u ts a rest k inner close_is) last =

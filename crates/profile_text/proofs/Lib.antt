@@ -1,12 +1,18 @@
-pub mod AssignedLemmas
+mod AssignedLemmas
+mod AssignmentFaultLemmas
 pub mod CallerLemmas
-pub mod FoundLemmas
-pub mod GrammarLemmas
-pub mod LookLemmas
-pub mod NameLemmas
-pub mod PartLemmas
-pub mod ReadLemmas
-pub mod SectionLemmas
-pub mod SectionValueLemmas
-pub mod TokenLemmas
-pub mod VarLemmas
+mod ExprFaultLemmas
+mod FoundLemmas
+mod FrontLemmas
+mod GrammarLemmas
+mod LookLemmas
+mod NameLemmas
+mod OperandLemmas
+mod PartLemmas
+mod ReadLemmas
+mod SectionFaultLemmas
+mod SectionLemmas
+mod SectionValueLemmas
+mod StopLemmas
+mod TokenLemmas
+mod VarLemmas

@@ -1,30 +1,27 @@
 -- The values of a look, joined to how the code finds them.
-use Rattle.std.proofs.Common.{◌≡◌, ℕ, suc, ◌+◌, Bool, true, false, not, cond, List, [], ◌∷◌, length, take, drop, nat_eq, refl, sym, ◌∙◌, ap, arith}
+use Rattle.std.proofs.Common.{◌≡◌, ℕ, ◌+◌, Bool, true, false, not, cond, List, [], ◌∷◌, length, take, drop, nat_eq, refl, sym, ◌∙◌, ap, arith}
 use Rattle.std.proofs.lemmas.Bool.Decides.{nat_tests}
 use Rattle.std.specs.List.{prefix_len, onto_first}
+use Rattle.item_list.proofs.ListLemmas.{front_more}
 use Rattle.profile_text.specs.Look.{is_value_byte, pieces}
 
--- The pieces after the first, which ends before a bar or with the text.
+-- the pieces after the first, which ends before a bar or with the text
 abbrev pub later : List ℕ → List (List ℕ)
 later [] = []
 later (c ∷ cs) = pieces cs
 
--- One more in a front.
-front_more : (n : ℕ) (c : ℕ) (cs : List ℕ) → (take (1 + n) (c ∷ cs) ≡ c ∷ take n cs) × (drop (1 + n) (c ∷ cs) ≡ drop n cs)
-front_more n c cs =
-    let e : 1 + n ≡ suc n = omega arith in
-    (ap (λ m. take m (c ∷ cs)) e, ap (λ m. drop m (c ∷ cs)) e)
-
--- The pieces of a text whose first has so many bytes.
+-- the pieces of a text whose first has so many bytes
 abbrev pub begins_with : ℕ → List ℕ → List (List ℕ)
 begins_with n text = take n text ∷ later (drop n text)
 
--- The first piece, and the pieces after it.
+-- the first piece, and the pieces after it
 pub piece_first : (text : List ℕ) → pieces text ≡ begins_with (prefix_len is_value_byte text) text
 piece_first [] = refl
 piece_first (c ∷ cs) = by_test (nat_eq c 124) refl (piece_first cs)
   where
-    by_test : (v : Bool) → nat_eq c 124 ≡ v → pieces cs ≡ begins_with (prefix_len is_value_byte cs) cs → pieces (c ∷ cs) ≡ begins_with (prefix_len is_value_byte (c ∷ cs)) (c ∷ cs)
+    by_test :
+        (v : Bool) → nat_eq c 124 ≡ v → pieces cs ≡ begins_with (prefix_len is_value_byte cs) cs →
+        pieces (c ∷ cs) ≡ begins_with (prefix_len is_value_byte (c ∷ cs)) (c ∷ cs)
     by_test true h rest =
         ap (λ v. cond v ([] ∷ pieces cs) (onto_first c (pieces cs))) h
         ∙ ap (λ v. begins_with (cond (not v) (1 + prefix_len is_value_byte cs) 0) (c ∷ cs)) (sym h)
@@ -36,12 +33,14 @@ piece_first (c ∷ cs) = by_test (nat_eq c 124) refl (piece_first cs)
         ∙ ap (λ w. take (1 + n) (c ∷ cs) ∷ later w) (sym (front_more n c cs).1)
         ∙ ap (λ v. begins_with (cond (not v) (1 + prefix_len is_value_byte cs) 0) (c ∷ cs)) (sym h)
 
--- A list with an item isn't empty.
+-- a list with an item isn't empty
 not_empty : (c : ℕ) (cs : List ℕ) → true ≡ nat_eq (length (c ∷ cs)) 0 → ⊥
 not_empty c cs h = grind (arith, nat_tests, h)
 
--- A piece that ends the text is the last.
-pub last_piece : (text piece after : List ℕ) (n : ℕ) → n ≡ prefix_len is_value_byte text → piece ≡ take n text → after ≡ drop n text → true ≡ nat_eq (length after) 0 → pieces text ≡ piece ∷ []
+-- a piece that ends the text is the last
+pub last_piece :
+    (text piece after : List ℕ) (n : ℕ) → n ≡ prefix_len is_value_byte text → piece ≡ take n text → after ≡ drop n text →
+    true ≡ nat_eq (length after) 0 → pieces text ≡ piece ∷ []
 last_piece text piece [] n n_is piece_is after_is none =
     piece_first text
     ∙ ap (λ m. begins_with m text) (sym n_is)
@@ -49,8 +48,10 @@ last_piece text piece [] n n_is piece_is after_is none =
     ∙ ap (λ w. w ∷ []) (sym piece_is)
 last_piece text piece (c ∷ cs) n n_is piece_is after_is none = absurd (not_empty c cs none)
 
--- A piece that a bar ends is followed by others.
-pub next_piece : (text piece after rest : List ℕ) (n : ℕ) → n ≡ prefix_len is_value_byte text → piece ≡ take n text → after ≡ drop n text → false ≡ nat_eq (length after) 0 → rest ≡ drop 1 after → pieces text ≡ piece ∷ pieces rest
+-- a piece that a bar ends is followed by others
+pub next_piece :
+    (text piece after rest : List ℕ) (n : ℕ) → n ≡ prefix_len is_value_byte text → piece ≡ take n text → after ≡ drop n text →
+    false ≡ nat_eq (length after) 0 → rest ≡ drop 1 after → pieces text ≡ piece ∷ pieces rest
 next_piece text piece [] rest n n_is piece_is after_is some rest_is =
     cc
 next_piece text piece (c ∷ cs) rest n n_is piece_is after_is some rest_is =

@@ -1,4 +1,6 @@
+pub mod Evaluated
 pub mod Expr
+pub mod Fault
 pub mod Grammar
 pub mod Kind
 pub mod Lines

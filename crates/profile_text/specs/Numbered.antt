@@ -5,7 +5,7 @@ use Rattle.std.specs.Str.{bytes_eq}
 use Rattle.std.specs.declared.alloc.Global.{Global}
 use Rattle.profile_text.specs.Names.{last_place}
 
--- The index has the place of each name's last assignment, and the names can be numbered.
+-- the index has the place of each name's last assignment, and the names can be numbered
 pub record AreNumbered (names : List (List ℕ)) (entries : List (Vec ℕ Global × ℕ)) : Type 0 where
   pub few : length names < 2 ^ 32
   pub places : (name : List ℕ) → lookup (λ k. bytes_eq name k.items) entries ≡ last_place names name

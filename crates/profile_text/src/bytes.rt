@@ -1,14 +1,9 @@
 //! The bytes of a profile's text.
 ghost use Rattle.std.specs.Prelude.{◌≡◌, ◌+◌, ◌<◌, ◌≤◌, ◌^◌, length};
 ghost use Rattle.std.specs.List.{prefix_len};
-ghost use Rattle.profile_text.specs.Token.{is_space, is_ink, is_word_byte, comment_after, line_after};
+ghost use Rattle.profile_text.specs.Token.{is_ink, is_word_byte, comment_after, line_after};
 
-/// Whether a byte is white space: 9 to 13, or 32.
-fn is_space(byte: u8) -> bool
-    ensures value { result ≡ is_space byte }
-{
-    (9 <= byte && byte <= 13) || byte == 32
-}
+use item_list::is_space;
 
 /// Whether a byte belongs to a token, inside a comment or outside.
 pub(crate) fn is_ink(comment: bool, byte: u8) -> bool

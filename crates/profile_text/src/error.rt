@@ -25,7 +25,8 @@ pub enum TextKind {
 /// Why a text is no profile.
 #[derive(Debug, Drop, Error)]
 pub enum TextError {
-    /// The first token that can't stand where it is, by its line from 1; at the text's end, the last token.
+    /// The first token that can't stand where it is, by its line from 1; at the text's end, the
+    /// last token.
     #[error("profile line {line}")]
     At { line: u32, kind: TextKind },
     /// Memory ran out.

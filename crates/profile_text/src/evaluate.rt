@@ -1,9 +1,9 @@
 //! The value of an expression.
 ghost use Rattle.std.specs.Prelude.{◌≡◌, Ok};
 ghost use Rattle.profile_text.specs.Expr.{tree_of};
-ghost use Rattle.profile_text.specs.Meaning.{and_then, arithmetic, known, value_of, variable_in};
+ghost use Rattle.profile_text.specs.Meaning.{and_then, arithmetic, known};
 ghost use Rattle.profile_text.specs.Meaning as meaning;
-ghost use Rattle.profile_text.specs.Scope.{looks_among, outcome_in};
+ghost use Rattle.profile_text.specs.Evaluated.{outcome_in, value_in};
 
 use crate::expr::{Expr, Op};
 use crate::fault::Fault;
@@ -14,9 +14,7 @@ use fixed_num::Num;
 
 /// The value of an expression, or the first fault that its evaluation meets.
 pub(crate) fn evaluate(expr: &Expr, scope: &Scope) -> Result<Num, Fault>
-    ensures value { let variables = variable_in scope.now.global.now scope.now.own.now in
-        let looks = looks_among scope.now.has_looks scope.now.tagged.now in
-        outcome_in result ≡ value_of variables looks (tree_of expr.now) }
+    ensures value { outcome_in result ≡ value_in scope.now (tree_of expr.now) }
 {
     match expr {
         Expr::Number(number) => Ok(*number),

@@ -1,4 +1,5 @@
-//! The routing profile: its text is read into a tree, and the tree has values for the tag numbers of a way or a node.
+//! The routing profile: its text is read into a tree, and the tree has values for the tag numbers
+//! of a way or a node.
 #![tactic(auto)]
 
 mod assigned;
@@ -33,10 +34,3 @@ pub use profile::{Assign, Profile};
 pub use value_error::ValueError;
 pub use values::section_values;
 pub use vars::Vars;
-
-#[cfg(test)]
-mod tests;
-#[cfg(test)]
-mod tests_data;
-#[cfg(test)]
-mod tests_values;

@@ -8,8 +8,8 @@ use lookup_table::Name;
 use std::alloc::{AllocError, Global};
 use std::marker::Model;
 
-/// The names that a section has assigned so far, one for each assignment. The place of each name's last assignment is
-/// kept in an index as well.
+/// The names that a section has assigned so far, one for each assignment. The place of each name's
+/// last assignment is kept in an index as well.
 ///
 /// Contracts see it as the list of the names.
 #[derive(Drop)]

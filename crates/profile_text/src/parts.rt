@@ -37,7 +37,8 @@ pub(crate) fn choice_of(
     chosen: Expr,
     other: Expr,
 ) -> Result<Expr, AllocError>
-    ensures value { IfOk result (λ e. tree_of e ≡ Choice (tree_of test) (tree_of chosen) (tree_of other)) }
+    ensures value { let choice = Choice (tree_of test) (tree_of chosen) (tree_of other) in
+        IfOk result (λ e. tree_of e ≡ choice) }
 {
     let test = Box::new(alloc, test)?;
     let chosen = Box::new(alloc, chosen)?;

@@ -1,97 +1,67 @@
 //! Reading an expression.
-ghost use Rattle.std.specs.Prelude.{◌≡◌, ◌⊎◌, ◌<◌, ◌≤◌, Ok, Err, IfOk, IfErr, length};
-ghost use Rattle.profile_text.specs.declared.error.TextError.TheVariants.{NoMemory};
+ghost use Rattle.std.specs.Prelude.{◌≡◌};
 ghost use Rattle.profile_text.specs.Expr.{tree_of};
-ghost use Rattle.profile_text.specs.Kind.{kind_of};
-ghost use Rattle.profile_text.specs.Read.{read, expr_of, form_of, not_of, two_of, switch_of, if_of, bracket_of};
-ghost use Rattle.profile_text.specs.Source.{IsWithin, IsToken, place_of, token_of};
+ghost use Rattle.profile_text.specs.Read.{expr_of, form_of, not_of, two_of, switch_of, if_of, bracket_of};
+ghost use Rattle.profile_text.specs.Source.{Reads, token_of};
 
 use crate::error::{TextError, TextKind};
 use crate::expected::Expected;
 use crate::expr::{Expr, Op};
 use crate::kind::{Kind, kind_of};
 use crate::look::copied;
-use crate::next::bytes_of;
 use crate::parts::{choice_of, look_of, truth};
-use crate::source::{Spot, Token};
+use crate::source::{Reader, Token};
 use crate::take::taken;
 use std::alloc::Global;
 
-/// The expression at a place, where at most `room` more may be open at once, and what follows it.
+/// The expression at a place, where at most `room` more may be open at once.
 #[cycle(expression)]
 #[tactic(auto, unfolding(crate::specs::Read::expr_of))]
-pub(crate) fn read_expr(
-    alloc: Global,
-    room: u32,
-    text: &[u8],
-    spot: Spot,
-) -> Result<(Expr, Spot), TextError>
-    requires within { IsWithin text.now spot }
-    ensures value { IfOk result (λ r. expr_of room (place_of text.now spot) ≡ read (tree_of r.0) (place_of text.now r.1)) }
-    ensures more { IfOk result (λ r. spot.at < r.1.at) }
-    ensures within { IfOk result (λ r. IsWithin text.now r.1) }
-    ensures refused { IfErr result
-        (λ e. (e ≡ NoMemory) ⊎ (expr_of room (place_of text.now spot) ≡ Err e)) }
+pub(crate) fn read_expr(alloc: Global, room: u32, reader: &mut Reader) -> Result<Expr, TextError>
+    ensures exact { Reads tree_of (expr_of room reader.old) reader.new result }
 {
-    let (token, rest) = taken(text, spot, Expected::Expression)?;
+    let token = taken(reader, Expected::Expression)?;
     if room == 0 {
         return Err(TextError::At {
             line: token.line,
             kind: TextKind::Deep,
         });
     }
-    read_form(
-        alloc,
-        room - 1,
-        token,
-        kind_of(bytes_of(text, token)),
-        text,
-        rest,
-    )
+    read_form(alloc, room - 1, token, kind_of(token.bytes), reader)
 }
 
-/// The expression that a token of this kind begins, and what follows it.
+/// The expression that a token of this kind begins.
 #[cycle(expression)]
 fn read_form(
     alloc: Global,
     room: u32,
     token: Token,
     kind: Kind,
-    text: &[u8],
-    rest: Spot,
-) -> Result<(Expr, Spot), TextError>
-    requires within { IsWithin text.now rest }
-    requires token { IsToken text.now token }
-    ensures value { IfOk result
-        (λ r. form_of (expr_of room) (token_of text.now token) kind (place_of text.now rest) ≡ read (tree_of r.0) (place_of text.now r.1)) }
-    ensures more { IfOk result (λ r. rest.at ≤ r.1.at) }
-    ensures within { IfOk result (λ r. IsWithin text.now r.1) }
-    ensures refused { IfErr result
-        (λ e. (e ≡ NoMemory) ⊎ (form_of (expr_of room) (token_of text.now token) kind (place_of text.now rest) ≡ Err e)) }
+    reader: &mut Reader,
+) -> Result<Expr, TextError>
+    ensures exact { let form = form_of (expr_of room) (token_of token.entry) kind reader.old in
+        Reads tree_of form reader.new result }
 {
     match kind {
-        Kind::Number(number) => Ok((Expr::Number(number), rest)),
-        Kind::True => Ok((Expr::Number(truth(true)), rest)),
-        Kind::False => Ok((Expr::Number(truth(false)), rest)),
+        Kind::Number(number) => Ok(Expr::Number(number)),
+        Kind::True => Ok(Expr::Number(truth(true))),
+        Kind::False => Ok(Expr::Number(truth(false))),
         Kind::Name => {
-            let name = copied(alloc, bytes_of(text, token))?;
-            Ok((
-                Expr::Var {
-                    name,
-                    line: token.line,
-                },
-                rest,
-            ))
+            let name = copied(alloc, token.bytes)?;
+            Ok(Expr::Var {
+                name,
+                line: token.line,
+            })
         }
         Kind::Look => {
-            let look = look_of(alloc, bytes_of(text, token), token.line)?;
-            Ok((look, rest))
+            let look = look_of(alloc, token.bytes, token.line)?;
+            Ok(look)
         }
-        Kind::Not => read_not(alloc, room, text, rest),
-        Kind::Two(op) => read_two(alloc, room, op, text, rest),
-        Kind::Switch => read_switch(alloc, room, text, rest),
-        Kind::If => read_if(alloc, room, text, rest),
-        Kind::Open => read_bracket(alloc, room, text, rest),
+        Kind::Not => read_not(alloc, room, reader),
+        Kind::Two(op) => read_two(alloc, room, op, reader),
+        Kind::Switch => read_switch(alloc, room, reader),
+        Kind::If => read_if(alloc, room, reader),
+        Kind::Open => read_bracket(alloc, room, reader),
         _ => Err(TextError::At {
             line: token.line,
             kind: TextKind::Token,
@@ -101,94 +71,58 @@ fn read_form(
 
 /// The operand of `not`.
 #[cycle(expression)]
-fn read_not(alloc: Global, room: u32, text: &[u8], spot: Spot) -> Result<(Expr, Spot), TextError>
-    requires within { IsWithin text.now spot }
-    ensures value { IfOk result (λ r. not_of (expr_of room) (place_of text.now spot) ≡ read (tree_of r.0) (place_of text.now r.1)) }
-    ensures more { IfOk result (λ r. spot.at ≤ r.1.at) }
-    ensures within { IfOk result (λ r. IsWithin text.now r.1) }
-    ensures refused { IfErr result
-        (λ e. (e ≡ NoMemory) ⊎ (not_of (expr_of room) (place_of text.now spot) ≡ Err e)) }
+fn read_not(alloc: Global, room: u32, reader: &mut Reader) -> Result<Expr, TextError>
+    ensures exact { Reads tree_of (not_of (expr_of room) reader.old) reader.new result }
 {
-    let (operand, rest) = read_expr(alloc, room, text, spot)?;
+    let operand = read_expr(alloc, room, reader)?;
     let operand = Box::new(alloc, operand)?;
-    Ok((Expr::Not(operand), rest))
+    Ok(Expr::Not(operand))
 }
 
 /// Two operands.
 #[cycle(expression)]
-fn read_two(
-    alloc: Global,
-    room: u32,
-    op: Op,
-    text: &[u8],
-    spot: Spot,
-) -> Result<(Expr, Spot), TextError>
-    requires within { IsWithin text.now spot }
-    ensures value { IfOk result (λ r. two_of (expr_of room) op (place_of text.now spot) ≡ read (tree_of r.0) (place_of text.now r.1)) }
-    ensures more { IfOk result (λ r. spot.at ≤ r.1.at) }
-    ensures within { IfOk result (λ r. IsWithin text.now r.1) }
-    ensures refused { IfErr result
-        (λ e. (e ≡ NoMemory) ⊎ (two_of (expr_of room) op (place_of text.now spot) ≡ Err e)) }
+fn read_two(alloc: Global, room: u32, op: Op, reader: &mut Reader) -> Result<Expr, TextError>
+    ensures exact { Reads tree_of (two_of (expr_of room) op reader.old) reader.new result }
 {
-    let (first, next) = read_expr(alloc, room, text, spot)?;
-    let (second, rest) = read_expr(alloc, room, text, next)?;
+    let first = read_expr(alloc, room, reader)?;
+    let second = read_expr(alloc, room, reader)?;
     let first = Box::new(alloc, first)?;
     let second = Box::new(alloc, second)?;
-    Ok((Expr::Two(op, first, second), rest))
+    Ok(Expr::Two(op, first, second))
 }
 
 /// The three operands of `switch`.
 #[cycle(expression)]
-fn read_switch(alloc: Global, room: u32, text: &[u8], spot: Spot) -> Result<(Expr, Spot), TextError>
-    requires within { IsWithin text.now spot }
-    ensures value { IfOk result (λ r. switch_of (expr_of room) (place_of text.now spot) ≡ read (tree_of r.0) (place_of text.now r.1)) }
-    ensures more { IfOk result (λ r. spot.at ≤ r.1.at) }
-    ensures within { IfOk result (λ r. IsWithin text.now r.1) }
-    ensures refused { IfErr result
-        (λ e. (e ≡ NoMemory) ⊎ (switch_of (expr_of room) (place_of text.now spot) ≡ Err e)) }
+fn read_switch(alloc: Global, room: u32, reader: &mut Reader) -> Result<Expr, TextError>
+    ensures exact { Reads tree_of (switch_of (expr_of room) reader.old) reader.new result }
 {
-    let (test, after_test) = read_expr(alloc, room, text, spot)?;
-    let (chosen, after_chosen) = read_expr(alloc, room, text, after_test)?;
-    let (other, rest) = read_expr(alloc, room, text, after_chosen)?;
+    let test = read_expr(alloc, room, reader)?;
+    let chosen = read_expr(alloc, room, reader)?;
+    let other = read_expr(alloc, room, reader)?;
     let choice = choice_of(alloc, test, chosen, other)?;
-    Ok((choice, rest))
+    Ok(choice)
 }
 
 /// The three operands of `if`, parted by `then` and `else`.
 #[cycle(expression)]
-fn read_if(alloc: Global, room: u32, text: &[u8], spot: Spot) -> Result<(Expr, Spot), TextError>
-    requires within { IsWithin text.now spot }
-    ensures value { IfOk result (λ r. if_of (expr_of room) (place_of text.now spot) ≡ read (tree_of r.0) (place_of text.now r.1)) }
-    ensures more { IfOk result (λ r. spot.at ≤ r.1.at) }
-    ensures within { IfOk result (λ r. IsWithin text.now r.1) }
-    ensures refused { IfErr result
-        (λ e. (e ≡ NoMemory) ⊎ (if_of (expr_of room) (place_of text.now spot) ≡ Err e)) }
+fn read_if(alloc: Global, room: u32, reader: &mut Reader) -> Result<Expr, TextError>
+    ensures exact { Reads tree_of (if_of (expr_of room) reader.old) reader.new result }
 {
-    let (test, after_test) = read_expr(alloc, room, text, spot)?;
-    let (_, then) = taken(text, after_test, Expected::ThenWord)?;
-    let (chosen, after_chosen) = read_expr(alloc, room, text, then)?;
-    let (_, otherwise) = taken(text, after_chosen, Expected::ElseWord)?;
-    let (other, rest) = read_expr(alloc, room, text, otherwise)?;
+    let test = read_expr(alloc, room, reader)?;
+    taken(reader, Expected::ThenWord)?;
+    let chosen = read_expr(alloc, room, reader)?;
+    taken(reader, Expected::ElseWord)?;
+    let other = read_expr(alloc, room, reader)?;
     let choice = choice_of(alloc, test, chosen, other)?;
-    Ok((choice, rest))
+    Ok(choice)
 }
 
 /// An expression and its closing bracket.
 #[cycle(expression)]
-fn read_bracket(
-    alloc: Global,
-    room: u32,
-    text: &[u8],
-    spot: Spot,
-) -> Result<(Expr, Spot), TextError>
-    requires within { IsWithin text.now spot }
-    ensures value { IfOk result (λ r. bracket_of (expr_of room) (place_of text.now spot) ≡ read (tree_of r.0) (place_of text.now r.1)) }
-    ensures more { IfOk result (λ r. spot.at ≤ r.1.at) }
-    ensures within { IfOk result (λ r. IsWithin text.now r.1) }
-    ensures refused { IfErr result
-        (λ e. (e ≡ NoMemory) ⊎ (bracket_of (expr_of room) (place_of text.now spot) ≡ Err e)) }
+fn read_bracket(alloc: Global, room: u32, reader: &mut Reader) -> Result<Expr, TextError>
+    ensures exact { Reads tree_of (bracket_of (expr_of room) reader.old) reader.new result }
 {
-    let (value, after_value) = read_expr(alloc, room, text, spot)?;
-    let (_, rest) = taken(text, after_value, Expected::Closing)?;
-    Ok((value, rest))
+    let value = read_expr(alloc, room, reader)?;
+    taken(reader, Expected::Closing)?;
+    Ok(value)
 }

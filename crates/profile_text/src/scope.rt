@@ -42,7 +42,8 @@ impl<'a> Tagged<'a> {
         }
     }
 
-    /// Whether a tag has one of these values, if the tag and each value are known; with no values, whether it isn't set.
+    /// Whether a tag has one of these values, if the tag and each value are known; with no values,
+    /// whether it isn't set.
     pub(crate) fn look(&self, tag: &[u8], values: &[Name]) -> Option<bool>
         ensures value { result ≡ looks_in self.now.rows self.now.numbers tag.now values.now }
     {
@@ -55,7 +56,8 @@ impl<'a> Tagged<'a> {
         }
     }
 
-    /// Whether a number is that of one of these values of the tag at a place, if each of them is known.
+    /// Whether a number is that of one of these values of the tag at a place, if each of them is
+    /// known.
     fn has_one_of(&self, place: u32, number: u16, values: &[Name]) -> Option<bool>
         requires fits { place < length self.now.rows }
         ensures value { let row = row_at self.now.rows place in
@@ -82,8 +84,8 @@ impl<'a> Tagged<'a> {
     }
 }
 
-/// What an expression may name: the values of the global section, those of its own section so far, and, unless that is
-/// the global one, the tags of a part.
+/// What an expression may name: the values of the global section, those of its own section so far,
+/// and, unless that is the global one, the tags of a part.
 #[derive(Drop)]
 pub(crate) struct Scope<'s, 't> {
     pub(crate) global: &'s Assigned,

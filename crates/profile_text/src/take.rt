@@ -1,32 +1,25 @@
 //! A token that has to be what is expected.
-ghost use Rattle.std.specs.Prelude.{◌≡◌, ◌<◌, Ok, Err, IfOk, IfErr, length};
+ghost use Rattle.std.specs.Prelude.{◌≡◌, Err, MatchResult};
 ghost use Rattle.profile_text.specs.Read.{read, taken};
-ghost use Rattle.profile_text.specs.Source.{IsWithin, IsToken, place_of, token_of};
+ghost use Rattle.profile_text.specs.Source.{token_of};
 
 use crate::error::TextError;
 use crate::expected::{Expected, fault_of};
 use crate::kind::kind_of;
-use crate::next::{bytes_of, required};
-use crate::source::{Spot, Token};
+use crate::source::{Reader, Token};
 
-/// The next token, and the place after it.
+/// Goes past the next token, which has to be what is expected.
 #[tactic(auto, unfolding(crate::specs::Read::taken))]
-pub(crate) fn taken(text: &[u8], spot: Spot, expected: Expected) -> Result<(Token, Spot), TextError>
-    requires within { IsWithin text.now spot }
-    ensures value { IfOk result
-        (λ r. taken expected (place_of text.now spot) ≡ read (token_of text.now r.0) (place_of text.now r.1)) }
-    ensures token { IfOk result (λ r. IsToken text.now r.0) }
-    ensures within { IfOk result (λ r. IsWithin text.now r.1) }
-    ensures more { IfOk result (λ r. spot.at < r.1.at) }
-    ensures refused { IfErr result (λ e. taken expected (place_of text.now spot) ≡ Err e) }
+pub(crate) fn taken<'a>(reader: &mut Reader<'a>, expected: Expected) -> Result<Token<'a>, TextError>
+    ensures exact { let first = taken expected reader.old in
+        MatchResult result (λ t. first ≡ read (token_of t) reader.new) (λ e. first ≡ Err e) }
 {
-    let found = required(text, spot)?;
-    let token = found.0;
-    match fault_of(expected, kind_of(bytes_of(text, token))) {
-        None => Ok(found),
-        Some(fault) => Err(TextError::At {
+    let token = reader.required()?;
+    match fault_of(expected, kind_of(token.bytes)) {
+        None => Ok(token),
+        Some(kind) => Err(TextError::At {
             line: token.line,
-            kind: fault,
+            kind,
         }),
     }
 }

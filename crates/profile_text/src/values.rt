@@ -1,9 +1,10 @@
 //! The values of a profile's sections for a way or a node.
-ghost use Rattle.std.specs.Prelude.{◌≡◌, ◌⊎◌, [], map, length, Ok, Err, IfOk, IfErr};
+ghost use Rattle.std.specs.Prelude.{◌≡◌, ◌⊎◌, [], map, length, Ok, IfOk, IfErr, MatchResult};
 ghost use Rattle.lookup_table.specs.First.{rows_of};
 ghost use Rattle.profile_text.specs.declared.value_error.ValueError.TheVariants.{NoMemory};
 ghost use Rattle.profile_text.specs.Expr.{assignment_in, sections_in, tree_of};
-ghost use Rattle.profile_text.specs.Meaning.{assignments_of, value_of, values_from, variable_in};
+ghost use Rattle.profile_text.specs.Meaning.{assignments_of, values_from};
+ghost use Rattle.profile_text.specs.Evaluated.{value_in};
 ghost use Rattle.profile_text.specs.Scope.{looks_among};
 ghost use Rattle.profile_text.specs.Vars.{AreVarsOf, IsRefusedBy, IsSaidOf, both_values};
 
@@ -19,8 +20,9 @@ use fixed_num::Num;
 use lookup_table::{Part, Table};
 use std::alloc::Global;
 
-/// The variables of a profile for the tag numbers of a way or a node: the global section is evaluated, without overrides,
-/// and then the part's own. Of a name that is assigned more than once the later value is kept.
+/// The variables of a profile for the tag numbers of a way or a node: the global section is
+/// evaluated, without overrides, and then the part's own. Of a name that is assigned more than once
+/// the later value is kept.
 pub fn section_values<'a>(
     alloc: Global,
     profile: &Profile,
@@ -29,11 +31,11 @@ pub fn section_values<'a>(
     numbers: &'a [u16],
 ) -> Result<Vars, ValueError>
     requires fits { length numbers.now ≡ length (rows_of table.now part) }
-    ensures value { let values = both_values table.now (sections_in profile.now) part numbers.now in
-        IfOk result (λ vars. AreVarsOf values vars) }
+    ensures value { let all = both_values table.now (sections_in profile.now) part numbers.now in
+        IfOk result (λ vars. AreVarsOf all vars) }
 
-    ensures refused { let values = both_values table.now (sections_in profile.now) part numbers.now in
-        IfErr result (λ e. (e ≡ NoMemory) ⊎ IsRefusedBy values e) }
+    ensures refused { let all = both_values table.now (sections_in profile.now) part numbers.now in
+        IfErr result (λ e. (e ≡ NoMemory) ⊎ IsRefusedBy all e) }
 {
     let tagged = Tagged::new(table, part, numbers);
     let none = Assigned::new(alloc);
@@ -62,12 +64,10 @@ fn assigned<'s, 't>(
     has_looks: bool,
     assignments: &[Assign],
 ) -> Result<Assigned, ValueError>
-    ensures value { let looks = looks_among has_looks tagged.now in
-        let outcome = values_from looks global.now [] (map assignment_in assignments.now) in
-        IfOk result (λ own. outcome ≡ Ok own) }
-    ensures refused { let looks = looks_among has_looks tagged.now in
-        let outcome = values_from looks global.now [] (map assignment_in assignments.now) in
-        IfErr result (λ e. (e ≡ NoMemory) ⊎ IsRefusedBy outcome e) }
+    ensures exact { let looks = looks_among has_looks tagged.now in
+        let values = values_from looks global.now [] (map assignment_in assignments.now) in
+        MatchResult result (λ own. values ≡ Ok own)
+        (λ e. (e ≡ NoMemory) ⊎ IsRefusedBy values e) }
 {
     let mut own = Assigned::new(alloc);
     'assignments: for assign in assignments {
@@ -85,13 +85,9 @@ fn assigned<'s, 't>(
 
 /// The value of an assignment.
 fn number_of(alloc: Global, assign: &Assign, scope: &Scope) -> Result<Num, ValueError>
-    ensures value { let variables = variable_in scope.now.global.now scope.now.own.now in
-        let looks = looks_among scope.now.has_looks scope.now.tagged.now in
-        IfOk result (λ n. value_of variables looks (tree_of assign.now.value) ≡ Ok n) }
-    ensures refused { let variables = variable_in scope.now.global.now scope.now.own.now in
-        let looks = looks_among scope.now.has_looks scope.now.tagged.now in
-        IfErr result (λ e. (e ≡ NoMemory)
-        ⊎ IsSaidOf assign.now.name (value_of variables looks (tree_of assign.now.value)) e) }
+    ensures exact { let value = value_in scope.now (tree_of assign.now.value) in
+        MatchResult result (λ n. value ≡ Ok n)
+        (λ e. (e ≡ NoMemory) ⊎ IsSaidOf assign.now.name value e) }
 {
     match evaluate(&assign.value, scope) {
         Ok(number) => Ok(number),

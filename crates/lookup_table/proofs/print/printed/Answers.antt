@@ -12,7 +12,8 @@ loop-place-init c =
 
 pub append_item-requires-clause-fits : goal.append_item-requires-clause-fits
 append_item-requires-clause-fits c =
-    let has = has_tag c.args.rows.now c.args.numbers.now c.loop-place.out.items c.loop-place.is_first c.loop-place.place c.loop-place.invariant c.loop-place-test.true in
+    let has = has_tag c.args.rows.now c.args.numbers.now c.loop-place.out.items c.loop-place.is_first c.loop-place.place
+    c.loop-place.invariant c.loop-place-test.true in
     let tag = get_or_from_slice_get c.args.rows.now c.loop-place.place c.tag.result.now (empty_tag []) c.tag.ensures.value in
     omega (arith, has.fits, ap (λ t. length t.firsts) tag)
 
@@ -24,13 +25,19 @@ loop-place-preserved c =
           let out = ap (λ v. v.items) w.out-is in
           let first = w.is_first-is in
           rw (out, first)
-          (PrintsOn-item c.args.rows.now c.args.numbers.now c.loop-place.out.items w.append_item.new.out.items c.loop-place.is_first c.loop-place.place w.tag.result.now c.loop-place.invariant c.loop-place-test.true w.if-number-ne0.true (sym tag) w.in_ok-append_item.ensures.value)
+          (PrintsOn-item c.args.rows.now c.args.numbers.now c.loop-place.out.items w.append_item.new.out.items c.loop-place.is_first
+          c.loop-place.place w.tag.result.now c.loop-place.invariant c.loop-place-test.true w.if-number-ne0.true
+          (sym tag) w.in_ok-append_item.ensures.value)
       | else-number-ne0 w ↦
           let out = ap (λ v. v.items) w.out-is in
           let first = w.is_first-is in
           rw (out, first)
-          (PrintsOn-zero c.args.rows.now c.args.numbers.now c.loop-place.out.items c.loop-place.is_first c.loop-place.place c.loop-place.invariant c.loop-place-test.true w.if-number-ne0.false)
+          (PrintsOn-zero c.args.rows.now c.args.numbers.now c.loop-place.out.items c.loop-place.is_first c.loop-place.place
+          c.loop-place.invariant c.loop-place-test.true w.if-number-ne0.false)
     ]
 
 pub returns : goal.returns
-returns c = record { value = PrintsOn-end c.args.rows.now c.args.numbers.now c.loop-place.out.items c.loop-place.is_first c.loop-place.place c.loop-place.invariant c.loop-place-test.false }
+returns c = record {
+  value = PrintsOn-end c.args.rows.now c.args.numbers.now c.loop-place.out.items c.loop-place.is_first c.loop-place.place
+      c.loop-place.invariant c.loop-place-test.false;
+}

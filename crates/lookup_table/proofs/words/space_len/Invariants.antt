@@ -1,6 +1,6 @@
 use Rattle.std.proofs.Common.{◌≡◌, ◌+◌, drop}
 use Rattle.std.specs.List.{prefix_len}
-use Rattle.lookup_table.specs.Words.{is_space}
+use Rattle.item_list.specs.Bytes.{is_space}
 use Rattle.lookup_table.proofs.words.space_len.Given as goal
 
 abbrev pub invariant-loop-i : goal.invariant-loop-i

@@ -15,11 +15,14 @@ returns-in_err-global-clause-refused c =
     let table = c.args.table.now in
     let numbers = c.args.numbers.now in
     let assignments_are = ap (λ (xs : List Assign). map assignment_in xs) c.as_slice.ensures.value in
-    let is = global_is table s c.args.part numbers c.new-none.result (map assignment_in c.as_slice.result.now) c.new-none.ensures.value assignments_are in
+    let is =
+    global_is table s c.args.part numbers c.new-none.result
+    (map assignment_in c.as_slice.result.now) c.new-none.ensures.value assignments_are in
     rw (p.1, p.2)
     (refused_or _ (both_values table s c.args.part numbers) error
-    (λ refused. refused_global table s c.args.part numbers error (subst (λ (r : Result (List (List ℕ × ℤ)) SectionFault). IsRefusedBy r error) is refused))
-    c.in_err-global.ensures.refused)
+    (λ refused. refused_global table s c.args.part numbers error
+    (subst (λ (r : Result (List (List ℕ × ℤ)) SectionFault). IsRefusedBy r error) is refused))
+    c.in_err-global.ensures.exact)
 
 pub returns-in_err-own-clause-refused : goal.returns-in_err-own-clause-refused
 returns-in_err-own-clause-refused c =
@@ -30,12 +33,17 @@ returns-in_err-own-clause-refused c =
     let numbers = c.args.numbers.now in
     let global = c.in_ok-global.global in
     let assignments_are = ap (λ (xs : List Assign). map assignment_in xs) c.as_slice.ensures.value in
-    let first_is = global_is table s c.args.part numbers c.new-none.result (map assignment_in c.as_slice.result.now) c.new-none.ensures.value assignments_are in
-    let second_is = own_is table s c.args.part numbers c.new-tagged.result global (map assignment_in c.assignments.result.now) c.new-tagged.ensures.value c.assignments.ensures.value in
+    let first_is =
+    global_is table s c.args.part numbers c.new-none.result
+    (map assignment_in c.as_slice.result.now) c.new-none.ensures.value assignments_are in
+    let second_is =
+    own_is table s c.args.part numbers c.new-tagged.result global
+    (map assignment_in c.assignments.result.now) c.new-tagged.ensures.value c.assignments.ensures.value in
     rw (p.1, p.2)
     (refused_or _ (both_values table s c.args.part numbers) error
-    (λ refused. refused_own table s c.args.part numbers error global (sym first_is ∙ c.in_ok-global.ensures.value) (subst (λ (r : Result (List (List ℕ × ℤ)) SectionFault). IsRefusedBy r error) second_is refused))
-    c.in_err-own.ensures.refused)
+    (λ refused. refused_own table s c.args.part numbers error global (sym first_is ∙ c.in_ok-global.ensures.exact)
+    (subst (λ (r : Result (List (List ℕ × ℤ)) SectionFault). IsRefusedBy r error) second_is refused))
+    c.in_err-own.ensures.exact)
 
 pub returns-clause-value : goal.returns-clause-value
 returns-clause-value c =
@@ -44,6 +52,11 @@ returns-clause-value c =
     let numbers = c.args.numbers.now in
     let global = c.in_ok-global.global in
     let assignments_are = ap (λ (xs : List Assign). map assignment_in xs) c.as_slice.ensures.value in
-    let first_is = global_is table s c.args.part numbers c.new-none.result (map assignment_in c.as_slice.result.now) c.new-none.ensures.value assignments_are in
-    let second_is = own_is table s c.args.part numbers c.new-tagged.result global (map assignment_in c.assignments.result.now) c.new-tagged.ensures.value c.assignments.ensures.value in
-    vars_both table s c.args.part numbers global c.in_ok-own.own c.in_ok-vars.vars (sym first_is ∙ c.in_ok-global.ensures.value) (sym second_is ∙ c.in_ok-own.ensures.value) c.in_ok-vars.ensures.value
+    let first_is =
+    global_is table s c.args.part numbers c.new-none.result
+    (map assignment_in c.as_slice.result.now) c.new-none.ensures.value assignments_are in
+    let second_is =
+    own_is table s c.args.part numbers c.new-tagged.result global
+    (map assignment_in c.assignments.result.now) c.new-tagged.ensures.value c.assignments.ensures.value in
+    vars_both table s c.args.part numbers global c.in_ok-own.own c.in_ok-vars.vars (sym first_is ∙ c.in_ok-global.ensures.exact)
+    (sym second_is ∙ c.in_ok-own.ensures.exact) c.in_ok-vars.ensures.value

@@ -16,10 +16,12 @@ add_tag-requires-clause-room c =
 
 pub returns-in-None : goal.returns-in-None
 returns-in-None c = record {
-  value = subst (λ (rows : List TagRow). OnOk c.add_tag.result (c.add_tag.new.self ≡ rows)) (sym (add_line-new c.args.self.now c.args.name.now _ (sym c.in-None.ensures.value))) c.add_tag.ensures.value;
+  value = subst (λ (rows : List TagRow). OnOk c.add_tag.result (c.add_tag.new.self ≡ rows))
+      (sym (add_line-new c.args.self.now c.args.name.now _ (sym c.in-None.ensures.value))) c.add_tag.ensures.value;
 }
 
 pub returns-in-Some : goal.returns-in-Some
 returns-in-Some c = record {
-  value = subst (λ (rows : List TagRow). OnOk c.add_to.result (c.add_to.new.self ≡ rows)) (sym (add_line-old c.args.self.now c.args.name.now _ c.in-Some.place (sym c.in-Some.ensures.value))) c.add_to.ensures.value;
+  value = subst (λ (rows : List TagRow). OnOk c.add_to.result (c.add_to.new.self ≡ rows))
+      (sym (add_line-old c.args.self.now c.args.name.now _ c.in-Some.place (sym c.in-Some.ensures.value))) c.add_to.ensures.value;
 }

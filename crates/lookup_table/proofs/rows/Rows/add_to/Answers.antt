@@ -9,7 +9,8 @@ pub invariant_of-self : goal.invariant_of-self
 invariant_of-self c =
     let rows = c.self.inside.tags.items in
     let same : names_of (set rows c.args.place c.add_value.new.self) ≡ names_of rows =
-    map-set_same (λ t. t.name) rows c.args.place c.add_value.new.self c.index_mut.result.now (c.add_value.ensures.same ∙ ap (λ t. t.name) c.index_mut.ensures.value) in
+    map-set_same (λ t. t.name) rows c.args.place c.add_value.new.self c.index_mut.result.now
+    (c.add_value.ensures.same ∙ ap (λ t. t.name) c.index_mut.ensures.value) in
     record {
       names = c.self.invariant.names ∙ sym same;
       distinct = subst AreDistinct (sym same) c.self.invariant.distinct;

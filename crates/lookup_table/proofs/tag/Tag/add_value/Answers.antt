@@ -8,7 +8,8 @@ invariant_of-self-2 c =
     let old = c.self.inside.firsts.items in
     let new = c.add_first.new.firsts.items in
     let longer : length new ≡ length old + 1 = length_push old new _ c.in_ok-add_first.ensures.value in
-    c.add_spellings.ensures.sound (length new) (omega arith) (omega (arith, longer, c.len.ensures, c.self.inside.firsts.ok.0)) (AreWithin-more (length old) (length new) (spelled c.self.inside.numbers) (omega (arith, longer)) c.self.invariant)
+    c.add_spellings.ensures.sound (length new) (omega arith) (omega (arith, longer, c.len.ensures, c.self.inside.firsts.ok.0))
+    (AreWithin-more (length old) (length new) (spelled c.self.inside.numbers) (omega (arith, longer)) c.self.invariant)
 
 pub returns-clause-sound : goal.returns-clause-sound
 returns-clause-sound c = invariant_of-self-2 c

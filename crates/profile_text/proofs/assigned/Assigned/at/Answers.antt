@@ -21,5 +21,6 @@ returns c =
     record {
       value =
           ap (λ (vs : List (List ℕ × ℤ)). slice_get vs c.args.place) (sym c.self.view_is)
-          ∙ zip-get c.self.inside.names c.self.inside.numbers.items c.args.place c.name.result.now c.index.result.now c.name.ensures.value (omega (arith, long, c.requires.fits, c.self.invariant)) c.index.ensures;
+          ∙ zip-get c.self.inside.names c.self.inside.numbers.items c.args.place c.name.result.now c.index.result.now c.name.ensures.value
+          (omega (arith, long, c.requires.fits, c.self.invariant)) c.index.ensures;
     }

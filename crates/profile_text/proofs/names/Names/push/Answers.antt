@@ -8,4 +8,6 @@ invariant_of-self-in-Ok c =
     let key = c.in_ok-key.key in
     let pushed : c.push.new.self.items ≡ names ++ key.items ∷ [] =
     c.in_ok-push.ensures.items ∙ ap (λ name. names ++ name ∷ []) (c.in_ok-copy.ensures.value ∙ sym c.in_ok-key.ensures.items) in
-    AreNumbered-push names c.push.new.self.items c.self.inside.places.entries c.insert.new.self.entries key c.len-place.result c.self.invariant (c.len-place.ensures.value ∙ ap length (sym c.self.view_is)) (omega (arith, c.len-place.ensures, c.if-place.false)) pushed c.in-Ok.ensures.entries
+    AreNumbered-push names c.push.new.self.items c.self.inside.places.entries c.insert.new.self.entries key c.len-place.result
+    c.self.invariant (c.len-place.ensures.value ∙ ap length (sym c.self.view_is))
+    (omega (arith, c.len-place.ensures, c.if-place.false)) pushed c.in-Ok.ensures.entries
