@@ -1,9 +1,10 @@
-//! Runs a profile's code on ways, one after the other, and prints what their cost factors sum up to.
+//! Runs a profile's code on ways, one after the other, and prints what their cost factors sum up
+//! to.
 #![tactic(auto)]
 
 ghost use Rattle.std.specs.Prelude.{◌≡◌};
 ghost use Rattle.profile_code.specs.Flat.{tags_of};
-ghost use Rattle.profile_code.specs.Scratch.{HoldsGlobals, IsScratchOf};
+ghost use Rattle.profile_code.specs.Scratch.{HoldsGlobals};
 
 mod code;
 mod texts;
@@ -17,7 +18,6 @@ use std::{env, io};
 
 /// The sum of the cost factors of so many ways, in millionths.
 fn sum_of(code: &Code, scratch: &mut Scratch, count: u64) -> Result<u64, Fault>
-    requires made { IsScratchOf code.now scratch.old }
     requires held { HoldsGlobals code.now scratch.old }
     requires fits { tags_of code.now Part.Way ≡ 6 }
 {

@@ -1,6 +1,7 @@
 //! The ways that are run on.
 
-/// How many tags a way has: the direction, the road, its direction, bicycles, a junction and a cycle route.
+/// How many tags a way has: the direction, the road, its direction, bicycles, a junction and a
+/// cycle route.
 pub(crate) const TAGS: u32 = 6;
 
 /// How many ways there are.

@@ -4,7 +4,6 @@ pub mod AskedLemmas
 pub mod AssignmentLemmas
 pub mod BehaveLemmas
 pub mod CompileLemmas
-pub mod EffectLemmas
 pub mod KnownLemmas
 pub mod MeaningLemmas
 pub mod NameLemmas

@@ -1,35 +1,21 @@
 -- The code of an expression gives the expression's value.
-use Rattle.std.proofs.Common.{◌≡◌, ℕ, ◌≤◌, Bool, List, [], ◌∷◌, map, ℤ, Option, Some, None, Ok, refl, arith}
+use Rattle.std.proofs.Common.{◌≡◌, ℕ, ◌≤◌, Bool, List, ℤ, Option, None, Result, refl, arith}
+use Rattle.context_check.proofs.CallerLemmas.{names_of, or_else-none}
+use Rattle.context_check.specs.Context.{Context}
 use Rattle.context_check.specs.Refusal.{look_refusal, expr_refusal}
-use Rattle.context_check.specs.declared.error.CheckError.{CheckError}
-use Rattle.lookup_table.specs.Tag.{TagRow, place_of}
-use Rattle.profile_code.proofs.KnownLemmas.{gives_variable}
+use Rattle.lookup_table.specs.Tag.{TagRow}
+use Rattle.profile_code.proofs.KnownLemmas.{gives_variable, look_code, look_result}
+use Rattle.profile_code.proofs.NameLemmas.{numbers_of}
 use Rattle.profile_code.proofs.OperatorLemmas.{Gives, gives_number, gives_not, gives_operation, gives_choice}
-use Rattle.profile_code.specs.Emit.{look_instr, expr_code, height_of}
+use Rattle.profile_code.specs.Emit.{expr_code, height_of}
 use Rattle.profile_code.specs.Machine.{Given}
+use Rattle.profile_code.specs.declared.instr.Instr.{Instr}
 use Rattle.profile_code.specs.declared.instr.Instr.TheVariants.{Number}
-use Rattle.profile_text.specs.Meaning.{known, and_then, truth, look_at, or_else, variable_in, value_of}
+use Rattle.profile_text.specs.Meaning.{Fault, variable_in, value_of}
 use Rattle.profile_text.specs.Tree.{Tree, Constant, Variable, TagLook, Negation, Operation, Choice}
+use Rattle.profile_text.specs.declared.kind.Section.{Section}
 
--- The names of values.
-abbrev pub names_of : List (List ℕ × ℤ) → List (List ℕ)
-names_of values = map (λ v. v.0) values
-
--- The values without their names.
-abbrev pub numbers_of : List (List ℕ × ℤ) → List ℤ
-numbers_of values = map (λ v. v.1) values
-
--- Where neither of two is at fault, the first isn't.
-pub none_first : (a b : Option CheckError) → or_else a b ≡ None → a ≡ None
-none_first None b none = refl
-none_first (Some e) b none = cc
-
--- Nor is the second.
-pub none_second : (a b : Option CheckError) → or_else a b ≡ None → b ≡ None
-none_second None b none = none
-none_second (Some e) b none = cc
-
--- An expression has a number on the stack at least.
+-- an expression has a number on the stack at least
 pub height_some : (t : Tree) → 1 ≤ height_of t
 height_some (Constant n) = omega arith
 height_some (Variable name line) = omega arith
@@ -38,28 +24,54 @@ height_some (Negation a) = height_some a
 height_some (Operation op a b) = omega (arith, height_some a)
 height_some (Choice a b c) = omega (arith, height_some a)
 
--- What looks are among tags: their code gives what they come to, wherever nothing is at fault.
-pub record AreLooks (given : Given) (known_rows : Option (List TagRow)) (rows : List TagRow) (looks : List ℕ → List (List ℕ) → Option Bool) : Type 0 where
+-- what the code of a section runs in: what its run is given; the section, with the tags that its looks may name; those
+-- that its code knows; what looks come to; and the values of the global section
+pub record Setting : Type 0 where
+  pub given : Given
+  pub section : Section
+  pub known_rows : Option (List TagRow)
+  pub rows : List TagRow
+  pub looks : List ℕ → List (List ℕ) → Option Bool
+  pub global : List (List ℕ × ℤ)
+
+-- what its expressions may name
+abbrev pub context : Setting → Context
+context s = record { section = s.section; rows = s.known_rows; global = names_of s.global }
+
+-- the code of an expression, after these values of its section
+abbrev pub code_in : Setting → List (List ℕ × ℤ) → Tree → List Instr
+code_in s own t = expr_code s.rows (names_of s.global) (names_of own) t
+
+-- its value
+abbrev pub value_in : Setting → List (List ℕ × ℤ) → Tree → Result ℤ Fault
+value_in s own t = value_of (variable_in s.global own) s.looks t
+
+-- the run is given the global values, and the code of looks gives what they come to, wherever nothing is at fault
+pub record IsSetting (s : Setting) : Type 0 where
+  pub is : s.given.global ≡ numbers_of s.global
   pub gives :
       (own : List ℤ) (tag : List ℕ) (values : List (List ℕ)) (line : ℕ) →
-      look_refusal known_rows tag values line ≡ None →
-      Gives given own 1 (look_instr tag (look_at rows (place_of rows tag) values) ∷ []) (and_then (known line (looks tag values)) (λ found. Ok (truth found)))
+      look_refusal s.known_rows tag values line ≡ None →
+      Gives s.given own 1 (look_code s.rows tag values) (look_result line (s.looks tag values))
 
--- The code of an expression in which nothing is at fault gives its value.
-pub gives_tree : (given : Given) (known_rows : Option (List TagRow)) (rows : List TagRow) (looks : List ℕ → List (List ℕ) → Option Bool) (global own : List (List ℕ × ℤ)) (t : Tree) → AreLooks given known_rows rows looks → given.global ≡ numbers_of global → expr_refusal known_rows (names_of global) (names_of own) t ≡ None → Gives given (numbers_of own) (height_of t) (expr_code rows (names_of global) (names_of own) t) (value_of (variable_in global own) looks t)
-gives_tree given known_rows rows looks global own (Constant n) are is none = gives_number given (numbers_of own) (Number n) n (λ next stack. refl)
-gives_tree given known_rows rows looks global own (Variable name line) are is none = gives_variable given global own name line is none
-gives_tree given known_rows rows looks global own (TagLook tag values line) are is none = are.gives (numbers_of own) tag values line none
-gives_tree given known_rows rows looks global own (Negation a) are is none =
-    gives_not given (numbers_of own) (height_of a) _ _ (gives_tree given known_rows rows looks global own a are is none)
-gives_tree given known_rows rows looks global own (Operation op a b) are is none =
-    gives_operation given (numbers_of own) (height_of a) (height_of b) op _ _ _ _
-    (gives_tree given known_rows rows looks global own a are is (none_first _ _ none))
-    (gives_tree given known_rows rows looks global own b are is (none_second _ _ none))
+-- the code of an expression in which nothing is at fault gives its value
+pub gives_tree : (s : Setting) (own : List (List ℕ × ℤ)) (t : Tree) → IsSetting s → expr_refusal (context s) (names_of own) t ≡ None →
+    Gives s.given (numbers_of own) (height_of t) (code_in s own t) (value_in s own t)
+gives_tree s own (Constant n) is none = gives_number s.given (numbers_of own) (Number n) n (λ next stack. refl)
+gives_tree s own (Variable name line) is none = gives_variable s.given s.global own name line is.is none
+gives_tree s own (TagLook tag values line) is none = is.gives (numbers_of own) tag values line none
+gives_tree s own (Negation a) is none =
+    gives_not s.given (numbers_of own) (height_of a) _ _ (gives_tree s own a is none)
+gives_tree s own (Operation op a b) is none =
+    let parts = or_else-none (expr_refusal (context s) (names_of own) a) _ none in
+    gives_operation s.given (numbers_of own) (height_of a) (height_of b) op _ _ _ _
+    (gives_tree s own a is parts.0)
+    (gives_tree s own b is parts.1)
     (height_some a)
-gives_tree given known_rows rows looks global own (Choice a b c) are is none =
-    let others = none_second (expr_refusal known_rows (names_of global) (names_of own) a) _ none in
-    gives_choice given (numbers_of own) (height_of a) (height_of b) (height_of c) _ _ _ _ _ _
-    (gives_tree given known_rows rows looks global own a are is (none_first _ _ none))
-    (gives_tree given known_rows rows looks global own b are is (none_first _ _ others))
-    (gives_tree given known_rows rows looks global own c are is (none_second _ _ others))
+gives_tree s own (Choice a b c) is none =
+    let parts = or_else-none (expr_refusal (context s) (names_of own) a) _ none in
+    let arms = or_else-none (expr_refusal (context s) (names_of own) b) _ parts.1 in
+    gives_choice s.given (numbers_of own) (height_of a) (height_of b) (height_of c) _ _ _ _ _ _
+    (gives_tree s own a is parts.0)
+    (gives_tree s own b is arms.0)
+    (gives_tree s own c is arms.1)

@@ -9,55 +9,59 @@ use Rattle.profile_text.specs.Tree.{Tree, Constant, Variable, TagLook, Negation,
 use Rattle.profile_text.specs.declared.expr.Op.{Op}
 use Rattle.profile_text.specs.declared.expr.Op.TheVariants.{Or, And}
 
--- A number put among ascending ones, unless it is there.
+-- a number put among ascending ones, unless it is there
 abbrev pub put_ascending : ℕ → List ℕ → List ℕ
 put_ascending n [] = n ∷ []
-put_ascending n (m ∷ ms) = if nat_lt n m then n ∷ m ∷ ms else (if n == m then m ∷ ms else m ∷ put_ascending n ms)
+put_ascending n (m ∷ ms) =
+    if nat_lt n m then n ∷ m ∷ ms else (if n == m then m ∷ ms else m ∷ put_ascending n ms)
 
--- The same numbers, ascending and each once.
+-- the same numbers, ascending and each once
 abbrev pub ascending : List ℕ → List ℕ
 ascending [] = []
 ascending (n ∷ ns) = put_ascending n (ascending ns)
 
--- The operation of a look whose tag and values are known; no checked profile has another.
+-- the operation of a look whose tag and values are known; no checked profile has another
 abbrev pub look_instr : List ℕ → Option (ℕ × List ℕ) → Instr
 look_instr tag None = Number (pos 0)
 look_instr tag (Some look) = Look (record { name = tag; numbers = ascending look.1; tag = look.0 })
 
--- The operation of a variable that its section assigned last at one place, or else the global section at the other; no checked profile has another.
+-- the operation of a variable that its section assigned last at one place, or else the global section at the
+-- other; no checked profile has another
 abbrev pub variable_instr : Option ℕ → Option ℕ → Instr
 variable_instr (Some place) global = Own place
 variable_instr None (Some place) = Global place
 variable_instr None None = Number (pos 0)
 
--- The code of an operator from that of its operands.
+-- the code of an operator from that of its operands
 abbrev pub operation_code : Op → List Instr → List Instr → List Instr
 operation_code And a b = a ++ JumpZero (length b + 2) ∷ (b ++ Truth ∷ Jump 1 ∷ Number (pos 0) ∷ [])
 operation_code Or a b = a ++ JumpZero 2 ∷ Number (pos 1000000) ∷ Jump (length b + 1) ∷ (b ++ Truth ∷ [])
 operation_code op a b = a ++ (b ++ Two op ∷ [])
 
--- The code of a choice.
+-- the code of a choice
 abbrev pub choice_code : List Instr → List Instr → List Instr → List Instr
 choice_code a b c = a ++ JumpZero (length b + 1) ∷ (b ++ Jump (length c) ∷ c)
 
--- The code of an expression, after these names of the global section and its own.
+-- the code of an expression, after these names of the global section and its own
 abbrev pub expr_code : List TagRow → List (List ℕ) → List (List ℕ) → Tree → List Instr
 expr_code rows global own (Constant n) = Number n ∷ []
-expr_code rows global own (Variable name line) = variable_instr (last_place own name) (last_place global name) ∷ []
-expr_code rows global own (TagLook tag values line) = look_instr tag (look_at rows (place_of rows tag) values) ∷ []
+expr_code rows global own (Variable name line) =
+    variable_instr (last_place own name) (last_place global name) ∷ []
+expr_code rows global own (TagLook tag values line) =
+    look_instr tag (look_at rows (place_of rows tag) values) ∷ []
 expr_code rows global own (Negation a) = expr_code rows global own a ++ Not ∷ []
 expr_code rows global own (Operation op a b) =
     operation_code op (expr_code rows global own a) (expr_code rows global own b)
 expr_code rows global own (Choice a b c) =
     choice_code (expr_code rows global own a) (expr_code rows global own b) (expr_code rows global own c)
 
--- The code of assignments, after those of these names.
+-- the code of assignments, after those of these names
 abbrev pub section_code : List TagRow → List (List ℕ) → List (List ℕ) → List Assignment → List Instr
 section_code rows global own [] = []
 section_code rows global own (a ∷ rest) =
     expr_code rows global own a.value ++ Set ∷ section_code rows global (own ++ a.name ∷ []) rest
 
--- How many numbers an expression has on the stack at most.
+-- how many numbers an expression has on the stack at most
 abbrev pub height_of : Tree → ℕ
 height_of (Constant n) = 1
 height_of (Variable name line) = 1
@@ -66,7 +70,7 @@ height_of (Negation a) = height_of a
 height_of (Operation op a b) = max (height_of a) (suc (height_of b))
 height_of (Choice a b c) = max (height_of a) (max (height_of b) (height_of c))
 
--- How many the assignments of a section have.
+-- how many the assignments of a section have
 abbrev pub section_height : List Assignment → ℕ
 section_height [] = 0
 section_height (a ∷ rest) = max (height_of a.value) (section_height rest)

@@ -6,18 +6,19 @@ use Rattle.lookup_table.specs.declared.part.Part.{Part}
 use Rattle.lookup_table.specs.declared.part.Part.TheVariants.{Way, Node}
 use Rattle.profile_code.specs.declared.instr.Instr.{Instr}
 use Rattle.profile_code.specs.Emit.{section_code, section_height}
-use Rattle.profile_code.specs.Machine.{Ended, Finished, Stuck, run_of}
+use Rattle.profile_code.specs.Machine.{Ended, Given, Finished, Stuck, run_of}
 use Rattle.profile_text.specs.Meaning.{overridden}
 use Rattle.profile_text.specs.declared.kind.Section.{Section}
 use Rattle.profile_text.specs.declared.kind.Section.TheVariants as section
 use Rattle.profile_text.specs.Tree.{Assignment}
 
--- The code of a section, and the names that its assignments set, in order.
+-- the code of a section, and the names that its assignments set, in order
 pub record FlatSection : Type 0 where
   pub instrs : List Instr
   pub names : List (List ℕ)
 
--- The code of the three sections; how many tags the two parts of the tag table have; and how many numbers a stack holds at most.
+-- the code of the three sections; how many tags the two parts of the tag table have; and how many numbers a
+-- stack holds at most
 pub record Flat : Type 0 where
   pub global : FlatSection
   pub way : FlatSection
@@ -28,11 +29,11 @@ pub record Flat : Type 0 where
 
 -- ---- The code of a profile
 
--- The assignments of the global section under the overrides.
+-- the assignments of the global section under the overrides
 abbrev pub global_assignments : Subject → List Assignment
 global_assignments subject = map (overridden subject.overrides) subject.sections.global
 
--- The code of a checked profile.
+-- the code of a checked profile
 unfoldable pub flat_of : Subject → Flat
 flat_of subject = record {
   global = record {
@@ -55,34 +56,36 @@ flat_of subject = record {
 
 -- ---- The runs
 
--- The section of a part.
+-- the section of a part
 abbrev pub own_section : Flat → Part → FlatSection
 own_section flat Way = flat.way
 own_section flat Node = flat.node
 
--- The code of a section.
+-- the code of a section
 abbrev pub section_of : Flat → Section → FlatSection
 section_of flat section.Global = flat.global
 section_of flat section.Way = flat.way
 section_of flat section.Node = flat.node
 
--- How many tags a part has.
+-- how many tags a part has
 abbrev pub tags_of : Flat → Part → ℕ
 tags_of flat Way = flat.way_tags
 tags_of flat Node = flat.node_tags
 
--- The run of the global section.
+-- the run of the global section
 abbrev pub global_run : Flat → Ended
 global_run flat =
-    run_of (record { room = flat.room; most = length flat.global.names; numbers = []; global = [] }) flat.global.instrs
+    let given : Given = record { room = flat.room; most = length flat.global.names; numbers = []; global = [] } in
+    run_of given flat.global.instrs
 
--- The run of a part's section on tag numbers, after the values of the global section.
+-- the run of a part's section on tag numbers, after the values of the global section
 abbrev pub own_run : Flat → Part → List ℕ → List ℤ → Ended
 own_run flat part numbers values =
-    run_of (record { room = flat.room; most = length (own_section flat part).names; numbers = numbers; global = values })
-    (own_section flat part).instrs
+    let section = own_section flat part in
+    let given : Given = record { room = flat.room; most = length section.names; numbers = numbers; global = values } in
+    run_of given section.instrs
 
--- No run is ever in want of an operand, of room, of a variable or of a tag.
+-- no run is ever in want of an operand, of room, of a variable or of a tag
 pub record IsSafe (flat : Flat) : Type 0 where
   pub global : global_run flat ≢ Stuck
   pub own :

@@ -2,6 +2,6 @@
 use Rattle.profile_code.specs.Listing.{Naming}
 use Rattle.profile_code.specs.declared.labels.Labels.{Labels}
 
--- What the variables of a section are called.
+-- what the variables of a section are called
 abbrev pub naming_in : Labels → Naming
 naming_in labels = record { section = labels.section; own = labels.own.now; global = labels.global.now }

@@ -11,7 +11,7 @@ use Rattle.profile_text.specs.declared.expr.Op.TheVariants.{Or, And, Xor, Multip
 use Rattle.profile_text.specs.declared.kind.Section.{Section}
 use Rattle.profile_text.specs.declared.kind.Section.TheVariants as section
 
--- What the variables of a section are called: the section, its names, and those of the global one.
+-- what the variables of a section are called: the section, its names, and those of the global one
 pub record Naming : Type 0 where
   pub section : Section
   pub own : List (List ℕ)
@@ -19,7 +19,7 @@ pub record Naming : Type 0 where
 
 -- ---- Operations
 
--- The word of an operator.
+-- the word of an operator
 abbrev pub op_word : Op → List ℕ
 op_word Or = codes "or"
 op_word And = codes "and"
@@ -34,22 +34,22 @@ op_word Equal = codes "equal"
 op_word Greater = codes "greater"
 op_word Lesser = codes "lesser"
 
--- What the name of a section's own variable stands behind.
+-- what the name of a section's own variable stands behind
 abbrev pub own_word : Section → List ℕ
 own_word section.Global = codes "get global "
 own_word section.Way = codes "get way "
 own_word section.Node = codes "get node "
 
--- The name at a place.
+-- the name at a place
 abbrev pub name_at : List (List ℕ) → ℕ → List ℕ
 name_at names place = slice_index_or names place []
 
--- Numbers, each after a space.
+-- numbers, each after a space
 abbrev pub numbers_text : List ℕ → List ℕ
 numbers_text [] = []
 numbers_text (n ∷ ns) = (32 ∷ decimal n) ++ numbers_text ns
 
--- The text of an operation with this number, which sets the value at this place if it sets one.
+-- the text of an operation with this number, which sets the value at this place if it sets one
 abbrev pub instr_text : Naming → ℕ → ℕ → Instr → List ℕ
 instr_text naming number place (Number n) = codes "num " ++ mil6 n
 instr_text naming number place (Own at) = own_word naming.section ++ name_at naming.own at
@@ -64,7 +64,7 @@ instr_text naming number place Set = codes "set " ++ name_at naming.own place
 
 -- ---- Lines
 
--- How many values are set after an operation, where so many were before.
+-- how many values are set after an operation, where so many were before
 abbrev pub set_after : ℕ → Instr → ℕ
 set_after place Set = place + 1
 set_after place (Number n) = place
@@ -77,28 +77,30 @@ set_after place (Two op) = place
 set_after place (JumpZero passed) = place
 set_after place (Jump passed) = place
 
--- The line of an operation: its number, a space and its text.
+-- the line of an operation: its number, a space and its text
 abbrev pub line_text : Naming → ℕ → ℕ → Instr → List ℕ
 line_text naming number place instr = decimal number ++ (32 ∷ instr_text naming number place instr ++ 10 ∷ [])
 
--- The lines of operations whose first has this number, after so many values were set.
+-- the lines of operations whose first has this number, after so many values were set
 abbrev pub lines_text : Naming → ℕ → ℕ → List Instr → List ℕ
 lines_text naming number place [] = []
 lines_text naming number place (i ∷ rest) =
     line_text naming number place i ++ lines_text naming (number + 1) (set_after place i) rest
 
--- The line that opens a section.
+-- the line that opens a section
 abbrev pub section_line : Section → List ℕ
 section_line section.Global = codes "section global\n"
 section_line section.Way = codes "section way\n"
 section_line section.Node = codes "section node\n"
 
--- A section with its operations.
+-- a section with its operations
 abbrev pub section_text : Flat → Section → List ℕ
 section_text flat section =
-    section_line section
-    ++ lines_text (record { section = section; own = (section_of flat section).names; global = flat.global.names }) 0 0 (section_of flat section).instrs
+    let code = section_of flat section in
+    let naming : Naming = record { section = section; own = code.names; global = flat.global.names } in
+    section_line section ++ lines_text naming 0 0 code.instrs
 
--- The text of flat code.
+-- the text of flat code
 unfoldable pub listing_of : Flat → List ℕ
-listing_of flat = section_text flat section.Global ++ (section_text flat section.Way ++ section_text flat section.Node)
+listing_of flat =
+    section_text flat section.Global ++ (section_text flat section.Way ++ section_text flat section.Node)

@@ -5,13 +5,13 @@ use Rattle.profile_code.specs.declared.instr.Instr.TheVariants.{Number, Truth, T
 use Rattle.profile_text.specs.declared.expr.Op.{Op}
 use Rattle.profile_text.specs.declared.expr.Op.TheVariants.{Or, And}
 
--- What stands between the operands, where the second has so many operations.
+-- what stands between the operands, where the second has so many operations
 abbrev pub between : Op → ℕ → List Instr
 between And second = JumpZero (second + 2) ∷ []
 between Or second = JumpZero 2 ∷ Number (pos 1000000) ∷ Jump (second + 1) ∷ []
 between op second = []
 
--- What stands behind the second.
+-- what stands behind the second
 abbrev pub behind : Op → List Instr
 behind And = Truth ∷ Jump 1 ∷ Number (pos 0) ∷ []
 behind Or = Truth ∷ []

@@ -4,11 +4,11 @@ use Rattle.lookup_table.specs.First.{rows_of}
 use Rattle.lookup_table.specs.Tag.{TagRow}
 use Rattle.profile_code.specs.declared.scope.Tags.{Tags}
 
--- The tags of a part.
+-- the tags of a part
 abbrev pub part_rows : Tags → List TagRow
 part_rows tags = rows_of tags.table.now tags.part
 
--- The tags of a part, or none.
+-- the tags of a part, or none
 abbrev pub rows_in : Option Tags → List TagRow
 rows_in None = []
 rows_in (Some tags) = part_rows tags

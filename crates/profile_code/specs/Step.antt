@@ -5,16 +5,16 @@ use Rattle.profile_code.specs.Held.{Held}
 use Rattle.profile_code.specs.Machine.{Given, Ended, Faulted, Stuck, Next, act}
 use Rattle.profile_code.specs.declared.instr.Instr.{Instr}
 
--- What a run is given, where its stack and its values have this room.
+-- what a run is given, where its stack and its values have this room
 abbrev pub given_of : List ℕ → List ℤ → Held → Held → Given
 given_of numbers global stack own =
     record { room = stack.room; most = own.room; numbers = numbers; global = global }
 
--- The operation lacks nothing, whatever comes next.
+-- the operation lacks nothing, whatever comes next
 abbrev pub IsReady : Given → Instr → List ℤ → List ℤ → Type 0
 IsReady given instr stack own = (next : Next) × (act given instr next stack own ≢ Stuck)
 
--- The run goes on after so many operations that are passed, or ends with a fault.
+-- the run goes on after so many operations that are passed, or ends with a fault
 abbrev pub came_to : Result ℕ Arith → Next → List ℤ → List ℤ → Ended
 came_to (Ok passed) next stack own = next passed stack own
 came_to (Err kind) next stack own = Faulted (length own) kind

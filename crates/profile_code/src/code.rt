@@ -1,6 +1,6 @@
 //! The flat code of a profile.
 ghost use Rattle.std.specs.Prelude.{◌≡◌};
-ghost use Rattle.profile_code.specs.Flat.{FlatSection, IsSafe, own_section, section_of, tags_of};
+ghost use Rattle.profile_code.specs.Flat.{FlatSection, IsSafe, own_section, section_of};
 
 use crate::instr::Instr;
 use item_list::Items;
@@ -41,7 +41,8 @@ impl SectionCode {
     }
 }
 
-/// The code of the three sections, how many numbers a run has on the stack at most, and how many tags the parts have.
+/// The code of the three sections, how many numbers a run has on the stack at most, and how many
+/// tags the parts have.
 #[derive(Drop)]
 pub(crate) struct Parts {
     pub(crate) global: SectionCode,
@@ -68,6 +69,7 @@ impl Model for Parts {
 }
 
 impl Parts {
+    /// The code of a section.
     fn section(&self, section: Section) -> &SectionCode
         ensures value { result.now ≡ section_of self.now section }
     {
@@ -78,6 +80,7 @@ impl Parts {
         }
     }
 
+    /// The code of a part's section.
     fn own(&self, part: Part) -> &SectionCode
         ensures value { result.now ≡ own_section self.now part }
     {
@@ -87,15 +90,7 @@ impl Parts {
         }
     }
 
-    fn tags(&self, part: Part) -> u32
-        ensures value { result ≡ tags_of self.now part }
-    {
-        match part {
-            Part::Way => self.way_tags,
-            Part::Node => self.node_tags,
-        }
-    }
-
+    /// How many numbers a run has on the stack at most.
     fn room(&self) -> usize
         ensures value { result ≡ self.now.room }
     {
@@ -105,8 +100,8 @@ impl Parts {
 
 /// The flat code of a profile.
 ///
-/// Contracts see it as the code of its three sections, with what a run needs to know before it starts. No run of it is
-/// ever stuck.
+/// Contracts see it as the code of its three sections, with what a run needs to know before it
+/// starts. No run of it is ever stuck.
 #[derive(Drop)]
 pub struct Code {
     pub(crate) parts: Parts,
@@ -131,19 +126,28 @@ impl Code {
         self.parts.section(section)
     }
 
+    /// The operations of the global section, in order.
+    pub(crate) fn global_instrs(&self) -> &[Instr]
+        ensures value { result.now ≡ self.now.global.instrs }
+        ensures sound { IsSafe self.now }
+    {
+        self.section(Section::Global).instrs()
+    }
+
+    /// The operations of a part's section, in order.
+    pub(crate) fn own_instrs(&self, part: Part) -> &[Instr]
+        ensures value { result.now ≡ (own_section self.now part).instrs }
+        ensures sound { IsSafe self.now }
+    {
+        self.own(part).instrs()
+    }
+
     /// The code of a part's section.
     pub(crate) fn own(&self, part: Part) -> &SectionCode
         ensures value { result.now ≡ own_section self.now part }
         ensures sound { IsSafe self.now }
     {
         self.parts.own(part)
-    }
-
-    /// How many tags a part has.
-    pub(crate) fn tags(&self, part: Part) -> u32
-        ensures value { result ≡ tags_of self.now part }
-    {
-        self.parts.tags(part)
     }
 
     /// How many numbers a run has on the stack at most.

@@ -11,8 +11,8 @@ use crate::scope::Scope;
 use profile_text::{Expr, Names};
 use std::alloc::{AllocError, Global};
 
-/// Appends the operations of an expression, after these names of its section; and returns how many numbers they have
-/// on the stack at most.
+/// Appends the operations of an expression, after these names of its section; and returns how many
+/// numbers they have on the stack at most.
 pub(crate) fn emit(
     alloc: Global,
     scope: &Scope,
@@ -72,9 +72,10 @@ fn one(code: &mut Vec<Instr>, instr: Instr) -> Result<usize, AllocError>
     Ok(1)
 }
 
-/// A height above one more number; past the range of machine numbers it is answered as want of memory.
+/// A height above one more number; past the range of machine numbers it is answered as want of
+/// memory.
 fn above(height: usize) -> Result<usize, AllocError>
-    ensures value { IfOk result (λ higher. higher ≡ suc height) }
+    ensures exact { IfOk result (λ higher. higher ≡ suc height) }
 {
     height.checked_add(1).ok_or(AllocError)
 }

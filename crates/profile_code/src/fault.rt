@@ -2,7 +2,8 @@
 
 use fixed_num::Arith;
 
-/// A fault of arithmetic in the value of a variable: the place of its assignment in its section, from 0.
+/// A fault of arithmetic in the value of a variable: the place of its assignment in its section,
+/// from 0.
 #[derive(Clone, Copy, Debug, PartialEq, Eq)]
 pub struct Fault {
     pub variable: u32,

@@ -22,7 +22,7 @@ impl GlobalPlaces {
 
     /// Where these names are last.
     pub(crate) fn of(names: &Names) -> GlobalPlaces
-        ensures value { result ≡ global_places names.now }
+        ensures exact { result ≡ global_places names.now }
     {
         GlobalPlaces {
             uphillcost: names.last(b"uphillcost"),
@@ -37,7 +37,7 @@ impl GlobalPlaces {
 
     /// What these names come to where the section has these values, in their order.
     pub(crate) fn numbers(&self, values: &[Num]) -> [Num; 7]
-        ensures value { let at = value_at values.now in
+        ensures exact { let at = value_at values.now in
             result
             ≡ unwrap_or (at self.now.uphillcost) (pos 0)
             ∷ unwrap_or (at self.now.downhillcost) (pos 0)

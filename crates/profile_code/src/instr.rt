@@ -5,7 +5,8 @@ use item_list::Items;
 use lookup_table::Name;
 use profile_text::Op;
 
-/// A look at a tag: its name and its place in the part, and the numbers that it asks for, ascending and each once.
+/// A look at a tag: its name and its place in the part, and the numbers that it asks for, ascending
+/// and each once.
 #[derive(Drop)]
 pub(crate) struct Look {
     pub(crate) name: Name,

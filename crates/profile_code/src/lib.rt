@@ -1,4 +1,5 @@
-//! Profiles as flat code: operations with jumps on a stack, which give what the profile's expressions give.
+//! Profiles as flat code: operations with jumps on a stack, which give what the profile's
+//! expressions give.
 #![tactic(auto)]
 
 mod answers;
@@ -21,12 +22,6 @@ mod scratch;
 mod section;
 mod stack;
 mod step;
-#[cfg(test)]
-mod tests;
-#[cfg(test)]
-mod tests_faults;
-#[cfg(test)]
-mod tests_runs;
 mod values;
 mod way_effects;
 mod words;

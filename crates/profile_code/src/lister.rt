@@ -9,9 +9,10 @@ use crate::code::Code;
 use crate::instr::{Instr, Look};
 use crate::labels::Labels;
 use crate::words::{
-    append_number, append_numbers, append_two, name_at, op_word, own_word, section_line,
+    append_counted, append_numbers, append_two, name_at, op_word, own_word, section_line,
 };
 use fixed_num::SixDecimals;
+use item_list::append_bytes;
 use lookup_table::Name;
 use profile_text::Section;
 use std::alloc::{AllocError, Global};
@@ -47,7 +48,7 @@ fn append_section(text: &mut Vec<u8>, code: &Code, section: Section) -> Result<(
         global: code.section(Section::Global).names(),
         section,
     };
-    text.extend_from_slice(section_line(section))?;
+    append_bytes(text, section_line(section))?;
     append_lines(text, &labels, part.instrs())
 }
 
@@ -77,7 +78,7 @@ fn append_line(
     ensures value { let line = line_text (naming_in labels.now) number place instr.now in
         OnOk result (text.new.items ≡ text.old.items ++ line) }
 {
-    append_number(text, b"", number as u128)?;
+    append_counted(text, b"", number as u128)?;
     text.push(b' ')?;
     append_instr(text, labels, number, place, instr)?;
     text.push(b'\n')?;
@@ -103,11 +104,11 @@ fn append_instr(
         Instr::Own(at) => append_two(text, own_word(labels.section), name_at(labels.own, *at)),
         Instr::Global(at) => append_two(text, b"get global ", name_at(labels.global, *at)),
         Instr::Look(look) => append_look(text, look),
-        Instr::Not => text.extend_from_slice(b"not"),
-        Instr::Truth => text.extend_from_slice(b"bool"),
-        Instr::Two(op) => text.extend_from_slice(op_word(*op)),
-        Instr::JumpZero(passed) => append_number(text, b"jumpzero ", target(number, *passed)),
-        Instr::Jump(passed) => append_number(text, b"jump ", target(number, *passed)),
+        Instr::Not => append_bytes(text, b"not"),
+        Instr::Truth => append_bytes(text, b"bool"),
+        Instr::Two(op) => append_bytes(text, op_word(*op)),
+        Instr::JumpZero(passed) => append_counted(text, b"jumpzero ", target(number, *passed)),
+        Instr::Jump(passed) => append_counted(text, b"jump ", target(number, *passed)),
         Instr::Set => append_two(text, b"set ", name_at(labels.own, place)),
     }
 }
@@ -123,7 +124,7 @@ fn append_look(text: &mut Vec<u8>, look: &Look) -> Result<(), AllocError>
 
 /// The number of the operation to which one jumps.
 fn target(number: usize, passed: usize) -> u128
-    ensures value { result ≡ number + 1 + passed }
+    ensures exact { result ≡ number + 1 + passed }
 {
     number as u128 + 1 + passed as u128
 }

@@ -8,8 +8,8 @@ use fixed_num::Num;
 use profile_text::Op;
 use std::alloc::AllocError;
 
-/// Appends what stands between the operands of an operator, its jump for a second operand of no operation; and returns
-/// where the second one's operations begin.
+/// Appends what stands between the operands of an operator, its jump for a second operand of no
+/// operation; and returns where the second one's operations begin.
 pub(crate) fn begin_second(code: &mut Vec<Instr>, op: Op) -> Result<usize, AllocError>
     ensures value { OnOk result (code.new.items ≡ code.old.items ++ between op 0) }
     ensures fits { IfOk result (λ start. start ≡ length code.new.items) }
@@ -26,7 +26,8 @@ pub(crate) fn begin_second(code: &mut Vec<Instr>, op: Op) -> Result<usize, Alloc
     Ok(code.len())
 }
 
-/// Appends what stands behind the second operand, which begins at a place, and writes the jump over it.
+/// Appends what stands behind the second operand, which begins at a place, and writes the jump over
+/// it.
 pub(crate) fn end_second(code: &mut Vec<Instr>, op: Op, start: usize) -> Result<(), AllocError>
     requires begun { length (between op 0) ≤ start }
     requires within { start ≤ length code.old.items }
@@ -61,7 +62,7 @@ pub(crate) fn put(code: &mut Vec<Instr>, instr: Instr) -> Result<(), AllocError>
 
 /// The number of a truth.
 pub(crate) fn truth(holds: bool) -> Num
-    ensures value { result ≡ (if holds then pos 1000000 else pos 0) }
+    ensures exact { result ≡ (if holds then pos 1000000 else pos 0) }
 {
     let millionths = if holds { 1_000_000 } else { 0 };
     match Num::of(millionths) {

@@ -7,21 +7,21 @@ use profile_text::Op;
 
 /// The number of a truth.
 pub(crate) fn truth(holds: bool) -> Num
-    ensures value { result ≡ truth holds }
+    ensures exact { result ≡ truth holds }
 {
     Num::of(if holds { 1_000_000 } else { 0 }).unwrap()
 }
 
 /// Whether a number counts as true.
 pub(crate) fn is_true(number: Num) -> bool
-    ensures value { result ≡ is_true number }
+    ensures exact { result ≡ is_true number }
 {
     number.millionths() != 0
 }
 
 /// What an operator makes of two operands, where the first doesn't decide.
 pub(crate) fn result_of(op: Op, a: Num, b: Num) -> Result<Num, Arith>
-    ensures value { result ≡ result_of op a b }
+    ensures exact { result ≡ result_of op a b }
 {
     match op {
         Op::Or | Op::And => Ok(truth(is_true(b))),

@@ -42,7 +42,7 @@ pub(crate) fn run_section(
 /// The fault of the value after these.
 fn fault_after(own: &Values, kind: Arith) -> Fault
     requires fits { own.now.room < 2 ^ 32 }
-    ensures value { result ≡ record { variable = length own.now.numbers; kind = kind } }
+    ensures exact { result ≡ record { variable = length own.now.numbers; kind = kind } }
 {
     Fault {
         variable: own.as_slice().len() as u32,

@@ -10,8 +10,8 @@ pub(crate) struct Tags<'a> {
     pub(crate) part: Part,
 }
 
-/// What the expressions of a section may name: tags, where a part of the table belongs to it, and the names of the
-/// global section.
+/// What the expressions of a section may name: tags, where a part of the table belongs to it, and
+/// the names of the global section.
 #[derive(Clone, Copy)]
 pub(crate) struct Scope<'a> {
     pub(crate) tags: Option<Tags<'a>>,

@@ -10,8 +10,8 @@ use lookup_table::Part;
 use profile_text::Section;
 use std::alloc::{AllocError, Global};
 
-/// The stack and the values of the runs of one code, with where the names with an effect are assigned last: so a run
-/// takes no memory and looks for no name.
+/// The stack and the values of the runs of one code, with where the names with an effect are
+/// assigned last: so a run takes no memory and looks for no name.
 #[derive(Drop)]
 pub struct Scratch {
     pub(crate) stack: Stack,

@@ -56,14 +56,14 @@ pub(crate) fn step(
 /// The truth of a look among tag numbers.
 fn look_at(look: &Look, numbers: &[u16]) -> Num
     requires within { look.now.tag < length numbers.now }
-    ensures value { look_value look.now.numbers (slice_get numbers.now look.now.tag) ≡ Some result }
+    ensures exact { look_value look.now.numbers (slice_get numbers.now look.now.tag) ≡ Some result }
 {
     truth(is_listed(numbers[look.tag as usize], look.numbers.as_slice()))
 }
 
 /// Whether a number is among those that are asked for.
 fn is_listed(number: u16, asked: &[u16]) -> bool
-    ensures value { result ≡ is_listed number asked.now }
+    ensures exact { result ≡ is_listed number asked.now }
 {
     asked.contains(&number)
 }

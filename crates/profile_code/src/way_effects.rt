@@ -34,7 +34,7 @@ impl WayPlaces {
 
     /// Where these names are last.
     pub(crate) fn of(names: &Names) -> WayPlaces
-        ensures value { result ≡ way_places names.now }
+        ensures exact { result ≡ way_places names.now }
     {
         WayPlaces {
             costfactor: names.last(b"costfactor"),
@@ -49,7 +49,7 @@ impl WayPlaces {
 
     /// What a way with these values comes to.
     pub(crate) fn numbers(&self, values: &[Num]) -> WayValues
-        ensures value { let at = value_at values.now in
+        ensures exact { let at = value_at values.now in
             result
             ≡ record {
               costfactor = unwrap_or (at self.now.costfactor) (pos 0);

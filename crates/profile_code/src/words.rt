@@ -3,7 +3,7 @@ ghost use Rattle.std.specs.Prelude.{◌≡◌, ◌++◌, OnOk};
 ghost use Rattle.std.specs.Fmt.{decimal};
 ghost use Rattle.profile_code.specs.Listing.{name_at, numbers_text, op_word, own_word, section_line};
 
-use itoa::Buffer;
+use item_list::{append_bytes, append_wide};
 use profile_text::{Names, Op, Section};
 use std::alloc::AllocError;
 
@@ -11,16 +11,20 @@ use std::alloc::AllocError;
 pub(crate) fn append_two(text: &mut Vec<u8>, first: &[u8], second: &[u8]) -> Result<(), AllocError>
     ensures value { OnOk result (text.new.items ≡ text.old.items ++ (first.now ++ second.now)) }
 {
-    text.extend_from_slice(first)?;
-    text.extend_from_slice(second)
+    append_bytes(text, first)?;
+    append_bytes(text, second)
 }
 
 /// Appends a word and a number in decimal digits.
-pub(crate) fn append_number(text: &mut Vec<u8>, word: &[u8], number: u128) -> Result<(), AllocError>
+pub(crate) fn append_counted(
+    text: &mut Vec<u8>,
+    word: &[u8],
+    number: u128,
+) -> Result<(), AllocError>
     ensures value { OnOk result (text.new.items ≡ text.old.items ++ (word.now ++ decimal number)) }
 {
-    let mut buffer = Buffer::new();
-    append_two(text, word, buffer.format(number).as_bytes())
+    append_bytes(text, word)?;
+    append_wide(text, number)
 }
 
 /// Appends numbers, each after a space.
@@ -28,14 +32,14 @@ pub(crate) fn append_numbers(text: &mut Vec<u8>, numbers: &[u16]) -> Result<(), 
     ensures value { OnOk result (text.new.items ≡ text.old.items ++ numbers_text numbers.now) }
 {
     'numbers: for number in numbers {
-        append_number(text, b" ", u128::from(*number))?;
+        append_counted(text, b" ", u128::from(*number))?;
     }
     Ok(())
 }
 
 /// The name at a place.
 pub(crate) fn name_at(names: &Names, place: u32) -> &[u8]
-    ensures value { result.now ≡ name_at names.now place }
+    ensures exact { result.now ≡ name_at names.now place }
 {
     if place < names.len() {
         names.name(place).as_slice()
@@ -46,7 +50,7 @@ pub(crate) fn name_at(names: &Names, place: u32) -> &[u8]
 
 /// The line that opens a section.
 pub(crate) fn section_line(section: Section) -> &'static [u8]
-    ensures value { result.now ≡ section_line section }
+    ensures exact { result.now ≡ section_line section }
 {
     match section {
         Section::Global => b"section global\n",
@@ -57,7 +61,7 @@ pub(crate) fn section_line(section: Section) -> &'static [u8]
 
 /// What the name of a section's own variable stands behind.
 pub(crate) fn own_word(section: Section) -> &'static [u8]
-    ensures value { result.now ≡ own_word section }
+    ensures exact { result.now ≡ own_word section }
 {
     match section {
         Section::Global => b"get global ",
@@ -68,7 +72,7 @@ pub(crate) fn own_word(section: Section) -> &'static [u8]
 
 /// The word of an operator.
 pub(crate) fn op_word(op: Op) -> &'static [u8]
-    ensures value { result.now ≡ op_word op }
+    ensures exact { result.now ≡ op_word op }
 {
     match op {
         Op::Or => b"or",

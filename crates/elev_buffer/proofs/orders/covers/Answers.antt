@@ -1,6 +1,5 @@
-use Rattle.std.proofs.Common.{pos, ◌↔◌, IsTrue, arith}
+use Rattle.std.proofs.Common.{arith}
 use Rattle.std.proofs.lemmas.Int.{ints, to_z-of_z}
-use Rattle.elev_buffer.specs.Covers.{CoversLabel, terms, label}
 use Rattle.elev_buffer.proofs.CoverLemmas.{covers-trans, covers-kept, covers-sums}
 use Rattle.elev_buffer.proofs.orders.covers.Goals as goal
 

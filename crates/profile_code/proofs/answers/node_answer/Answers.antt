@@ -1,8 +1,25 @@
 use Rattle.lookup_table.specs.declared.part.Part.TheVariants.{Node}
 use Rattle.profile_code.proofs.AnswerLemmas.{own_ready}
+use Rattle.profile_code.specs.Runs.{part_run}
 use Rattle.profile_code.proofs.answers.node_answer.Goals as goal
 
 pub run_section-requires-clause-ready : goal.run_section-requires-clause-ready
 run_section-requires-clause-ready c =
-    let made = c.requires.made in
-    own_ready c.args.code.now Node c.args.numbers.now c.args.scratch.now.global.numbers c.as_slice-global.result.now c.args.scratch.now.stack c.args.scratch.now.node c.own.result.now c.instrs-instrs.result.now c.own.ensures.sound c.own.ensures.value c.instrs-instrs.ensures.value made.stack made.node c.as_slice-global.ensures.value c.requires.held c.requires.fits
+    let scratch = c.args.scratch.now in
+    let held = c.requires.held in
+    own_ready (part_run c.args.code.now Node c.args.numbers.now scratch)
+    (record {
+      instrs = c.own_instrs.result.now;
+      global = c.as_slice.result.now;
+      stack = scratch.stack;
+      own = scratch.node;
+    })
+    c.own_instrs.ensures.sound
+    (record {
+      instrs = c.own_instrs.ensures.value;
+      global = c.as_slice.ensures.value;
+      room = held.made.stack;
+      most = held.made.node;
+      ran = held.values;
+      fits = c.requires.fits;
+    })

@@ -5,4 +5,5 @@ use Rattle.profile_code.proofs.lister.append_lines.Given as goal
 
 abbrev pub invariant-lines : goal.invariant-lines
 invariant-lines l =
-    l.text.items ++ lines_text (naming_in l.labels) l.number l.place (drop l.number l.instrs) ≡ l.fn.text.items ++ lines_text (naming_in l.labels) 0 0 l.instrs
+    l.text.items ++ lines_text (naming_in l.labels) l.number l.place (drop l.number l.instrs) ≡ l.fn.text.items ++ lines_text
+    (naming_in l.labels) 0 0 l.instrs

@@ -3,4 +3,6 @@ use Rattle.profile_code.proofs.SectionLemmas.{EmittedUpTo, under}
 use Rattle.profile_code.proofs.section.section.Given as goal
 
 abbrev pub invariant-assigns : goal.invariant-assigns
-invariant-assigns l = EmittedUpTo (rows_in l.scope.tags) l.scope.global.now (under l.overrides l.assigns) l.assign-index l.instrs.items l.names l.height
+invariant-assigns l =
+    EmittedUpTo (rows_in l.scope.tags) l.scope.global.now (under l.overrides l.assigns) l.assign-index
+    (record { instrs = l.instrs.items; names = l.names; height = l.height })

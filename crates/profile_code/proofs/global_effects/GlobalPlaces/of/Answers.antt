@@ -1,7 +1,14 @@
-use Rattle.profile_code.proofs.EffectLemmas.{global_places_found}
 use Rattle.profile_code.proofs.global_effects.GlobalPlaces.of.Goals as goal
 
 pub returns : goal.returns
 returns c = record {
-  value = global_places_found c.args.names.now _ _ _ _ _ _ _ c.last.ensures.value c.last-2.ensures.value c.last-3.ensures.value c.last-4.ensures.value c.last-5.ensures.value c.last-6.ensures.value c.last-7.ensures.value;
+  exact = λ i. record {
+    uphillcost = c.last.ensures.value i;
+    downhillcost = c.last-2.ensures.value i;
+    uphillcutoff = c.last-3.ensures.value i;
+    downhillcutoff = c.last-4.ensures.value i;
+    elevationpenaltybuffer = c.last-5.ensures.value i;
+    elevationmaxbuffer = c.last-6.ensures.value i;
+    elevationbufferreduce = c.last-7.ensures.value i;
+  };
 }
