@@ -82,7 +82,7 @@ pub grid_rules-few : (plan : Plan) (costs : Costs) (from to : ℕ) → HasFewPer
 grid_rules-few plan costs from to cell [] chain lie = omega arith
 grid_rules-few plan costs from to cell (a ∷ []) chain lie = omega arith
 grid_rules-few plan costs from to cell (a ∷ (b ∷ rest)) chain lie =
-    let none = chain.1 0 b refl in
+    let none = chain.2 0 b refl in
     let cheaper : a.cost ≤ b.cost =
     (let h = none.1 (a.cost + 0) (b.cost + 0) (record { low = 0; is = refl; sum = refl }) (record { low = 0; is = refl; sum = refl }) in omega (arith, h)) in
     let covers : IsTrue (nat_eq a.state b.state && nat_le a.cost b.cost) =

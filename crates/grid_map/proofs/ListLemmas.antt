@@ -1,5 +1,5 @@
 -- The list of the lengths of a grid's segments.
-use Rattle.std.proofs.Common.{ℕ, ◌≡◌, ◌+◌, ◌*◌, ◌<◌, Bool, true, false, cond, List, [], ◌∷◌, ◌++◌, length, take, get_or, Option, Some, None, option_map, slice_get, unwrap_or, refl, sym, ap, ◌∙◌, subst, inl, inr, arith}
+use Rattle.std.proofs.Common.{ℕ, ◌≡◌, ◌+◌, ◌*◌, ◌<◌, Bool, true, false, cond, List, [], ◌∷◌, ◌++◌, length, take, get_or, Option, Some, None, option_map, slice_get, unwrap_or, refl, sym, ap, ◌∙◌, subst, arith}
 use Rattle.std.proofs.lemmas.List.{length-map, take_more}
 use Rattle.std.proofs.lemmas.Option.{slice_get-map, slice_get_within, get_or_from_slice_get}
 use Rattle.geo_int.specs.Place.{Place}
@@ -11,7 +11,7 @@ use Rattle.grid_map.specs.Plan.{cells_of, is_there}
 use Rattle.grid_map.specs.Segments.{numbers_of, segment_of, segments_of, place_of}
 use Rattle.grid_map.specs.Lengths.{cell_place, segment_length}
 use Rattle.grid_map.specs.Costs.{Costs, AreCheap, cost_at, listed_costs, length_costs, length_list}
-use Rattle.grid_map.specs.Walks.{Joins, IsGridWalk, stays, goes, HaveSameWalks}
+use Rattle.grid_map.specs.Walks.{Joins, forth, back, IsGridWalk, stays, goes, HaveSameWalks}
 use Rattle.grid_map.proofs.NumberLemmas.{IsNumber, numbers_of-within, place_of-is}
 use Rattle.grid_map.proofs.StepLemmas.{is_there-parts}
 use Rattle.grid_map.proofs.LengthLemmas.{segment_length-short}
@@ -120,17 +120,17 @@ same-walk plan these those joined (goes {from = from} {next = next} {cost = cost
 
 -- the listed lengths join what the lengths join
 listed-joins : (plan : Plan) (a b cost : ℕ) → Joins plan (listed_costs plan (length_list plan) (length_list plan)) a b cost → Joins plan (length_costs plan) a b cost
-listed-joins plan a b cost (k, inl g) =
-    (k, inl (record { there = g.there; start = g.start; end = g.end; permitted = sym (listed-length plan k g.there) ∙ g.permitted }))
-listed-joins plan a b cost (k, inr g) =
-    (k, inr (record { there = g.there; start = g.start; end = g.end; permitted = sym (listed-length plan k g.there) ∙ g.permitted }))
+listed-joins plan a b cost (forth k g) =
+    forth k (record { there = g.there; start = g.start; end = g.end; permitted = sym (listed-length plan k g.there) ∙ g.permitted })
+listed-joins plan a b cost (back k g) =
+    back k (record { there = g.there; start = g.start; end = g.end; permitted = sym (listed-length plan k g.there) ∙ g.permitted })
 
 -- the lengths join what the listed lengths join
 length-joins : (plan : Plan) (a b cost : ℕ) → Joins plan (length_costs plan) a b cost → Joins plan (listed_costs plan (length_list plan) (length_list plan)) a b cost
-length-joins plan a b cost (k, inl g) =
-    (k, inl (record { there = g.there; start = g.start; end = g.end; permitted = listed-length plan k g.there ∙ g.permitted }))
-length-joins plan a b cost (k, inr g) =
-    (k, inr (record { there = g.there; start = g.start; end = g.end; permitted = listed-length plan k g.there ∙ g.permitted }))
+length-joins plan a b cost (forth k g) =
+    forth k (record { there = g.there; start = g.start; end = g.end; permitted = listed-length plan k g.there ∙ g.permitted })
+length-joins plan a b cost (back k g) =
+    back k (record { there = g.there; start = g.start; end = g.end; permitted = listed-length plan k g.there ∙ g.permitted })
 
 -- the listed lengths permit the same walks as the lengths
 pub length_list-same_walks : (plan : Plan) (costs : List (Option ℕ)) → costs ≡ length_list plan → HaveSameWalks plan (listed_costs plan costs costs) (length_costs plan)
