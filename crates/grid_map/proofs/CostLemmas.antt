@@ -13,12 +13,15 @@ found-cheap costs cheap place cost None read is = cc
 found-cheap costs cheap place cost (Some entry) read is = cheap place cost cc
 
 -- a cost at a place of a list is one of the list's
-cost_at-cheap : (costs : List (Option ℕ)) → AreCheap costs → (place : Option ℕ) (cost : ℕ) → cost_at costs place ≡ Some cost → cost < COST_BOUND
+cost_at-cheap :
+    (costs : List (Option ℕ)) → AreCheap costs → (place : Option ℕ) (cost : ℕ) → cost_at costs place ≡ Some cost → cost < COST_BOUND
 cost_at-cheap costs cheap None cost is = cc
 cost_at-cheap costs cheap (Some place) cost is = found-cheap costs cheap place cost (slice_get costs place) refl is
 
 -- what joins two cells is one of the lists' costs
 pub Joins-cheap : (plan : Plan) (forward backward : List (Option ℕ)) (a b cost : ℕ) → AreCheap forward → AreCheap backward →
     Joins plan (listed_costs plan forward backward) a b cost → cost < COST_BOUND
-Joins-cheap plan forward backward a b cost cheap cheap_back (forth k goes) = cost_at-cheap forward cheap (place_of plan k) cost goes.permitted
-Joins-cheap plan forward backward a b cost cheap cheap_back (back k goes) = cost_at-cheap backward cheap_back (place_of plan k) cost goes.permitted
+Joins-cheap plan forward backward a b cost cheap cheap_back (forth k goes) =
+    cost_at-cheap forward cheap (place_of plan k) cost goes.permitted
+Joins-cheap plan forward backward a b cost cheap cheap_back (back k goes) =
+    cost_at-cheap backward cheap_back (place_of plan k) cost goes.permitted

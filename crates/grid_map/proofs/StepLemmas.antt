@@ -203,7 +203,8 @@ cond-le : {X : Type 0} (m n : ℕ) (x y : X) → m ≤ n → cond (nat_le m n) x
 cond-le m n x y le = ap (λ (b : Bool). cond b x y) (le-leb m n le)
 
 -- a segment of even number is a step east of its first cell
-east-steps : (plan : Plan) (costs : Costs) (a b cost k : ℕ) → k ≡ 2 * start_of k → GoesForward plan costs a b cost k → StepsTo plan costs a b cost
+east-steps :
+    (plan : Plan) (costs : Costs) (a b cost k : ℕ) → k ≡ 2 * start_of k → GoesForward plan costs a b cost k → StepsTo plan costs a b cost
 unfolding step_of
 east-steps plan costs a b cost k even goes =
     let number : 2 * a ≡ k = omega (arith, goes.start) in
@@ -214,7 +215,9 @@ east-steps plan costs a b cost k even goes =
     }
 
 -- a segment of odd number is a step north of its first cell
-north-steps : (plan : Plan) (costs : Costs) (a b cost k : ℕ) → k ≡ 2 * start_of k + 1 → GoesForward plan costs a b cost k → StepsTo plan costs a b cost
+north-steps :
+    (plan : Plan) (costs : Costs) (a b cost k : ℕ) → k ≡ 2 * start_of k + 1 → GoesForward plan costs a b cost k →
+    StepsTo plan costs a b cost
 unfolding step_of
 north-steps plan costs a b cost k odd goes =
     let number : 2 * a + 1 ≡ k = omega (arith, goes.start) in
@@ -225,7 +228,8 @@ north-steps plan costs a b cost k odd goes =
     }
 
 -- a segment of even number is a step west of its second cell
-west-steps : (plan : Plan) (costs : Costs) (a b cost k : ℕ) → k ≡ 2 * start_of k → GoesBackward plan costs a b cost k → StepsTo plan costs a b cost
+west-steps :
+    (plan : Plan) (costs : Costs) (a b cost k : ℕ) → k ≡ 2 * start_of k → GoesBackward plan costs a b cost k → StepsTo plan costs a b cost
 unfolding step_of
 west-steps plan costs a b cost k even goes =
     let beside : a ≡ start_of k + 1 = sym goes.end ∙ ap (end_of plan) even ∙ end_of-east plan (start_of k) in
@@ -239,7 +243,9 @@ west-steps plan costs a b cost k even goes =
     }
 
 -- a segment of odd number is a step south of its second cell
-south-steps : (plan : Plan) (costs : Costs) (a b cost k : ℕ) → k ≡ 2 * start_of k + 1 → GoesBackward plan costs a b cost k → StepsTo plan costs a b cost
+south-steps :
+    (plan : Plan) (costs : Costs) (a b cost k : ℕ) → k ≡ 2 * start_of k + 1 → GoesBackward plan costs a b cost k →
+    StepsTo plan costs a b cost
 south-steps plan costs a b cost k odd goes =
     let above : a ≡ start_of k + plan.width = sym goes.end ∙ ap (end_of plan) odd ∙ end_of-north plan (start_of k) in
     let number : 2 * (a - plan.width) + 1 ≡ k = omega arith in

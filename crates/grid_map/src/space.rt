@@ -25,7 +25,8 @@ pub struct GridSpace<'a> {
     ghost lawful: { IsPlan grid.now },
     ghost forward_fits: { length forward.now ≡ length (segments_of grid.now) },
     ghost backward_fits: { length backward.now ≡ length (segments_of grid.now) },
-    ghost keeps: { IsSpace (grid_rules grid.now (listed_costs grid.now forward.now backward.now) from to) },
+    ghost keeps: { let costs = listed_costs grid.now forward.now backward.now in
+        IsSpace (grid_rules grid.now costs from to) },
 }
 
 impl<'a> GridSpace<'a> {

@@ -15,6 +15,10 @@ returns c =
     let cells = ap cells_of c.self.view_is in
     record {
       exact = read.segment ∙ ap Some (sym c.segment.ensures.exact);
-      inside = (omega (arith, within.start, cells, ap (λ s. s.a) c.segment.ensures.exact), omega (arith, within.end, cells, ap (λ s. s.b) c.segment.ensures.exact));
+      inside = (
+        omega (arith, within.start, cells, ap (λ s. s.a) c.segment.ensures.exact),
+        omega
+            (arith, within.end, cells, ap (λ s. s.b) c.segment.ensures.exact),
+      );
       lawful = subst IsPlan c.self.view_is c.self.invariant.lawful;
     }

@@ -8,8 +8,8 @@ invariant_of-result c = record {
   forward_fits = c.requires.forward;
   backward_fits = c.requires.backward;
   keeps =
-      grid_rules-keeps_laws c.args.grid.now c.args.forward.now c.args.backward.now c.args.from c.args.to c.cells-cells.ensures.lawful c.requires.from
-      c.requires.forward_cheap c.requires.backward_cheap;
+      grid_rules-keeps_laws c.args.grid.now c.args.forward.now c.args.backward.now c.args.from c.args.to
+      c.cells-cells.ensures.lawful c.requires.forward_cheap c.requires.backward_cheap c.requires.from;
 }
 
 pub returns-clause-lawful : goal.returns-clause-lawful

@@ -12,17 +12,20 @@ returns-in_err-checked_sub-in-2 c =
 pub returns-in_err-checked_sub-in_default : goal.returns-in_err-checked_sub-in_default
 returns-in_err-checked_sub-in_default c =
     let last : 2 < c.args.number = omega arith in
-    let first : c.args.state.now < c.args.self.now.grid.now.width = omega (arith, c.in_err-checked_sub-in_default.ensures, c.width.ensures.exact) in
+    let first : c.args.state.now < c.args.self.now.grid.now.width =
+    omega (arith, c.in_err-checked_sub-in_default.ensures, c.width.ensures.exact) in
     record {
       value = c.from_residual-in_err-checked_sub-in_default.ensures
           ∙ step_of-no_south c.args.self.now.grid.now (costs_of c.args.self.now) _ _ last first;
     }
 
 pub returns-in-0 : goal.returns-in-0
-returns-in-0 c = record { value = c.forward_step.ensures ∙ step_of-is_east c.args.self.now.grid.now (costs_of c.args.self.now) _ _ c.in-0.is }
+returns-in-0 c =
+    record { value = c.forward_step.ensures ∙ step_of-is_east c.args.self.now.grid.now (costs_of c.args.self.now) _ _ c.in-0.is }
 
 pub returns-in-1 : goal.returns-in-1
-returns-in-1 c = record { value = c.forward_step-in-1.ensures ∙ step_of-is_north c.args.self.now.grid.now (costs_of c.args.self.now) _ _ c.in-1.is }
+returns-in-1 c =
+    record { value = c.forward_step-in-1.ensures ∙ step_of-is_north c.args.self.now.grid.now (costs_of c.args.self.now) _ _ c.in-1.is }
 
 pub returns-in_ok-checked_sub-in-2 : goal.returns-in_ok-checked_sub-in-2
 returns-in_ok-checked_sub-in-2 c =
