@@ -30,7 +30,8 @@ whole_root-le : (n most : ℕ) → n < (most + 1) * (most + 1) → whole_root n 
 unfolding whole_root
 whole_root-le n most above =
     elim (cases_lt most (root_up_to n n)) [
-      | inl more ↦ absurd (omega (arith, root_up_to-square n n, mul-le (most + 1) (most + 1) (root_up_to n n) (root_up_to n n) (omega arith) (omega arith)))
+      | inl more ↦ absurd
+          (omega (arith, root_up_to-square n n, mul-le (most + 1) (most + 1) (root_up_to n n) (root_up_to n n) (omega arith) (omega arith)))
       | inr within ↦ within
     ]
 
@@ -44,7 +45,8 @@ near-difference : (m n most : ℕ) → m ≤ n → n ≤ m + most → unsigned_a
 near-difference m n most low high = grind (arith, ints)
 
 -- a thousandth of a degree to the east is at most 111,320 millimetres
-east_part-le : (degrees cosine : ℤ) → unsigned_abs degrees ≤ 1000 → unsigned_abs cosine ≤ 1000000000 → unsigned_abs (east_part degrees cosine) ≤ 111320
+east_part-le :
+    (degrees cosine : ℤ) → unsigned_abs degrees ≤ 1000 → unsigned_abs cosine ≤ 1000000000 → unsigned_abs (east_part degrees cosine) ≤ 111320
 unfolding east_part
 east_part-le degrees cosine d c =
     let e : unsigned_abs (degrees *ℤ pos 11132 *ℤ cosine) ≤ 1000 * 11132 * 1000000000 = east_product_le degrees cosine 1000 d c in
@@ -62,7 +64,13 @@ length_of-le : (east north : ℤ) → unsigned_abs east ≤ 111320 → unsigned_
 unfolding length_of
 length_of-le east north e n =
     let squares : square_sum east north ≤ 111320 * 111320 + 111320 * 111320 =
-    omega (arith, square_sum-is east north, mul-le (unsigned_abs east) (unsigned_abs east) 111320 111320 e e, mul-le (unsigned_abs north) (unsigned_abs north) 111320 111320 n n) in
+    omega (
+      arith,
+      square_sum-is east north,
+      mul-le (unsigned_abs east) (unsigned_abs east) 111320 111320 e e,
+      mul-le (unsigned_abs north)
+          (unsigned_abs north) 111320 111320 n n,
+    ) in
     whole_root-le (square_sum east north) 100000000 (omega arith)
 
 -- two cells that lie side by side
@@ -77,7 +85,8 @@ beside-short : (plan : Plan) (a b : ℕ) → IsBeside plan a b → length_betwee
 unfolding length_between east_between north_between
 beside-short plan a b beside =
     let lon : unsigned_abs (pos (1000 * column_of plan b) -ℤ pos (1000 * column_of plan a)) ≤ 1000 =
-    near-difference (1000 * column_of plan a) (1000 * column_of plan b) 1000 (omega (arith, beside.column_low)) (omega (arith, beside.column_high)) in
+    near-difference (1000 * column_of plan a) (1000 * column_of plan b) 1000 (omega (arith, beside.column_low))
+    (omega (arith, beside.column_high)) in
     let lat : unsigned_abs (pos (1000 * row_of plan b) -ℤ pos (1000 * row_of plan a)) ≤ 1000 =
     near-difference (1000 * row_of plan a) (1000 * row_of plan b) 1000 (omega (arith, beside.row_low)) (omega (arith, beside.row_high)) in
     length_of-le _ _
@@ -88,8 +97,10 @@ beside-short plan a b beside =
 east-beside : (plan : Plan) (n : ℕ) → n % plan.width + 1 < plan.width → IsBeside plan n (n + 1)
 east-beside plan n room =
     let split : n + 1 ≡ n / plan.width * plan.width + (n % plan.width + 1) = omega (arith, div-add-mod' n plan.width) in
-    let column : (n + 1) % plan.width ≡ n % plan.width + 1 = ap (λ m. m % plan.width) split ∙ mod-mul-add (n / plan.width) plan.width (n % plan.width + 1) room in
-    let row : (n + 1) / plan.width ≡ n / plan.width = ap (λ m. m / plan.width) split ∙ div-mul-add (n / plan.width) plan.width (n % plan.width + 1) room in
+    let column : (n + 1) % plan.width ≡ n % plan.width + 1 =
+    ap (λ m. m % plan.width) split ∙ mod-mul-add (n / plan.width) plan.width (n % plan.width + 1) room in
+    let row : (n + 1) / plan.width ≡ n / plan.width =
+    ap (λ m. m / plan.width) split ∙ div-mul-add (n / plan.width) plan.width (n % plan.width + 1) room in
     record { column_low = omega arith; column_high = omega arith; row_low = omega arith; row_high = omega arith }
 
 -- the cell a row further lies beside
@@ -97,8 +108,10 @@ north-beside : (plan : Plan) (n : ℕ) → 0 < plan.width → IsBeside plan n (n
 north-beside plan n some =
     let below : n % plan.width < plan.width = mod_below n plan.width some in
     let split : n + plan.width ≡ (n / plan.width + 1) * plan.width + n % plan.width = omega (arith, div-add-mod' n plan.width) in
-    let column : (n + plan.width) % plan.width ≡ n % plan.width = ap (λ m. m % plan.width) split ∙ mod-mul-add (n / plan.width + 1) plan.width (n % plan.width) below in
-    let row : (n + plan.width) / plan.width ≡ n / plan.width + 1 = ap (λ m. m / plan.width) split ∙ div-mul-add (n / plan.width + 1) plan.width (n % plan.width) below in
+    let column : (n + plan.width) % plan.width ≡ n % plan.width =
+    ap (λ m. m % plan.width) split ∙ mod-mul-add (n / plan.width + 1) plan.width (n % plan.width) below in
+    let row : (n + plan.width) / plan.width ≡ n / plan.width + 1 =
+    ap (λ m. m / plan.width) split ∙ div-mul-add (n / plan.width + 1) plan.width (n % plan.width) below in
     record { column_low = omega arith; column_high = omega arith; row_low = omega arith; row_high = omega arith }
 
 -- the cells of a segment that is there lie side by side

@@ -3,7 +3,6 @@ pub mod StepLemmas
 pub mod CostLemmas
 pub mod LawLemmas
 pub mod RunLemmas
-pub mod MadeLemmas
 pub mod AnswerLemmas
 pub mod LengthLemmas
 pub mod WalkLemmas

@@ -1,5 +1,5 @@
 -- The list of the lengths of a grid's segments.
-use Rattle.std.proofs.Common.{ℕ, ◌≡◌, ◌+◌, ◌*◌, ◌<◌, Bool, true, false, cond, List, [], ◌∷◌, ◌++◌, length, take, get_or, Option, Some, None, option_map, slice_get, unwrap_or, refl, sym, ap, ◌∙◌, subst, inl, inr, arith}
+use Rattle.std.proofs.Common.{ℕ, ◌≡◌, ◌+◌, ◌*◌, ◌<◌, Bool, true, false, cond, List, [], ◌∷◌, ◌++◌, length, take, get_or, Option, Some, None, option_map, slice_get, unwrap_or, refl, sym, ap, ◌∙◌, subst, arith}
 use Rattle.std.proofs.lemmas.List.{length-map, take_more}
 use Rattle.std.proofs.lemmas.Option.{slice_get-map, slice_get_within, get_or_from_slice_get}
 use Rattle.geo_int.specs.Place.{Place}
@@ -11,7 +11,7 @@ use Rattle.grid_map.specs.Plan.{cells_of, is_there}
 use Rattle.grid_map.specs.Segments.{numbers_of, segment_of, segments_of, place_of}
 use Rattle.grid_map.specs.Lengths.{cell_place, segment_length}
 use Rattle.grid_map.specs.Costs.{Costs, AreCheap, cost_at, listed_costs, length_costs, length_list}
-use Rattle.grid_map.specs.Walks.{Joins, IsGridWalk, stays, goes, HaveSameWalks}
+use Rattle.grid_map.specs.Walks.{Joins, forth, back, IsGridWalk, stays, goes, HaveSameWalks}
 use Rattle.grid_map.proofs.NumberLemmas.{IsNumber, numbers_of-within, place_of-is}
 use Rattle.grid_map.proofs.StepLemmas.{is_there-parts}
 use Rattle.grid_map.proofs.LengthLemmas.{segment_length-short}
@@ -29,9 +29,12 @@ pub record IsSegmentAt (plan : Plan) (i : ℕ) (segment : GridSegment) : Type 0 
   pub number : IsNumber plan k
 
 -- the segment that was read at a place has the number there
-pub segments_of-at : (plan : Plan) (i : ℕ) (segment : GridSegment) → slice_get (segments_of plan) i ≡ Some segment → IsSegmentAt plan i segment
+pub segments_of-at :
+    (plan : Plan) (i : ℕ) (segment : GridSegment) → slice_get (segments_of plan) i ≡ Some segment → IsSegmentAt plan i segment
 segments_of-at plan i segment read =
-    let found = mapped-some (segment_of plan) segment (slice_get (numbers_of plan) i) (sym (slice_get-map (segment_of plan) (numbers_of plan) i) ∙ read) in
+    let found =
+    mapped-some (segment_of plan) segment (slice_get (numbers_of plan) i)
+    (sym (slice_get-map (segment_of plan) (numbers_of plan) i) ∙ read) in
     record { k = found.0; at = found.1; is = found.2; number = numbers_of-within plan i found.0 found.1 }
 
 -- the length of the segment at a place
@@ -59,7 +62,8 @@ pub record AreEnds (plan : Plan) (segment : GridSegment) (a b : Place) : Type 0 
 between-ends : (plan : Plan) (i : ℕ) (segment : GridSegment) (a b : Place) → (at : IsSegmentAt plan i segment) → AreEnds plan segment a b →
     segment_length plan at.k ≡ length_between a b
 between-ends plan i segment a b at ends =
-    segment-length_is plan i segment at ∙ ap (λ p. length_between p (cell_place plan segment.b)) (sym ends.first) ∙ ap (length_between a) (sym ends.second)
+    segment-length_is plan i segment at ∙ ap (λ p. length_between p (cell_place plan segment.b)) (sym ends.first) ∙ ap (length_between a)
+    (sym ends.second)
 
 -- what was measured at a place stands there in the list of the lengths
 pub length_list-at : (plan : Plan) (i : ℕ) (segment : GridSegment) (a b : Place) (found : Arrow) (measured : ℕ) →
@@ -67,7 +71,8 @@ pub length_list-at : (plan : Plan) (i : ℕ) (segment : GridSegment) (a b : Plac
     slice_get (length_list plan) i ≡ Some (Some measured)
 length_list-at plan i segment a b found measured read ends is len =
     let at = segments_of-at plan i segment read in
-    let length_is : segment_length plan at.k ≡ measured = between-ends plan i segment a b at ends ∙ sym (arrow_between-length a b found is) ∙ sym len in
+    let length_is : segment_length plan at.k ≡ measured =
+    between-ends plan i segment a b at ends ∙ sym (arrow_between-length a b found is) ∙ sym len in
     slice_get-map (λ k. Some (segment_length plan k)) (numbers_of plan) i
     ∙ ap (option_map (λ k. Some (segment_length plan k))) at.at
     ∙ ap (λ (n : ℕ). Some (Some n)) length_is
@@ -109,7 +114,8 @@ listed-length plan k there =
     let found = place_of-is plan k (record { below = below; there = there }) in
     ap (cost_at (length_list plan)) found.1
     ∙ ap (λ (entry : Option (Option ℕ)). unwrap_or entry None)
-    (slice_get-map (λ k. Some (segment_length plan k)) (numbers_of plan) found.0 ∙ ap (option_map (λ k. Some (segment_length plan k))) found.2)
+    (slice_get-map (λ k. Some (segment_length plan k)) (numbers_of plan) found.0 ∙ ap (option_map (λ k. Some (segment_length plan k)))
+    found.2)
 
 -- a walk by other costs that join the same cells at the same costs
 same-walk : (plan : Plan) (these those : Costs) → ((a b cost : ℕ) → Joins plan these a b cost → Joins plan those a b cost) →
@@ -119,21 +125,27 @@ same-walk plan these those joined (goes {from = from} {next = next} {cost = cost
     goes (joined from next cost joins) (same-walk plan these those joined walk)
 
 -- the listed lengths join what the lengths join
-listed-joins : (plan : Plan) (a b cost : ℕ) → Joins plan (listed_costs plan (length_list plan) (length_list plan)) a b cost → Joins plan (length_costs plan) a b cost
-listed-joins plan a b cost (k, inl g) =
-    (k, inl (record { there = g.there; start = g.start; end = g.end; permitted = sym (listed-length plan k g.there) ∙ g.permitted }))
-listed-joins plan a b cost (k, inr g) =
-    (k, inr (record { there = g.there; start = g.start; end = g.end; permitted = sym (listed-length plan k g.there) ∙ g.permitted }))
+listed-joins :
+    (plan : Plan) (a b cost : ℕ) → Joins plan (listed_costs plan (length_list plan) (length_list plan)) a b cost →
+    Joins plan (length_costs plan) a b cost
+listed-joins plan a b cost (forth k g) =
+    forth k (record { there = g.there; start = g.start; end = g.end; permitted = sym (listed-length plan k g.there) ∙ g.permitted })
+listed-joins plan a b cost (back k g) =
+    back k (record { there = g.there; start = g.start; end = g.end; permitted = sym (listed-length plan k g.there) ∙ g.permitted })
 
 -- the lengths join what the listed lengths join
-length-joins : (plan : Plan) (a b cost : ℕ) → Joins plan (length_costs plan) a b cost → Joins plan (listed_costs plan (length_list plan) (length_list plan)) a b cost
-length-joins plan a b cost (k, inl g) =
-    (k, inl (record { there = g.there; start = g.start; end = g.end; permitted = listed-length plan k g.there ∙ g.permitted }))
-length-joins plan a b cost (k, inr g) =
-    (k, inr (record { there = g.there; start = g.start; end = g.end; permitted = listed-length plan k g.there ∙ g.permitted }))
+length-joins :
+    (plan : Plan) (a b cost : ℕ) → Joins plan (length_costs plan) a b cost →
+    Joins plan (listed_costs plan (length_list plan) (length_list plan)) a b cost
+length-joins plan a b cost (forth k g) =
+    forth k (record { there = g.there; start = g.start; end = g.end; permitted = listed-length plan k g.there ∙ g.permitted })
+length-joins plan a b cost (back k g) =
+    back k (record { there = g.there; start = g.start; end = g.end; permitted = listed-length plan k g.there ∙ g.permitted })
 
 -- the listed lengths permit the same walks as the lengths
-pub length_list-same_walks : (plan : Plan) (costs : List (Option ℕ)) → costs ≡ length_list plan → HaveSameWalks plan (listed_costs plan costs costs) (length_costs plan)
+pub length_list-same_walks :
+    (plan : Plan) (costs : List (Option ℕ)) → costs ≡ length_list plan →
+    HaveSameWalks plan (listed_costs plan costs costs) (length_costs plan)
 length_list-same_walks plan costs are =
     let P : List (Option ℕ) → Type 0 = λ list. HaveSameWalks plan (listed_costs plan list list) (length_costs plan) in
     subst P (sym are) (record {

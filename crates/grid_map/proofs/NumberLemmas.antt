@@ -2,13 +2,13 @@
 use Rattle.std.proofs.Common.{ℕ, zero, suc, ◌≡◌, ◌+◌, ◌*◌, ◌<◌, ◌≤◌, Bool, true, false, cond, List, [], ◌∷◌, ◌++◌, length, map, filter, get_or, Option, Some, None, refl, sym, ap, ◌∙◌, inl, inr, arith, ◌⊎◌, append-nil, option_map, subst}
 use Rattle.std.specs.List.{range_with_len, slice_get}
 use Rattle.std.proofs.lemmas.List.{length-map}
-use Rattle.std.proofs.lemmas.List.FromFn.{get_or-map-range_with_len}
+use Rattle.std.proofs.lemmas.List.FromFn.{get_or-map-range_with_len, length-map-range_with_len}
 use Rattle.std.proofs.lemmas.Bool.{cases_Bool}
 use Rattle.std.proofs.lemmas.Nat.{mul-le}
 use Rattle.std.proofs.lemmas.Option.{slice_get-get_or, slice_get-map, slice_get_within}
 use Rattle.grid_map.specs.declared.plan.Plan.{Plan}
 use Rattle.grid_map.specs.Plan.{IsPlan, cells_of, is_there}
-use Rattle.grid_map.specs.Segments.{numbers_below, numbers_of, segment_of, segments_of, place_of}
+use Rattle.grid_map.specs.Segments.{numbers_below, numbers_of, segment_of, segments_of, place_of, HasPlace}
 
 -- a front that may have one more element before it
 cond-append : (b : Bool) (x : ℕ) (xs ys : List ℕ) → cond b (x ∷ (xs ++ ys)) (xs ++ ys) ≡ cond b (x ∷ xs) xs ++ ys
@@ -168,24 +168,24 @@ place_of-some plan k place below is =
           cc
     ]
 
--- the place that was read for a number is its place
-pub place_of-read : (plan : Plan) (places : List (Option ℕ)) (k : ℕ) (read : Option ℕ) → k < 2 * cells_of plan →
-    places ≡ map (place_of plan) (range_with_len 0 (2 * cells_of plan)) → read ≡ get_or places k read → read ≡ place_of plan k
-place_of-read plan places k read below are is =
-    is ∙ ap (λ (xs : List (Option ℕ)). get_or xs k read) are
-    ∙ get_or-map-range_with_len (place_of plan) 0 (2 * cells_of plan) k k read below (omega arith)
+-- a number that has a place is one of a segment that is there
+pub has_place : (plan : Plan) (k place : ℕ) → k < 2 * cells_of plan → place_of plan k ≡ Some place → HasPlace plan k place
+has_place plan k place below is =
+    let known = place_of-some plan k place below is in
+    record { there = known.0; within = omega (arith, known.1, length-map (numbers_of plan) (segment_of plan)) }
 
--- what is known of a place that was read for a number
-pub record ReadsPlace (plan : Plan) (k place : ℕ) : Type 0 where
-  pub is : place_of plan k ≡ Some place
-  pub there : is_there plan k ≡ true
-  pub within : place < length (numbers_of plan)
+-- the places of all numbers, where the grid is the one that is kept
+module _ (kept plan : Plan) (places : List (Option ℕ)) (same : kept ≡ plan)
+    (are : places ≡ map (place_of kept) (range_with_len 0 (2 * cells_of kept))) where
+  of_plan : places ≡ map (place_of plan) (range_with_len 0 (2 * cells_of plan))
+  of_plan = subst (λ (p : Plan). places ≡ map (place_of p) (range_with_len 0 (2 * cells_of p))) same are
 
--- a place that was read for a number is its place
-pub place_of-read_some : (plan : Plan) (places : List (Option ℕ)) (k place : ℕ) (read : Option ℕ) → k < 2 * cells_of plan →
-    places ≡ map (place_of plan) (range_with_len 0 (2 * cells_of plan)) → read ≡ get_or places k read → read ≡ Some place →
-    ReadsPlace plan k place
-place_of-read_some plan places k place read below are is was =
-    let place_is : place_of plan k ≡ Some place = sym (place_of-read plan places k read below are is) ∙ was in
-    let known = place_of-some plan k place below place_is in
-    record { is = place_is; there = known.0; within = known.1 }
+  -- there is a place for each number
+  pub places-length : length places ≡ 2 * cells_of plan
+  places-length = ap length of_plan ∙ length-map-range_with_len (place_of plan) 0 (2 * cells_of plan)
+
+  -- the place that was read for a number is its place
+  pub place-read : (k : ℕ) (read : Option ℕ) → k < 2 * cells_of plan → read ≡ get_or places k read → read ≡ place_of plan k
+  place-read k read below is =
+      is ∙ ap (λ (xs : List (Option ℕ)). get_or xs k read) of_plan
+      ∙ get_or-map-range_with_len (place_of plan) 0 (2 * cells_of plan) k k read below (omega arith)

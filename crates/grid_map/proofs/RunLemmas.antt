@@ -37,11 +37,13 @@ module _ (plan : Plan) (costs : Costs) (from to : ℕ) where
   walks_on : {state cost end total : ℕ} {numbers : List ℕ} → Walks rules state cost numbers end total →
       WalksOn state end (states_along rules state numbers) cost total
   walks_on {state} {cost} rests = record { rest = 0; sum = omega arith; walk = stays }
-  walks_on (steps {state = state} {next = next} {end = end} {cost = cost} {more = more} {total = total} {number = number} {numbers = numbers} below is walk) =
+  walks_on (steps {state = state} {next = next} {end = end} {cost = cost} {more = more} {total = total} {number = number}
+      {numbers = numbers} below is walk) =
       walk_on state next end cost more total number numbers is (walks_on walk)
 
   -- a run is a walk from the first cell
-  run_is_walk : {choices : List ℕ} {end cost : ℕ} → IsRun rules choices end cost → IsGridWalk plan costs from end (states_of rules choices) cost
+  run_is_walk :
+      {choices : List ℕ} {end cost : ℕ} → IsRun rules choices end cost → IsGridWalk plan costs from end (states_of rules choices) cost
   run_is_walk (starts {state = state} {end = end} {cost = cost} {total = total} {number = number} {numbers = numbers} below is walk) =
       let same : ◌≡◌ {A = ℕ × ℕ} (from, 0) (state, cost) = cc in
       let here : state ≡ from = sym (ap (λ (p : ℕ × ℕ). p.0) same) in
@@ -69,11 +71,14 @@ module _ (plan : Plan) (costs : Costs) (from to : ℕ) where
       record {
         numbers = step.number ∷ along.numbers;
         walks = subst P all (steps step.within step.leads along.walks);
-        cells_are = ap (λ (cell : ℕ). state ∷ states_along rules cell along.numbers) next_is ∙ ap (λ (more_cells : List ℕ). state ∷ more_cells) along.cells_are;
+        cells_are =
+            ap (λ (cell : ℕ). state ∷ states_along rules cell along.numbers) next_is ∙ ap (λ (more_cells : List ℕ). state ∷ more_cells)
+            along.cells_are;
       }
 
   -- a walk is made of steps of a run
-  steps_along : {state end rest : ℕ} {cells : List ℕ} (cost : ℕ) → IsGridWalk plan costs state end cells rest → StepsAlong state end cells cost rest
+  steps_along :
+      {state end rest : ℕ} {cells : List ℕ} (cost : ℕ) → IsGridWalk plan costs state end cells rest → StepsAlong state end cells cost rest
   steps_along cost (stays {cell = cell}) =
       let all : cost ≡ cost + 0 = omega arith in
       let P : ℕ → Type 0 = λ total. Walks rules cell cost [] cell total in

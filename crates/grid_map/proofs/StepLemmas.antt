@@ -6,7 +6,7 @@ use Rattle.std.proofs.Math.Nat.{div-add-mod, mul-div-le, lt-mul-div-succ, lt_of_
 use Rattle.grid_map.specs.declared.plan.Plan.{Plan}
 use Rattle.grid_map.specs.Plan.{cells_of, is_east, start_of, end_of, has_room, is_there}
 use Rattle.grid_map.specs.Costs.{Costs}
-use Rattle.grid_map.specs.Walks.{GoesForward, GoesBackward, Joins}
+use Rattle.grid_map.specs.Walks.{GoesForward, GoesBackward, Joins, forth, back}
 use Rattle.grid_map.specs.Space.{reached, step_forward, step_backward, step_of}
 
 -- a value that a test lets through
@@ -129,11 +129,11 @@ is_there-within plan k some there =
 
 -- a joined cell lies in the grid
 pub Joins-within : (plan : Plan) (costs : Costs) (a b cost : ℕ) → 1 ≤ plan.width → Joins plan costs a b cost → b < cells_of plan
-Joins-within plan costs a b cost some (k, inl goes) =
+Joins-within plan costs a b cost some (forth k goes) =
     let within = is_there-within plan k some goes.there in
     let end = goes.end in
     omega (arith, within.end, goes.end)
-Joins-within plan costs a b cost some (k, inr goes) =
+Joins-within plan costs a b cost some (back k goes) =
     let within = is_there-within plan k some goes.there in
     omega (arith, within.start, goes.start)
 
@@ -142,14 +142,14 @@ step_forward-joins : (plan : Plan) (costs : Costs) (k cell next cost : ℕ) → 
     step_forward plan costs k ≡ Some (next, cost) → Joins plan costs cell next cost
 step_forward-joins plan costs k cell next cost from is =
     let goes = step_forward-goes plan costs k next cost is in
-    (k, inl (record { there = goes.there; start = from; end = goes.end; permitted = goes.permitted }))
+    forth k (record { there = goes.there; start = from; end = goes.end; permitted = goes.permitted })
 
 -- a step back along a segment to a cell joins the cell to where it leads
 step_backward-joins : (plan : Plan) (costs : Costs) (k cell next cost : ℕ) → end_of plan k ≡ cell →
     step_backward plan costs k ≡ Some (next, cost) → Joins plan costs cell next cost
 step_backward-joins plan costs k cell next cost from is =
     let goes = step_backward-goes plan costs k next cost is in
-    (k, inr (record { there = goes.there; start = goes.start; end = from; permitted = goes.permitted }))
+    back k (record { there = goes.there; start = goes.start; end = from; permitted = goes.permitted })
 
 -- a choice by a test that fails
 cond-no : {X : Type 0} (b : Bool) (x y : X) → b ≡ false → cond b x y ≡ y
@@ -180,13 +180,13 @@ step_of-joins plan costs cell (suc zero) next cost is =
 step_of-joins plan costs cell (suc (suc zero)) next cost is =
     let west = cond-some (nat_le 1 cell) _ _ is in
     let some : 1 ≤ cell = leb-true 1 cell west.0 in
-    let back : cell - 1 + 1 ≡ cell = omega arith in
-    step_backward-joins plan costs (2 * (cell - 1)) cell next cost (end_of-east plan (cell - 1) ∙ back) west.1
+    let behind : cell - 1 + 1 ≡ cell = omega arith in
+    step_backward-joins plan costs (2 * (cell - 1)) cell next cost (end_of-east plan (cell - 1) ∙ behind) west.1
 step_of-joins plan costs cell (suc (suc (suc number))) next cost is =
     let south = cond-some (nat_le plan.width cell) _ _ (sym (step_of-south plan costs cell (suc (suc (suc number))) (omega arith)) ∙ is) in
     let some : plan.width ≤ cell = leb-true plan.width cell south.0 in
-    let back : cell - plan.width + plan.width ≡ cell = omega arith in
-    step_backward-joins plan costs (2 * (cell - plan.width) + 1) cell next cost (end_of-north plan (cell - plan.width) ∙ back) south.1
+    let behind : cell - plan.width + plan.width ≡ cell = omega arith in
+    step_backward-joins plan costs (2 * (cell - plan.width) + 1) cell next cost (end_of-north plan (cell - plan.width) ∙ behind) south.1
 
 -- what is known of a step that leads to a cell
 pub record StepsTo (plan : Plan) (costs : Costs) (a b cost : ℕ) : Type 0 where
@@ -203,7 +203,8 @@ cond-le : {X : Type 0} (m n : ℕ) (x y : X) → m ≤ n → cond (nat_le m n) x
 cond-le m n x y le = ap (λ (b : Bool). cond b x y) (le-leb m n le)
 
 -- a segment of even number is a step east of its first cell
-east-steps : (plan : Plan) (costs : Costs) (a b cost k : ℕ) → k ≡ 2 * start_of k → GoesForward plan costs a b cost k → StepsTo plan costs a b cost
+east-steps :
+    (plan : Plan) (costs : Costs) (a b cost k : ℕ) → k ≡ 2 * start_of k → GoesForward plan costs a b cost k → StepsTo plan costs a b cost
 unfolding step_of
 east-steps plan costs a b cost k even goes =
     let number : 2 * a ≡ k = omega (arith, goes.start) in
@@ -214,7 +215,9 @@ east-steps plan costs a b cost k even goes =
     }
 
 -- a segment of odd number is a step north of its first cell
-north-steps : (plan : Plan) (costs : Costs) (a b cost k : ℕ) → k ≡ 2 * start_of k + 1 → GoesForward plan costs a b cost k → StepsTo plan costs a b cost
+north-steps :
+    (plan : Plan) (costs : Costs) (a b cost k : ℕ) → k ≡ 2 * start_of k + 1 → GoesForward plan costs a b cost k →
+    StepsTo plan costs a b cost
 unfolding step_of
 north-steps plan costs a b cost k odd goes =
     let number : 2 * a + 1 ≡ k = omega (arith, goes.start) in
@@ -225,7 +228,8 @@ north-steps plan costs a b cost k odd goes =
     }
 
 -- a segment of even number is a step west of its second cell
-west-steps : (plan : Plan) (costs : Costs) (a b cost k : ℕ) → k ≡ 2 * start_of k → GoesBackward plan costs a b cost k → StepsTo plan costs a b cost
+west-steps :
+    (plan : Plan) (costs : Costs) (a b cost k : ℕ) → k ≡ 2 * start_of k → GoesBackward plan costs a b cost k → StepsTo plan costs a b cost
 unfolding step_of
 west-steps plan costs a b cost k even goes =
     let beside : a ≡ start_of k + 1 = sym goes.end ∙ ap (end_of plan) even ∙ end_of-east plan (start_of k) in
@@ -239,7 +243,9 @@ west-steps plan costs a b cost k even goes =
     }
 
 -- a segment of odd number is a step south of its second cell
-south-steps : (plan : Plan) (costs : Costs) (a b cost k : ℕ) → k ≡ 2 * start_of k + 1 → GoesBackward plan costs a b cost k → StepsTo plan costs a b cost
+south-steps :
+    (plan : Plan) (costs : Costs) (a b cost k : ℕ) → k ≡ 2 * start_of k + 1 → GoesBackward plan costs a b cost k →
+    StepsTo plan costs a b cost
 south-steps plan costs a b cost k odd goes =
     let above : a ≡ start_of k + plan.width = sym goes.end ∙ ap (end_of plan) odd ∙ end_of-north plan (start_of k) in
     let number : 2 * (a - plan.width) + 1 ≡ k = omega arith in
@@ -253,12 +259,12 @@ south-steps plan costs a b cost k odd goes =
 
 -- each joined cell is reached by a step
 pub Joins-steps : (plan : Plan) (costs : Costs) (a b cost : ℕ) → Joins plan costs a b cost → StepsTo plan costs a b cost
-Joins-steps plan costs a b cost (k, inl goes) =
+Joins-steps plan costs a b cost (forth k goes) =
     elim (halves k) [
       | inl even ↦ east-steps plan costs a b cost k even goes
       | inr odd ↦ north-steps plan costs a b cost k odd goes
     ]
-Joins-steps plan costs a b cost (k, inr goes) =
+Joins-steps plan costs a b cost (back k goes) =
     elim (halves k) [
       | inl even ↦ west-steps plan costs a b cost k even goes
       | inr odd ↦ south-steps plan costs a b cost k odd goes

@@ -7,8 +7,8 @@ use Rattle.grid_map.specs.Space.{grid_rules}
 
 -- what its segments cost
 abbrev pub costs_of : GridSpace → Costs
-costs_of space = listed_costs space.plan space.forward.items space.backward.items
+costs_of space = listed_costs space.grid.now space.forward.now space.backward.now
 
 -- the rules of a grid's space
 abbrev pub rules_of : GridSpace → Rules ℕ
-rules_of space = grid_rules space.plan (costs_of space) space.from space.to
+rules_of space = grid_rules space.grid.now (costs_of space) space.from space.to

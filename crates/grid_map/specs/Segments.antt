@@ -1,5 +1,5 @@
 -- The list of a grid's segments (this project's own rule).
-use Rattle.std.specs.Prelude.{ℕ, ◌*◌, List, length, map, filter, Option, Some, None, cond}
+use Rattle.std.specs.Prelude.{ℕ, ◌<◌, ◌*◌, IsTrue, List, length, map, filter, Option, Some, None, cond}
 use Rattle.std.specs.List.{range_with_len}
 use Rattle.grid_map.specs.declared.plan.Plan.{Plan}
 use Rattle.grid_map.specs.declared.segment.GridSegment.{GridSegment}
@@ -25,3 +25,8 @@ segments_of plan = map (segment_of plan) (numbers_of plan)
 -- the place of a number in the list of the segments, if the grid has that segment
 unfoldable pub place_of : Plan → ℕ → Option ℕ
 place_of plan k = cond (is_there plan k) (Some (length (numbers_below plan k))) None
+
+-- the grid has the segment of this number, which stands at this place
+pub record HasPlace (plan : Plan) (k place : ℕ) : Type 0 where
+  pub there : IsTrue (is_there plan k)
+  pub within : place < length (segments_of plan)

@@ -29,8 +29,8 @@ step_of plan costs cell number =
     (cond (nat_le 1 cell) (step_backward plan costs (2 * (cell - 1))) None)
     (cond (nat_le plan.width cell) (step_backward plan costs (2 * (cell - plan.width) + 1)) None)))
 
--- The space of a grid: each cell is a state, the one start is the first cell, the goal the other. A cell
--- at a cost covers itself at each cost that isn't below, and nothing is known of what is still to pay.
+-- the space of a grid: each cell is a state, the one start is the first cell, the goal the other. A cell
+-- at a cost covers itself at each cost that isn't below, and nothing is known of what is still to pay
 abbrev pub grid_rules : Plan → Costs → ℕ → ℕ → Rules ℕ
 grid_rules plan costs from to =
     record {

@@ -1,5 +1,5 @@
 -- Walks across a grid (this project's own rule).
-use Rattle.std.specs.Prelude.{ℕ, ◌≡◌, ◌≤◌, ◌+◌, ◌⊎◌, List, [], ◌∷◌, Some, IsTrue}
+use Rattle.std.specs.Prelude.{ℕ, ◌≡◌, ◌≤◌, ◌+◌, List, [], ◌∷◌, Some, IsTrue}
 use Rattle.grid_map.specs.declared.plan.Plan.{Plan}
 use Rattle.grid_map.specs.Plan.{is_there, start_of, end_of}
 use Rattle.grid_map.specs.Costs.{Costs}
@@ -19,9 +19,9 @@ pub record GoesBackward (plan : Plan) (costs : Costs) (a b cost k : ℕ) : Type 
   pub permitted : costs.backward k ≡ Some cost
 
 -- a segment leads from a to b in a direction that isn't forbidden, at this cost
-abbrev pub Joins : Plan → Costs → ℕ → ℕ → ℕ → Type 0
-Joins plan costs a b cost =
-    (k : ℕ) × (GoesForward plan costs a b cost k ⊎ GoesBackward plan costs a b cost k)
+pub data Joins (plan : Plan) (costs : Costs) (a b cost : ℕ) : Type 0 where
+  forth : (k : ℕ) → GoesForward plan costs a b cost k → Joins plan costs a b cost
+  back : (k : ℕ) → GoesBackward plan costs a b cost k → Joins plan costs a b cost
 
 -- a walk from one cell to another over these cells, the first and the last among them, at this cost
 pub data IsGridWalk (plan : Plan) (costs : Costs) : ℕ → ℕ → List ℕ → ℕ → Type 0 where

@@ -1,11 +1,10 @@
 //! A grid that a number makes.
 
-ghost use Rattle.std.specs.Prelude.{◌≡◌, ◌+◌, ◌*◌, ◌<◌, [], ◌∷◌, ◌++◌, Some, IfOk, OnOk, length};
-ghost use Rattle.std.specs.Prelude.{map, slice_get};
-ghost use Rattle.std.specs.List.{range_with_len};
+ghost use Rattle.std.specs.Prelude.{ℕ, ◌≡◌, ◌+◌, ◌*◌, ◌<◌, [], ◌∷◌, ◌++◌, Some, IfOk, OnOk, length};
+ghost use Rattle.std.specs.Prelude.{slice_get};
 ghost use Rattle.grid_map.specs.declared.plan.Plan.{Plan};
-ghost use Rattle.grid_map.specs.Plan.{IsPlan, plan_of, cells_of};
-ghost use Rattle.grid_map.specs.Segments.{segments_of, numbers_below, place_of};
+ghost use Rattle.grid_map.specs.Plan.{IsPlan, plan_of, cells_of, end_of};
+ghost use Rattle.grid_map.specs.Segments.{segments_of, numbers_below, place_of, HasPlace};
 ghost use Rattle.grid_map.specs.Lengths.{cell_place};
 ghost use Rattle.geo_int.specs.Spot.{place_of as place_of_spot};
 
@@ -60,9 +59,25 @@ impl Grid {
         })
     }
 
+    /// How many cells a row has.
+    pub fn width(&self) -> u32
+        ensures exact { result ≡ self.now.width }
+        ensures lawful { IsPlan self.now }
+    {
+        self.plan.width
+    }
+
+    /// How many rows there are.
+    pub fn height(&self) -> u32
+        ensures exact { result ≡ self.now.height }
+        ensures lawful { IsPlan self.now }
+    {
+        self.plan.height
+    }
+
     /// How many segments the grid has.
     pub fn segments(&self) -> u32
-        ensures value { result ≡ length (segments_of self.now) }
+        ensures exact { result ≡ length (segments_of self.now) }
         ensures lawful { IsPlan self.now }
     {
         self.numbers.len() as u32
@@ -71,7 +86,7 @@ impl Grid {
     /// The segment at this place; the segments stand in the order of their numbers.
     pub fn segment(&self, i: u32) -> GridSegment
         requires within { i < length (segments_of self.now) }
-        ensures value { slice_get (segments_of self.now) i ≡ Some result }
+        ensures exact { slice_get (segments_of self.now) i ≡ Some result }
         ensures inside { (result.a < cells_of self.now) × (result.b < cells_of self.now) }
         ensures lawful { IsPlan self.now }
     {
@@ -81,7 +96,7 @@ impl Grid {
     /// Where a cell lies: a thousandth of a degree for each column and row.
     pub fn spot(&self, node: u32) -> Spot
         requires within { node < cells_of self.now }
-        ensures value { place_of_spot result ≡ cell_place self.now node }
+        ensures exact { place_of_spot result ≡ cell_place self.now node }
     {
         Spot {
             ilon: 180_000_000 + 1000 * (node % self.plan.width),
@@ -89,24 +104,33 @@ impl Grid {
         }
     }
 
-    // What the grid was made from.
-    pub(crate) fn plan(&self) -> Plan
-        ensures value { result ≡ self.now }
-        ensures lawful { IsPlan result }
+    /// How many cells the grid has.
+    pub(crate) fn cells(&self) -> u32
+        ensures exact { result ≡ cells_of self.now }
+        ensures lawful { IsPlan self.now }
     {
-        self.plan
+        self.plan.cells()
     }
 
-    // The place of each number, in a list of its own.
-    pub(crate) fn places(&self, alloc: Global) -> Result<Vec<Option<u32>>, AllocError>
-        ensures value { let numbers = range_with_len 0 (2 * cells_of self.now) in
-            IfOk result (λ places. places.items ≡ map (place_of self.now) numbers) }
+    /// The cell to which the segment of this number goes.
+    pub(crate) fn end(&self, k: u32) -> u32
+        requires within { k < 2 * cells_of self.now }
+        ensures exact { result ≡ end_of self.now k }
     {
-        Vec::from_slice(alloc, self.places.as_slice())
+        self.plan.end(k)
+    }
+
+    /// The place of the segment of this number, if the grid has it.
+    pub(crate) fn place(&self, k: u32) -> Option<u32>
+        requires within { k < 2 * cells_of self.now }
+        ensures exact { result ≡ place_of self.now k }
+        ensures fits { (place : ℕ) → result ≡ Some place → HasPlace self.now k place }
+    {
+        self.places[k as usize]
     }
 }
 
-// Notes the place of the next number, and the number itself where the grid has its segment.
+/// Notes the place of the next number, and the number itself where the grid has its segment.
 fn take_number(
     plan: Plan,
     k: u32,

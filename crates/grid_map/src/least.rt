@@ -44,7 +44,7 @@ pub fn least_walk(
         (HasNoGridWalk grid.now costs from to)
         (λ walk. IsLeastGridWalk grid.now costs from to walk.cells walk.cost)) }
 {
-    let space = GridSpace::new(alloc, grid, forward, backward, from, to)?;
+    let space = GridSpace::new(grid, forward, backward, from, to);
     let limit = space.cells() as u64;
     match least(alloc, &space, limit)? {
         Outcome::Found { choices, cost } => {

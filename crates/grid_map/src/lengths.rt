@@ -1,7 +1,6 @@
 //! The lengths of a grid's segments, as what it costs to go along them.
 
 ghost use Rattle.std.specs.Prelude.{◌≡◌, ◌<◌, Some, IfOk, length, slice_get};
-ghost use Rattle.grid_map.specs.declared.plan.Plan.{Plan};
 ghost use Rattle.grid_map.specs.Segments.{segments_of};
 ghost use Rattle.grid_map.specs.Costs.{AreCheap, listed_costs, length_costs, length_list};
 ghost use Rattle.grid_map.specs.Walks.{HaveSameWalks};
@@ -27,7 +26,7 @@ pub fn segment_lengths(alloc: Global, grid: &Grid) -> Result<Items<Option<u128>>
     Ok(Items::from_vec(costs))
 }
 
-// The length of the segment at this place.
+/// The length of the segment at this place.
 fn length_at(grid: &Grid, i: u32) -> u128
     requires { i < length (segments_of grid.now) }
     ensures { slice_get (length_list grid.now) i ≡ Some (Some result) }

@@ -7,8 +7,6 @@ mod lengths;
 mod plan;
 mod segment;
 mod space;
-#[cfg(test)]
-mod tests;
 mod walk;
 
 pub use grid::Grid;

@@ -1,6 +1,6 @@
 //! What a grid is made from, and what follows from it for each number of a segment.
 
-ghost use Rattle.std.specs.Prelude.{◌≡◌, ◌*◌, ◌<◌, ◌≤◌, IsTrue};
+ghost use Rattle.std.specs.Prelude.{◌≡◌, ◌*◌, ◌<◌, ◌≤◌};
 ghost use Rattle.grid_map.specs.Plan.{IsPlan, cells_of, draw_of, has_room, is_there, end_of};
 ghost use Rattle.grid_map.specs.Plan.{class_of};
 ghost use Rattle.grid_map.specs.Segments.{segment_of};
@@ -19,7 +19,7 @@ impl Plan {
     /// How many cells there are.
     pub(crate) fn cells(self) -> u32
         requires lawful { IsPlan self }
-        ensures value { result ≡ cells_of self }
+        ensures exact { result ≡ cells_of self }
         ensures within { result ≤ 1000000 }
     {
         self.width * self.height
@@ -30,7 +30,7 @@ impl Plan {
     pub(crate) fn is_there(self, k: u32) -> bool
         requires lawful { IsPlan self }
         requires within { k < 2 * cells_of self }
-        ensures value { result ≡ is_there self k }
+        ensures exact { result ≡ is_there self k }
     {
         self.has_room(k) && self.draw(k) % 4 != 0
     }
@@ -40,7 +40,7 @@ impl Plan {
     pub(crate) fn segment(self, k: u32) -> GridSegment
         requires lawful { IsPlan self }
         requires within { k < 2 * cells_of self }
-        ensures value { result ≡ segment_of self k }
+        ensures exact { result ≡ segment_of self k }
     {
         GridSegment {
             k,
@@ -55,7 +55,7 @@ impl Plan {
     pub(crate) fn end(self, k: u32) -> u32
         requires lawful { IsPlan self }
         requires within { k < 2 * cells_of self }
-        ensures value { result ≡ end_of self k }
+        ensures exact { result ≡ end_of self k }
     {
         if k % 2 == 0 {
             k / 2 + 1
@@ -64,11 +64,12 @@ impl Plan {
         }
     }
 
+    /// Whether the cell to which the segment of this number goes lies in the grid.
     #[tactic(auto, unfolding(crate::specs::Plan::has_room))]
     fn has_room(self, k: u32) -> bool
         requires lawful { IsPlan self }
         requires within { k < 2 * cells_of self }
-        ensures value { result ≡ has_room self k }
+        ensures exact { result ≡ has_room self k }
     {
         let cell = k / 2;
         if k % 2 == 0 {
@@ -78,11 +79,12 @@ impl Plan {
         }
     }
 
+    /// The number that the seed draws for the segment of this number.
     #[tactic(auto, unfolding(crate::specs::Plan::draw_of))]
     fn draw(self, k: u32) -> u32
         requires lawful { IsPlan self }
         requires within { k < 2 * cells_of self }
-        ensures value { result ≡ draw_of self.seed k }
+        ensures exact { result ≡ draw_of self.seed k }
     {
         let number = k as u64;
         let mixed = (self.seed as u64 + 1) * (number + 1) * 40503 + number * number;

@@ -1,5 +1,5 @@
 -- The strip of cells that is searched: a state is a cell and what is due there, and four steps lead to the
--- neighbours of a cell. This project's own rule.
+-- neighbours of a cell. This project's own rule
 use Rattle.std.specs.Prelude.{ℕ, ◌+◌, ◌-◌, Bool, true, false, cond, ◌==◌, nat_lt, Option, Some, None}
 use Rattle.space_search.specs.Rules.{Rules}
 
@@ -11,7 +11,7 @@ ahead cells by place = cond (nat_lt (place + by) cells) (Some (place + by)) None
 abbrev pub back : ℕ → ℕ → Option ℕ
 back by place = cond (nat_lt place by) None (Some (place - by))
 
--- The cell to which the step of a number leads: one cell or one row ahead, or one cell or one row back.
+-- the cell to which the step of a number leads: one cell or one row ahead, or one cell or one row back
 abbrev pub neighbour : ℕ → ℕ → ℕ → ℕ → Option ℕ
 neighbour cells width number place =
     cond (number == 0) (ahead cells 1 place)
@@ -24,11 +24,12 @@ step_to due number (Some place) = Some ((place, due), number + 1)
 
 -- the same cell with no more due, at no greater cost
 abbrev pub strip_covers : ℕ × ℕ → ℕ → ℕ × ℕ → ℕ → Bool
-strip_covers a ca b cb = cond (a.0 == b.0) (cond (nat_lt b.1 a.1) false (cond (nat_lt cb ca) false true)) false
+strip_covers a ca b cb =
+    cond (a.0 == b.0) (cond (nat_lt b.1 a.1) false (cond (nat_lt cb ca) false true)) false
 
--- The space of so many cells, in rows of a width, with so many starts in the first cell and so many steps
+-- the space of so many cells, in rows of a width, with so many starts in the first cell and so many steps
 -- of a state. The more is due at a start the less it costs, so that no start covers another. Nothing is a
--- goal.
+-- goal
 abbrev pub strip_rules : ℕ → ℕ → ℕ → ℕ → Rules (ℕ × ℕ)
 strip_rules cells width starts steps =
     record {

@@ -36,11 +36,14 @@ far : (cells width n place : ℕ) → neighbour cells width (suc (suc (suc n))) 
 far cells width n place = grind (arith, nat_tests)
 
 -- a neighbour of a cell on the strip lies on the strip
-neighbour-below : (cells width number place next : ℕ) → place < cells → neighbour cells width number place ≡ Some next → next < cells
+neighbour-below :
+    (cells width number place next : ℕ) → place < cells → neighbour cells width number place ≡ Some next →
+    next < cells
 neighbour-below cells width zero place next within is = ahead-below cells 1 place next is
 neighbour-below cells width (suc zero) place next within is = ahead-below cells width place next is
 neighbour-below cells width (suc (suc zero)) place next within is = back-below cells 1 place next within is
-neighbour-below cells width (suc (suc (suc n))) place next within is = back-below cells width place next within (sym (far cells width n place) ∙ is)
+neighbour-below cells width (suc (suc (suc n))) place next within is =
+    back-below cells width place next within (sym (far cells width n place) ∙ is)
 
 -- what a step gives: the neighbour with the same due, at one more than the step's number
 record Gives (due number : ℕ) (found : Option ℕ) (state : ℕ × ℕ) (cost : ℕ) : Type 0 where
@@ -49,7 +52,9 @@ record Gives (due number : ℕ) (found : Option ℕ) (state : ℕ × ℕ) (cost 
   costs : cost ≡ number + 1
 
 -- a permitted step gives this
-gives : (due number : ℕ) (found : Option ℕ) (state : ℕ × ℕ) (cost : ℕ) → step_to due number found ≡ Some (state, cost) → Gives due number found state cost
+gives :
+    (due number : ℕ) (found : Option ℕ) (state : ℕ × ℕ) (cost : ℕ) →
+    step_to due number found ≡ Some (state, cost) → Gives due number found state cost
 gives due number None state cost is = cc
 gives due number (Some place) (p, d) cost is =
     let same : ◌≡◌ {A = (ℕ × ℕ) × ℕ} ((place, due), number + 1) ((p, d), cost) = cc in
@@ -60,7 +65,9 @@ gives due number (Some place) (p, d) cost is =
     }
 
 -- a step to a cell is permitted whatever is due
-permitted : (due due' number : ℕ) (found : Option ℕ) → is_some (step_to due number found) ≡ is_some (step_to due' number found)
+permitted :
+    (due due' number : ℕ) (found : Option ℕ) →
+    is_some (step_to due number found) ≡ is_some (step_to due' number found)
 permitted due due' number None = refl
 permitted due due' number (Some place) = refl
 
@@ -68,9 +75,11 @@ permitted due due' number (Some place) = refl
 same-next : (next next' : ℕ) (found : Option ℕ) → found ≡ Some next → found ≡ Some next' → next ≡ next'
 same-next next next' found is is' = cc
 
--- two steps of one number to one cell end alike, the one with no more due and no greater cost before covering the other
+-- two steps of one number to one cell end alike, the one with no more due and no greater cost before covering
+-- the other
 along :
-    (due due' number ca cb : ℕ) (found : Option ℕ) (first second : ℕ × ℕ) (more other : ℕ) → due ≤ due' → ca ≤ cb →
+    (due due' number ca cb : ℕ) (found : Option ℕ) (first second : ℕ × ℕ) (more other : ℕ) → due ≤ due' →
+    ca ≤ cb →
     step_to due number found ≡ Some (first, more) → step_to due' number found ≡ Some (second, other) →
     IsTrue (strip_covers first (ca + more) second (cb + other))
 along due due' number ca cb found first second more other less cheaper is is' =
@@ -79,7 +88,8 @@ along due due' number ca cb found first second more other less cheaper is is' =
     covers-these first second (ca + more) (cb + other) (same-next first.0 second.0 found one.next two.next)
     (omega (arith, one.due_stays, two.due_stays, less)) (omega (arith, one.costs, two.costs, cheaper))
 
-module _ (cells width starts steps : ℕ) (some : 0 < cells) (starts_small : starts < 2 ^ 32) (steps_small : steps < 2 ^ 32) where
+module _ (cells width starts steps : ℕ) (some : 0 < cells) (starts_small : starts < 2 ^ 32)
+    (steps_small : steps < 2 ^ 32) where
   -- the space of these numbers
   abbrev rules : Rules (ℕ × ℕ)
   rules = strip_rules cells width starts steps
@@ -91,7 +101,8 @@ module _ (cells width starts steps : ℕ) (some : 0 < cells) (starts_small : sta
   -- a step leads to a state of the space
   move :
       (from : ℕ × ℕ) (number : ℕ) (state : ℕ × ℕ) (cost : ℕ) → from.0 < cells → number < steps →
-      step_to from.1 number (neighbour cells width number from.0) ≡ Some (state, cost) → IsMove rules state cost
+      step_to from.1 number (neighbour cells width number from.0) ≡ Some (state, cost) →
+      IsMove rules state cost
   move from number state cost on within is =
       let one = gives from.1 number (neighbour cells width number from.0) state cost is in
       record {
@@ -100,7 +111,9 @@ module _ (cells width starts steps : ℕ) (some : 0 < cells) (starts_small : sta
       }
 
   -- a start is a state of the space
-  begin : (number : ℕ) (state : ℕ × ℕ) (cost : ℕ) → rules.start number ≡ Some (state, cost) → IsMove rules state cost
+  begin :
+      (number : ℕ) (state : ℕ × ℕ) (cost : ℕ) → rules.start number ≡ Some (state, cost) →
+      IsMove rules state cost
   begin number state cost is = record { valid = grind (arith, nat_tests); cheap = grind (arith, nat_tests) }
 
   -- a valid state lies in a cell of the strip
@@ -113,7 +126,9 @@ module _ (cells width starts steps : ℕ) (some : 0 < cells) (starts_small : sta
         moves =
             record {
               starts = λ number state cost within is. begin number state cost is;
-              steps = λ from number state cost valid within is. move from number state cost (on-strip from valid) within is;
+              steps =
+                  λ from number state cost valid within is. move from number state cost (on-strip from valid)
+                  within is;
               cell = λ state valid. on-strip state valid;
             };
         covering =
@@ -129,13 +144,16 @@ module _ (cells width starts steps : ℕ) (some : 0 < cells) (starts_small : sta
         kept = λ a b ca cb va vb h number within first second more other is is'.
             along a.1 b.1 number ca cb (neighbour cells width number b.0) first second more other
             (no-more_due a b ca cb h) (no-more a b ca cb h)
-            (subst (λ (p : ℕ). step_to a.1 number (neighbour cells width number p) ≡ Some (first, more)) (same-place a b ca cb h) is) is';
+            (subst (λ (p : ℕ). step_to a.1 number (neighbour cells width number p) ≡ Some (first, more))
+            (same-place a b ca cb h) is) is';
         alike =
             record {
               steps = λ a b ca cb va vb h. refl;
               permitted = λ a b ca cb va vb h number within.
-                  subst (λ (p : ℕ). is_some (step_to a.1 number (neighbour cells width number p)) ≡ is_some (step_to b.1 number (neighbour cells width number b.0)))
-                  (sym (same-place a b ca cb h)) (permitted a.1 b.1 number (neighbour cells width number b.0));
+                  subst (λ (p : ℕ). is_some (step_to a.1 number (neighbour cells width number p)) ≡ is_some
+                  (step_to b.1 number (neighbour cells width number b.0)))
+                  (sym (same-place a b ca cb h))
+                  (permitted a.1 b.1 number (neighbour cells width number b.0));
               goal = λ a b ca cb va vb h. refl;
             };
         bound =

@@ -1,5 +1,5 @@
-//! Searches a strip of cells, each reached with several amounts that are due, to its end, and prints how many
-//! labels were settled.
+//! Searches a strip of cells, each reached with several amounts that are due, to its end, and
+//! prints how many labels were settled.
 #![tactic(auto)]
 
 ghost use Rattle.std.specs.Prelude.{◌<◌, IfOk};

@@ -5,9 +5,9 @@ ghost use Rattle.search_bench.specs.Strip.{ahead, back, neighbour};
 
 use space_search::Space;
 
-/// Cells in rows of one width, one row behind the other. So many starts lie in the first cell, each with
-/// more due and at less cost than the one before, and each cell has so many steps: 0 goes a cell ahead, 1 a
-/// row ahead, 2 a cell back, and any other a row back.
+/// Cells in rows of one width, one row behind the other. So many starts lie in the first cell, each
+/// with more due and at less cost than the one before, and each cell has so many steps: 0 goes a
+/// cell ahead, 1 a row ahead, 2 a cell back, and any other a row back.
 #[derive(Drop)]
 pub struct Strip {
     cells: u32,

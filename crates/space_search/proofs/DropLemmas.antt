@@ -64,7 +64,12 @@ module _ {S : Type 0} (rules : Rules S) (kept : Books S) (number : ℕ) (label :
         same_labels = refl;
         grows = to;
         covered =
-            record { place = covered.place; label = covered.label; settled = to covered.place covered.label covered.settled; covers = covered.covers };
+            record {
+              place = covered.place;
+              label = covered.label;
+              settled = to covered.place covered.label covered.settled;
+              covers = covered.covers;
+            };
       }
       ) in
       record {
@@ -73,16 +78,20 @@ module _ {S : Type 0} (rules : Rules S) (kept : Books S) (number : ℕ) (label :
               stands = stands-same rules kept (dropped kept rest) same leaving.search.stands refl;
               few = leaving.search.few;
               follows = λ n l h. follows-moved rules kept (dropped kept rest) _ _ l to (omega arith) (leaving.search.follows n l h);
-              queued = λ e h. leaving.search.queued e (left-queued kept.queue (record { 0 = (leaving.next.rank, number) }) rest leaving.popped e h);
+              queued =
+                  λ e h. leaving.search.queued e
+                  (left-queued kept.queue (record { 0 = (leaving.next.rank, number) }) rest leaving.popped e h);
               ordered = leaving.popped.ordered leaving.search.ordered;
               above = λ p l r s h e inside.
-                  leaving.search.above p l r (back p l s) h e (left-queued kept.queue (record { 0 = (leaving.next.rank, number) }) rest leaving.popped e inside);
+                  leaving.search.above p l r (back p l s) h e
+                  (left-queued kept.queue (record { 0 = (leaving.next.rank, number) }) rest leaving.popped e inside);
               index = index-same rules kept (dropped kept rest) same leaving.search.stands refl refl refl leaving.search.index;
             };
         closed =
             record {
               starts = λ n s c below is. moves s c (leaving.closed.starts n s c below is);
-              steps = λ p l below s i st c within step. moves st (l.cost + c) (leaving.closed.steps p l below (back p l s) i st c within step);
+              steps =
+                  λ p l below s i st c within step. moves st (l.cost + c) (leaving.closed.steps p l below (back p l s) i st c within step);
             };
         labels = refl;
         settled = refl;

@@ -135,7 +135,8 @@ module _ {S : Type 0} (rules : Rules S) (kept : Books S) (number : ℕ) (label :
               | inr (end, same) ↦
                   let there : slice_get kept.newest w.cell ≡ Some w.before =
                   slice_get_read kept.newest (length kept.newest) w.cell w.before refl w.inside w.reads_before in
-                  let latest : IsLatest rules kept w.cell (length kept.settled) w.before = w.leaving.search.index.newest w.cell w.before there in
+                  let latest : IsLatest rules kept w.cell (length kept.settled) w.before =
+                  w.leaving.search.index.newest w.cell w.before there in
                   let moved : IsLatest rules after w.cell (length kept.settled) w.before =
                   latest-grown w.cell (length kept.settled) w.before (omega arith) latest in
                   let cell_is : w.cell ≡ rules.cell l.state = w.at ∙ ap (λ (m : Label S). rules.cell m.state) (sym one) in

@@ -42,7 +42,9 @@ module _ {S : Type 0} (rules : Rules S) (laws : IsSpace rules) where
       let one : Some low ≡ Some 0 = sym is ∙ zero_low in
       let none : low ≡ 0 = cc in
       omega arith
-  rank-below valid low is (steps {state = state} {next = next} {end = end} {cost = cost} {more = more} {total = total} {number = number} {numbers = numbers} within step rest) goal =
+  rank-below valid low is
+      (steps {state = state} {next = next} {end = end} {cost = cost} {more = more} {total = total} {number = number} {numbers = numbers}
+      within step rest) goal =
       let valid_next : IsTrue (rules.is_valid next) = (laws.moves.steps state number next more valid within step).valid in
       elim (rules.low next) as (λ r. rules.low next ≡ r → cost + low ≤ total) [
         | None ↦ λ none. absurd (laws.bound.hopeless next end (cost + more) total numbers valid_next none rest goal)
@@ -106,7 +108,8 @@ module _ {S : Type 0} (rules : Rules S) (laws : IsSpace rules) where
         goal = laws.alike.goal over state price cost valid_over valid covers ∙ goal;
         cheaper = laws.covering.cheaper over state price cost valid_over valid covers;
       }
-  along over price valid_over valid covers (steps {state = state} {next = next} {cost = cost} {more = more} {number = number} within is rest) goal =
+  along over price valid_over valid covers
+      (steps {state = state} {next = next} {cost = cost} {more = more} {number = number} within is rest) goal =
       let same : rules.steps over ≡ rules.steps state = laws.alike.steps over state price cost valid_over valid covers in
       let c : CoversStep over price number next (cost + more) =
       step-along over state price cost valid_over valid covers number next more within is in

@@ -124,7 +124,8 @@ module _ {S : Type 0} (rules : Rules S) where
       count cells labels ≤ cells * most
   count-few most zero labels few chain = omega arith
   count-few most (suc cells) labels few chain =
-      let here : length (in_cell cells labels) ≤ most = few cells (in_cell cells labels) (chain-in_cell cells labels chain) (lie-in_cell cells labels) in
+      let here : length (in_cell cells labels) ≤ most =
+      few cells (in_cell cells labels) (chain-in_cell cells labels chain) (lie-in_cell cells labels) in
       let before : count cells labels ≤ cells * most = count-few most cells labels few chain in
       omega arith
 

@@ -55,7 +55,8 @@ module _ {S : Type 0} (rules : Rules S) (laws : IsSpace rules) (kept : Books S) 
     above-step p other low high s r new =
         let mine = search.stands.rising.ranked place label settled in
         let first : low ≤ mine.0 =
-        search.stands.rising.rising p place other label low mine.0 (omega (arith, settled-within kept p other s, counted)) s settled r mine.1 in
+        search.stands.rising.rising p place other label low mine.0 (omega (arith, settled-within kept p other s, counted)) s settled r
+        mine.1 in
         let then : mine.1.low ≤ found.1 + new.low =
         laws.bound.step label.state choice found.0 found.1 mine.1.low new.low old.valid within (sym is) mine.1.is new.is in
         omega (arith, first, then, mine.1.sum, new.sum)

@@ -78,7 +78,14 @@ goal-at {S} rules limit kept found (Ended (Found last)) number b =
     let inside : number < length (settled_of kept ++ reached (settled_of kept) label ∷ []) =
     subst (λ (g : Option (Reached S)). number < length (settled_of kept ++ listed g)) goal b.within in
     let at : number ≡ length (settled_of kept) =
-    omega (arith, b.beyond, inside, length-append (settled_of kept) (reached (settled_of kept) label ∷ []), shown-count rules kept b.stands.reads) in
+    omega (
+      arith,
+      b.beyond,
+      inside,
+      length-append (settled_of kept) (reached (settled_of kept) label ∷ []),
+      shown-count rules kept
+          b.stands.reads,
+    ) in
     let numbered : last ≡ number = omega (arith, at, b.is.1.numbered) in
     record {
       label = label;

@@ -76,8 +76,11 @@ module _ {S : Type 0} (rules : Rules S) (laws : IsSpace rules) (kept : Books S) 
         ranked = λ place l s.
             elim (cases place l s) [
               | inl old ↦ w.leaving.search.stands.rising.ranked place l old
-              | inr (last, same) ↦
-                  (w.leaving.next.rank, subst (λ (k : Label S). HasRank rules k.state k.cost w.leaving.next.rank) (sym same) w.leaving.next.ranked)
+              | inr (last, same) ↦ (
+                w.leaving.next.rank,
+                subst (λ (k : Label S). HasRank rules k.state k.cost w.leaving.next.rank) (sym same)
+                    w.leaving.next.ranked,
+              )
             ];
         rising = λ first second a b low high up p q ra rb.
             elim (cases second b q) [
@@ -87,11 +90,13 @@ module _ {S : Type 0} (rules : Rules S) (laws : IsSpace rules) (kept : Books S) 
                     | inr (last, same) ↦ absurd (omega (arith, settled-within kept second b old_b))
                   ]
               | inr (last, same) ↦
-                  let high_is : high ≡ w.leaving.next.rank = rank-new high (subst (λ (k : Label S). HasRank rules k.state k.cost high) same rb) in
+                  let high_is : high ≡ w.leaving.next.rank =
+                  rank-new high (subst (λ (k : Label S). HasRank rules k.state k.cost high) same rb) in
                   elim (cases first a p) [
                     | inl old_a ↦ omega (arith, below-new first a low old_a ra, high_is)
                     | inr (last_a, same_a) ↦
-                        let low_is : low ≡ w.leaving.next.rank = rank-new low (subst (λ (k : Label S). HasRank rules k.state k.cost low) same_a ra) in
+                        let low_is : low ≡ w.leaving.next.rank =
+                        rank-new low (subst (λ (k : Label S). HasRank rules k.state k.cost low) same_a ra) in
                         omega (arith, low_is, high_is)
                   ]
             ];

@@ -76,7 +76,8 @@ WhatTaken {S} rules limit before after (Goal number) =
 WhatTaken rules limit before after Empty = (length after.settled ≡ length before.settled) × (after.queue ≡ [])
 WhatTaken {S} rules limit before after Spent =
     (length after.settled ≡ length before.settled) × (length after.settled ≡ limit) ×
-    ((number : ℕ) × (label : Label S) × IsNext rules after number label × (rules.is_goal label.state ≡ false) ×
+    ((number : ℕ) × (label : Label S) × IsNext rules after number label ×
+    (rules.is_goal label.state ≡ false) ×
     IsUncovered rules after label.state label.cost)
 
 -- the next label was looked at

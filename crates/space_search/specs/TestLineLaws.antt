@@ -17,7 +17,9 @@ pub line-keeps_laws : (cells goal : ℕ) → 1 ≤ cells → IsSpace (line_rules
 line-keeps_laws cells goal some =
     plain-space (line_rules cells goal) refl
     (record {
-      starts = λ number state cost within is. record { valid = grind (arith, nat_tests); cheap = grind (arith, nat_tests) };
+      starts =
+          λ number state cost within is. record
+          { valid = grind (arith, nat_tests); cheap = grind (arith, nat_tests) };
       steps = λ from number state cost valid within is. move cells goal from number state cost is;
       cell = λ state valid. grind (arith, nat_tests);
     })

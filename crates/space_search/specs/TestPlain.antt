@@ -38,7 +38,8 @@ module _ (rules : Rules ℕ) (plain : rules.covers ≡ plain_covers) where
   covers {a} {ca} {b} {cb} h = subst (λ (f : ℕ → ℕ → ℕ → ℕ → Bool). IsTrue (f a ca b cb)) plain h
 
   covers' : (a ca cb : ℕ) → ca ≤ cb → IsTrue (rules.covers a ca a cb)
-  covers' a ca cb less = subst (λ (f : ℕ → ℕ → ℕ → ℕ → Bool). IsTrue (f a ca a cb)) (sym plain) (covers-itself a ca cb less)
+  covers' a ca cb less =
+      subst (λ (f : ℕ → ℕ → ℕ → ℕ → Bool). IsTrue (f a ca a cb)) (sym plain) (covers-itself a ca cb less)
 
   plain-covering : HasCovering rules
   plain-covering =
@@ -46,7 +47,8 @@ module _ (rules : Rules ℕ) (plain : rules.covers ≡ plain_covers) where
         one_cell = λ a b ca cb va vb h. ap rules.cell (same-state a ca b cb (covers h));
         itself = λ a ca va. covers' a ca ca (omega arith);
         through = λ a b c ca cb cc va vb vc h k.
-            subst (λ (s : ℕ). IsTrue (rules.covers a ca s cc)) (same-state a ca b cb (covers h) ∙ same-state b cb c cc (covers k))
+            subst (λ (s : ℕ). IsTrue (rules.covers a ca s cc))
+            (same-state a ca b cb (covers h) ∙ same-state b cb c cc (covers k))
             (covers' a ca cc (omega (arith, no-more a ca b cb (covers h), no-more b cb c cc (covers k))));
         cheaper = λ a b ca cb va vb h. no-more a ca b cb (covers h);
       }
@@ -55,7 +57,8 @@ module _ (rules : Rules ℕ) (plain : rules.covers ≡ plain_covers) where
   plain-kept a b ca cb va vb h number within first second more other is is' =
       let same : (first ≡ second) × (more ≡ other) =
       one-answer first second more other (rules.step b number)
-      (subst (λ (s : ℕ). rules.step s number ≡ Some (first, more)) (same-state a ca b cb (covers h)) is) is' in
+      (subst (λ (s : ℕ). rules.step s number ≡ Some (first, more)) (same-state a ca b cb (covers h)) is)
+      is' in
       subst (λ (s : ℕ). IsTrue (rules.covers first (ca + more) s (cb + other))) same.0
       (covers' first (ca + more) (cb + other) (omega (arith, same.1, no-more a ca b cb (covers h))))
 
@@ -71,4 +74,10 @@ module _ (rules : Rules ℕ) (plain : rules.covers ≡ plain_covers) where
   -- with its moves and its bound such a space keeps the laws
   pub plain-space : HasMoves rules → HasBound rules → IsSpace rules
   plain-space moves bound =
-      record { moves = moves; covering = plain-covering; kept = plain-kept; alike = plain-alike; bound = bound }
+      record {
+        moves = moves;
+        covering = plain-covering;
+        kept = plain-kept;
+        alike = plain-alike;
+        bound = bound;
+      }

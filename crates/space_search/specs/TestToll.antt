@@ -7,7 +7,8 @@ use Rattle.space_search.specs.Rules.{Rules}
 abbrev pub toll_step : ℕ × ℕ → ℕ → Option ((ℕ × ℕ) × ℕ)
 toll_step state number =
     cond (state.0 == 0)
-    (cond (number == 0) (Some ((1, 9), 1 + state.1)) (cond (number == 1) (Some ((1, 2), 3 + state.1)) (Some ((1, 5), 4 + state.1))))
+    (cond (number == 0) (Some ((1, 9), 1 + state.1))
+    (cond (number == 1) (Some ((1, 2), 3 + state.1)) (Some ((1, 5), 4 + state.1))))
     (cond (state.0 == 1) (Some ((2, 0), 2 + state.1)) None)
 
 -- the same place with no more due, at no greater cost

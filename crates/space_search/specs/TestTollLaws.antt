@@ -49,11 +49,16 @@ along :
     toll_step (place, due) number ≡ Some (first, more) →
     toll_step (place, due') number ≡ Some (second, other) →
     (first ≡ second) × (more ≤ other)
-along zero due due' zero first second more other less is is' = (grind (arith, nat_tests), grind (arith, nat_tests))
-along zero due due' (suc zero) first second more other less is is' = (grind (arith, nat_tests), grind (arith, nat_tests))
-along zero due due' (suc (suc n)) first second more other less is is' = (grind (arith, nat_tests), grind (arith, nat_tests))
-along (suc zero) due due' n first second more other less is is' = (grind (arith, nat_tests), grind (arith, nat_tests))
-along (suc (suc m)) due due' n first second more other less is is' = (grind (arith, nat_tests), grind (arith, nat_tests))
+along zero due due' zero first second more other less is is' =
+    (grind (arith, nat_tests), grind (arith, nat_tests))
+along zero due due' (suc zero) first second more other less is is' =
+    (grind (arith, nat_tests), grind (arith, nat_tests))
+along zero due due' (suc (suc n)) first second more other less is is' =
+    (grind (arith, nat_tests), grind (arith, nat_tests))
+along (suc zero) due due' n first second more other less is is' =
+    (grind (arith, nat_tests), grind (arith, nat_tests))
+along (suc (suc m)) due due' n first second more other less is is' =
+    (grind (arith, nat_tests), grind (arith, nat_tests))
 
 -- a step that is permitted at a place is permitted whatever is due
 permitted :
@@ -100,8 +105,12 @@ toll-keeps_laws bounded =
     record {
       moves =
           record {
-            starts = λ number state cost within is. record { valid = grind (arith, nat_tests); cheap = grind (arith, nat_tests) };
-            steps = λ from number state cost valid within is. move bounded from.0 from.1 number state cost (due-small bounded from valid) is;
+            starts =
+                λ number state cost within is. record
+                { valid = grind (arith, nat_tests); cheap = grind (arith, nat_tests) };
+            steps =
+                λ from number state cost valid within is. move bounded from.0 from.1 number state cost
+                (due-small bounded from valid) is;
             cell = λ state valid. grind (arith, nat_tests);
           };
       covering =
@@ -117,16 +126,22 @@ toll-keeps_laws bounded =
       kept = λ a b ca cb va vb h number within first second more other is is'.
           let same : (first ≡ second) × (more ≤ other) =
           along b.0 a.1 b.1 number first second more other (no-more_due a b ca cb h)
-          (subst (λ (p : ℕ). toll_step (p, a.1) number ≡ Some (first, more)) (same-place a b ca cb h) is) is' in
+          (subst (λ (p : ℕ). toll_step (p, a.1) number ≡ Some (first, more)) (same-place a b ca cb h) is)
+          is' in
           subst (λ (s : ℕ × ℕ). IsTrue (toll_covers first (ca + more) s (cb + other))) same.0
-          (covers-these first first (ca + more) (cb + other) refl (omega arith) (omega (arith, same.1, no-more a b ca cb h)));
+          (covers-these first first (ca + more) (cb + other) refl (omega arith)
+          (omega (arith, same.1, no-more a b ca cb h)));
       alike =
           record {
-            steps = λ a b ca cb va vb h. ap (λ (p : ℕ). (toll_rules bounded).steps (p, 0)) (same-place a b ca cb h);
+            steps =
+                λ a b ca cb va vb h. ap (λ (p : ℕ). (toll_rules bounded).steps (p, 0))
+                (same-place a b ca cb h);
             permitted = λ a b ca cb va vb h number within.
                 subst (λ (p : ℕ). is_some (toll_step (p, a.1) number) ≡ is_some (toll_step (b.0, b.1) number))
                 (sym (same-place a b ca cb h)) (permitted b.0 a.1 b.1 number);
-            goal = λ a b ca cb va vb h. ap (λ (p : ℕ). (toll_rules bounded).is_goal (p, 0)) (same-place a b ca cb h);
+            goal =
+                λ a b ca cb va vb h. ap (λ (p : ℕ). (toll_rules bounded).is_goal (p, 0))
+                (same-place a b ca cb h);
           };
       bound =
           record {

@@ -1,6 +1,6 @@
 //! The turns of a search, and what is read of it between them.
 
-ghost use Rattle.std.specs.Prelude.{ℕ, ◌≡◌, ◌≤◌, ◌*◌, ◌<◌, ◌^◌, ◌+◌, List, [], IfOk, OnErr, length, Ok, Err, alloc_error};
+ghost use Rattle.std.specs.Prelude.{ℕ, ◌≡◌, ◌≤◌, ◌*◌, ◌<◌, ◌^◌, ◌+◌, [], IfOk, OnErr, length, Ok, Err, alloc_error};
 ghost use Rattle.space_search.specs.Books.{books, Follows};
 ghost use Rattle.space_search.specs.Limits.{HasFewPerCell};
 ghost use Rattle.space_search.specs.Rules.{Rules};

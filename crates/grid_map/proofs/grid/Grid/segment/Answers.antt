@@ -14,7 +14,11 @@ returns c =
     let within = is_there-within _ _ c.self.invariant.lawful.some_width read.number.there in
     let cells = ap cells_of c.self.view_is in
     record {
-      value = read.segment ∙ ap Some (sym c.segment.ensures.value);
-      inside = (omega (arith, within.start, cells, ap (λ s. s.a) c.segment.ensures.value), omega (arith, within.end, cells, ap (λ s. s.b) c.segment.ensures.value));
+      exact = read.segment ∙ ap Some (sym c.segment.ensures.exact);
+      inside = (
+        omega (arith, within.start, cells, ap (λ s. s.a) c.segment.ensures.exact),
+        omega
+            (arith, within.end, cells, ap (λ s. s.b) c.segment.ensures.exact),
+      );
       lawful = subst IsPlan c.self.view_is c.self.invariant.lawful;
     }

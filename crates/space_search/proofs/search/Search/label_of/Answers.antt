@@ -9,7 +9,8 @@ pub index-requires-else-place-len : goal.index-requires-else-place-len
 index-requires-else-place-len g c =
     let r = c.requires.readable in
     let found : ReadsGoal r.rules (held c.args.self.now) c.args.label =
-    goal-read r.rules c.args.self.now c.args.label r.of (omega (arith, c.if-place-len.false, c.len.ensures, c.args.self.now.lists.settled.ok.0))
+    goal-read r.rules c.args.self.now c.args.label r.of
+    (omega (arith, c.if-place-len.false, c.len.ensures, c.args.self.now.lists.settled.ok.0))
     r.within in
     omega (
       arith,

@@ -33,7 +33,12 @@ returns-in_err-answer-clause-kept g c =
       | in-Running w ↦ rw w.self-is (between-same _ c.args.self.now Failed c.requires.of)
     ] in
     goes-through (g.S.Space.rules c.args.space.now) c.args.self.now c.match-phase.self
-    (record { limit = c.match-phase.self.limit; kept = books c.take_many.new.lists; found = c.match-phase.self.found; phase = c.match-phase.self.phase })
+    (record {
+      limit = c.match-phase.self.limit;
+      kept = books c.take_many.new.lists;
+      found = c.match-phase.self.found;
+      phase = c.match-phase.self.phase;
+    })
     c.requires.of first c.in_err-answer.ensures.leaves refl c.in_err-answer.ensures.fits
 
 pub returns-clause-kept : goal.returns-clause-kept
@@ -46,7 +51,12 @@ returns-clause-kept g c =
       | in-Running w ↦ rw w.self-is (between-same _ c.args.self.now Failed c.requires.of)
     ] in
     goes-through (g.S.Space.rules c.args.space.now) c.args.self.now c.match-phase.self
-    (record { limit = c.match-phase.self.limit; kept = books c.take_many.new.lists; found = c.in_ok-answer.answer.1; phase = c.match-turn.self })
+    (record {
+      limit = c.match-phase.self.limit;
+      kept = books c.take_many.new.lists;
+      found = c.in_ok-answer.answer.1;
+      phase = c.match-turn.self;
+    })
     c.requires.of first c.in_ok-answer.ensures.leaves refl c.in_ok-answer.ensures.fits
 
 pub returns-clause-counts : goal.returns-clause-counts
