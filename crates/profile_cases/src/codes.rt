@@ -14,34 +14,69 @@ use lookup_table::{Part, Table};
 use profile_code::{
     Code, Fault, Scratch, WayValues, compile, global_value, listing, run_global, run_node, run_way,
 };
+use profile_text::Profile;
 use std::alloc::{AllocError, Global};
 
 /// The answer to a case on code; none where the call is another. The words are a table, a profile, and tag numbers or
 /// overrides.
 pub(crate) fn answer(alloc: Global, case: &Case) -> Result<Option<String>, AllocError> {
-    let overrides = match case.word(0) {
-        b"way" | b"node" | b"second_way" => Overrides::new(alloc),
-        b"global_value" => overrides_from(alloc, case, 4)?,
-        b"listing" | b"listing_lines" | b"global" => overrides_from(alloc, case, 3)?,
+    let text = match case.word(0) {
+        b"way" | b"node" | b"second_way" => of_texts(alloc, case, &Overrides::new(alloc))?,
+        b"global_value" => of_texts(alloc, case, &overrides_from(alloc, case, 4)?)?,
+        b"listing" | b"listing_lines" | b"global" => {
+            of_texts(alloc, case, &overrides_from(alloc, case, 3)?)?
+        }
         _ => return Ok(None),
-    };
-    let Some(table) = table_of(alloc, case.word(1)) else {
-        return Ok(Some(String::from_str(alloc, OUTSIDE)?));
-    };
-    let text = match code_of(alloc, case.word(2), &table, &overrides) {
-        Some(code) => of_code(alloc, case, &table, &code)?,
-        None => String::from_str(alloc, OUTSIDE)?,
     };
     Ok(Some(text))
 }
 
+/// The answer under overrides.
+fn of_texts(alloc: Global, case: &Case, overrides: &Overrides) -> Result<String, AllocError> {
+    match table_of(alloc, case.word(1)) {
+        Some(table) => of_table(alloc, case, &table, overrides),
+        None => String::from_str(alloc, OUTSIDE),
+    }
+}
+
+/// The answer under a table and overrides.
+fn of_table(
+    alloc: Global,
+    case: &Case,
+    table: &Table,
+    overrides: &Overrides,
+) -> Result<String, AllocError> {
+    match profile_of(alloc, case.word(2)) {
+        Some(profile) => of_profile(alloc, case, table, overrides, &profile),
+        None => String::from_str(alloc, OUTSIDE),
+    }
+}
+
+/// The answer on a profile under a table and overrides.
+fn of_profile(
+    alloc: Global,
+    case: &Case,
+    table: &Table,
+    overrides: &Overrides,
+    profile: &Profile,
+) -> Result<String, AllocError> {
+    match code_of(alloc, profile, table, overrides) {
+        Some(code) => of_code(alloc, case, table, &code),
+        None => String::from_str(alloc, OUTSIDE),
+    }
+}
+
 /// The code of a profile under a table and overrides; none where the profile is refused.
-fn code_of(alloc: Global, text: &[u8], table: &Table, overrides: &Overrides) -> Option<Code>
+fn code_of(
+    alloc: Global,
+    profile: &Profile,
+    table: &Table,
+    overrides: &Overrides,
+) -> Option<Code>
     ensures fits { IfSome result (λ code. (part : ThePart) →
         tags_of code part ≡ length (rows_of table.now part)) }
 {
-    let profile = profile_of(alloc, text)?;
-    let Ok(checked) = check(alloc, &profile, table, overrides) else {
+    let Ok(checked) = check(alloc, profile, table, overrides) else {
         return None;
     };
     match compile(alloc, &checked) {

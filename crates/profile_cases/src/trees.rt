@@ -26,16 +26,20 @@ fn outcome(alloc: Global, text: &[u8]) -> Result<String, AllocError> {
     }
 }
 
-/// The assignments of a section of a profile: line, name and expression, each with a line feed behind it.
+/// The assignments of a section of a profile.
 fn trees(alloc: Global, case: &Case) -> Result<String, AllocError> {
     let Some(profile) = profile_of(alloc, case.word(1)) else {
         return String::from_str(alloc, OUTSIDE);
     };
-    let section = match case.word(2) {
-        b"global" => profile.global.as_slice(),
-        b"way" => profile.way.as_slice(),
-        _ => profile.node.as_slice(),
-    };
+    match case.word(2) {
+        b"global" => shown(alloc, profile.global.as_slice()),
+        b"way" => shown(alloc, profile.way.as_slice()),
+        _ => shown(alloc, profile.node.as_slice()),
+    }
+}
+
+/// The line, the name and the expression of each assignment, each with a line feed behind it.
+fn shown(alloc: Global, section: &[Assign]) -> Result<String, AllocError> {
     let mut out = String::new(alloc);
     for assign in section {
         show_assign(&mut out, assign)?;

@@ -19,6 +19,6 @@ returns-in-Ok-compile c =
     record {
       fits = λ part.
           ap (λ (flat : Flat). tags_of flat part) c.in-Ok-compile.ensures.value
-          ∙ tags_are (subject_of c.in-Ok-check.checked) part
-          ∙ ap (λ (subject : Subject). length (rows_of subject.table part)) c.in-Ok-check.ensures.value;
+          ∙ tags_are (subject_of c.in-Ok.checked) part
+          ∙ ap (λ (subject : Subject). length (rows_of subject.table part)) c.in-Ok.ensures.value;
     }
