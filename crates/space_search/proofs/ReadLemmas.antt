@@ -56,6 +56,7 @@ record Beyond {S : Type 0} (rules : Rules S) (held : Held S) (number : ℕ) : Ty
   beyond : length held.kept.settled ≤ number
   within : number < length (labels_of (view_of held))
 
+-- by the phase, such a number is that of the goal
 goal-at :
     {S : Type 0} (rules : Rules S) (limit : ℕ) (kept : Books S) (found : ℕ) (phase : Phase) (number : ℕ) →
     Beyond rules (record { limit = limit; kept = kept; found = found; phase = phase }) number →
@@ -110,9 +111,11 @@ goal-read rules search number of beyond within =
 module _ {S : Type 0} (rules : Rules S) (search : Search S) (number : ℕ) (label : Label S) (of : IsSearchOf rules search)
     (beyond : length search.lists.settled.items ≤ number) (within : number < length (labels_of (view search)))
     (read : label ≡ get_or search.lists.labels.items search.found label) where
+  -- the number is the goal's
   found : ReadsGoal rules (held search) number
   found = goal-read rules search number of beyond within
 
+  -- what was read is the goal
   same : found.label ≡ label
   same =
       slice_get-same search.lists.labels.items search.found found.label label found.there
