@@ -1,5 +1,5 @@
 -- What a search shows of itself: its limit, how far it is, and the labels that can be read. This project's
--- own rule
+-- own rule.
 use Rattle.std.specs.List.{slice_get}
 use Rattle.std.specs.Prelude.{ℕ, zero, suc, ◌≡◌, List, [], ◌∷◌, ◌++◌, Option, Some, None}
 use Rattle.space_search.specs.Books.{Books, books}
