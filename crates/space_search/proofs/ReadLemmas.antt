@@ -74,7 +74,8 @@ goal-at rules limit kept found (Ended Budget) number b =
     absurd (omega (arith, b.beyond, b.within, length-append (settled_of kept) [], shown-count rules kept b.stands.reads))
 goal-at {S} rules limit kept found (Ended (Found last)) number b =
     let label : Label S = b.is.2.0 in
-    let goal : goal_of kept found (Ended (Found last)) ≡ Some (reached (settled_of kept) label) =
+    let held : Held S = record { limit = limit; kept = kept; found = found; phase = Ended (Found last) } in
+    let goal : goal_of held (Ended (Found last)) ≡ Some (reached (settled_of kept) label) =
     ap (λ l. reached_by (settled_of kept) l) b.is.2.1 in
     let inside : number < length (settled_of kept ++ reached (settled_of kept) label ∷ []) =
     subst (λ (g : Option (Reached S)). number < length (settled_of kept ++ listed g)) goal b.within in
