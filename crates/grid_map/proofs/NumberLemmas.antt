@@ -177,6 +177,7 @@ has_place plan k place below is =
 -- the places of all numbers, where the grid is the one that is kept
 module _ (kept plan : Plan) (places : List (Option ℕ)) (same : kept ≡ plan)
     (are : places ≡ map (place_of kept) (range_with_len 0 (2 * cells_of kept))) where
+  -- they are those of the grid's own plan
   of_plan : places ≡ map (place_of plan) (range_with_len 0 (2 * cells_of plan))
   of_plan = subst (λ (p : Plan). places ≡ map (place_of p) (range_with_len 0 (2 * cells_of p))) same are
 

@@ -1,5 +1,5 @@
 -- The strip of cells that is searched: a state is a cell and what is due there, and four steps lead to the
--- neighbours of a cell. This project's own rule
+-- neighbours of a cell. This project's own rule.
 use Rattle.std.specs.Prelude.{ℕ, ◌+◌, ◌-◌, Bool, true, false, cond, ◌==◌, nat_lt, Option, Some, None}
 use Rattle.space_search.specs.Rules.{Rules}
 

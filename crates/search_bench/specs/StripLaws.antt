@@ -120,6 +120,7 @@ module _ (cells width starts steps : ℕ) (some : 0 < cells) (starts_small : sta
   on-strip : (state : ℕ × ℕ) → IsTrue (rules.is_valid state) → state.0 < cells
   on-strip (p, d) valid = grind (arith, nat_tests)
 
+  -- the strip keeps the laws
   pub strip-keeps_laws : IsSpace rules
   strip-keeps_laws =
       record {

@@ -6,6 +6,12 @@ ghost use Rattle.std.specs.Prelude.{◌<◌, IfOk};
 ghost use Rattle.space_search.specs.Turns.{IsLast};
 
 mod strip;
+#[cfg(test)]
+mod tests;
+#[cfg(test)]
+mod tests_line;
+#[cfg(test)]
+mod tests_toll;
 
 use crate::strip::Strip;
 use space_search::{Search, Turn};

@@ -77,7 +77,8 @@ impl Space for Strip {
 
     ghost rules = { λ s. strip_rules s.cells s.width s.starts s.steps };
 
-    ghost keeps_laws = { λ s. strip-keeps_laws s.cells s.width s.starts s.steps s.some s.starts_small s.steps_small };
+    ghost keeps_laws = { λ s. strip-keeps_laws s.cells s.width s.starts s.steps
+        s.some s.starts_small s.steps_small };
 
     fn cells(&self) -> u32 {
         self.cells

@@ -23,6 +23,7 @@ module _ {S : Type 0} (rules : Rules S) (laws : IsSpace rules) (kept : Books S) 
       let f = search.stands.reads.settled_follows place label s in
       omega (arith, f.bounded, settled-within kept place label s, search.stands.reads.few_settled)
 
+  -- and its state is valid
   pub settled-valid : (place : ℕ) (label : Label S) → IsSettled kept place label → IsTrue (rules.is_valid label.state)
   settled-valid place label s = (search.stands.reads.settled_follows place label s).valid
 
@@ -61,25 +62,32 @@ pub record Tests {S : Type 0} (rules : Rules S) (kept : Books S) (state : S) (co
   pub tested : IsTested rules kept state cost cursor
 
 module _ {S : Type 0} (rules : Rules S) (kept : Books S) (state : S) (cost cursor : ℕ) (t : Tests rules kept state cost cursor) where
+  -- before the cursor stands a label of the cell
   found : (label : Label S) × IsSettled kept (cursor - 1) label × (rules.cell label.state ≡ rules.cell state)
   found = t.tested.here (cursor - 1) (omega (arith, t.some))
 
+  -- its place is one of a settled label
   pub within-settled : cursor - 1 < length kept.settled
   within-settled = settled-within kept (cursor - 1) found.0 found.1
 
+  -- and one of the chain
   pub within-older : cursor - 1 < length kept.older
   within-older = omega (arith, within-settled, t.search.index.places)
 
   module _ (number : ℕ) (read : number ≡ get_or kept.settled (cursor - 1) number) where
+    -- its number stands at its place
     at : slice_get kept.settled (cursor - 1) ≡ Some number
     at = slice_get_read kept.settled (length kept.settled) (cursor - 1) number refl within-settled read
 
+    -- which is the number that was read
     same-number : found.1.number ≡ number
     same-number = slice_get-same kept.settled (cursor - 1) found.1.number number found.1.at at
 
+    -- its label has that number
     there : IsLabel kept number found.0
     there = subst (λ n. IsLabel kept n found.0) same-number found.1.there
 
+    -- which is one of a label
     pub within-labels : number < length kept.labels
     within-labels = slice_get_within kept.labels number found.0 there
 
@@ -93,12 +101,14 @@ module _ {S : Type 0} (rules : Rules S) (kept : Books S) (state : S) (cost curso
             there = slice_get_read kept.labels (length kept.labels) number label refl within-labels reads;
           }
 
+      -- it lies in the state's cell
       same-cell : rules.cell label.state ≡ rules.cell state
       same-cell =
           let same : found.0 ≡ label = settled-unique kept (cursor - 1) found.0 label found.1 settled-here in
           ap (λ (l : Label S). rules.cell l.state) (sym same) ∙ found.2
 
       module _ (next : ℕ) (reads_next : next ≡ get_or kept.older (cursor - 1) next) where
+        -- the label before it in its cell
         latest : IsLatest rules kept (rules.cell label.state) (cursor - 1) next
         latest =
             t.search.index.older (cursor - 1) next label

@@ -31,6 +31,7 @@ module _ {S : Type 0} (rules : Rules S) (kept : Books S) (reads : Reads rules ke
       ap (λ (c : List ℕ). (c ++ label.choice ∷ []) ++ reverse back) (sym (choices-start rules kept reads label none))
 
   module _ (some : 0 < label.parent) where
+    -- a label that is no start has a parent
     parent-of : CameFrom rules kept below label → Parent kept below label
     parent-of (from_start none within is) = absurd (omega arith)
     parent-of (from_label place parent cost named inside settled within is sum) =
@@ -41,18 +42,22 @@ module _ {S : Type 0} (rules : Rules S) (kept : Books S) (reads : Reads rules ke
     pub place-below : label.parent - 1 < below
     place-below = (parent-of f.came).inside
 
+    -- and is the place of a settled label
     pub place-within : label.parent - 1 < length kept.settled
     place-within = settled-within kept (label.parent - 1) (parent-of f.came).parent (parent-of f.came).settled
 
     module _ (number : ℕ) (read : number ≡ get_or kept.settled (label.parent - 1) number) where
+      -- its number stands at that place
       at : slice_get kept.settled (label.parent - 1) ≡ Some number
       at = slice_get_read kept.settled (length kept.settled) (label.parent - 1) number refl place-within read
 
+      -- and is the number of a label
       pub number-within : number < length kept.labels
       number-within =
           let there = reads.settled_there (label.parent - 1) number at in slice_get_within kept.labels number there.0 there.1
 
       module _ (before : Label S) (reads_before : before ≡ get_or kept.labels number before) where
+        -- the label of that number is settled there
         settled-before : IsSettled kept (label.parent - 1) before
         settled-before =
             record {

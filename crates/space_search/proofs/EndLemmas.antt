@@ -20,6 +20,7 @@ use Rattle.space_search.proofs.ShownLemmas.{Settled, shown-count, shown-settled,
 
 module _ {S : Type 0} (rules : Rules S) (laws : IsSpace rules) (kept : Books S)
     (search : IsSearch rules kept) (closed : IsClosed rules kept) where
+  -- what a settled label covers is done with
   done-covered :
       (floor : Option ℕ) (state : S) (cost : ℕ) → IsCovered rules kept state cost → IsDone rules (settled_of kept) floor state cost
   done-covered floor state cost c =
@@ -32,6 +33,7 @@ module _ {S : Type 0} (rules : Rules S) (laws : IsSpace rules) (kept : Books S)
       }
       )
 
+  -- what is taken care of is done with below what waits
   done :
       (least : ℕ) → ((entry : Entry) → Contains kept.queue entry → least ≤ entry.0.0) →
       (state : S) (cost : ℕ) → IsAccounted rules kept state cost → IsDone rules (settled_of kept) (Some least) state cost
@@ -40,6 +42,7 @@ module _ {S : Type 0} (rules : Rules S) (laws : IsSpace rules) (kept : Books S)
   done least low state cost (by_queue w) =
       let h = waits-high rules laws kept search closed least low state cost w in ranks least h.0 refl h.1 h.2
 
+  -- where nothing waits, all of it is
   done-all :
       kept.queue ≡ [] → (state : S) (cost : ℕ) → IsAccounted rules kept state cost → IsDone rules (settled_of kept) None state cost
   done-all empty state cost (by_label c) = done-covered None state cost c

@@ -67,6 +67,7 @@ module _ {S : Type 0} (rules : Rules S) (kept : Books S) (number : ℕ) (label :
             inr (last, slice_get-same kept.labels s.number l label s.there (subst (λ n. IsLabel kept n label) same w.leaving.next.there))
       ]
 
+  -- what was the newest label of a cell below a place still is
   latest-grown :
       (c below cursor : ℕ) → below ≤ length kept.settled → IsLatest rules kept c below cursor →
       IsLatest rules after c below cursor
@@ -80,6 +81,7 @@ module _ {S : Type 0} (rules : Rules S) (kept : Books S) (number : ℕ) (label :
             ];
       }
 
+  -- the newest label of each cell
   newest-new :
       (c cursor : ℕ) → slice_get (set kept.newest w.cell (length kept.settled + 1)) c ≡ Some cursor →
       IsLatest rules after c (length kept.settled + 1) cursor
@@ -116,6 +118,7 @@ module _ {S : Type 0} (rules : Rules S) (kept : Books S) (number : ℕ) (label :
             )
       ]
 
+  -- the label before each in its cell
   older-new :
       (place cursor : ℕ) (l : Label S) → slice_get (kept.older ++ w.before ∷ []) place ≡ Some cursor →
       IsSettled after place l →

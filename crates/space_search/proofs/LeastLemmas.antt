@@ -25,6 +25,7 @@ record FirstStep {S : Type 0} (rules : Rules S) (state : S) (cost number : ℕ) 
   is : rules.step state number ≡ Some (next, more)
   rest : Walks rules next (cost + more) numbers end total
 
+-- a walk with steps has a first one
 walks-first :
     {S : Type 0} (rules : Rules S) {state end : S} {cost total number : ℕ} {numbers : List ℕ} →
     Walks rules state cost (number ∷ numbers) end total → FirstStep rules state cost number numbers end total
@@ -76,6 +77,7 @@ module _ {S : Type 0} (rules : Rules S) (laws : IsSpace rules) where
     is : rules.step a number ≡ Some (state, cost)
     covers : IsTrue (rules.covers state (ca + cost) next total)
 
+  -- each step of the covered state goes along with one of the covering
   step-along :
       (a b : S) (ca cb : ℕ) → IsTrue (rules.is_valid a) → IsTrue (rules.is_valid b) → IsTrue (rules.covers a ca b cb) →
       (number : ℕ) (next : S) (cost : ℕ) → number < rules.steps b → rules.step b number ≡ Some (next, cost) →
@@ -95,6 +97,7 @@ module _ {S : Type 0} (rules : Rules S) (laws : IsSpace rules) where
             }
       ] refl
 
+  -- and so does each walk to a goal
   pub along :
       {state end : S} {cost total : ℕ} {numbers : List ℕ} →
       (over : S) (price : ℕ) → IsTrue (rules.is_valid over) → IsTrue (rules.is_valid state) →
@@ -122,6 +125,7 @@ module _ {S : Type 0} (rules : Rules S) (laws : IsSpace rules) where
 module _ {S : Type 0} (rules : Rules S) (laws : IsSpace rules) (kept : Books S)
     (search : IsSearch rules kept) (closed : IsClosed rules kept)
     (least : ℕ) (low : (entry : Entry) → Contains kept.queue entry → least ≤ entry.0.0) where
+  -- the state of a settled label is valid
   settled-valid : (place : ℕ) (label : Label S) → IsSettled kept place label → IsTrue (rules.is_valid label.state)
   settled-valid place label s = (search.stands.reads.settled_follows place label s).valid
 
@@ -173,6 +177,7 @@ module _ {S : Type 0} (rules : Rules S) (laws : IsSpace rules) (kept : Books S)
             absurd (laws.bound.hopeless f.next end (label.cost + f.more) total numbers valid_next none f.rest goal)
       ]
 
+  -- no run reaches a goal below the least entry
   run-below : {end : S} {choices : List ℕ} {cost : ℕ} → IsRun rules choices end cost → IsTrue (rules.is_goal end) → least ≤ cost
   run-below {end} {choices} {cost} (starts {state = state} {cost = first} {number = number} {numbers = numbers} within is walk) goal =
       let valid : IsTrue (rules.is_valid state) = (laws.moves.starts number state first within is).valid in

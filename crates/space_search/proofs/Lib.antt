@@ -1,3 +1,4 @@
+pub mod CallerLemmas
 pub mod ChainLemmas
 pub mod ChoiceLemmas
 pub mod DropLemmas

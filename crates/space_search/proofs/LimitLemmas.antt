@@ -57,6 +57,7 @@ module _ {S : Type 0} (rules : Rules S) where
         (chain.0, chain.1, (λ place label at. let f = from-cell cell rest place label at in chain.2 f.0 label f.1), tail)
     go tail (inr e) = tail
 
+  -- and they lie in the cell
   lie-in_cell : (cell : ℕ) (labels : List (Reached S)) → LieIn rules cell (in_cell cell labels)
   lie-in_cell cell [] = tt
   lie-in_cell cell (first ∷ rest) = go (lie-in_cell cell rest) (equal-or_not (rules.cell first.state) cell) where
@@ -85,6 +86,7 @@ module _ {S : Type 0} (rules : Rules S) where
     go (inl e) = inl (e, omega arith)
     go (inr e) = inr (e, refl)
 
+  -- a label beyond the cells adds nothing
   count-beyond :
       (cells : ℕ) (first : Reached S) (rest : List (Reached S)) → cells ≤ rules.cell first.state →
       count cells (first ∷ rest) ≡ count cells rest
@@ -95,6 +97,7 @@ module _ {S : Type 0} (rules : Rules S) where
         | inr (e, h) ↦ omega (arith, count-beyond cells first rest (omega arith))
       ]
 
+  -- a label in one of them adds one
   count-one :
       (cells : ℕ) (first : Reached S) (rest : List (Reached S)) → rules.cell first.state < cells →
       count cells (first ∷ rest) ≡ count cells rest + 1

@@ -28,6 +28,7 @@ least-entry x (z ∷ zs) all y h =
 
 module _ {S : Type 0} (rules : Rules S) (kept : Books S) (search : IsSearch rules kept) (entry : Entry)
     (some : 0 < length kept.queue) (first : entry ≡ get_or kept.queue 0 entry) where
+  -- the entry at the front waits
   queued-first : Contains kept.queue entry
   queued-first = (0, some, sym first)
 

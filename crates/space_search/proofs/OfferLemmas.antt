@@ -47,9 +47,11 @@ pub record Queues {S : Type 0} (rules : Rules S) (kept : Books S) (label : Label
 
 module _ {S : Type 0} (rules : Rules S) (kept : Books S) (label : Label S) (labels : List (Label S)) (queue : List Entry)
     (search : IsSearch rules kept) (pushed : labels ≡ kept.labels ++ label ∷ []) where
+  -- each label keeps its number
   stays : (number : ℕ) (old : Label S) → IsLabel kept number old → slice_get labels number ≡ Some old
   stays number old h = rw pushed (slice_get-append kept.labels (label ∷ []) number old h)
 
+  -- the new label has the next number
   arrives : slice_get labels (length kept.labels) ≡ Some label
   arrives = rw pushed (slice_get-pushed kept.labels label)
 
@@ -62,32 +64,41 @@ module _ {S : Type 0} (rules : Rules S) (kept : Books S) (label : Label S) (labe
       }
 
   module _ (q : Queues rules kept label queue) where
+    -- what waits is the new entry or waited before
     from_queue : (e : Entry) → Contains queue e → (q.entry ≡ e) ⊎ Contains kept.queue e
     from_queue e h =
         Contains-cons_cases q.entry kept.queue e
         (Contains-permutation queue (q.entry ∷ kept.queue) e (IsPermutation-sym _ _ q.queued) h)
 
+    -- and both wait
     into_queue : (e : Entry) → Contains (q.entry ∷ kept.queue) e → Contains queue e
     into_queue e h = Contains-permutation (q.entry ∷ kept.queue) queue e q.queued h
 
+    -- there is one label more
     longer : length labels ≡ length kept.labels + 1
     longer = rw pushed (length-append kept.labels (label ∷ []))
 
+    -- each settled label keeps its place
     to : KeepsLabels kept (offered kept labels queue)
     to = keeps-same rules kept (offered kept labels queue) stays search.stands refl
 
+    -- and no other is settled
     back : KeepsLabels (offered kept labels queue) kept
     back = keeps-back rules kept (offered kept labels queue) stays search.stands refl
 
+    -- the entry has the label's rank
     entry_rank : q.entry.0.0 ≡ q.rank
     entry_rank = ap (λ (p : ℕ × ℕ). p.0) q.is
 
+    -- and its number
     entry_number : q.entry.0.1 ≡ length kept.labels
     entry_number = ap (λ (p : ℕ × ℕ). p.1) q.is
 
+    -- by which it is found
     entry_there : slice_get labels q.entry.0.1 ≡ Some label
     entry_there = subst (λ n. slice_get labels n ≡ Some label) (sym entry_number) arrives
 
+    -- each label comes from a start or a settled label
     follows-next :
         (number : ℕ) (old : Label S) → IsLabel (offered kept labels queue) number old →
         Follows rules (offered kept labels queue) (length kept.settled) old
@@ -99,6 +110,7 @@ module _ {S : Type 0} (rules : Rules S) (kept : Books S) (label : Label S) (labe
               (follows-moved rules kept (offered kept labels queue) _ _ label to (omega arith) q.follows)
         ]
 
+    -- each entry is a label with its rank
     queued-next :
         (e : Entry) → Contains queue e →
         (old : Label S) × IsLabel (offered kept labels queue) e.0.1 old × HasRank rules old.state old.cost e.0.0
@@ -112,6 +124,7 @@ module _ {S : Type 0} (rules : Rules S) (kept : Books S) (label : Label S) (labe
           | inr old ↦ let w = search.queued e old in (w.0, stays e.0.1 w.0 w.1, w.2)
         ]
 
+    -- what waits ranks no less than what is settled
     above-next :
         (place : ℕ) (old : Label S) (low : ℕ) → IsSettled (offered kept labels queue) place old →
         HasRank rules old.state old.cost low → (e : Entry) → Contains queue e → low ≤ e.0.0
@@ -123,6 +136,7 @@ module _ {S : Type 0} (rules : Rules S) (kept : Books S) (label : Label S) (labe
           | inr there ↦ search.above place old low (back place old s) r e there
         ]
 
+    -- the lists are those of a search
     search-next : IsSearch rules (offered kept labels queue)
     search-next =
         record {
@@ -135,6 +149,7 @@ module _ {S : Type 0} (rules : Rules S) (kept : Books S) (label : Label S) (labe
           index = index-same rules kept (offered kept labels queue) stays search.stands refl refl refl search.index;
         }
 
+    -- and the label was offered
     pub offers-pushed : Offers rules kept (offered kept labels queue) label
     offers-pushed =
         record {

@@ -29,9 +29,11 @@ module _ {S : Type 0} (rules : Rules S) (laws : IsSpace rules) (kept : Books S) 
   module _ (search : IsSearch rules kept) (place : ℕ) (label : Label S) (settled : IsSettled kept place label)
       (counted : length kept.settled ≡ place + 1) (choice : ℕ) (found : S × ℕ)
       (within : choice < rules.steps label.state) (is : Some found ≡ rules.step label.state choice) where
+    -- the label itself came from a start or an earlier one
     old : Follows rules kept place label
     old = search.stands.reads.settled_follows place label settled
 
+    -- the step leads to a valid state at a bounded cost
     move : IsMove rules found.0 found.1
     move = laws.moves.steps label.state choice found.0 found.1 old.valid within (sym is)
 

@@ -56,6 +56,7 @@ record Beyond {S : Type 0} (rules : Rules S) (held : Held S) (number : ℕ) : Ty
   beyond : length held.kept.settled ≤ number
   within : number < length (labels_of (view_of held))
 
+-- by the phase, such a number is that of the goal
 goal-at :
     {S : Type 0} (rules : Rules S) (limit : ℕ) (kept : Books S) (found : ℕ) (phase : Phase) (number : ℕ) →
     Beyond rules (record { limit = limit; kept = kept; found = found; phase = phase }) number →
@@ -73,7 +74,8 @@ goal-at rules limit kept found (Ended Budget) number b =
     absurd (omega (arith, b.beyond, b.within, length-append (settled_of kept) [], shown-count rules kept b.stands.reads))
 goal-at {S} rules limit kept found (Ended (Found last)) number b =
     let label : Label S = b.is.2.0 in
-    let goal : goal_of kept found (Ended (Found last)) ≡ Some (reached (settled_of kept) label) =
+    let held : Held S = record { limit = limit; kept = kept; found = found; phase = Ended (Found last) } in
+    let goal : goal_of held (Ended (Found last)) ≡ Some (reached (settled_of kept) label) =
     ap (λ l. reached_by (settled_of kept) l) b.is.2.1 in
     let inside : number < length (settled_of kept ++ reached (settled_of kept) label ∷ []) =
     subst (λ (g : Option (Reached S)). number < length (settled_of kept ++ listed g)) goal b.within in
@@ -110,9 +112,11 @@ goal-read rules search number of beyond within =
 module _ {S : Type 0} (rules : Rules S) (search : Search S) (number : ℕ) (label : Label S) (of : IsSearchOf rules search)
     (beyond : length search.lists.settled.items ≤ number) (within : number < length (labels_of (view search)))
     (read : label ≡ get_or search.lists.labels.items search.found label) where
+  -- the number is the goal's
   found : ReadsGoal rules (held search) number
   found = goal-read rules search number of beyond within
 
+  -- what was read is the goal
   same : found.label ≡ label
   same =
       slice_get-same search.lists.labels.items search.found found.label label found.there

@@ -62,6 +62,7 @@ module _ {S : Type 0} (rules : Rules S) (kept : Books S) (reads : Reads rules ke
             (omega (arith, length-append (reached (settled_of kept) parent).choices (label.choice ∷ []), old.short));
       }
 
+  -- so it goes back to a start, in no more steps than the place says
   run-within :
       (fuel below : ℕ) (label : Label S) → below ≤ fuel → Follows rules kept below label →
       IsRunTo rules (below + 1) (reached (settled_of kept) label)

@@ -26,6 +26,7 @@ came-moved rules before after low high label keeps up (from_start none within is
 came-moved rules before after low high label keeps up (from_label place parent cost named below settled within is sum) =
     from_label place parent cost named (omega arith) (keeps place parent settled) within is sum
 
+-- and so does that it follows
 pub follows-moved :
     {S : Type 0} (rules : Rules S) (before after : Books S) (low high : ℕ) (label : Label S) →
     KeepsLabels before after → low ≤ high → Follows rules before low label → Follows rules after high label
@@ -56,6 +57,7 @@ module _ {S : Type 0} (rules : Rules S) (before after : Books S)
       let same : old.0 ≡ label = slice_get-same after.labels s.number old.0 label (more s.number old.0 old.1) s.there in
       record { number = s.number; at = at; there = subst (λ l. IsLabel before s.number l) same old.1 }
 
+  -- they read as before
   reads-same : Reads rules after
   reads-same =
       record {
@@ -67,6 +69,7 @@ module _ {S : Type 0} (rules : Rules S) (before after : Books S)
             (stands.reads.settled_follows place label (keeps-back place label s));
       }
 
+  -- they are in order as before
   rising-same : IsRising rules before → IsRising rules after
   rising-same r =
       record {
@@ -84,6 +87,7 @@ module _ {S : Type 0} (rules : Rules S) (before after : Books S)
         rising = rising-same stands.rising;
       }
 
+  -- the newest of a cell below a place is as before
   latest-same : (cell below cursor : ℕ) → IsLatest rules before cell below cursor → IsLatest rules after cell below cursor
   latest-same cell below cursor l =
       record {
@@ -91,6 +95,7 @@ module _ {S : Type 0} (rules : Rules S) (before after : Books S)
         last = λ place label s. l.last place label (keeps-back place label s);
       }
 
+  -- and so are the chains
   pub index-same : after.newest ≡ before.newest → after.older ≡ before.older → IsIndex rules before → IsIndex rules after
   index-same newest older i =
       record {

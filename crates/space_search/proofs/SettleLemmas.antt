@@ -24,17 +24,21 @@ module _ {S : Type 0} (rules : Rules S) (laws : IsSpace rules) (kept : Books S) 
   abbrev next_books : Books S
   next_books = after rules kept number label rest w
 
+  -- each settled label keeps its place
   more : KeepsLabels kept next_books
   more = grows rules kept number label rest w
 
+  -- a settled label is an old one or the new one
   cases :
       (place : ℕ) (l : Label S) → IsSettled next_books place l →
       IsSettled kept place l ⊎ ((place ≡ length kept.settled) × (l ≡ label))
   cases = old-or_new rules kept number label rest w
 
+  -- the new one comes from a start or a settled label
   follows-new : Follows rules kept (length kept.settled) label
   follows-new = w.leaving.search.follows number label w.leaving.next.there
 
+  -- the settled labels read right
   reads-new : Reads rules next_books
   reads-new =
       record {
@@ -60,6 +64,7 @@ module _ {S : Type 0} (rules : Rules S) (laws : IsSpace rules) (kept : Books S) 
   rank-new : (low : ℕ) → HasRank rules label.state label.cost low → low ≡ w.leaving.next.rank
   rank-new low r = rank-unique rules label.state label.cost low w.leaving.next.rank r w.leaving.next.ranked
 
+  -- its entry waited
   front : Contains kept.queue entry
   front = (
     0,
@@ -67,9 +72,11 @@ module _ {S : Type 0} (rules : Rules S) (laws : IsSpace rules) (kept : Books S) 
     get_or_from_slice_get kept.queue 0 entry entry w.leaving.next.first,
   )
 
+  -- no settled label ranks above it
   below-new : (place : ℕ) (l : Label S) (low : ℕ) → IsSettled kept place l → HasRank rules l.state l.cost low → low ≤ w.leaving.next.rank
   below-new place l low s r = w.leaving.search.above place l low s r entry front
 
+  -- the settled labels are in order
   rising-new : IsRising rules next_books
   rising-new =
       record {
@@ -116,6 +123,7 @@ module _ {S : Type 0} (rules : Rules S) (laws : IsSpace rules) (kept : Books S) 
             ];
       }
 
+  -- they stand with the new one
   stands-new : Stands rules next_books
   stands-new =
       record {
@@ -138,6 +146,7 @@ module _ {S : Type 0} (rules : Rules S) (laws : IsSpace rules) (kept : Books S) 
         covers = laws.covering.itself label.state label.cost follows-new.valid;
       }
 
+  -- what was taken care of still is
   moves :
       (state : S) (cost : ℕ) → IsAccounted rules kept state cost →
       IsAccounted rules next_books state cost
@@ -154,6 +163,7 @@ module _ {S : Type 0} (rules : Rules S) (laws : IsSpace rules) (kept : Books S) 
       }
       )
 
+  -- the lists are those of a search
   search-new : IsSearch rules next_books
   search-new =
       record {

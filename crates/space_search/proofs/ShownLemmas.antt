@@ -64,6 +64,7 @@ module _ {S : Type 0} where
       shown-stays rest (done ++ reached done first ∷ []) place label
       (slice_get-append done (reached done first ∷ []) place label is)
 
+  -- one is shown for each label
   shown-length : (labels : List (Label S)) (done : List (Reached S)) → length (shown_from done labels) ≡ length done + length labels
   shown-length [] done = omega arith
   shown-length (first ∷ rest) done =
@@ -137,6 +138,7 @@ module _ {S : Type 0} (rules : Rules S) (kept : Books S) (reads : Reads rules ke
 -- settled labels that keep their places are shown as before
 module _ {S : Type 0} (rules : Rules S) (before after : Books S) (reads : Reads rules before) (reads_after : Reads rules after)
     (keeps : KeepsLabels before after) where
+  -- the choices before a label are as before, where those of its parent are
   same-parent :
       (parent : ℕ) → parent ≤ length before.settled →
       ((place : ℕ) (label : Label S) → place + 1 ≡ parent → IsSettled before place label →
@@ -151,6 +153,7 @@ module _ {S : Type 0} (rules : Rules S) (before after : Books S) (reads : Reads 
       let new = shown-settled rules after reads_after place label.0 (keeps place label.0 s) in
       ap choices_in (old ∙ ap Some (earlier place label.0 (omega arith) s) ∙ sym new)
 
+  -- a label is shown as before, where those settled before it are
   same-label :
       (place : ℕ) (label : Label S) → IsSettled before place label →
       ((p : ℕ) (l : Label S) → p < place → IsSettled before p l → reached (settled_of before) l ≡ reached (settled_of after) l) →
@@ -161,6 +164,7 @@ module _ {S : Type 0} (rules : Rules S) (before after : Books S) (reads : Reads 
       (same-parent label.parent (omega (arith, small, settled-within before place label s))
       (λ p l is h. earlier p l (omega (arith, small, is)) h))
 
+  -- so each settled label is
   same-below :
       (fuel place : ℕ) (label : Label S) → place ≤ fuel → IsSettled before place label →
       reached (settled_of before) label ≡ reached (settled_of after) label

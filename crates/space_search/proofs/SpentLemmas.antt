@@ -33,12 +33,15 @@ module _ {S : Type 0} (rules : Rules S) (laws : IsSpace rules) (kept : Books S) 
   abbrev last : Reached S
   last = reached (settled_of kept) label
 
+  -- as many labels are shown as are settled
   count : length (settled_of kept) ≡ length kept.settled
   count = shown-count rules kept r.search.stands.reads
 
+  -- the label comes from a start or a settled label
   follows : Follows rules kept (length kept.settled) label
   follows = r.search.follows number label r.next.there
 
+  -- it is a run to no goal with a rank
   passed : IsPassed rules (length (settled_of kept) + 1) last
   passed =
       record {
@@ -51,6 +54,7 @@ module _ {S : Type 0} (rules : Rules S) (laws : IsSpace rules) (kept : Books S) 
         ranked = r.next.ranked;
       }
 
+  -- its entry waits
   front : Contains kept.queue (record { 0 = (r.next.rank, number) })
   front = (
     0,
@@ -58,6 +62,7 @@ module _ {S : Type 0} (rules : Rules S) (laws : IsSpace rules) (kept : Books S) 
     get_or_from_slice_get kept.queue 0 (record { 0 = (r.next.rank, number) }) (record { 0 = (r.next.rank, number) }) r.next.first,
   )
 
+  -- no settled label ranks above it
   under :
       (place : ℕ) (shown : Reached S) (low : ℕ) → slice_get (settled_of kept) place ≡ Some shown →
       HasRank rules shown.state shown.cost low → low ≤ r.next.rank
@@ -66,6 +71,7 @@ module _ {S : Type 0} (rules : Rules S) (laws : IsSpace rules) (kept : Books S) 
       r.search.above place s.label low s.settled
       (subst (λ (k : Reached S). HasRank rules k.state k.cost low) (sym s.is) rank) (record { 0 = (r.next.rank, number) }) front
 
+  -- and none covers it
   apart :
       (place : ℕ) (shown : Reached S) → slice_get (settled_of kept) place ≡ Some shown →
       rules.covers shown.state shown.cost label.state label.cost ≡ false
@@ -73,6 +79,7 @@ module _ {S : Type 0} (rules : Rules S) (laws : IsSpace rules) (kept : Books S) 
       let s : Settled kept place shown = settled-shown rules kept r.search.stands.reads place shown at in
       subst (λ (k : Reached S). rules.covers k.state k.cost label.state label.cost ≡ false) s.is (r.uncovered place s.label s.settled)
 
+  -- none of them and not the label ranks above a run to a goal
   below : RanksBelowGoals rules (settled_of kept ++ last ∷ [])
   below place shown rank at is =
       elim (slice_get-push_cases (settled_of kept) last place shown at) [

@@ -23,10 +23,12 @@ extends-trans a b c p q =
 
 -- what was taken care of still is where everything stays
 module _ {S : Type 0} (rules : Rules S) (before after : Books S) (more : Extends before after) where
+  -- each settled label keeps its place
   to-settled : KeepsLabels before after
   to-settled place label s =
       record { number = s.number; at = rw more.settled s.at; there = more.labels s.number label s.there }
 
+  -- and what is taken care of still is
   pub accounted-extended : (state : S) (cost : ℕ) → IsAccounted rules before state cost → IsAccounted rules after state cost
   accounted-extended state cost (by_label c) =
       by_label (record { place = c.place; label = c.label; settled = to-settled c.place c.label c.settled; covers = c.covers })

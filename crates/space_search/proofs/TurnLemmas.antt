@@ -27,6 +27,7 @@ module _ {S : Type 0} (rules : Rules S) (laws : IsSpace rules) (limit quota coun
       }
 
   module _ (after : Books S) (taken : Taken) (takes : Takes rules limit between after taken) (some : count < quota) where
+    -- at a goal
     pub turns-goal :
         (number label : ℕ) → taken ≡ Goal number → label ≡ length after.settled →
         Turns rules quota before (held_after limit after (Found label, number)) (Found label)
@@ -44,6 +45,7 @@ module _ {S : Type 0} (rules : Rules S) (laws : IsSpace rules) (limit quota coun
           counts = omega (arith, what.0);
         }
 
+    -- where nothing waits
     pub turns-empty : taken ≡ Empty → Turns rules quota before (held_after limit after (NoWay, 0)) NoWay
     turns-empty is =
         let what : WhatTaken rules limit between after Empty = subst (λ t. WhatTaken rules limit between after t) is takes.what in
@@ -55,6 +57,7 @@ module _ {S : Type 0} (rules : Rules S) (laws : IsSpace rules) (limit quota coun
           counts = omega (arith, what.0);
         }
 
+    -- where the limit is spent
     pub turns-spent : taken ≡ Spent → Turns rules quota before (held_after limit after (Budget, 0)) Budget
     turns-spent is =
         let what : WhatTaken rules limit between after Spent = subst (λ t. WhatTaken rules limit between after t) is takes.what in

@@ -1,5 +1,5 @@
 -- What a search keeps while it runs: the labels that it made, the queue of those that wait, those that it
--- settled, and for each cell the chain of its settled ones. This project's own rule
+-- settled, and for each cell the chain of its settled ones. This project's own rule.
 use Rattle.std.specs.BinaryHeap.{heap_items, IsHeap}
 use Rattle.std.specs.Bool.{IsTrue}
 use Rattle.std.specs.List.{slice_get, Contains}

@@ -1,5 +1,5 @@
 -- The laws of a search space, in five groups. They speak of valid states alone.
--- this project's own rule
+-- This project's own rule.
 use Rattle.std.specs.Prelude.{ℕ, ◌≡◌, ◌<◌, ◌≤◌, ◌+◌, IsTrue, Some, None, List}
 use Rattle.std.specs.Option.{is_some}
 use Rattle.space_search.specs.Rules.{Rules, COST_BOUND, LOW_BOUND}

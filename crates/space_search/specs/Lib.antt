@@ -7,10 +7,5 @@ pub mod Outcome
 pub mod Rules
 pub mod Runs
 pub mod Searches
-pub mod TestLine
-pub mod TestLineLaws
-pub mod TestPlain
-pub mod TestToll
-pub mod TestTollLaws
 pub mod Turns
 pub mod View

@@ -1,5 +1,5 @@
 -- Runs of a search space: a start's number and then the numbers of steps, with the sum of the costs.
--- this project's own rule
+-- This project's own rule.
 use Rattle.std.specs.Prelude.{ℕ, ◌≡◌, ◌<◌, ◌≤◌, ◌+◌, IsTrue, Some, List, [], ◌∷◌}
 use Rattle.space_search.specs.Rules.{Rules}
 

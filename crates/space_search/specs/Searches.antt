@@ -1,5 +1,5 @@
 -- A search over a space: what holds of all that it keeps. Crates above pass this word on and look no further;
--- what they read stands in what a search shows of itself. This project's own rule
+-- what they read stands in what a search shows of itself. This project's own rule.
 use Rattle.std.specs.Prelude.{ℕ, ◌<◌, ◌≤◌, ◌^◌, length}
 use Rattle.space_search.specs.Books.{Books, books, IsLabel, Follows, IsSearch, IsClosed, Stands, IsFresh}
 use Rattle.space_search.specs.Rules.{Rules}

@@ -1,5 +1,5 @@
 -- What a search shows of itself: its limit, how far it is, and the labels that can be read. This project's
--- own rule
+-- own rule.
 use Rattle.std.specs.List.{slice_get}
 use Rattle.std.specs.Prelude.{ℕ, zero, suc, ◌≡◌, List, [], ◌∷◌, ◌++◌, Option, Some, None}
 use Rattle.space_search.specs.Books.{Books, books}
@@ -82,15 +82,15 @@ abbrev pub held : {S : Type 0} → Search S → Held S
 held search =
     record { limit = search.limit; kept = books search.lists; found = search.found; phase = search.phase }
 
--- the goal that was found, as it is shown
-abbrev pub goal_of : {S : Type 0} → Books S → ℕ → Phase → Option (Reached S)
-goal_of kept found New = None
-goal_of kept found Running = None
-goal_of kept found (Ended More) = None
-goal_of kept found (Ended (Found label)) = reached_by (settled_of kept) (slice_get kept.labels found)
-goal_of kept found (Ended NoWay) = None
-goal_of kept found (Ended Budget) = None
-goal_of kept found Failed = None
+-- the goal that was found, as it is shown, by how far the search is
+abbrev pub goal_of : {S : Type 0} → Held S → Phase → Option (Reached S)
+goal_of held New = None
+goal_of held Running = None
+goal_of held (Ended More) = None
+goal_of held (Ended (Found label)) = reached_by (settled_of held.kept) (slice_get held.kept.labels held.found)
+goal_of held (Ended NoWay) = None
+goal_of held (Ended Budget) = None
+goal_of held Failed = None
 
 -- what is shown of what a search keeps
 abbrev pub view_of : {S : Type 0} → Held S → View S
@@ -99,7 +99,7 @@ view_of held =
       limit = held.limit;
       phase = held.phase;
       settled = settled_of held.kept;
-      goal = goal_of held.kept held.found held.phase;
+      goal = goal_of held held.phase;
     }
 
 -- what a search shows of itself

@@ -14,12 +14,6 @@ mod search;
 mod settle;
 mod space;
 mod take;
-#[cfg(test)]
-mod tests;
-#[cfg(test)]
-mod tests_line;
-#[cfg(test)]
-mod tests_toll;
 mod turn;
 mod turns;
 

@@ -1,5 +1,5 @@
 -- A space of the tests: a state is a place and what is due at its next step. Three steps lead from the
--- place 0 to the place 1, and leave more or less due there; one leads on to the goal 2
+-- place 0 to the place 1, and leave more or less due there; one leads on to the goal 2.
 use Rattle.std.specs.Prelude.{ℕ, ◌+◌, Bool, true, false, cond, ◌==◌, nat_lt, Option, Some, None}
 use Rattle.space_search.specs.Rules.{Rules}
 

@@ -2,7 +2,7 @@
 
 ghost use Rattle.std.specs.Prelude.{◌≤◌};
 
-use crate::space::Space;
+use space_search::Space;
 use std::cell::Cell;
 
 /// A line of cells, the first of which is the one start; the goal may lie beyond it.
@@ -33,8 +33,8 @@ impl Line {
 }
 
 impl Space for Line {
-    ghost use Rattle.space_search.specs.TestLine.{line_rules};
-    ghost use Rattle.space_search.specs.TestLineLaws.{line-keeps_laws};
+    ghost use Rattle.search_bench.specs.TestLine.{line_rules};
+    ghost use Rattle.search_bench.specs.TestLineLaws.{line-keeps_laws};
 
     type State = u32;
 

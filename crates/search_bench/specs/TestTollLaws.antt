@@ -5,7 +5,7 @@ use Rattle.std.specs.Bool.{IsTrue}
 use Rattle.std.specs.Option.{is_some}
 use Rattle.space_search.specs.Laws.{IsMove, IsSpace}
 use Rattle.space_search.specs.Rules.{LOW_BOUND}
-use Rattle.space_search.specs.TestToll.{toll_rules, toll_step, toll_covers, toll_low}
+use Rattle.search_bench.specs.TestToll.{toll_rules, toll_step, toll_covers, toll_low}
 
 -- what covers stands at the same place
 same-place : (a b : ℕ × ℕ) (ca cb : ℕ) → IsTrue (toll_covers a ca b cb) → a.0 ≡ b.0

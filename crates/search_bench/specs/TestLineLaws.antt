@@ -2,8 +2,8 @@
 use Rattle.std.proofs.Common.{◌≡◌, ℕ, ◌≤◌, Some, refl, arith}
 use Rattle.std.proofs.lemmas.Bool.Decides.{nat_tests}
 use Rattle.space_search.specs.Laws.{IsMove, IsSpace}
-use Rattle.space_search.specs.TestLine.{line_rules, line_step}
-use Rattle.space_search.specs.TestPlain.{plain-space}
+use Rattle.search_bench.specs.TestLine.{line_rules, line_step}
+use Rattle.search_bench.specs.TestPlain.{plain-space}
 
 -- the next cell lies in the line
 move :

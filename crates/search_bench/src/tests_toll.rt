@@ -1,6 +1,6 @@
 //! A space of the tests: a state is a place and what is due at its next step.
 
-use crate::space::Space;
+use space_search::Space;
 
 /// Three steps lead from the place 0 to the place 1, and leave more or less due there; one leads on
 /// to the goal 2. With a bound the space says what is still to pay at the place 1.
@@ -10,8 +10,8 @@ pub(crate) struct Toll {
 }
 
 impl Space for Toll {
-    ghost use Rattle.space_search.specs.TestToll.{toll_rules};
-    ghost use Rattle.space_search.specs.TestTollLaws.{toll-keeps_laws};
+    ghost use Rattle.search_bench.specs.TestToll.{toll_rules};
+    ghost use Rattle.search_bench.specs.TestTollLaws.{toll-keeps_laws};
 
     type State = (u32, u32);
 

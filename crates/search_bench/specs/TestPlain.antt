@@ -1,5 +1,5 @@
 -- The laws of covering where it means the same state at no greater cost, as the small spaces of the tests
--- have it
+-- have it.
 use Rattle.std.proofs.Common.{◌≡◌, ℕ, ◌≤◌, ◌+◌, Bool, true, false, Option, Some, ap, arith, sym, ◌∙◌, subst}
 use Rattle.std.proofs.lemmas.Bool.Decides.{nat_tests}
 use Rattle.std.specs.Bool.{IsTrue}
@@ -34,13 +34,16 @@ one-answer first second more other answer is is' =
     (ap (λ (answer : ℕ × ℕ). answer.0) same, ap (λ (answer : ℕ × ℕ). answer.1) same)
 
 module _ (rules : Rules ℕ) (plain : rules.covers ≡ plain_covers) where
+  -- covering means the same state at no greater cost
   covers : {a ca b cb : ℕ} → IsTrue (rules.covers a ca b cb) → IsTrue (plain_covers a ca b cb)
   covers {a} {ca} {b} {cb} h = subst (λ (f : ℕ → ℕ → ℕ → ℕ → Bool). IsTrue (f a ca b cb)) plain h
 
+  -- and the same state at no greater cost is covered
   covers' : (a ca cb : ℕ) → ca ≤ cb → IsTrue (rules.covers a ca a cb)
   covers' a ca cb less =
       subst (λ (f : ℕ → ℕ → ℕ → ℕ → Bool). IsTrue (f a ca a cb)) (sym plain) (covers-itself a ca cb less)
 
+  -- such a covering keeps the second group of laws
   plain-covering : HasCovering rules
   plain-covering =
       record {
@@ -53,6 +56,7 @@ module _ (rules : Rules ℕ) (plain : rules.covers ≡ plain_covers) where
         cheaper = λ a b ca cb va vb h. no-more a ca b cb (covers h);
       }
 
+  -- it is kept by steps
   plain-kept : KeepsCovering rules
   plain-kept a b ca cb va vb h number within first second more other is is' =
       let same : (first ≡ second) × (more ≡ other) =
@@ -62,6 +66,7 @@ module _ (rules : Rules ℕ) (plain : rules.covers ≡ plain_covers) where
       subst (λ (s : ℕ). IsTrue (rules.covers first (ca + more) s (cb + other))) same.0
       (covers' first (ca + more) (cb + other) (omega (arith, same.1, no-more a ca b cb (covers h))))
 
+  -- what is covered is alike
   plain-alike : CoveredAlike rules
   plain-alike =
       record {

@@ -1,7 +1,7 @@
 -- A space of the tests: a line of cells, the first of which is the one start; one may be the goal.
 use Rattle.std.specs.Prelude.{ℕ, ◌+◌, cond, ◌==◌, nat_lt, Option, Some, None}
 use Rattle.space_search.specs.Rules.{Rules}
-use Rattle.space_search.specs.TestPlain.{plain_covers}
+use Rattle.search_bench.specs.TestPlain.{plain_covers}
 
 -- the one step of a cell leads to the next, and costs 1
 abbrev pub line_step : ℕ → ℕ → Option (ℕ × ℕ)

@@ -2,11 +2,11 @@
 
 ghost use Rattle.std.specs.Prelude.{◌<◌, ◌≤◌, ◌^◌};
 ghost use Rattle.space_search.specs.Searches.{IsSearchOf, IsReadable};
-ghost use Rattle.space_search.specs.TestLine.{line_rules};
+ghost use Rattle.search_bench.specs.TestLine.{line_rules};
 
-use super::*;
 use crate::tests_line::Line;
 use crate::tests_toll::Toll;
+use space_search::{Outcome, Search, Turn, least};
 use std::alloc::{AllocError, Global};
 use std::test::Fail;
 
