@@ -13,8 +13,8 @@ use std::marker::Model;
 /// The most overrides: places are 32-bit numbers.
 const MOST_OVERRIDES: usize = 0xffff_ffff;
 
-/// Names of the global section with the numbers that replace their values. No name comes twice. They
-/// can be a key of a map.
+/// Names of the global section with the numbers that replace their values. No name comes twice.
+/// They can be a key of a map.
 #[derive(PartialEq, Eq, Hash, Drop)]
 pub struct Overrides {
     items: Items<(Name, Num)>,
