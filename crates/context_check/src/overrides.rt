@@ -14,7 +14,8 @@ use std::marker::Model;
 const MOST_OVERRIDES: usize = 0xffff_ffff;
 
 /// Names of the global section with the numbers that replace their values. No name comes twice.
-#[derive(Drop)]
+/// They can be a key of a map.
+#[derive(PartialEq, Eq, Hash, Drop)]
 pub struct Overrides {
     items: Items<(Name, Num)>,
 }
@@ -28,6 +29,8 @@ impl Model for Overrides {
     ghost view = { λ o. o.items };
 
     ghost invariant = { λ o. AreOverrides o.items };
+
+    ghost inverse = { λ o. record { items = o } };
 }
 
 impl Overrides {

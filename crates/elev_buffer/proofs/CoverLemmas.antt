@@ -95,7 +95,8 @@ keeps-one Compensated l added r k x y is positive price h =
     record {
       order = tt;
       cost =
-          omega (arith, ints, e, mul-add k sx.paid (excess sx.e sy.e), mul-add k sy.paid (excess x y), *ℤ_comm sx.paid k, *ℤ_comm sy.paid k);
+          omega
+          (arith, ints, e, mul-add k sx.paid (excess sx.e sy.e), mul-add k sy.paid (excess x y), *ℤ_comm sx.paid k, *ℤ_comm sy.paid k);
     }
 keeps-one Ordered l added r k x y is positive price h =
     let sx = step_of l added r x in

@@ -94,12 +94,14 @@ elevation_cost by climb pair =
 
 -- a label after its steps over a link, whose other cost is this
 abbrev pub label_after : Terms → Climb → ℤ → Label → Label
-label_after by climb other a = label (after climb a.buffers) (a.cost +ℤ elevation_cost by climb a.buffers +ℤ other)
+label_after by climb other a =
+    label (after climb a.buffers) (a.cost +ℤ elevation_cost by climb a.buffers +ℤ other)
 
 -- the covering lasts over every link whose other cost is no more for the first label
 abbrev pub IsKept : Terms → Label → Label → Type 0
 IsKept by a b =
-    (climb : Climb) (a_other b_other : ℤ) → IsLimits climb.limits → pos 0 ≤ℤ climb.reduction → a_other ≤ℤ b_other →
+    (climb : Climb) (a_other b_other : ℤ) → IsLimits climb.limits → pos 0 ≤ℤ climb.reduction →
+    a_other ≤ℤ b_other →
     CoversLabel by (label_after by climb a_other a) (label_after by climb b_other b)
 
 -- the cost of a label with the price of its descent

@@ -53,7 +53,8 @@ fn is_covered(a: &Pair, ca: u128, b: &Pair, cb: u128, kd: i64, ku: i64, modes: &
 /// Whether both buffers have the order that their modes ask for.
 fn are_in_order(a: &Pair, b: &Pair, modes: &Modes) -> bool
     ensures exact { IsTrue result ↔
-        (IsInOrder modes.now.down a.now.down b.now.down × IsInOrder modes.now.up a.now.up b.now.up) }
+        (IsInOrder modes.now.down a.now.down b.now.down
+        × IsInOrder modes.now.up a.now.up b.now.up) }
 {
     is_in_order(modes.down, a.down, b.down) && is_in_order(modes.up, a.up, b.up)
 }

@@ -77,7 +77,9 @@ WritesDecimals-start fraction before = record { rest_is = omega arith; len = ome
 pub length-unsigned : (size : ℕ) (text : List ℕ) → size < 2 ^ 128 →
     text ≡ decimal (size / 1000000) ++ 46 ∷ last_digits 6 (size % 1000000) → length text ≤ 46
 length-unsigned size text fits text_is =
-    omega (arith, ap length text_is, length-append (decimal (size / 1000000)) (46 ∷ last_digits 6 (size % 1000000)), length-decimal-le_wide 39 (size / 1000000) (omega arith) (omega arith) (omega arith))
+    let whole = size / 1000000 in
+    let both = length-append (decimal whole) (46 ∷ last_digits 6 (size % 1000000)) in
+    omega (arith, ap length text_is, both, length-decimal-le_wide 39 whole (omega arith) (omega arith) (omega arith))
 
 -- the sign of a number and the text of its size make the whole text
 pub mil6_is : (n z : ℤ) (size : ℕ) (sign : Bool) (text : List ℕ) → z ≡ n → size ≡ unsigned_abs z → is_negative z ≡ sign →

@@ -60,7 +60,8 @@ module _ (a b d A B D : ℤ) (fit_a : FitsSigned w64 a) (fit_b : FitsSigned w64 
 
   -- the division in 128 bits is safe
   pub wide_ratio_safe : d ≢ pos 0 →
-      (0 < of_z w128 D) × FitsSigned w128 (int_div (to_z w128 (of_z w128 (to_z w128 (of_z w128 A) *ℤ to_z w128 (of_z w128 B)))) (to_z w128 (of_z w128 D)))
+      (0 < of_z w128 D)
+      × FitsSigned w128 (int_div (to_z w128 (of_z w128 (to_z w128 (of_z w128 A) *ℤ to_z w128 (of_z w128 B)))) (to_z w128 (of_z w128 D)))
   wide_ratio_safe nonzero = (
     rw (d_is, to_z-of_z w64 d fit_d) (of_z-positive w128 d (lit< tt) (fits_wide d fit_d) nonzero),
     rw (product_is, wide_d) ratio_fits,

@@ -74,7 +74,8 @@ digits_after-lt [] digits = lit< tt
 digits_after-lt (y ∷ ys) digits =
     let parts : (is_ascii_digit y ≡ true) × (all_ascii_digits ys ≡ true) = and_parts _ _ digits in
     subst (λ (p : ℕ). digits_after 0 (y ∷ ys) < p) (sym (pow-suc 10 (length ys)))
-    (one_more (y - 48) (10 ^ length ys) (digits_after 0 ys) _ (digits_after_from (10 * 0 + (y - 48)) ys) (digit-le y parts.0) (digits_after-lt ys parts.1))
+    (one_more (y - 48) (10 ^ length ys) (digits_after 0 ys) _
+    (digits_after_from (10 * 0 + (y - 48)) ys) (digit-le y parts.0) (digits_after-lt ys parts.1))
   where
     one_more : (g p r b : ℕ) → b ≡ (10 * 0 + g) * p + r → g ≤ 9 → r < p → b < p * 10
     one_more g p r b b_is digit less = omega (arith, mul-le-mul_right p digit)
@@ -140,7 +141,8 @@ cut_is w f kept kept_is digits =
           let whole : kept ≡ length f = omega arith in
           ap (λ k. digits_after 0 (w ++ take k f) * get_or powers (6 - k) 0) whole
           ∙ ap (λ t. digits_after 0 (w ++ t) * get_or powers (6 - length f) 0) (take-length f)
-          ∙ sym (cut_short (digits_after 0 (w ++ f)) (10 ^ length f) (get_or powers (6 - length f) 0) (one-le-pow (length f) 10 (lit< tt)) (power_left (length f) few))
+          ∙ sym (cut_short (digits_after 0 (w ++ f)) (10 ^ length f) (get_or powers (6 - length f) 0)
+          (one-le-pow (length f) 10 (lit< tt)) (power_left (length f) few))
     ]
 
 -- what the steps of the code come to, held at the bound

@@ -101,14 +101,16 @@ rounded_millionths-printed n =
 pub SpellsValue-mil6_cut : (text : List ℕ) (n : ℤ) → unsigned_abs n ≤ 1000000000000000 → text ≡ mil6 n → SpellsValue cut_millionths text n
 unfolding printed
 SpellsValue-mil6_cut text n fits text_is =
-    (printed n, Spells-mil6 text n fits text_is, sym (ap (λ s. with_sign (is_negative n) s) (cut_millionths-printed n fits) ∙ with_sign_is n))
+    let size = cut_millionths-printed n fits in
+    (printed n, Spells-mil6 text n fits text_is, sym (ap (λ s. with_sign (is_negative n) s) size ∙ with_sign_is n))
 
 -- so has a coordinate
 pub SpellsValue-mil6_rounded : (text : List ℕ) (n : ℤ) → unsigned_abs n ≤ 1000000000000000 → text ≡ mil6 n →
     SpellsValue rounded_millionths text n
 unfolding printed
 SpellsValue-mil6_rounded text n fits text_is =
-    (printed n, Spells-mil6 text n fits text_is, sym (ap (λ s. with_sign (is_negative n) s) (rounded_millionths-printed n ∙ cut_millionths-printed n fits) ∙ with_sign_is n))
+    let size = rounded_millionths-printed n ∙ cut_millionths-printed n fits in
+    (printed n, Spells-mil6 text n fits text_is, sym (ap (λ s. with_sign (is_negative n) s) size ∙ with_sign_is n))
 
 -- a coordinate within the most is in a number's range
 pub coordinate_in_range : (most n : ℤ) → pos 0 ≤ℤ most → most ≤ℤ pos 180000000 → unsigned_abs n ≤ unsigned_abs most →

@@ -65,8 +65,14 @@ module _ {E : Type 0} (size : Decimal → ℕ) (limit : ℕ) (bad large : E) (ap
     found = tt;
     only = λ n value fits. absurd (omega (arith, (size_of d some n value).1));
     bad_spelling = (λ same. absurd (apart cc), λ unspelled. absurd (unspelled (d, parts_of_sound text d some)));
-    out_of_range =
-        (λ _. (with_sign d.is_negative (size d), (d, parts_of_sound text d some, refl), omega (arith, unsigned_abs-with_sign d.is_negative (size d))), λ _. refl);
+    out_of_range = (
+      λ _. (
+        with_sign d.is_negative (size d),
+        (d, parts_of_sound text d some, refl),
+        omega (arith, unsigned_abs-with_sign d.is_negative (size d)),
+      ),
+      λ _. refl,
+    );
   }
 
   -- what is read from the parts of a text says all that

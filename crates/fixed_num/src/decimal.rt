@@ -94,7 +94,8 @@ impl<'a> Parts<'a> {
 
 /// The digits after the point, of what follows the digits before it.
 fn fraction_of(tail: &[u8]) -> Option<&[u8]>
-    ensures exact { MatchOption result (tail_of tail.now ≡ None) (λ f. tail_of tail.now ≡ Some f.now) }
+    ensures exact { let found = tail_of tail.now in
+        MatchOption result (found ≡ None) (λ f. found ≡ Some f.now) }
 {
     match tail {
         [] => Some(tail),

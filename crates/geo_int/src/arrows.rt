@@ -57,8 +57,8 @@ fn middle(a: Spot, b: Spot) -> i64
     (a.lat() + b.lat()).div_euclid(2)
 }
 
-/// Products of 128 bits are divided only where the difference is above 800,000 microdegrees: that is
-/// much slower.
+/// Products of 128 bits are divided only where the difference is above 800,000 microdegrees: that
+/// is much slower.
 fn scaled_east(degrees: i64, cosine: i64) -> i64
     requires degrees { unsigned_abs degrees ≤ 360000000 }
     requires cosine { unsigned_abs cosine ≤ 1000000000 }

@@ -104,8 +104,8 @@ fn end_is_within(a: Offset, square: u64) -> bool
     product(a, a) <= square as i64
 }
 
-/// The height of a triangle is its doubled area by its base: both sides are squares times the square
-/// of the base.
+/// The height of a triangle is its doubled area by its base: both sides are squares times the
+/// square of the base.
 fn line_is_within(a: Offset, b: Offset, square: u64) -> bool
     requires a { IsWithin 300000000 a }
     requires b { IsWithin 300000000 b }

@@ -20,8 +20,8 @@ pub fn cos_lat(lat: i64) -> i64
     SCALE.saturating_sub(square * first / SCALE / 2) as i64
 }
 
-/// One of the inner brackets of the series: none falls below 0, since no square of an angle up to 90
-/// degrees is above 2,500,000,000 billionths, a fifth of which is less than 1.
+/// One of the inner brackets of the series: none falls below 0, since no square of an angle up to
+/// 90 degrees is above 2,500,000,000 billionths, a fifth of which is less than 1.
 fn inner_term(square: u64, behind: u64, product: u64) -> u64
     requires square { square ≤ 2500000000 }
     requires behind { behind ≤ 1000000000 }

@@ -94,7 +94,8 @@ pub between-lawful : (cell : Cell) → cell.east ≤ 1000000 → cell.north ≤ 
 unfolding between
 between-lawful cell east north = record {
   level = λ metres p q r s.
-      rw (p, q, r, s, mix-level cell.east metres east, mix-level cell.north (pos 1000000 *ℤ metres) north, whole (pos 1000000 *ℤ metres)) refl;
+      let million = pos 1000000 *ℤ metres in
+      rw (p, q, r, s, mix-level cell.east metres east, mix-level cell.north million north, whole million) refl;
   at_sample = λ e f.
       let sw = cell.south_west in
       let se = cell.south_east in

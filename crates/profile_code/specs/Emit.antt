@@ -1,5 +1,5 @@
 -- The flat code of a profile. This project's own rule.
-use Rattle.std.specs.Prelude.{ℕ, suc, ◌+◌, max, List, [], ◌∷◌, ◌++◌, length, pos, nat_lt, ◌==◌, Option, Some, None, if◌then◌else◌}
+use Rattle.std.specs.Prelude.{ℕ, suc, ◌+◌, max, List, [], ◌∷◌, ◌++◌, length, pos, nat_lt, ◌==◌, Option, Some, None, Result, IfOk, ◌≡◌, if◌then◌else◌}
 use Rattle.lookup_table.specs.Tag.{TagRow, place_of}
 use Rattle.profile_code.specs.declared.instr.Instr.{Instr}
 use Rattle.profile_code.specs.declared.instr.Instr.TheVariants.{Number, Own, Global, Look, Not, Truth, Two, JumpZero, Jump, Set}
@@ -74,3 +74,27 @@ height_of (Choice a b c) = max (height_of a) (max (height_of b) (height_of c))
 abbrev pub section_height : List Assignment → ℕ
 section_height [] = 0
 section_height (a ∷ rest) = max (height_of a.value) (section_height rest)
+
+-- ---- What a call appends
+
+-- operations, and how many numbers they have on the stack at most
+pub record Piece : Type 0 where
+  pub ops : List Instr
+  pub height : ℕ
+
+-- those of an expression, after these names of the global section and its own
+abbrev pub piece_of : List TagRow → List (List ℕ) → List (List ℕ) → Tree → Piece
+piece_of rows global own t = record { ops = expr_code rows global own t; height = height_of t }
+
+-- and then the operation that sets the next variable
+abbrev pub with_set : Piece → Piece
+with_set piece = record { ops = piece.ops ++ Set ∷ []; height = piece.height }
+
+-- the operations were put behind those that there were, and their height was answered
+pub record Emitted (piece : Piece) (old new : List Instr) (height : ℕ) : Type 0 where
+  pub value : new ≡ old ++ piece.ops
+  pub exact : height ≡ piece.height
+
+-- so a call says, unless memory ran out
+abbrev pub Emits : {E : Type 0} → Piece → List Instr → List Instr → Result ℕ E → Type 0
+Emits piece old new result = IfOk result (λ height. Emitted piece old new height)

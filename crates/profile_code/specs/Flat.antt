@@ -75,14 +75,16 @@ tags_of flat Node = flat.node_tags
 -- the run of the global section
 abbrev pub global_run : Flat → Ended
 global_run flat =
-    let given : Given = record { room = flat.room; most = length flat.global.names; numbers = []; global = [] } in
+    let names = flat.global.names in
+    let given : Given = record { room = flat.room; most = length names; numbers = []; global = [] } in
     run_of given flat.global.instrs
 
 -- the run of a part's section on tag numbers, after the values of the global section
 abbrev pub own_run : Flat → Part → List ℕ → List ℤ → Ended
 own_run flat part numbers values =
     let section = own_section flat part in
-    let given : Given = record { room = flat.room; most = length section.names; numbers = numbers; global = values } in
+    let most = length section.names in
+    let given : Given = record { room = flat.room; most = most; numbers = numbers; global = values } in
     run_of given section.instrs
 
 -- no run is ever in want of an operand, of room, of a variable or of a tag

@@ -1,6 +1,6 @@
 //! From an expression to its operations.
 ghost use Rattle.std.specs.Prelude.{◌≡◌, ◌++◌, ◌∷◌, [], suc, IfOk, OnOk};
-ghost use Rattle.profile_code.specs.Emit.{expr_code, height_of};
+ghost use Rattle.profile_code.specs.Emit.{Emits, piece_of};
 ghost use Rattle.profile_code.specs.Scope.{rows_in};
 ghost use Rattle.profile_text.specs.Expr.{tree_of};
 
@@ -20,10 +20,9 @@ pub(crate) fn emit(
     code: &mut Vec<Instr>,
     expr: &Expr,
 ) -> Result<usize, AllocError>
-    ensures value { let rows = rows_in scope.now.tags in
-        let ops = expr_code rows scope.now.global.now own.now (tree_of expr.now) in
-        OnOk result (code.new.items ≡ code.old.items ++ ops) }
-    ensures exact { IfOk result (λ height. height ≡ height_of (tree_of expr.now)) }
+    ensures exact { let rows = rows_in scope.now.tags in
+        let piece = piece_of rows scope.now.global.now own.now (tree_of expr.now) in
+        Emits piece code.old.items code.new.items result }
 {
     match expr {
         Expr::Number(number) => one(code, Instr::Number(*number)),

@@ -1,8 +1,7 @@
 //! From the assignments of a section to its operations.
-ghost use Rattle.std.specs.Prelude.{◌≡◌, ◌++◌, ◌∷◌, [], map, IfOk, OnOk};
+ghost use Rattle.std.specs.Prelude.{◌≡◌, ◌++◌, ◌∷◌, [], map, IfOk};
 ghost use Rattle.context_check.specs.Refusal.{names_in};
-ghost use Rattle.profile_code.specs.declared.instr.Instr.TheVariants.{Set};
-ghost use Rattle.profile_code.specs.Emit.{expr_code, height_of, section_code, section_height};
+ghost use Rattle.profile_code.specs.Emit.{Emits, piece_of, section_code, section_height, with_set};
 ghost use Rattle.profile_code.specs.Scope.{rows_in};
 ghost use Rattle.profile_text.specs.Expr.{assignment_in};
 ghost use Rattle.profile_text.specs.Meaning.{overridden};
@@ -52,12 +51,9 @@ fn emit_assignment(
     code: &mut Vec<Instr>,
     assign: &Assign,
 ) -> Result<usize, AllocError>
-    ensures value { let rows = rows_in scope.now.tags in
-        let tree = (overridden overrides.now (assignment_in assign.now)).value in
-        let ops = expr_code rows scope.now.global.now own.now tree ++ Set ∷ [] in
-        OnOk result (code.new.items ≡ code.old.items ++ ops) }
     ensures exact { let tree = (overridden overrides.now (assignment_in assign.now)).value in
-        IfOk result (λ height. height ≡ height_of tree) }
+        let piece = piece_of (rows_in scope.now.tags) scope.now.global.now own.now tree in
+        Emits (with_set piece) code.old.items code.new.items result }
 {
     let height = emit_value(alloc, scope, overrides, own, code, assign)?;
     put(code, Instr::Set)?;
@@ -73,12 +69,9 @@ fn emit_value(
     code: &mut Vec<Instr>,
     assign: &Assign,
 ) -> Result<usize, AllocError>
-    ensures value { let rows = rows_in scope.now.tags in
-        let tree = (overridden overrides.now (assignment_in assign.now)).value in
-        let ops = expr_code rows scope.now.global.now own.now tree in
-        OnOk result (code.new.items ≡ code.old.items ++ ops) }
     ensures exact { let tree = (overridden overrides.now (assignment_in assign.now)).value in
-        IfOk result (λ height. height ≡ height_of tree) }
+        let piece = piece_of (rows_in scope.now.tags) scope.now.global.now own.now tree in
+        Emits piece code.old.items code.new.items result }
 {
     match overrides.find(assign.name.as_slice()) {
         None => emit(alloc, scope, own, code, &assign.value),

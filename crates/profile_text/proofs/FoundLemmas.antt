@@ -79,46 +79,44 @@ closing_word _ h = cc
 abbrev pub IsSpelled : ℕ → Place → Read Tree → Type 0
 IsSpelled depth p r = SpellsExpr depth p.tokens r.value r.place.tokens
 
+-- what is read is spelled so where the value and the place are
+spelled_as : {depth : ℕ} {ts : List Token} {e : Tree} {q : Place} (r : Read Tree) → read e q ≡ Ok r → SpellsExpr depth ts e q.tokens
+    → SpellsExpr depth ts r.value r.place.tokens
+spelled_as {depth} {ts} {e} {q} r h spells =
+    let P : Read Tree → Type 0 = λ x. SpellsExpr depth ts x.value x.place.tokens in
+    subst P (same_value (record { value = e; place = q }) r h) spells
+
 -- what is read as a form is spelled so, where what is read one deeper is
 pub form_is_spelled :
     (depth : ℕ) (t : Token) (p : Place) (r : Read Tree) → ((q : Place) (s : Read Tree) → expr_of depth q ≡ Ok s → IsSpelled depth q s) →
     (k : Kind) → kind_of t.text ≡ k → form_of (expr_of depth) t k p ≡ Ok r → SpellsExpr (suc depth) (t ∷ p.tokens) r.value r.place.tokens
 form_is_spelled depth t p r inner (Number n) k h =
-    let P : Read Tree → Type 0 = λ x. SpellsExpr (suc depth) (t ∷ p.tokens) x.value x.place.tokens in
-    subst P (same_value _ r h) (a_number depth t n p.tokens k)
+    spelled_as r h (a_number depth t n p.tokens k)
 form_is_spelled depth t p r inner True k h =
-    let P : Read Tree → Type 0 = λ x. SpellsExpr (suc depth) (t ∷ p.tokens) x.value x.place.tokens in
-    subst P (same_value _ r h) (a_true depth t p.tokens k)
+    spelled_as r h (a_true depth t p.tokens k)
 form_is_spelled depth t p r inner False k h =
-    let P : Read Tree → Type 0 = λ x. SpellsExpr (suc depth) (t ∷ p.tokens) x.value x.place.tokens in
-    subst P (same_value _ r h) (a_false depth t p.tokens k)
+    spelled_as r h (a_false depth t p.tokens k)
 form_is_spelled depth t p r inner Name k h =
-    let P : Read Tree → Type 0 = λ x. SpellsExpr (suc depth) (t ∷ p.tokens) x.value x.place.tokens in
-    subst P (same_value _ r h) (a_name depth t p.tokens k)
+    spelled_as r h (a_name depth t p.tokens k)
 form_is_spelled depth t p r inner Look k h =
-    let P : Read Tree → Type 0 = λ x. SpellsExpr (suc depth) (t ∷ p.tokens) x.value x.place.tokens in
-    subst P (same_value _ r h) (a_look depth t p.tokens k)
+    spelled_as r h (a_look depth t p.tokens k)
 form_is_spelled depth t p r inner Not k h =
-    let P : Read Tree → Type 0 = λ x. SpellsExpr (suc depth) (t ∷ p.tokens) x.value x.place.tokens in
     let x = went_on (expr_of depth p) (λ a p. read (Negation a) p) r h in
-    subst P (same_value _ r x.next) (a_not depth t p.tokens x.value x.place.tokens k (inner p _ x.was))
+    spelled_as r x.next (a_not depth t p.tokens x.value x.place.tokens k (inner p _ x.was))
 form_is_spelled depth t p r inner (Two op) k h =
-    let P : Read Tree → Type 0 = λ x. SpellsExpr (suc depth) (t ∷ p.tokens) x.value x.place.tokens in
     let x = went_on (expr_of depth p) (λ a p. and_then (expr_of depth p) (λ b q. read (Operation op a b) q)) r h in
     let y = went_on (expr_of depth x.place) (λ b q. read (Operation op x.value b) q) r x.next in
-    subst P (same_value _ r y.next)
+    spelled_as r y.next
     (a_two depth t op p.tokens x.place.tokens x.value y.value y.place.tokens k (inner p _ x.was) (inner x.place _ y.was))
 form_is_spelled depth t p r inner Switch k h =
-    let P : Read Tree → Type 0 = λ x. SpellsExpr (suc depth) (t ∷ p.tokens) x.value x.place.tokens in
     let x =
     went_on (expr_of depth p) (λ a p. and_then (expr_of depth p) (λ b q. and_then (expr_of depth q) (λ c r. read (Choice a b c) r))) r h in
     let y = went_on (expr_of depth x.place) (λ b q. and_then (expr_of depth q) (λ c r. read (Choice x.value b c) r)) r x.next in
     let z = went_on (expr_of depth y.place) (λ c r. read (Choice x.value y.value c) r) r y.next in
-    subst P (same_value _ r z.next)
+    spelled_as r z.next
     (a_switch depth t p.tokens x.place.tokens y.place.tokens x.value y.value z.value z.place.tokens k (inner p _ x.was)
     (inner x.place _ y.was) (inner y.place _ z.was))
 form_is_spelled depth t p r inner If k h =
-    let P : Read Tree → Type 0 = λ x. SpellsExpr (suc depth) (t ∷ p.tokens) x.value x.place.tokens in
     let x =
     went_on (expr_of depth p)
     (λ a p. and_then (taken ThenWord p)
@@ -137,17 +135,16 @@ form_is_spelled depth t p r inner If k h =
     let else_first = taken_is_first ElseWord y.place.last y.place.tokens v.value v.place v.was in
     let A : List Token → Type 0 = λ ts. SpellsExpr depth p.tokens x.value ts in
     let B : List Token → Type 0 = λ ts. SpellsExpr depth u.place.tokens y.value ts in
-    subst P (same_value _ r z.next)
+    spelled_as r z.next
     (an_if depth t u.value v.value p.tokens u.place.tokens v.place.tokens x.value y.value z.value z.place.tokens k
     (subst A then_first.tokens (inner p _ x.was)) (then_word _ then_first.fits) (subst B else_first.tokens (inner u.place _ y.was))
     (else_word _ else_first.fits) (inner v.place _ z.was))
 form_is_spelled depth t p r inner Open k h =
-    let P : Read Tree → Type 0 = λ x. SpellsExpr (suc depth) (t ∷ p.tokens) x.value x.place.tokens in
     let x = went_on (expr_of depth p) (λ a p. and_then (taken Closing p) (λ t q. read a q)) r h in
     let u = went_on (taken Closing x.place) (λ t q. read x.value q) r x.next in
     let first = taken_is_first Closing x.place.last x.place.tokens u.value u.place u.was in
     let A : List Token → Type 0 = λ ts. SpellsExpr depth p.tokens x.value ts in
-    subst P (same_value _ r u.next)
+    spelled_as r u.next
     (a_bracket depth t u.value p.tokens x.value u.place.tokens k (subst A first.tokens (inner p _ x.was)) (closing_word _ first.fits))
 form_is_spelled depth t p r inner _ k h = cc
 

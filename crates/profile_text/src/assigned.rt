@@ -4,7 +4,7 @@ ghost use Rattle.profile_text.specs.Meaning.{last_value};
 
 use crate::names::Names;
 use fixed_num::Num;
-use lookup_table::Name;
+use item_list::Name;
 use std::alloc::{AllocError, Global};
 use std::marker::Model;
 

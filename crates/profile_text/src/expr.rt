@@ -1,8 +1,7 @@
 //! The expressions of a profile.
 
 use fixed_num::Num;
-use item_list::Items;
-use lookup_table::Name;
+use item_list::{Items, Name};
 
 /// An operator of two operands.
 #[derive(Clone, Copy, Debug, PartialEq, Eq)]

@@ -3,8 +3,7 @@ ghost use Rattle.std.specs.Prelude.{◌≡◌, ◌≤◌, false, length, IfOk};
 ghost use Rattle.std.specs.List.{prefix_len};
 ghost use Rattle.profile_text.specs.Look.{is_look, is_tag_byte, is_value_byte, are_values, are_parted, pieces, tag_of, values_of};
 
-use item_list::Items;
-use lookup_table::Name;
+use item_list::{Items, Name, bytes_of};
 use std::alloc::{AllocError, Global};
 
 /// Whether a token is a nonempty tag, `=`, and nothing or nonempty values parted by `|`.
@@ -102,5 +101,5 @@ fn tag_len(text: &[u8]) -> usize
 pub(crate) fn copied(alloc: Global, bytes: &[u8]) -> Result<Name, AllocError>
     ensures value { IfOk result (λ n. n ≡ bytes.now) }
 {
-    Ok(Items::from_vec(Vec::from_slice(alloc, bytes)?))
+    Ok(Items::from_vec(bytes_of(alloc, bytes)?))
 }

@@ -4,7 +4,7 @@ ghost use Rattle.profile_text.specs.Names.{last_place};
 
 use crate::look::copied;
 use indexmap::IndexMap;
-use lookup_table::Name;
+use item_list::Name;
 use std::alloc::{AllocError, Global};
 use std::marker::Model;
 

@@ -1,8 +1,7 @@
 //! A profile and its assignments.
 
 use crate::expr::Expr;
-use item_list::Items;
-use lookup_table::Name;
+use item_list::{Items, Name};
 
 /// An assignment, with the line of its name.
 #[derive(Drop)]

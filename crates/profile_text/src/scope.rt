@@ -6,7 +6,8 @@ ghost use Rattle.profile_text.specs.Scope.{looks_among};
 
 use crate::assigned::Assigned;
 use fixed_num::Num;
-use lookup_table::{Name, Part, Table};
+use item_list::Name;
+use lookup_table::{Part, Table};
 use std::marker::Model;
 
 /// The tags of a part with the tag numbers of a way or a node.

@@ -3,7 +3,7 @@ ghost use Rattle.std.specs.Prelude.{◌≡◌};
 ghost use Rattle.profile_text.specs.declared.value_error.ValueError.TheVariants.{NoMemory};
 
 use fixed_num::Arith;
-use lookup_table::Name;
+use item_list::Name;
 use std::alloc::{AllocError, AllocFailed};
 
 /// Why a section has no values: the first fault that its evaluation meets.

@@ -6,8 +6,7 @@ use crate::assigned::Assigned;
 use crate::look::copied;
 use fixed_num::Num;
 use indexmap::IndexMap;
-use item_list::Items;
-use lookup_table::Name;
+use item_list::{Items, Name};
 use std::alloc::{AllocError, Global};
 
 /// Names with their values.

@@ -27,7 +27,8 @@ returns c =
       only = reads.only;
       reread =
           λ n fits printed. reads.only n
-          (SpellsValue-mil6_rounded c.args.text.now n (coordinate_in_range c.args.most n c.requires.positive c.requires.fits fits) printed) fits;
+          (SpellsValue-mil6_rounded c.args.text.now n
+          (coordinate_in_range c.args.most n c.requires.positive c.requires.fits fits) printed) fits;
       not_decimal = reads.bad_spelling;
       out_of_range = reads.out_of_range;
     }

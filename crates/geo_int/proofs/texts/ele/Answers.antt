@@ -9,7 +9,8 @@ returns-then-hundredths-lt0-clause-exact c =
     let hundredths : SFits w64 c.div_euclid-hundredths.result = search rules in
     let P : List ℕ → Type 0 = λ x. OnOk c.append_hundredths.result (c.append_hundredths.new.text.items ≡ c.args.text.now.items ++ x) in
     subst P
-    (height_text-negative c.args.height c.div_euclid-hundredths.result c.unsigned_abs.result (simp to_z-of_z at c.div_euclid-hundredths.ensures)
+    (height_text-negative c.args.height c.div_euclid-hundredths.result c.unsigned_abs.result
+    (simp to_z-of_z at c.div_euclid-hundredths.ensures)
     (simp to_z-of_z at c.unsigned_abs.ensures.value) (simp to_z-of_z at c.if-hundredths-lt0.true))
     c.append_hundredths.ensures.exact
 

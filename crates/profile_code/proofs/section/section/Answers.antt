@@ -15,11 +15,11 @@ assigns-preserved c =
     EmittedUpTo-more c.args.overrides.now rows global c.args.assigns.now c.assigns.assign-index before after assign c.assigns.invariant
     c.assigns-test.true c.assign-item.is
     (record {
-      code = c.in_ok-one.ensures.value;
+      code = c.in_ok-one.ensures.exact.value;
       named = c.in_ok-push.ensures.value
           ∙ ap (λ n. c.assigns.names ++ n ∷ [])
           (c.as_slice.ensures.value ∙ sym (overridden_name c.args.overrides.now (assignment_in assign)));
-      high = c.max-height.ensures ∙ ap (max c.assigns.height) c.in_ok-one.ensures.exact;
+      high = c.max-height.ensures ∙ ap (max c.assigns.height) c.in_ok-one.ensures.exact.exact;
     })
 
 pub returns-clause-same : goal.returns-clause-same

@@ -14,7 +14,8 @@ returns c =
           c.min.ensures
           ∙ ap (λ n. min n 10000000000000000) c.saturating_mul.ensures
           ∙ ap (λ n. min (min (n * left) 18446744073709551615) 10000000000000000)
-          (held_digits c.self.inside.whole.now (take c.min-kept.result f) _ _ c.capped_number-whole.ensures.exact c.capped_number-number.ensures.exact)
+          (held_digits c.self.inside.whole.now (take c.min-kept.result f) _ _
+          c.capped_number-whole.ensures.exact c.capped_number-number.ensures.exact)
           ∙ held_product _ left (power_left-ge c.min-kept.result (omega arith))
           ∙ ap (λ n. min n 10000000000000000)
           (cut_is c.self.inside.whole.now f c.min-kept.result c.min-kept.ensures c.self.invariant.fraction_digits)

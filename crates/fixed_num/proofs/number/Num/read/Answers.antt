@@ -27,7 +27,10 @@ returns c =
       not_number = reads.bad_spelling;
       too_large = (
         λ same. let value = reads.out_of_range.0 same in (value.0, value.1, λ small. absurd (omega (arith, value.2))),
-        λ value. reads.out_of_range.1
-            (value.0, value.1, elim (cases_lt 1000000000000000 (unsigned_abs value.0)) [ inl big ↦ big | inr small ↦ absurd (value.2 small) ]),
+        λ value. reads.out_of_range.1 (
+          value.0,
+          value.1,
+          elim (cases_lt 1000000000000000 (unsigned_abs value.0)) [ inl big ↦ big | inr small ↦ absurd (value.2 small) ],
+        ),
       );
     }

@@ -16,4 +16,7 @@ returns c =
     let r = relief inside.corner inside.steps inside.samples.items in
     let is = around-is r c.args.east c.args.north _ _ _ c.self.invariant c.requires.east c.requires.north refl refl
     c.index.ensures c.index-2.ensures c.index-3.ensures c.index-4.ensures refl refl in
-    record { exact = h ∙ ap height_around is ∙ ap (λ v. height_on v c.args.east c.args.north) c.self.view_is; within = c.height_between.ensures.within }
+    record {
+      exact = h ∙ ap height_around is ∙ ap (λ v. height_on v c.args.east c.args.north) c.self.view_is;
+      within = c.height_between.ensures.within;
+    }
