@@ -31,18 +31,15 @@ ExprStops room =
     (last : ℕ) (ts : List Token) (e : TextError) → expr_of room (before last ts) ≡ Err e → Stops (expr_of room) (Viable (suc room)) ts e
 
 -- an expression is read and then more
-pub operand_then :
-    {B : Type 0} (room : ℕ) (go : Tree → Place → Result B TextError) (W : (List Token → List Token) →
-    Type 0) (last : ℕ) (ts : List Token) (e : TextError) → ExprStops room → ((fill : List Token → List Token) → Viable (suc room) fill →
-    W fill) → ((a : Tree) (used : Front) (l : ℕ) (us : List Token) → ((tail : List Token) → SpellsExpr room (used.fill tail) a tail) →
-    go a (before l us) ≡ Err e →
-    Stops (go a) (λ fill. W (λ tail. used.fill (fill tail))) us e) → and_then (expr_of room (before last ts)) go ≡ Err e →
-    Stops (λ p. and_then (expr_of room p) go) W ts e
+pub operand_then : {B : Type 0} (room : ℕ) (go : Tree → Place → Result B TextError) (W : (List Token → List Token) → Type 0) (last : ℕ)
+    (ts : List Token) (e : TextError) → ExprStops room → ((fill : List Token → List Token) → Viable (suc room) fill → W fill)
+    → ((a : Tree) (used : Front) (l : ℕ) (us : List Token) → ((tail : List Token) → SpellsExpr room (used.fill tail) a tail)
+    → go a (before l us) ≡ Err e → Stops (go a) (λ fill. W (λ tail. used.fill (fill tail))) us e)
+    → and_then (expr_of room (before last ts)) go ≡ Err e → Stops (λ p. and_then (expr_of room p) go) W ts e
 operand_then {B} room go W last ts e stops within later h = by_result (expr_of room (before last ts)) refl h
   where
-    by_result :
-        (r : Result (Read Tree) TextError) → expr_of room (before last ts) ≡ r → and_then r go ≡ Err e →
-        Stops (λ p. and_then (expr_of room p) go) W ts e
+    by_result : (r : Result (Read Tree) TextError) → expr_of room (before last ts) ≡ r → and_then r go ≡ Err e
+        → Stops (λ p. and_then (expr_of room p) go) W ts e
     by_result (Err d) is h =
         stops_first (expr_of room) go (Viable (suc room)) W ts e (stops last ts e (is ∙ ap Err (same_error {A = B} d e h))) within
     by_result (Ok r) is h =

@@ -72,10 +72,9 @@ pub record Stops {B : Type 0} (R : Place → Result B TextError) (V : (List Toke
   pub told : StopsAt R front.fill rest e
 
 -- a refusal within the first of two readings stops both
-pub stops_first :
-    {A B : Type 0} (R : Place → Result (Read A) TextError) (go : A → Place → Result B TextError) (V W : (List Token → List Token) →
-    Type 0) (ts : List Token) (e : TextError) → Stops R V ts e → ((fill : List Token → List Token) → V fill →
-    W fill) → Stops (λ p. and_then (R p) go) W ts e
+pub stops_first : {A B : Type 0} (R : Place → Result (Read A) TextError) (go : A → Place → Result B TextError)
+    (V W : (List Token → List Token) → Type 0) (ts : List Token) (e : TextError) → Stops R V ts e
+    → ((fill : List Token → List Token) → V fill → W fill) → Stops (λ p. and_then (R p) go) W ts e
 stops_first R go V W ts e s then_so = record {
   front = s.front;
   rest = s.rest;
@@ -93,10 +92,10 @@ abbrev pub TakesFront : {A : Type 0} → (Place → Result (Read A) TextError) �
 TakesFront R used a = (last : ℕ) (tail : List Token) → (l : ℕ) × (R (before last (used.fill tail)) ≡ read a (before l tail))
 
 -- a refusal within the second of two readings stops both
-pub stops_second :
-    {A B : Type 0} (R : Place → Result (Read A) TextError) (go : A → Place → Result B TextError) (V W : (List Token → List Token) →
-    Type 0) (ts us : List Token) (e : TextError) (a : A) (used : Front) → TakesFront R used a → ts ≡ used.fill us → Stops (go a) V us e →
-    ((fill : List Token → List Token) → V fill → W (λ tail. used.fill (fill tail))) → Stops (λ p. and_then (R p) go) W ts e
+pub stops_second : {A B : Type 0} (R : Place → Result (Read A) TextError) (go : A → Place → Result B TextError)
+    (V W : (List Token → List Token) → Type 0) (ts us : List Token) (e : TextError) (a : A) (used : Front) → TakesFront R used a
+    → ts ≡ used.fill us → Stops (go a) V us e → ((fill : List Token → List Token) → V fill → W (λ tail. used.fill (fill tail)))
+    → Stops (λ p. and_then (R p) go) W ts e
 stops_second R go V W ts us e a used reads ts_is s then_so = record {
   front = joined used s.front;
   rest = s.rest;
@@ -105,9 +104,8 @@ stops_second R go V W ts us e a used reads ts_is s then_so = record {
   told = by_rest s.rest s.told;
 }
   where
-    by_rest :
-        (rest : List Token) → StopsAt (go a) s.front.fill rest e →
-        StopsAt (λ p. and_then (R p) go) (λ tail. used.fill (s.front.fill tail)) rest e
+    by_rest : (rest : List Token) → StopsAt (go a) s.front.fill rest e
+        → StopsAt (λ p. and_then (R p) go) (λ tail. used.fill (s.front.fill tail)) rest e
     by_rest [] told = told
     by_rest (bad ∷ rest) told = (
       told.0,
@@ -118,9 +116,8 @@ stops_second R go V W ts us e a used reads ts_is s then_so = record {
 -- ---- One token
 
 -- the token in front is taken where nothing is at fault with it
-pub taken_by :
-    (expected : Expected) (last : ℕ) (t : Token) (ts : List Token) (o : Option TextKind) → fault_of expected (kind_of t.text) ≡ o →
-    taken expected (before last (t ∷ ts)) ≡ allowed o t (before t.line ts)
+pub taken_by : (expected : Expected) (last : ℕ) (t : Token) (ts : List Token) (o : Option TextKind) → fault_of expected (kind_of t.text) ≡ o
+    → taken expected (before last (t ∷ ts)) ≡ allowed o t (before t.line ts)
 unfolding taken
 taken_by expected last t ts o is = ap (λ o. allowed o t (before t.line ts)) is
 
@@ -138,12 +135,11 @@ same_error {A} d e same = ap (error_or d) same
     error_or d (Err e) = e
 
 -- a token is read and then more: where it is refused, what stands before it is whole with other tokens
-pub token_then :
-    {B : Type 0} (expected : Expected) (go : Token → Place → Result B TextError) (W : (List Token → List Token) →
-    Type 0) (last : ℕ) (ts : List Token) (e : TextError) → W (λ tail. tail) → ((t : Token) (us : List Token) →
-    fault_of expected (kind_of t.text) ≡ None → go t (before t.line us) ≡ Err e →
-    Stops (go t) (λ fill. W (λ tail. t ∷ fill tail)) us e) → and_then (taken expected (before last ts)) go ≡ Err e →
-    Stops (λ p. and_then (taken expected p) go) W ts e
+pub token_then : {B : Type 0} (expected : Expected) (go : Token → Place → Result B TextError) (W : (List Token → List Token) → Type 0)
+    (last : ℕ) (ts : List Token) (e : TextError) → W (λ tail. tail)
+    → ((t : Token) (us : List Token) → fault_of expected (kind_of t.text) ≡ None → go t (before t.line us) ≡ Err e
+    → Stops (go t) (λ fill. W (λ tail. t ∷ fill tail)) us e) → and_then (taken expected (before last ts)) go ≡ Err e
+    → Stops (λ p. and_then (taken expected p) go) W ts e
 token_then expected go W last [] e here later h = record {
   front = nothing;
   rest = [];
