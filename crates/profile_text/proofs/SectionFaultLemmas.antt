@@ -55,10 +55,14 @@ first_refused : (section : Section) (a : Assignment) (r : Result Sections TextEr
 first_refused section a (Ok s) e h = cc
 first_refused section a (Err d) e h = h
 
+-- what is read of a first token of this kind and of what follows it
+abbrev part_from : Kind → ℕ → Option Section → Token → List Token → Result Sections TextError
+part_from k n current t ts = from_front k current (rest_of n) t (before t.line ts)
+
 -- a first token that decides alone
 at_first : (n : ℕ) (current : Option Section) (t : Token) (ts : List Token) (e : TextError) (kind : TextKind)
-    → ((n : ℕ) (ts : List Token) → from_front (kind_of t.text) current (rest_of n) t (before t.line ts) ≡ Err (At t.line kind))
-    → from_front (kind_of t.text) current (rest_of n) t (before t.line ts) ≡ Err e → SectionsStop current (t ∷ ts) e
+    → ((n : ℕ) (ts : List Token) → part_from (kind_of t.text) n current t ts ≡ Err (At t.line kind))
+    → part_from (kind_of t.text) n current t ts ≡ Err e → SectionsStop current (t ∷ ts) e
 at_first n current t ts e kind refused h =
     let e_is : At t.line kind ≡ e = same_error {A = Sections} (At t.line kind) e (sym (refused n ts) ∙ h) in
     record {
@@ -153,10 +157,14 @@ after_stops section t ts e a us k f s = record {
           ∙ ap (with_first section a) (told.1 n x.0 more fewer)),
     )
 
+-- sections of at most so many tokens stop so
+abbrev SectionsStopWithin : ℕ → TextError → Type 0
+SectionsStopWithin n e =
+    (section : Section) (p : Place) → length p.tokens ≤ n → rest_of n (Some section) p ≡ Err e → SectionsStop (Some section) p.tokens e
+
 -- what is refused from a token on stops so, where what follows does
-front_stops : (n : ℕ) (current : Option Section) (t : Token) (ts : List Token) (e : TextError) → length ts ≤ n
-    → ((section : Section) (p : Place) → length p.tokens ≤ n → rest_of n (Some section) p ≡ Err e → SectionsStop (Some section) p.tokens e)
-    → (k : Kind) → kind_of t.text ≡ k → from_front k current (rest_of n) t (before t.line ts) ≡ Err e → SectionsStop current (t ∷ ts) e
+front_stops : (n : ℕ) (current : Option Section) (t : Token) (ts : List Token) (e : TextError) → length ts ≤ n → SectionsStopWithin n e
+    → (k : Kind) → kind_of t.text ≡ k → part_from k n current t ts ≡ Err e → SectionsStop current (t ∷ ts) e
 front_stops n current t ts e enough inner (Opens section) k h =
     opens_stops current t section ts e k (inner section (before t.line ts) enough h)
 front_stops n None t ts e enough inner Assign k h =

@@ -65,10 +65,18 @@ assignment_read last name us ts l a rest k place_is spells =
           ∙ ap (λ r. and_then r (λ value q. read (assigned_to name value) q)) x.1,
     )
 
+-- these tokens spell sections of a profile, where this one is open
+abbrev SpellsIn : Section → List Token → Sections → Type 0
+SpellsIn section ts s = SpellsSections most_depth (Some section) ts s
+
+-- these tokens are read as sections, where this one is open
+abbrev AreRead : ℕ → Section → ℕ → List Token → Sections → Type 0
+AreRead parts section last ts s = sections_within parts (Some section) last ts ≡ Ok s
+
 -- the parts after an assignment that was read
 part_read : (n last : ℕ) (section : Section) (t : Token) (us rest : List Token) (m : ℕ) (a : Assignment) (s : Sections)
-    → kind_of t.text ≡ Assign → assignment_of (before t.line us) ≡ read a (before m rest) → sections_within n (Some section) m rest ≡ Ok s
-    → sections_within (suc n) (Some section) last (t ∷ us) ≡ Ok (put_first section a s)
+    → kind_of t.text ≡ Assign → assignment_of (before t.line us) ≡ read a (before m rest) → AreRead n section m rest s
+    → AreRead (suc n) section last (t ∷ us) (put_first section a s)
 part_read n last section t us rest m a s k assignment more =
     one_part n (Some section) last t us
     ∙ ap (λ x. from_front x (Some section) (rest_of n) t (before t.line us)) k
@@ -158,11 +166,14 @@ followed : (section : Section) (a : Assignment) (r : Result Sections TextError) 
 followed section a (Ok later) s h = record { later = later; was = refl; is = same_value (put_first section a later) s h }
 followed section a (Err e) s h = cc
 
+-- these tokens after a name spell a value, after the `=` that may stand before it
+abbrev SpellsValue : Token → List Token → Tree → List Token → Type 0
+SpellsValue name after a rest = SpellsExpr most_depth (past_equals name.line after).tokens a rest
+
 -- tokens after a name spell an assignment, with `=` or without
 spells_assignment : (section : Section) (t name : Token) (after : List Token) (a : Tree) (rest : List Token) (s : Sections)
-    → kind_of t.text ≡ Assign → kind_of name.text ≡ Name → SpellsExpr most_depth (past_equals name.line after).tokens a rest
-    → SpellsSections most_depth (Some section) rest s
-    → SpellsSections most_depth (Some section) (t ∷ name ∷ after) (put_first section (assigned_to name a) s)
+    → kind_of t.text ≡ Assign → kind_of name.text ≡ Name → SpellsValue name after a rest → SpellsIn section rest s
+    → SpellsIn section (t ∷ name ∷ after) (put_first section (assigned_to name a) s)
 spells_assignment section t name [] a rest s k named spells more = assigned section t name [] rest a s k named spells more
 spells_assignment section t name (e ∷ es) a rest s k named spells more = by_kind (kind_of e.text) refl spells
   where
@@ -180,11 +191,16 @@ past_len last (t ∷ ts) = by_kind (kind_of t.text)
     by_kind Equals = omega arith
     by_kind _ = omega arith
 
+-- sections of at most so many tokens that are read are spelled so
+abbrev AreSpelledWithin : ℕ → Type 0
+AreSpelledWithin n =
+    (section : Section) (p : Place) (s : Sections) → length p.tokens ≤ n → rest_of n (Some section) p ≡ Ok s
+    → SpellsIn section p.tokens s
+
 -- what is read from a token on is spelled so, where what is read after it is
-front_spelled : (n : ℕ) (current : Option Section) (t : Token) (ts : List Token) (s : Sections) → length ts ≤ n
-    → ((section : Section) (p : Place) (s : Sections) → length p.tokens ≤ n → rest_of n (Some section) p ≡ Ok s
-    → SpellsSections most_depth (Some section) p.tokens s) → (k : Kind) → kind_of t.text ≡ k
-    → from_front k current (rest_of n) t (before t.line ts) ≡ Ok s → SpellsSections most_depth current (t ∷ ts) s
+front_spelled : (n : ℕ) (current : Option Section) (t : Token) (ts : List Token) (s : Sections) → length ts ≤ n → AreSpelledWithin n
+    → (k : Kind) → kind_of t.text ≡ k → from_front k current (rest_of n) t (before t.line ts) ≡ Ok s
+    → SpellsSections most_depth current (t ∷ ts) s
 front_spelled n current t ts s enough inner (Opens section) k h =
     a_section current t section ts s k (inner section (before t.line ts) s enough h)
 front_spelled n None t ts s enough inner Assign k h = cc

@@ -1,5 +1,5 @@
 -- The first token of a text, joined to how the code finds it.
-use Rattle.std.proofs.Common.{◌≡◌, ℕ, suc, ◌+◌, ◌<◌, ◌≤◌, Bool, true, false, nat_eq, cond, ◌&&◌, List, [], ◌∷◌, length, take, drop, refl, sym, ◌∙◌, ap, subst, arith}
+use Rattle.std.proofs.Common.{◌≡◌, ℕ, suc, ◌+◌, ◌<◌, ◌≤◌, Bool, true, false, nat_eq, cond, ◌&&◌, List, [], ◌∷◌, length, take, drop, refl, sym, ◌∙◌, ap, arith}
 use Rattle.std.specs.List.{prefix_len}
 use Rattle.item_list.proofs.ListLemmas.{front_more, some_from_test}
 use Rattle.profile_text.specs.Source.{BeginsInked, token_len}
@@ -83,16 +83,12 @@ token_first line (c ∷ cs) ink some = by_test (is_word_byte c) refl
     by_test false h =
         one_byte line c cs ink (unjoined c cs h) ∙ ap (λ v. first_is line (c ∷ cs) (cond v (prefix_len is_word_byte (c ∷ cs)) 1)) (sym h)
 
--- the first token of a text, after a gap, and the tokens after it
-pub first_at : (rest front bytes after : List ℕ) (gap n before breaks : ℕ) → front ≡ drop gap rest → BeginsInked (drop gap rest)
-    → false ≡ nat_eq (length front) 0 → tokens_from false (before + 1) rest ≡ tokens_from false (breaks + 1) (drop gap rest)
+-- the first token of a text that begins with one, and the tokens after it
+pub first_of_front : (line : ℕ) (front bytes after : List ℕ) (n : ℕ) → BeginsInked front → false ≡ nat_eq (length front) 0
     → n ≡ token_len front → bytes ≡ take n front → after ≡ drop n front
-    → tokens_from false (before + 1) rest ≡ token_is (breaks + 1) bytes ∷ tokens_from false (breaks + 1) after
-first_at rest front bytes after gap n before breaks front_is ink some passes n_is bytes_is after_is =
-    let line : ℕ = breaks + 1 in
-    passes
-    ∙ ap (tokens_from false line) (sym front_is)
-    ∙ token_first line front (subst BeginsInked (sym front_is) ink) (some_from_test front some)
+    → tokens_from false line front ≡ token_is line bytes ∷ tokens_from false line after
+first_of_front line front bytes after n ink some n_is bytes_is after_is =
+    token_first line front ink (some_from_test front some)
     ∙ ap (first_is line front) (sym n_is)
     ∙ ap (λ w. token_is line w ∷ tokens_from false line (drop n front)) (sym bytes_is)
     ∙ ap (λ w. token_is line bytes ∷ tokens_from false line w) (sym after_is)
