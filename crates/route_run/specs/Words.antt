@@ -1,0 +1,4 @@
+-- The command that a list of words is.
+pub mod Command
+pub mod FileNames
+pub mod Refusals

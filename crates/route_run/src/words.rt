@@ -1,0 +1,5 @@
+//! The words of a command line.
+
+pub(crate) mod command;
+pub(crate) mod entry;
+pub(crate) mod file_names;
