@@ -27,11 +27,20 @@ IsCommandAnswer words (Form.TheVariants.Code command) old new answer = IsCodeAns
 abbrev pub IsAnswer : List (List ℕ) → FilesSeen → FilesSeen → Result (List ℕ) Status → Type 0
 IsAnswer words = Then (Settles (command_in words)) (IsCommandAnswer words)
 
+-- what the program reaches at a moment: the files and its output
+pub record Reach : Type 0 where
+  pub files : FilesSeen
+  pub out : SinkSeen
+
+-- files and an output together
+abbrev pub reach : FilesSeen → SinkSeen → Reach
+reach files out = record { files = files; out = out }
+
 -- the words are answered over the files, and the answer ends in this status over the output
-pub record IsOutcome (words : List (List ℕ)) (files_old files_new : FilesSeen) (out_old out_new : SinkSeen) (status : Status) : Type 0 where
+pub record IsOutcome (words : List (List ℕ)) (old new : Reach) (status : Status) : Type 0 where
   pub answer : Result (List ℕ) Status
-  pub given : IsAnswer words files_old files_new answer
-  pub ends : Ends answer status out_old out_new
+  pub given : IsAnswer words old.files new.files answer
+  pub ends : Ends answer status old.out new.out
 
 -- a write fault comes where the output's count of faults rose, and every other status leaves it
 abbrev pub HasCause : Status → ℕ → ℕ → Type 0

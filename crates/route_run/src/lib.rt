@@ -2,11 +2,15 @@
 #![tactic(auto)]
 
 mod answer;
+mod reply;
 mod sending;
 mod stage;
 mod status;
+mod system;
 mod top;
 mod words;
 
+pub use reply::edge;
 pub use status::{GridError, Status};
+pub use system::program;
 pub use top::run;

@@ -4,7 +4,7 @@ ghost use Rattle.std.specs.Prelude.{◌≡◌, Ok, IfOk, length};
 ghost use Rattle.edge_io.specs.Faults.{CountRose};
 ghost use Rattle.item_list.specs.Answer.{Answers};
 ghost use Rattle.route_run.specs.Ends.{bytes_in};
-ghost use Rattle.route_run.specs.Outcome.{IsOutcome, IsAnswer, IsCommandAnswer, IsCommandFit, command_in, HasCause, HasReadCause, IsComplete, file_words};
+ghost use Rattle.route_run.specs.Outcome.{IsOutcome, reach, IsAnswer, IsCommandAnswer, IsCommandFit, command_in, HasCause, HasReadCause, IsComplete, file_words};
 ghost use Rattle.route_run.specs.Words.Command.{command_of};
 ghost use Rattle.route_run.specs.Words.Refusals.{texts_of};
 ghost use Rattle.route_run.specs.declared.words.command.Command.{Command as TheCommand};
@@ -19,8 +19,8 @@ use std::alloc::Global;
 
 /// Does what the words ask for over `files`, and writes what it prints to `out`.
 pub fn run<F: Files, O: Sink>(alloc: Global, words: &[String], files: &mut F, out: &mut O) -> Status
-    ensures outcome { IsOutcome (texts_of words.now) (F.seen files.old) (F.seen files.new)
-        (O.seen out.old) (O.seen out.new) result }
+    ensures outcome { IsOutcome (texts_of words.now) (reach (F.seen files.old) (O.seen out.old))
+        (reach (F.seen files.new) (O.seen out.new)) result }
     ensures cause { HasCause result (O.seen out.old).faults (O.seen out.new).faults }
     ensures read_cause { HasReadCause (file_words (command_of (texts_of words.now))) result
         (F.seen files.old) (F.seen files.new) }

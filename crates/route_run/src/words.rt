@@ -3,3 +3,5 @@
 pub(crate) mod command;
 pub(crate) mod entry;
 pub(crate) mod file_names;
+pub(crate) mod help;
+pub(crate) mod rows;

@@ -1,4 +1,9 @@
-//! The program.
+//! A bicycle route server whose answers are proved: the program.
 #![tactic(auto)]
 
-fn main() {}
+use route_run::program;
+use std::process::ExitCode;
+
+fn main(rt: HostRuntime) -> ExitCode {
+    program(&rt)
+}
