@@ -21,7 +21,7 @@ use Rattle.route_run.specs.Stage.Chain.{Settles, Stops, GoesOn, Then}
 use Rattle.route_run.specs.Stage.File.{TakesFile, IsFileAnswer}
 use Rattle.route_run.specs.Stage.Profile.{TakesProfile, profile_in}
 use Rattle.route_run.specs.Stage.TagTable.{TakesTable, table_in}
-use Rattle.route_run.specs.Words.Command.{name_in, command_of}
+use Rattle.route_run.specs.Words.Command.{command_of}
 use Rattle.route_run.specs.declared.words.command.CodeCommand.{CodeCommand}
 use Rattle.route_run.specs.declared.words.command.GridCommand.{GridCommand}
 use Rattle.route_run.specs.declared.words.command.Command.{Command}
@@ -227,11 +227,11 @@ profile-cause word name =
     (λ text old new r. settles-cause (profile_in word text) old new r (mapped-inner (Text word) (profile_of text) (λ e. tt)))
 
 -- the command `code`
-pub code-cause : (words : List (List ℕ)) (command : CodeCommand) (old new : FilesSeen) (r : Result (List ℕ) Status) → IsCodeAnswer words command old new r → Cause (command.lookups ∷ command.profile ∷ []) old new r
-code-cause words command =
-    then-cause _ _ (command.lookups ∷ []) (command.profile ∷ []) (table-cause command.lookups (name_in words command.lookups))
-    (λ table. then-cause _ _ (command.profile ∷ []) [] (profile-cause command.profile (name_in words command.profile))
-    (λ sections old new r. settles-cause (listing_in command.profile table sections) old new r (listing-inner command.profile table sections)))
+pub code-cause : (command : CodeCommand) (old new : FilesSeen) (r : Result (List ℕ) Status) → IsCodeAnswer command old new r → Cause (command.lookups.word ∷ command.profile.word ∷ []) old new r
+code-cause command =
+    then-cause _ _ (command.lookups.word ∷ []) (command.profile.word ∷ []) (table-cause command.lookups.word command.lookups.name)
+    (λ table. then-cause _ _ (command.profile.word ∷ []) [] (profile-cause command.profile.word command.profile.name)
+    (λ sections old new r. settles-cause (listing_in command.profile.word table sections) old new r (listing-inner command.profile.word table sections)))
 
 -- the command `grid`
 grid-cause : (command : GridCommand) (old new : FilesSeen) (r : Result (List ℕ) Status) → IsGridAnswer command r → new ≡ old → Cause [] old new r
@@ -249,9 +249,9 @@ grid-cause command old new (Err (ReadFault word)) is same = absurd is
 grid-cause command old new (Err WriteFault) is same = absurd is
 
 -- each command
-command-cause : (words : List (List ℕ)) (command : Command) (old new : FilesSeen) (r : Result (List ℕ) Status) → IsCommandAnswer words command old new r → Cause (file_words (Ok command)) old new r
-command-cause words (Form.TheVariants.Grid command) old new r is = grid-cause command old new r is.0 is.1
-command-cause words (Form.TheVariants.Code command) old new r is = code-cause words command old new r is
+command-cause : (command : Command) (old new : FilesSeen) (r : Result (List ℕ) Status) → IsCommandAnswer command old new r → Cause (file_words (Ok command)) old new r
+command-cause (Form.TheVariants.Grid command) old new r is = grid-cause command old new r is.0 is.1
+command-cause (Form.TheVariants.Code command) old new r is = code-cause command old new r is
 
 -- ---- The program
 
@@ -309,7 +309,7 @@ answer-cause words old new r (inl stops) =
     ])
 answer-cause words old new r (inr goes) =
     let is : command_of words ≡ Ok goes.value = mapped-ok Usage (command_of words) goes.value goes.given.gives in
-    let cause = subst (λ s. Cause (file_words (Ok goes.value)) s new r) goes.given.same (command-cause words goes.value goes.between new r goes.rest) in
+    let cause = subst (λ s. Cause (file_words (Ok goes.value)) s new r) goes.given.same (command-cause goes.value goes.between new r goes.rest) in
     subst (λ (c : Result Command ℕ). AnswerCause (file_words c) old new r) (sym is) (any-cause (file_words (Ok goes.value)) old new r cause)
 
 -- of the status in which an answer ends

@@ -1,5 +1,4 @@
 pub mod CauseLemmas
-pub mod CodeLemmas
 pub mod FitLemmas
 pub mod PathLemmas
 pub mod StageLemmas

@@ -3,7 +3,7 @@ use Rattle.std.specs.Prelude.{ℕ, suc, ◌≡◌, ◌≤◌, List, [], ◌∷�
 use Rattle.edge_io.specs.Faults.{CountRose, count_after}
 use Rattle.edge_io.specs.Files.{FilesSeen}
 use Rattle.edge_io.specs.Sink.{SinkSeen}
-use Rattle.route_run.specs.Answer.Code.{IsCodeAnswer, IsCodeFit}
+use Rattle.route_run.specs.Answer.Code.{IsCodeAnswer}
 use Rattle.route_run.specs.Answer.Grid.{IsGridAnswer, IsFit}
 use Rattle.route_run.specs.Ends.{Ends}
 use Rattle.item_list.specs.Answer.{answer_map}
@@ -19,13 +19,13 @@ abbrev pub command_in : List (List ℕ) → Result Command Status
 command_in words = answer_map (λ (c : Command). c) Usage (command_of words)
 
 -- what is answered of a command; `grid` leaves the files untouched
-abbrev pub IsCommandAnswer : List (List ℕ) → Command → FilesSeen → FilesSeen → Result (List ℕ) Status → Type 0
-IsCommandAnswer words (Form.TheVariants.Grid command) old new answer = IsGridAnswer command answer × (new ≡ old)
-IsCommandAnswer words (Form.TheVariants.Code command) old new answer = IsCodeAnswer words command old new answer
+abbrev pub IsCommandAnswer : Command → FilesSeen → FilesSeen → Result (List ℕ) Status → Type 0
+IsCommandAnswer (Form.TheVariants.Grid command) old new answer = IsGridAnswer command answer × (new ≡ old)
+IsCommandAnswer (Form.TheVariants.Code command) old new answer = IsCodeAnswer command old new answer
 
 -- what is answered to words over files: the words are read, and then their command is answered
 abbrev pub IsAnswer : List (List ℕ) → FilesSeen → FilesSeen → Result (List ℕ) Status → Type 0
-IsAnswer words = Then (Settles (command_in words)) (IsCommandAnswer words)
+IsAnswer words = Then (Settles (command_in words)) IsCommandAnswer
 
 -- what the program reaches at a moment: the files and its output
 pub record Reach : Type 0 where
@@ -50,7 +50,7 @@ HasCause status old new = new ≡ old
 -- the words of a command's files, in the order in which they are opened
 abbrev pub file_words : Result Command ℕ → List ℕ
 file_words (Ok (Form.TheVariants.Grid command)) = []
-file_words (Ok (Form.TheVariants.Code command)) = command.lookups ∷ command.profile ∷ []
+file_words (Ok (Form.TheVariants.Code command)) = command.lookups.word ∷ command.profile.word ∷ []
 file_words (Err fault) = []
 
 -- a read fault comes where the count of faults rose, and names the word of the file that was opened last
@@ -80,7 +80,7 @@ IsComplete (ReadFault word) = ⊥
 IsComplete WriteFault = ⊥
 IsComplete status = Unit {0}
 
--- a command that was read from so many words fits
-abbrev pub IsCommandFit : ℕ → Command → Type 0
-IsCommandFit words (Form.TheVariants.Grid command) = IsFit command
-IsCommandFit words (Form.TheVariants.Code command) = IsCodeFit words command
+-- the numbers of a command that was read are within their limits, and its places in its grid
+abbrev pub IsCommandFit : Command → Type 0
+IsCommandFit (Form.TheVariants.Grid command) = IsFit command
+IsCommandFit (Form.TheVariants.Code command) = Unit {0}

@@ -1,6 +1,6 @@
 //! The top call.
 
-ghost use Rattle.std.specs.Prelude.{◌≡◌, Ok, IfOk, length};
+ghost use Rattle.std.specs.Prelude.{◌≡◌, Ok, IfOk};
 ghost use Rattle.edge_io.specs.Faults.{CountRose};
 ghost use Rattle.item_list.specs.Answer.{Answers};
 ghost use Rattle.route_run.specs.Ends.{bytes_in};
@@ -13,7 +13,8 @@ use crate::answer::code::code_answer;
 use crate::answer::grid::grid_answer;
 use crate::sending::send;
 use crate::status::Status;
-use crate::words::command::{Command, Refusal, command_of};
+use crate::words::command::{Command, command_of};
+use crate::words::reader::Refusal;
 use edge_io::{Files, Sink};
 use std::alloc::Global;
 
@@ -37,13 +38,13 @@ fn answer<F: Files>(alloc: Global, words: &[String], files: &mut F) -> Result<Ve
     ensures exact { IsAnswer (texts_of words.now) (F.seen files.old) (F.seen files.new) (bytes_in result) }
 {
     let command = command_in(alloc, words)?;
-    command_answer(alloc, words, &command, files)
+    command_answer(alloc, &command, files)
 }
 
 /// The command of the words, or the status of the word at fault.
-fn command_in(alloc: Global, words: &[String]) -> Result<Command, Status>
+fn command_in(alloc: Global, words: &[String]) -> Result<Command<'_>, Status>
     ensures exact { Answers (λ (c : TheCommand). c) (command_in (texts_of words.now)) Status.NoMemory result }
-    ensures fit { IfOk result (IsCommandFit (length words.now)) }
+    ensures fit { IfOk result IsCommandFit }
 {
     match command_of(alloc, words) {
         Ok(command) => Ok(command),
@@ -55,15 +56,14 @@ fn command_in(alloc: Global, words: &[String]) -> Result<Command, Status>
 /// What is answered of a command: bytes, or a status.
 fn command_answer<F: Files>(
     alloc: Global,
-    words: &[String],
     command: &Command,
     files: &mut F,
 ) -> Result<Vec<u8>, Status>
-    requires fit { IsCommandFit (length words.now) command.now }
-    ensures exact { IsCommandAnswer (texts_of words.now) command.now (F.seen files.old) (F.seen files.new) (bytes_in result) }
+    requires fit { IsCommandFit command.now }
+    ensures exact { IsCommandAnswer command.now (F.seen files.old) (F.seen files.new) (bytes_in result) }
 {
     match command {
         Command::Grid(command) => grid_answer(alloc, command),
-        Command::Code(command) => code_answer(alloc, words, command, files),
+        Command::Code(command) => code_answer(alloc, command, files),
     }
 }

@@ -1,5 +1,5 @@
 -- What the command `code` answers: the listing of its profile's flat code. This project's own rule.
-use Rattle.std.specs.Prelude.{ℕ, ◌<◌, List, [], Option, Some, None, Result, Ok, Err}
+use Rattle.std.specs.Prelude.{ℕ, List, [], Option, Some, None, Result, Ok, Err}
 use Rattle.context_check.specs.Refusal.{refusal_of}
 use Rattle.context_check.specs.declared.error.CheckError.{CheckError}
 use Rattle.edge_io.specs.Files.{FilesSeen}
@@ -10,7 +10,6 @@ use Rattle.profile_text.specs.Tree.{Sections}
 use Rattle.route_run.specs.Stage.Chain.{Then, Settles}
 use Rattle.route_run.specs.Stage.Profile.{TakesProfile}
 use Rattle.route_run.specs.Stage.TagTable.{TakesTable}
-use Rattle.route_run.specs.Words.Command.{name_in}
 use Rattle.route_run.specs.declared.words.command.CodeCommand.{CodeCommand}
 use Rattle.route_run.specs.declared.status.Status.{Status}
 use Rattle.route_run.specs.declared.status.Status.TheVariants.{Check}
@@ -26,13 +25,8 @@ listing_in word table sections = listing_by word table sections (refusal_of tabl
 
 -- What the command `code` answers: the tag table's file is taken in and read, then the profile's, and then the
 -- profile's code is listed; the first refusal is the answer.
-abbrev pub IsCodeAnswer : List (List ℕ) → CodeCommand → FilesSeen → FilesSeen → Result (List ℕ) Status → Type 0
-IsCodeAnswer words command =
-    Then (TakesTable command.lookups (name_in words command.lookups)) (λ table.
-    Then (TakesProfile command.profile (name_in words command.profile)) (λ sections.
-    Settles (listing_in command.profile table sections)))
-
--- the words that name files are among so many words
-pub record IsCodeFit (words : ℕ) (command : CodeCommand) : Type 0 where
-  pub lookups : command.lookups < words
-  pub profile : command.profile < words
+abbrev pub IsCodeAnswer : CodeCommand → FilesSeen → FilesSeen → Result (List ℕ) Status → Type 0
+IsCodeAnswer command =
+    Then (TakesTable command.lookups.word command.lookups.name) (λ table.
+    Then (TakesProfile command.profile.word command.profile.name) (λ sections.
+    Settles (listing_in command.profile.word table sections)))

@@ -6,7 +6,7 @@ use Rattle.grid_map.specs.Plan.{IsPlan, plan_of}
 use Rattle.grid_map.specs.Walks.{IsLeastGridWalk, HasNoGridWalk}
 use Rattle.route_run.specs.Answer.Lines.{grid_lines}
 use Rattle.route_run.specs.declared.words.command.GridCommand.{GridCommand}
-use Rattle.route_run.specs.declared.words.command.Place.{Place}
+use Rattle.route_run.specs.declared.words.value.Place.{Place}
 use Rattle.route_run.specs.declared.status.Status.{Status}
 use Rattle.route_run.specs.declared.status.Status.TheVariants.{Grid, NoMemory}
 use Rattle.route_run.specs.declared.status.GridError.TheVariants.{NoTrack}

@@ -4,8 +4,9 @@ use Rattle.std.specs.Borrow.{Bor}
 use Rattle.std.specs.String.{string_bytes}
 use Rattle.std.specs.declared.string.String.{String}
 use Rattle.std.specs.declared.alloc.Global.{Global}
-use Rattle.route_run.specs.declared.words.command.Refusal.{Refusal}
-use Rattle.route_run.specs.declared.words.command.Refusal.TheVariants.{Usage, NoMemory}
+use Rattle.route_run.specs.Words.Given.{Given}
+use Rattle.route_run.specs.declared.words.reader.Refusal.{Refusal}
+use Rattle.route_run.specs.declared.words.reader.Refusal.TheVariants.{Usage, NoMemory}
 
 -- the bytes of each word
 abbrev pub texts_of : List (String Global) → List (List ℕ)
@@ -19,3 +20,7 @@ OnUsage NoMemory P = Unit {0}
 -- the bytes of two borrowed texts
 abbrev pub texts_in : Bor (List ℕ) × Bor (List ℕ) → List ℕ × List ℕ
 texts_in parts = (parts.0.now, parts.1.now)
+
+-- what a borrowed entry is
+abbrev pub now_of : Bor Given → Given
+now_of entry = entry.now

@@ -1,18 +1,16 @@
 //! What the command `code` answers.
 
-ghost use Rattle.std.specs.Prelude.{Vec, ℕ, length};
+ghost use Rattle.std.specs.Prelude.{Vec, ℕ};
 ghost use Rattle.std.specs.declared.alloc.Global.{Global as TheGlobal};
 ghost use Rattle.item_list.specs.Answer.{Answers};
 ghost use Rattle.profile_text.specs.Expr.{sections_in};
-ghost use Rattle.route_run.specs.Answer.Code.{IsCodeAnswer, IsCodeFit, listing_in};
+ghost use Rattle.route_run.specs.Answer.Code.{IsCodeAnswer, listing_in};
 ghost use Rattle.route_run.specs.Ends.{bytes_in};
-ghost use Rattle.route_run.specs.Words.Refusals.{texts_of};
 
 use crate::stage::profile::take_profile;
 use crate::stage::tag_table::take_table;
 use crate::status::Status;
 use crate::words::command::CodeCommand;
-use crate::words::entry::name_in;
 use context_check::{CheckError, Overrides, check};
 use edge_io::Files;
 use lookup_table::Table;
@@ -24,16 +22,14 @@ use std::alloc::Global;
 /// each is opened, read and taken in before the next.
 pub fn code_answer<F: Files>(
     alloc: Global,
-    words: &[String],
     command: &CodeCommand,
     files: &mut F,
 ) -> Result<Vec<u8>, Status>
-    requires fit { IsCodeFit (length words.now) command.now }
-    ensures exact { IsCodeAnswer (texts_of words.now) command.now (F.seen files.old) (F.seen files.new) (bytes_in result) }
+    ensures exact { IsCodeAnswer command.now (F.seen files.old) (F.seen files.new) (bytes_in result) }
 {
-    let table = take_table(alloc, name_in(words, command.lookups), command.lookups, files)?;
-    let profile = take_profile(alloc, name_in(words, command.profile), command.profile, files)?;
-    listing_in(alloc, command.profile, &table, &profile)
+    let table = take_table(alloc, &command.lookups, files)?;
+    let profile = take_profile(alloc, &command.profile, files)?;
+    listing_in(alloc, command.profile.word(), &table, &profile)
 }
 
 /// The listing of a profile's flat code, if nothing is at fault in it; a refusal names the word.

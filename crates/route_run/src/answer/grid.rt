@@ -6,7 +6,8 @@ ghost use Rattle.route_run.specs.Ends.{bytes_in};
 
 use crate::answer::lines::grid_lines;
 use crate::status::{GridError, Status};
-use crate::words::command::{GridCommand, Place};
+use crate::words::command::GridCommand;
+use crate::words::value::Place;
 use grid_map::{Grid, shortest_walk};
 use std::alloc::{AllocError, Global};
 

@@ -5,21 +5,22 @@ ghost use Rattle.route_run.specs.Ends.{bytes_in};
 ghost use Rattle.route_run.specs.Stage.File.{TakesFile};
 
 use crate::status::Status;
+use crate::words::entry::FileWord;
 use edge_io::{Files, WholeError, read_whole};
 use std::alloc::Global;
 
-/// The bytes of the file of this name, of which at most `limit` are taken; a refusal names the word.
+/// The bytes of the file that a word names, of which at most `limit` are taken; a refusal names the word.
 pub fn take_file<F: Files>(
     alloc: Global,
     files: &mut F,
-    name: &str,
-    word: u64,
+    file: &FileWord,
     limit: usize,
 ) -> Result<Vec<u8>, Status>
-    ensures taken { TakesFile word name.now limit (F.seen files.old) (F.seen files.new) (bytes_in result) }
+    ensures taken { TakesFile file.now.word file.now.name limit (F.seen files.old) (F.seen files.new) (bytes_in result) }
     ensures fits { IfOk result (λ v. length v.items ≤ limit) }
 {
-    match files.open(name) {
+    let word = file.word();
+    match files.open(file.name()) {
         Ok(true) => {}
         Ok(false) => return Err(Status::NotFound { word }),
         Err(_) => return Err(Status::ReadFault { word }),

@@ -8,6 +8,7 @@ ghost use Rattle.route_run.specs.Stage.Profile.{TakesProfile, profile_in};
 
 use crate::stage::file::take_file;
 use crate::status::Status;
+use crate::words::entry::FileWord;
 use edge_io::Files;
 use profile_text::{Profile, TextError};
 use std::alloc::Global;
@@ -15,17 +16,16 @@ use std::alloc::Global;
 /// The most bytes of a profile's file.
 const MOST_PROFILE: usize = 262_144;
 
-/// The profile of the file of this name; a refusal names the word.
+/// The profile of a file that a word names; a refusal names the word.
 pub fn take_profile<F: Files>(
     alloc: Global,
-    name: &str,
-    word: u64,
+    file: &FileWord,
     files: &mut F,
 ) -> Result<Profile, Status>
-    ensures taken { TakesProfile word name.now (F.seen files.old) (F.seen files.new) (seen_as sections_in result) }
+    ensures taken { TakesProfile file.now.word file.now.name (F.seen files.old) (F.seen files.new) (seen_as sections_in result) }
 {
-    let text = take_file(alloc, files, name, word, MOST_PROFILE)?;
-    profile_in(alloc, word, text.as_slice())
+    let text = take_file(alloc, files, file, MOST_PROFILE)?;
+    profile_in(alloc, file.word(), text.as_slice())
 }
 
 /// The profile of a text; a refusal names the word.

@@ -7,6 +7,7 @@ ghost use Rattle.route_run.specs.Stage.TagTable.{TakesTable, table_in};
 
 use crate::stage::file::take_file;
 use crate::status::Status;
+use crate::words::entry::FileWord;
 use edge_io::Files;
 use lookup_table::{LookupError, Table};
 use std::alloc::Global;
@@ -14,17 +15,16 @@ use std::alloc::Global;
 /// The most bytes of a tag table's file.
 const MOST_LOOKUPS: usize = 1_048_576;
 
-/// The tag table of the file of this name; a refusal names the word.
+/// The tag table of a file that a word names; a refusal names the word.
 pub fn take_table<F: Files>(
     alloc: Global,
-    name: &str,
-    word: u64,
+    file: &FileWord,
     files: &mut F,
 ) -> Result<Table, Status>
-    ensures taken { TakesTable word name.now (F.seen files.old) (F.seen files.new) result }
+    ensures taken { TakesTable file.now.word file.now.name (F.seen files.old) (F.seen files.new) result }
 {
-    let text = take_file(alloc, files, name, word, MOST_LOOKUPS)?;
-    table_in(alloc, word, text.as_slice())
+    let text = take_file(alloc, files, file, MOST_LOOKUPS)?;
+    table_in(alloc, file.word(), text.as_slice())
 }
 
 /// The tag table of a text; a refusal names the word.

@@ -1,6 +1,6 @@
 use Rattle.std.proofs.Common.{ℕ, arith, ◌≤◌, ◌<◌, ◌^◌}
 use Rattle.std.proofs.Math.Nat.{pow-le-pow_right}
-use Rattle.route_run.proofs.words.entry.number_of.Goals as goal
+use Rattle.route_run.proofs.words.value.number_of.Goals as goal
 
 -- fewer than 19 digits make a number below 10 ^ 18
 few : (digits : ℕ) → digits ≤ 18 → 10 ^ digits ≤ 10 ^ 18

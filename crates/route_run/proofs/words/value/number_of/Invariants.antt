@@ -1,6 +1,6 @@
 use Rattle.std.proofs.Common.{◌≡◌, ◌<◌, ◌^◌, drop}
-use Rattle.route_run.specs.Words.Command.{number_from, all_digits}
-use Rattle.route_run.proofs.words.entry.number_of.Given as goal
+use Rattle.route_run.specs.Words.Value.{number_from, all_digits}
+use Rattle.route_run.proofs.words.value.number_of.Given as goal
 
 abbrev pub invariant-digits : goal.invariant-digits
 invariant-digits l =
