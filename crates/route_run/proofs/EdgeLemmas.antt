@@ -1,0 +1,50 @@
+-- What a command line comes to at the edge of the program.
+use Rattle.std.proofs.Common.{◌≡◌, ◌≢◌, ℕ, inl, inr, List, [], ◌++◌, ◌∙◌, append_assoc, Option, Some, None, Result, Ok, Err, OnOk, OnErr, refl, sym, ap, subst}
+use Rattle.edge_io.specs.Files.{FilesSeen}
+use Rattle.edge_io.specs.Sink.{SinkSeen, Grows, BreaksOff}
+use Rattle.route_run.specs.Edge.{IsReplyBy, IsTelling, IsWritten, IsTold, Tells, told_line}
+use Rattle.route_run.specs.Ends.{Ends}
+use Rattle.route_run.specs.Outcome.{Reach, IsOutcome, reach}
+use Rattle.route_run.specs.Stage.Chain.{Settles}
+use Rattle.route_run.specs.Status.{number_of_status}
+use Rattle.route_run.specs.Words.Help.{told_of, keys_text}
+use Rattle.route_run.specs.declared.words.rows.KeyRow.{KeyRow}
+use Rattle.route_run.specs.declared.status.Status.{Status}
+use Rattle.route_run.specs.declared.status.Status.TheVariants.{NoMemory}
+
+-- a text that was told
+pub reply-told : (words : List (List ℕ)) (text : List ℕ) (files : FilesSeen) (old new : SinkSeen) (status : Status) → Some text ≡ told_of words → Ends (Ok text) status old new → IsReplyBy words (told_of words) (reach files old) (reach files new) status
+reply-told words text files old new status is ends =
+    subst (λ (told : Option (List ℕ)). IsReplyBy words told (reach files old) (reach files new) status) is
+    (record { answer = Ok text; given = record { gives = refl; same = refl }; ends = ends })
+
+-- want of memory before anything was told or read
+pub reply-memory : (words : List (List ℕ)) (told : Option (List ℕ)) (at : Reach) → IsReplyBy words told at at NoMemory
+reply-memory words (Some text) at = record { answer = Err NoMemory; given = record { gives = inl refl; same = refl }; ends = (refl, refl) }
+reply-memory words None at = record {
+  answer = Err NoMemory;
+  given = inl (record { status = NoMemory; refused = record { gives = inl refl; same = refl }; answer = refl });
+  ends = (refl, refl);
+}
+
+-- bytes that were sent were written, whole or a front of them
+pub is_written : {T E : Type 0} (result : Result T E) (bytes : List ℕ) (old new : SinkSeen) → OnOk result (Grows old new bytes) → OnErr result (BreaksOff old new bytes) → IsWritten bytes old new
+is_written (Ok a) bytes old new whole front = inl whole
+is_written (Err e) bytes old new whole front = inr front
+
+-- a status whose line was sent is told
+pub telling : {T E : Type 0} (result : Result T E) (status told : Status) (bytes : List ℕ) (old new : SinkSeen) (number : ℕ) → IsTold status told → bytes ≡ told_line told
+    → OnOk result (Grows old new bytes) → OnErr result (BreaksOff old new bytes) → number ≡ number_of_status told → IsTelling status old new number
+telling result status told bytes old new number is_told is whole front number_is = record {
+  told = told;
+  is_told = is_told;
+  line = subst (λ b. IsWritten b old new) is (is_written result bytes old new whole front);
+  number_is = number_is;
+}
+
+-- how a command is called, put together
+pub call-is : (old front name : List ℕ) (rows : List KeyRow) (one two new name' : List ℕ) (rows' : List KeyRow) → name' ≡ name → rows' ≡ rows → one ≡ old ++ front → two ≡ one ++ name' → new ≡ two ++ keys_text rows' → new ≡ old ++ (front ++ (name ++ keys_text rows))
+call-is old front name rows one two new name' rows' same same' a b c =
+    let begun : two ≡ (old ++ front) ++ name = cc in
+    let all : new ≡ ((old ++ front) ++ name) ++ keys_text rows = cc in
+    all ∙ append_assoc (old ++ front) name (keys_text rows) ∙ append_assoc old front (name ++ keys_text rows)

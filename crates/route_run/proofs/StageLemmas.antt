@@ -1,0 +1,71 @@
+-- What files that are opened and read come to, and what follows for the stages that read them.
+use Rattle.std.proofs.Common.{◌≡◌, ℕ, ◌<◌, ◌≤◌, ◌⊎◌, inl, inr, Bool, true, false, cond, nat_le, Option, Some, None, is_some, Result, Ok, Err, List, length, refl, sym, ap, ◌∙◌, arith, subst}
+use Rattle.std.proofs.lemmas.Bool.Decides.{nat_tests}
+use Rattle.edge_io.specs.Faults.{CountRose, next_count}
+use Rattle.edge_io.specs.Files.{FilesSeen, IsFound, IsLeft, Opens, FailsToOpen, content_of}
+use Rattle.edge_io.specs.Whole.{IsAllLeft, IsTooLong, ReadsBytes, ReadsOn}
+use Rattle.item_list.specs.Answer.{Answers}
+use Rattle.route_run.specs.Stage.Chain.{seen_as, Settles, Stops, GoesOn, Then}
+use Rattle.route_run.specs.Stage.File.{Taken, Missing, Long, Content, taken_by, IsTaken, IsFileAnswer, TakesFile}
+use Rattle.route_run.specs.declared.status.Status.{Status}
+use Rattle.route_run.specs.declared.status.Status.TheVariants.{TooLong, NotFound, ReadFault, NoMemory}
+
+-- no file has the name
+pub missing : (files : Option (List (List ℕ × List ℕ))) (name : List ℕ) (limit : ℕ) → IsFound files name false → IsTaken files name limit Missing
+missing None name limit found = tt
+missing (Some fs) name limit found = go (content_of fs name) found
+  where
+    go : (c : Option (List ℕ)) → false ≡ is_some c → Missing ≡ taken_by limit c
+    go None f = refl
+    go (Some bytes) f = cc
+
+-- a file that is read to its end
+pub content : (files : Option (List (List ℕ × List ℕ))) (left : Option (List ℕ)) (name : List ℕ) (limit : ℕ) (bytes : List ℕ) → IsFound files name true → IsLeft files name left → IsAllLeft left bytes → length bytes ≤ limit → IsTaken files name limit (Content bytes)
+content None left name limit bytes found is all fits = tt
+content (Some fs) left name limit bytes found is all fits = go (content_of fs name) found (subst (λ l. IsAllLeft l bytes) is all)
+  where
+    go : (c : Option (List ℕ)) → true ≡ is_some c → IsAllLeft c bytes → Content bytes ≡ taken_by limit c
+    go None f a = cc
+    go (Some xs) f a =
+        let test : nat_le (length bytes) limit ≡ true = grind (arith, nat_tests) in
+        ap (λ b. cond b (Content bytes) Long) (sym test) ∙ ap (λ l. cond (nat_le (length l) limit) (Content l) Long) (sym a)
+
+-- a file of which more is left than is taken
+pub long : (files : Option (List (List ℕ × List ℕ))) (left : Option (List ℕ)) (name : List ℕ) (limit : ℕ) → IsFound files name true → IsLeft files name left → IsTooLong left limit → IsTaken files name limit Long
+long None left name limit found is more = tt
+long (Some fs) left name limit found is more = go (content_of fs name) found (subst (λ l. IsTooLong l limit) is more)
+  where
+    go : (c : Option (List ℕ)) → true ≡ is_some c → IsTooLong c limit → Long ≡ taken_by limit c
+    go None f a = cc
+    go (Some xs) f a =
+        let test : nat_le (length xs) limit ≡ false = grind (arith, nat_tests) in
+        ap (λ b. cond b (Content xs) Long) (sym test)
+
+-- a file that was opened and read on was taken in, with this answer
+pub took : (word : ℕ) (name : List ℕ) (limit : ℕ) (old mid new : FilesSeen) (result : Result (List ℕ) Status) → Opens old mid name true → ReadsOn limit mid new → IsFileAnswer word name limit old new result → TakesFile word name limit old new result
+took word name limit old mid new result opens on answer = record {
+  answer = answer;
+  files = on.how.files ∙ opens.files;
+  opens = on.how.opens ∙ opens.opens;
+}
+
+-- a count that rose from a count that is this one
+pub rose_from : (old mid new : ℕ) → mid ≡ old → CountRose mid new → CountRose old new
+rose_from old mid new same rose = subst (λ n. CountRose n new) same rose
+
+-- ---- Two stages
+
+-- a refusal of the first of two stages is the answer
+pub then-stops : {A B : Type 0} (first : FilesSeen → FilesSeen → Result A Status → Type 0) (second : A → FilesSeen → FilesSeen → Result B Status → Type 0)
+    (old new : FilesSeen) (result : Result B Status) (status : Status) → first old new (Err status) → result ≡ Err status → Then first second old new result
+then-stops first second old new result status refused is = inl (record { status = status; refused = refused; answer = is })
+
+-- the second of two stages goes on where the first gave a value
+pub then-goes : {A B : Type 0} (first : FilesSeen → FilesSeen → Result A Status → Type 0) (second : A → FilesSeen → FilesSeen → Result B Status → Type 0)
+    (old mid new : FilesSeen) (result : Result B Status) (value : A) → first old mid (Ok value) → second value mid new result → Then first second old new result
+then-goes first second old mid new result value given rest = inr (record { value = value; between = mid; given = given; rest = rest })
+
+-- a call that touches no file settles the answer, seen so
+pub settles : {A B : Type 0} (view : A → B) (answer : Result B Status) (seen : FilesSeen) (result : Result A Status) → Answers view answer NoMemory result → Settles answer seen seen (seen_as view result)
+settles view answer seen (Ok a) gives = record { gives = gives; same = refl }
+settles view answer seen (Err status) gives = record { gives = gives; same = refl }

@@ -1,0 +1,4 @@
+-- What each command answers.
+pub mod Code
+pub mod Grid
+pub mod Lines

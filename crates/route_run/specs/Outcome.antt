@@ -1,0 +1,86 @@
+-- What the program answers to words over files and an output. This project's own rule.
+use Rattle.std.specs.Prelude.{ℕ, suc, ◌≡◌, ◌≤◌, List, [], ◌∷◌, length, slice_get, Some, Result, Ok, Err}
+use Rattle.edge_io.specs.Faults.{CountRose, count_after}
+use Rattle.edge_io.specs.Files.{FilesSeen}
+use Rattle.edge_io.specs.Sink.{SinkSeen}
+use Rattle.route_run.specs.Answer.Code.{IsCodeAnswer}
+use Rattle.route_run.specs.Answer.Grid.{IsGridAnswer, IsFit}
+use Rattle.route_run.specs.Ends.{Ends}
+use Rattle.item_list.specs.Answer.{answer_map}
+use Rattle.route_run.specs.Stage.Chain.{Settles, Then}
+use Rattle.route_run.specs.Words.Command.{command_of}
+use Rattle.route_run.specs.declared.words.command.Command.{Command}
+use Rattle.route_run.specs.declared.words.command.Command as Form
+use Rattle.route_run.specs.declared.status.Status.{Status}
+use Rattle.route_run.specs.declared.status.Status.TheVariants.{Done, Usage, TooLong, Lookup, Text, Check, Grid, NotFound, ReadFault, WriteFault, NoMemory}
+
+-- the command of the words, or the status of the word at fault
+abbrev pub command_in : List (List ℕ) → Result Command Status
+command_in words = answer_map (λ (c : Command). c) Usage (command_of words)
+
+-- what is answered of a command; `grid` leaves the files untouched
+abbrev pub IsCommandAnswer : Command → FilesSeen → FilesSeen → Result (List ℕ) Status → Type 0
+IsCommandAnswer (Form.TheVariants.Grid command) old new answer = IsGridAnswer command answer × (new ≡ old)
+IsCommandAnswer (Form.TheVariants.Code command) old new answer = IsCodeAnswer command old new answer
+
+-- what is answered to words over files: the words are read, and then their command is answered
+abbrev pub IsAnswer : List (List ℕ) → FilesSeen → FilesSeen → Result (List ℕ) Status → Type 0
+IsAnswer words = Then (Settles (command_in words)) IsCommandAnswer
+
+-- what the program reaches at a moment: the files and its output
+pub record Reach : Type 0 where
+  pub files : FilesSeen
+  pub out : SinkSeen
+
+-- files and an output together
+abbrev pub reach : FilesSeen → SinkSeen → Reach
+reach files out = record { files = files; out = out }
+
+-- the words are answered over the files, and the answer ends in this status over the output
+pub record IsOutcome (words : List (List ℕ)) (old new : Reach) (status : Status) : Type 0 where
+  pub answer : Result (List ℕ) Status
+  pub given : IsAnswer words old.files new.files answer
+  pub ends : Ends answer status old.out new.out
+
+-- a write fault comes where the output's count of faults rose, and every other status leaves it
+abbrev pub HasCause : Status → ℕ → ℕ → Type 0
+HasCause WriteFault old new = CountRose old new
+HasCause status old new = new ≡ old
+
+-- the words of a command's files, in the order in which they are opened
+abbrev pub file_words : Result Command ℕ → List ℕ
+file_words (Ok (Form.TheVariants.Grid command)) = []
+file_words (Ok (Form.TheVariants.Code command)) = command.lookups.word ∷ command.profile.word ∷ []
+file_words (Err fault) = []
+
+-- a read fault comes where the count of faults rose, and names the word of the file that was opened last
+pub record IsReadFault (words : List ℕ) (word : ℕ) (old new : FilesSeen) : Type 0 where
+  pub rose : CountRose old.faults new.faults
+  pub before : ℕ
+  pub opened : new.opens ≡ count_after (suc before) old.opens
+  pub named : slice_get words before ≡ Some word
+
+-- no call on the files failed, and so many of them were opened, no more than there are
+pub record HasOpened (most : ℕ) (old new : FilesSeen) : Type 0 where
+  pub faults : new.faults ≡ old.faults
+  pub times : ℕ
+  pub few : times ≤ most
+  pub opened : new.opens ≡ count_after times old.opens
+
+-- what a status says of the files whose words stand in this order: a read fault comes where their count of faults rose;
+-- every other status leaves it
+abbrev pub HasReadCause : List ℕ → Status → FilesSeen → FilesSeen → Type 0
+HasReadCause words (ReadFault word) old new = IsReadFault words word old new
+HasReadCause words status old new = HasOpened (length words) old new
+
+-- with a command and no fault of the outside, the status is one of the command's own or want of memory
+abbrev pub IsComplete : Status → Type 0
+IsComplete (Usage word) = ⊥
+IsComplete (ReadFault word) = ⊥
+IsComplete WriteFault = ⊥
+IsComplete status = Unit {0}
+
+-- the numbers of a command that was read are within their limits, and its places in its grid
+abbrev pub IsCommandFit : Command → Type 0
+IsCommandFit (Form.TheVariants.Grid command) = IsFit command
+IsCommandFit (Form.TheVariants.Code command) = Unit {0}

@@ -1,0 +1,16 @@
+-- What a word after a command gives. This project's own rule.
+use Rattle.std.specs.Prelude.{ℕ, List}
+use Rattle.route_run.specs.declared.words.rows.Key.{Key}
+use Rattle.route_run.specs.declared.words.value.Value.{Value}
+
+-- a key with its value, the text of the value, and the place of the word
+pub record Given : Type 0 where
+  pub text : List ℕ
+  pub value : Value
+  pub word : ℕ
+  pub key : Key
+
+-- a word that names a file: the name, and the place of the word
+pub record Named : Type 0 where
+  pub name : List ℕ
+  pub word : ℕ

@@ -1,0 +1,5 @@
+//! What each command answers.
+
+pub(crate) mod code;
+pub(crate) mod grid;
+pub(crate) mod lines;

@@ -1,0 +1,16 @@
+//! What the program does with words, files and an output: its commands, their refusals, and how each ends.
+#![tactic(auto)]
+
+mod answer;
+mod reply;
+mod sending;
+mod stage;
+mod status;
+mod system;
+mod top;
+mod words;
+
+pub use reply::edge;
+pub use status::{GridError, Status};
+pub use system::program;
+pub use top::run;

@@ -1,0 +1,76 @@
+//! A command line over files, an output, and a place where the program tells how it ended.
+
+ghost use Rattle.std.specs.Prelude.{◌≡◌, ◌≢◌, IfOk, OnErr};
+ghost use Rattle.route_run.specs.Edge.{IsEnd, IsReplyBy, IsTelling, args_in, told_line};
+ghost use Rattle.route_run.specs.Outcome.{reach};
+ghost use Rattle.route_run.specs.Status.{number_of_status};
+ghost use Rattle.route_run.specs.Words.Help.{told_of};
+ghost use Rattle.route_run.specs.Words.Refusals.{texts_of};
+
+use crate::sending::send;
+use crate::status::Status;
+use crate::top::run;
+use crate::words::help::told_text;
+use edge_io::{Files, Sink, send_all};
+use item_list::append_bytes;
+use std::alloc::{AllocError, Global};
+
+/// Does what a command line asks for, tells on `err` how it ended, and gives the exit status. A command line
+/// that could not be read is the status that says why.
+pub fn edge<F: Files, O: Sink, E: Sink>(
+    alloc: Global,
+    args: Result<Vec<String>, Status>,
+    files: &mut F,
+    out: &mut O,
+    err: &mut E,
+) -> u8
+    ensures outcome { IsEnd (args_in args) (reach (F.seen files.old) (O.seen out.old))
+        (reach (F.seen files.new) (O.seen out.new)) (E.seen err.old) (E.seen err.new) result }
+{
+    let status = match args {
+        Ok(words) => reply(alloc, words.as_slice(), files, out),
+        Err(refusal) => refusal,
+    };
+    tell(alloc, status, err)
+}
+
+/// Answers words, or tells what they ask to be told; the status in which that ends.
+fn reply<F: Files, O: Sink>(alloc: Global, words: &[String], files: &mut F, out: &mut O) -> Status
+    ensures exact { IsReplyBy (texts_of words.now) (told_of (texts_of words.now)) (reach (F.seen files.old) (O.seen out.old))
+        (reach (F.seen files.new) (O.seen out.new)) result }
+{
+    match told_text(alloc, words) {
+        Ok(Some(text)) => send(out, Ok(text)),
+        Ok(None) => run(alloc, words, files, out),
+        Err(_) => Status::NoMemory,
+    }
+}
+
+/// Tells a status: the line on `err`, if it isn't success, and the exit status.
+fn tell<E: Sink>(alloc: Global, status: Status, err: &mut E) -> u8
+    ensures exact { IsTelling status (E.seen err.old) (E.seen err.new) result }
+{
+    match line(alloc, &status) {
+        Ok(text) => {
+            let _ = send_all(err, text.as_slice());
+            status.number()
+        }
+        Err(_) => {
+            let _ = send_all(err, b"out of memory\n");
+            Status::NoMemory.number()
+        }
+    }
+}
+
+/// The line that tells a status, with its end; that of success is empty and takes no memory.
+fn line(alloc: Global, status: &Status) -> Result<Vec<u8>, AllocError>
+    ensures exact { IfOk result (λ text. text.items ≡ told_line status.now) }
+    ensures only { OnErr result (number_of_status status.now ≢ 0) }
+{
+    if status.number() == 0 {
+        return Ok(Vec::new(alloc));
+    }
+    let mut text = status.line(alloc)?;
+    append_bytes(&mut text, b"\n")?;
+    Ok(text)
+}

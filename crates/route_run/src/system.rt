@@ -1,0 +1,46 @@
+//! The program over the system that runs it.
+
+ghost use Rattle.std.specs.Prelude.{◌≡◌, ◌≢◌, IfErr, IfOk, OnErr, Ok, Err, MatchResult};
+ghost use Rattle.std.specs.IoError.{error_kind};
+ghost use Rattle.std.specs.declared.io.ErrorKind.{ErrorKind as Kind};
+ghost use Rattle.route_run.specs.Program.{fault_of};
+
+use crate::reply::edge;
+use crate::status::Status;
+use edge_io::{DirFiles, StdSink, WriteSink};
+use std::io::ErrorKind;
+use std::process::ExitCode;
+use std::{env, io};
+
+/// The words of the command line over the system's files and its two outputs, and the exit status.
+pub fn program(rt: &HostRuntime) -> ExitCode {
+    let args = match words_of(rt) {
+        Ok(words) => Ok(words),
+        Err(error) => Err(fault_of(&error)),
+    };
+    let told = rt.stderr();
+    let mut files = DirFiles::new(rt);
+    let mut out = StdSink::new(rt);
+    let mut err = WriteSink::over(io::writer(&told));
+    ExitCode::from(edge(rt.alloc(), args, &mut files, &mut out, &mut err))
+}
+
+/// The words after the program's name.
+fn words_of(rt: &HostRuntime) -> io::Result<Vec<String>> {
+    let mut words = Vec::new(rt.alloc());
+    for word in env::args(rt)?.skip(1) {
+        words.push(word)?;
+    }
+    Ok(words)
+}
+
+/// The status of a command line that the system could not give: want of memory, or words that are no text.
+fn fault_of(error: &io::Error) -> Status
+    ensures exact { result ≡ fault_of (error_kind error.now) }
+{
+    if error.kind() == ErrorKind::OutOfMemory {
+        Status::NoMemory
+    } else {
+        Status::Usage { word: 0 }
+    }
+}

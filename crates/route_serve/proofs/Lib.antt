@@ -1,4 +1,0 @@
-pub mod FitLemmas
-pub mod PathLemmas
-pub mod StageLemmas
-pub mod TextLemmas
