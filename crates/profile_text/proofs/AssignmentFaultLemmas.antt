@@ -50,8 +50,8 @@ first_stays f u bad us rest more same = by_front f.tokens (same ∙ f.is (bad �
     first_of d [] = d
     first_of d (t ∷ ts) = t
 
-    by_front :
-        (front : List Token) → u ∷ us ≡ front ++ bad ∷ rest → f.fill (bad ∷ more) ≡ front ++ bad ∷ more → BeginsWith u (f.fill (bad ∷ more))
+    by_front : (front : List Token) → u ∷ us ≡ front ++ bad ∷ rest → f.fill (bad ∷ more) ≡ front ++ bad ∷ more
+        → BeginsWith u (f.fill (bad ∷ more))
     by_front [] was now = record { later = more; is = now ∙ ap (λ t. t ∷ more) (sym (ap (first_of u) was)) }
     by_front (t ∷ ts) was now = record { later = ts ++ bad ∷ more; is = now ∙ ap (λ t. t ∷ ts ++ bad ∷ more) (sym (ap (first_of u) was)) }
 
@@ -62,9 +62,8 @@ module _ (section : Section) (t : Token) (k : kind_of t.text ≡ Assign) where
   WithWord fill = Begins (Some section) (λ tail. t ∷ fill tail)
 
   -- with a name and a number they are whole
-  whole :
-      (name : Token) → kind_of name.text ≡ Name →
-      SpellsSections (suc most_depth) (Some section) (t ∷ name ∷ with_true [])
+  whole : (name : Token) → kind_of name.text ≡ Name
+      → SpellsSections (suc most_depth) (Some section) (t ∷ name ∷ with_true [])
       (put_first section (assigned_to name (Constant (pos 1000000))) no_sections)
   whole name named =
       assigned section t name (with_true []) [] (Constant (pos 1000000)) no_sections k named (some_expr most_depth [])
@@ -75,8 +74,8 @@ module _ (section : Section) (t : Token) (k : kind_of t.text ≡ Assign) where
   WithName name fill = WithWord (λ tail. name ∷ fill tail)
 
   -- an expression that is begun after a name begins an assignment
-  named_viable :
-      (name : Token) → kind_of name.text ≡ Name → (fill : List Token → List Token) → Viable (suc most_depth) fill → WithName name fill
+  named_viable : (name : Token) → kind_of name.text ≡ Name → (fill : List Token → List Token) → Viable (suc most_depth) fill
+      → WithName name fill
   named_viable name named fill v = record {
     more = v.more [];
     sections = put_first section (assigned_to name v.tree) no_sections;
@@ -84,9 +83,8 @@ module _ (section : Section) (t : Token) (k : kind_of t.text ≡ Assign) where
   }
 
   -- so it does after a name and a `=`
-  equals_viable :
-      (name u : Token) → kind_of name.text ≡ Name → kind_of u.text ≡ Equals → (fill : List Token → List Token) →
-      Viable (suc most_depth) fill → WithName name (λ tail. u ∷ fill tail)
+  equals_viable : (name u : Token) → kind_of name.text ≡ Name → kind_of u.text ≡ Equals → (fill : List Token → List Token)
+      → Viable (suc most_depth) fill → WithName name (λ tail. u ∷ fill tail)
   equals_viable name u named is fill v = record {
     more = v.more [];
     sections = put_first section (assigned_to name v.tree) no_sections;
@@ -94,9 +92,8 @@ module _ (section : Section) (t : Token) (k : kind_of t.text ≡ Assign) where
   }
 
   -- a `=` after the name is passed
-  equals_stops :
-      (name u : Token) (us : List Token) (e : TextError) → kind_of name.text ≡ Name → kind_of u.text ≡ Equals →
-      after_name name (before name.line (u ∷ us)) ≡ Err e → Stops (after_name name) (WithName name) (u ∷ us) e
+  equals_stops : (name u : Token) (us : List Token) (e : TextError) → kind_of name.text ≡ Name → kind_of u.text ≡ Equals
+      → after_name name (before name.line (u ∷ us)) ≡ Err e → Stops (after_name name) (WithName name) (u ∷ us) e
   equals_stops name u us e named is h =
       let go : Tree → Place → Result (Read Assignment) TextError = λ value q. read (assigned_to name value) q in
       let passes : (last : ℕ) (ws : List Token)
@@ -113,9 +110,8 @@ module _ (section : Section) (t : Token) (k : kind_of t.text ≡ Assign) where
         told = by_rest passes s.front.fill s.rest s.told;
       }
     where
-      by_rest :
-          ((last : ℕ) (ws : List Token) →
-          after_name name (before last (u ∷ ws))
+      by_rest : ((last : ℕ) (ws : List Token)
+          → after_name name (before last (u ∷ ws))
           ≡ and_then (expr_of most_depth (before u.line ws)) (λ value q. read (assigned_to name value) q))
           → (fill : List Token → List Token) (rest : List Token)
           → StopsAt (λ p. and_then (expr_of most_depth p) (λ value q. read (assigned_to name value) q)) fill rest e
@@ -124,10 +120,9 @@ module _ (section : Section) (t : Token) (k : kind_of t.text ≡ Assign) where
       by_rest passes fill (bad ∷ rest) told = (told.0, λ last more. passes last (fill (bad ∷ more)) ∙ told.1 u.line more)
 
   -- another token after the name begins the expression
-  plain_stops :
-      (name u : Token) (us : List Token) (e : TextError) → kind_of name.text ≡ Name →
-      ((last : ℕ) (ws : List Token) → past_equals last (u ∷ ws) ≡ before last (u ∷ ws)) →
-      after_name name (before name.line (u ∷ us)) ≡ Err e → Stops (after_name name) (WithName name) (u ∷ us) e
+  plain_stops : (name u : Token) (us : List Token) (e : TextError) → kind_of name.text ≡ Name
+      → ((last : ℕ) (ws : List Token) → past_equals last (u ∷ ws) ≡ before last (u ∷ ws))
+      → after_name name (before name.line (u ∷ us)) ≡ Err e → Stops (after_name name) (WithName name) (u ∷ us) e
   plain_stops name u us e named plain h =
       let go : Tree → Place → Result (Read Assignment) TextError = λ value q. read (assigned_to name value) q in
       let s : Stops (λ p. and_then (expr_of most_depth p) go) (WithName name) (u ∷ us) e =
@@ -135,10 +130,9 @@ module _ (section : Section) (t : Token) (k : kind_of t.text ≡ Assign) where
       (λ a used l us spells h. absurd (not_err _ _ h)) (sym (ap (λ p. and_then (expr_of most_depth p) go) (plain name.line us)) ∙ h) in
       record { front = s.front; rest = s.rest; tokens = s.tokens; viable = s.viable; told = by_rest s.front s.rest s.tokens s.told }
     where
-      by_rest :
-          (f : Front) (rest : List Token) → u ∷ us ≡ f.fill rest →
-          StopsAt (λ p. and_then (expr_of most_depth p) (λ value q. read (assigned_to name value) q)) f.fill rest e →
-          StopsAt (after_name name) f.fill rest e
+      by_rest : (f : Front) (rest : List Token) → u ∷ us ≡ f.fill rest
+          → StopsAt (λ p. and_then (expr_of most_depth p) (λ value q. read (assigned_to name value) q)) f.fill rest e
+          → StopsAt (after_name name) f.fill rest e
       by_rest f [] same told = told
       by_rest f (bad ∷ rest) same told = (
         told.0,
@@ -151,9 +145,8 @@ module _ (section : Section) (t : Token) (k : kind_of t.text ≡ Assign) where
       )
 
   -- what follows a name stops so
-  name_stops :
-      (name : Token) (us : List Token) (e : TextError) → kind_of name.text ≡ Name → after_name name (before name.line us) ≡ Err e →
-      Stops (after_name name) (WithName name) us e
+  name_stops : (name : Token) (us : List Token) (e : TextError) → kind_of name.text ≡ Name → after_name name (before name.line us) ≡ Err e
+      → Stops (after_name name) (WithName name) us e
   name_stops name [] e named h = record {
     front = nothing;
     rest = [];
@@ -177,8 +170,8 @@ module _ (section : Section) (t : Token) (k : kind_of t.text ≡ Assign) where
       by_kind _ is = plain_stops name u us e named (λ last ws. ap (λ x. after_equals x u ws (before last (u ∷ ws))) is) h
 
   -- an assignment that is refused stops so
-  pub assignment_stops :
-      (last : ℕ) (ts : List Token) (e : TextError) → assignment_of (before last ts) ≡ Err e → Stops assignment_of WithWord ts e
+  pub assignment_stops : (last : ℕ) (ts : List Token) (e : TextError) → assignment_of (before last ts) ≡ Err e
+      → Stops assignment_of WithWord ts e
   unfolding assignment_of
   assignment_stops last ts e h = token_then Variable after_name WithWord last ts e
       (record {
@@ -195,30 +188,27 @@ pub record TakesAssignment (ts : List Token) (a : Assignment) (rest : List Token
   pub front : Front
   pub tokens : ts ≡ front.fill rest
   pub reads : TakesFront assignment_of front a
-  pub spells :
-      (section : Section) (t : Token) → kind_of t.text ≡ Assign → (tail : List Token) (s : Sections) →
-      SpellsSections (suc most_depth) (Some section) tail s →
-      SpellsSections (suc most_depth) (Some section) (t ∷ front.fill tail) (put_first section a s)
+  pub spells : (section : Section) (t : Token) → kind_of t.text ≡ Assign → (tail : List Token) (s : Sections)
+      → SpellsSections (suc most_depth) (Some section) tail s
+      → SpellsSections (suc most_depth) (Some section) (t ∷ front.fill tail) (put_first section a s)
 
 -- each assignment that was read takes such tokens
-pub takes_assignment :
-    (last : ℕ) (ts : List Token) (r : Read Assignment) → assignment_of (before last ts) ≡ Ok r → TakesAssignment ts r.value r.place.tokens
+pub takes_assignment : (last : ℕ) (ts : List Token) (r : Read Assignment) → assignment_of (before last ts) ≡ Ok r
+    → TakesAssignment ts r.value r.place.tokens
 takes_assignment last ts r h =
     let w : Assigned ts r.value r.place.tokens = assignment_spelled last ts r h in
     let P : Assignment → Type 0 = λ a. TakesAssignment ts a r.place.tokens in
     let Q : List Token → Type 0 = λ ts. TakesAssignment ts (assigned_to w.name w.tree) r.place.tokens in
     subst P (sym w.is) (subst Q (sym w.tokens) (by_after w.name w.named w.tree r.place.tokens w.after w.spells))
   where
-    by_after :
-        (name : Token) → kind_of name.text ≡ Name → (tree : Tree) (rest after : List Token) →
-        SpellsExpr most_depth (past_equals name.line after).tokens tree rest → TakesAssignment (name ∷ after) (assigned_to name tree) rest
+    by_after : (name : Token) → kind_of name.text ≡ Name → (tree : Tree) (rest after : List Token)
+        → SpellsExpr most_depth (past_equals name.line after).tokens tree rest → TakesAssignment (name ∷ after) (assigned_to name tree) rest
     by_after name named tree rest [] spells =
         let none : length rest < 0 = expr_takes most_depth [] tree rest spells in let no_text : ⊥ = omega (arith, none) in absurd no_text
     by_after name named tree rest (u ∷ us) spells = by_kind (kind_of u.text) refl spells
       where
-        by_kind :
-            (x : Kind) → kind_of u.text ≡ x → SpellsExpr most_depth (after_equals x u us (before name.line (u ∷ us))).tokens tree rest →
-            TakesAssignment (name ∷ u ∷ us) (assigned_to name tree) rest
+        by_kind : (x : Kind) → kind_of u.text ≡ x → SpellsExpr most_depth (after_equals x u us (before name.line (u ∷ us))).tokens tree rest
+            → TakesAssignment (name ∷ u ∷ us) (assigned_to name tree) rest
         by_kind Equals is spells =
             let f : Takes most_depth us tree rest = takes most_depth us tree rest spells in
             record {

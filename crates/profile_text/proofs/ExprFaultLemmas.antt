@@ -42,9 +42,8 @@ module _ (room : ℕ) (stops : ExprStops room) (t : Token) (last : ℕ) (ts : Li
       h
 
   -- two operands
-  two_stops :
-      (op : Op) → kind_of t.text ≡ Two op →
-      FormStops (λ p. and_then (expr_of room p) (λ a p. and_then (expr_of room p) (λ b q. read (Operation op a b) q)))
+  two_stops : (op : Op) → kind_of t.text ≡ Two op
+      → FormStops (λ p. and_then (expr_of room p) (λ a p. and_then (expr_of room p) (λ b q. read (Operation op a b) q)))
   two_stops op k h = operand_then room (λ a p. and_then (expr_of room p) (λ b q. read (Operation op a b) q)) WithToken last ts e stops
       (λ fill v. record {
         more = λ tail. v.more (with_true tail);
@@ -67,9 +66,8 @@ module _ (room : ℕ) (stops : ExprStops room) (t : Token) (last : ℕ) (ts : Li
       h
 
   -- the three operands of `switch`
-  switch_stops :
-      kind_of t.text ≡ Switch →
-      FormStops (λ p. and_then (expr_of room p)
+  switch_stops : kind_of t.text ≡ Switch
+      → FormStops (λ p. and_then (expr_of room p)
       (λ a p. and_then (expr_of room p) (λ b q. and_then (expr_of room q) (λ c r. read (Choice a b c) r))))
   switch_stops k h =
       operand_then room (λ a p. and_then (expr_of room p) (λ b q. and_then (expr_of room q) (λ c r. read (Choice a b c) r))) WithToken last
@@ -130,9 +128,8 @@ module _ (room : ℕ) (stops : ExprStops room) (t : Token) (last : ℕ) (ts : Li
       h
 
   -- the three operands of `if`, parted by `then` and `else`
-  if_stops :
-      kind_of t.text ≡ If →
-      FormStops (λ p. and_then (expr_of room p)
+  if_stops : kind_of t.text ≡ If
+      → FormStops (λ p. and_then (expr_of room p)
       (λ a p. and_then (taken ThenWord p)
       (λ t p2. and_then (expr_of room p2)
       (λ b q. and_then (taken ElseWord q) (λ u q2. and_then (expr_of room q2) (λ c r. read (Choice a b c) r))))))
@@ -229,9 +226,8 @@ none_stops last [] e h = record {
 }
 none_stops last (t ∷ ts) e h = by_fault (expression_fault (kind_of t.text)) refl
   where
-    at_first :
-        (kind : TextKind) → ((last : ℕ) (more : List Token) → expr_of zero (before last (t ∷ more)) ≡ Err (At t.line kind)) →
-        Stops (expr_of zero) (Viable (suc zero)) (t ∷ ts) e
+    at_first : (kind : TextKind) → ((last : ℕ) (more : List Token) → expr_of zero (before last (t ∷ more)) ≡ Err (At t.line kind))
+        → Stops (expr_of zero) (Viable (suc zero)) (t ∷ ts) e
     at_first kind refused =
         let e_is : At t.line kind ≡ e = same_error {A = Read Tree} (At t.line kind) e (sym (refused last ts) ∙ h) in
         record {

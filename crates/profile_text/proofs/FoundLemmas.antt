@@ -31,8 +31,8 @@ pub record Went {A B : Type 0} (r : Result (Read A) TextError) (go : A → Place
   pub next : go value place ≡ Ok b
 
 -- reading that succeeds went on from a value
-pub went_on :
-    {A B : Type 0} (r : Result (Read A) TextError) (go : A → Place → Result B TextError) (b : B) → and_then r go ≡ Ok b → Went r go b
+pub went_on : {A B : Type 0} (r : Result (Read A) TextError) (go : A → Place → Result B TextError) (b : B) → and_then r go ≡ Ok b
+    → Went r go b
 went_on (Ok x) go b h = record { value = x.value; place = x.place; was = refl; next = h }
 went_on (Err e) go b h = cc
 
@@ -43,16 +43,14 @@ pub record TakenFirst (expected : Expected) (p : Place) (t : Token) (q : Place) 
   pub fits : fault_of expected (kind_of t.text) ≡ None
 
 -- a token that is allowed may stand there, and is what was asked for
-allowed_fits :
-    (f : Option TextKind) (t u : Token) (p q : Place) → allowed f t p ≡ read u q → (f ≡ None) ×
-    (◌≡◌ {A = Read Token} (record { value = t; place = p }) (record { value = u; place = q }))
+allowed_fits : (f : Option TextKind) (t u : Token) (p q : Place) → allowed f t p ≡ read u q
+    → (f ≡ None) × (◌≡◌ {A = Read Token} (record { value = t; place = p }) (record { value = u; place = q }))
 allowed_fits None t u p q h = (refl, same_value (record { value = t; place = p }) (record { value = u; place = q }) h)
 allowed_fits (Some k) t u p q h = cc
 
 -- so is each token that was taken
-pub taken_is_first :
-    (expected : Expected) (last : ℕ) (ts : List Token) (t : Token) (q : Place) →
-    taken expected (record { last = last; tokens = ts }) ≡ read t q → TakenFirst expected (record { last = last; tokens = ts }) t q
+pub taken_is_first : (expected : Expected) (last : ℕ) (ts : List Token) (t : Token) (q : Place)
+    → taken expected (record { last = last; tokens = ts }) ≡ read t q → TakenFirst expected (record { last = last; tokens = ts }) t q
 unfolding taken
 taken_is_first expected last [] t q h = cc
 taken_is_first expected last (u ∷ us) t q h =
@@ -87,9 +85,9 @@ spelled_as {depth} {ts} {e} {q} r h spells =
     subst P (same_value (record { value = e; place = q }) r h) spells
 
 -- what is read as a form is spelled so, where what is read one deeper is
-pub form_is_spelled :
-    (depth : ℕ) (t : Token) (p : Place) (r : Read Tree) → ((q : Place) (s : Read Tree) → expr_of depth q ≡ Ok s → IsSpelled depth q s) →
-    (k : Kind) → kind_of t.text ≡ k → form_of (expr_of depth) t k p ≡ Ok r → SpellsExpr (suc depth) (t ∷ p.tokens) r.value r.place.tokens
+pub form_is_spelled : (depth : ℕ) (t : Token) (p : Place) (r : Read Tree)
+    → ((q : Place) (s : Read Tree) → expr_of depth q ≡ Ok s → IsSpelled depth q s) → (k : Kind) → kind_of t.text ≡ k
+    → form_of (expr_of depth) t k p ≡ Ok r → SpellsExpr (suc depth) (t ∷ p.tokens) r.value r.place.tokens
 form_is_spelled depth t p r inner (Number n) k h =
     spelled_as r h (a_number depth t n p.tokens k)
 form_is_spelled depth t p r inner True k h =

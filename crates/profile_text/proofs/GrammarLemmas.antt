@@ -15,16 +15,14 @@ abbrev pub before : ℕ → List Token → Place
 before last ts = record { last = last; tokens = ts }
 
 -- a token that may stand here is taken
-pub taken_first :
-    (expected : Expected) (last : ℕ) (t : Token) (ts : List Token) (k : Kind) → kind_of t.text ≡ k → fault_of expected k ≡ None →
-    taken expected (before last (t ∷ ts)) ≡ read t (before t.line ts)
+pub taken_first : (expected : Expected) (last : ℕ) (t : Token) (ts : List Token) (k : Kind) → kind_of t.text ≡ k
+    → fault_of expected k ≡ None → taken expected (before last (t ∷ ts)) ≡ read t (before t.line ts)
 unfolding taken
 taken_first expected last t ts k is_k fits = ap (λ f. allowed f t (before t.line ts)) (ap (fault_of expected) is_k ∙ fits)
 
 -- a token that begins an expression is followed by its form
-pub expr_form :
-    (depth last : ℕ) (t : Token) (ts : List Token) (k : Kind) → kind_of t.text ≡ k → expression_fault k ≡ None →
-    expr_of (suc depth) (before last (t ∷ ts)) ≡ form_of (expr_of depth) t k (before t.line ts)
+pub expr_form : (depth last : ℕ) (t : Token) (ts : List Token) (k : Kind) → kind_of t.text ≡ k → expression_fault k ≡ None
+    → expr_of (suc depth) (before last (t ∷ ts)) ≡ form_of (expr_of depth) t k (before t.line ts)
 unfolding expr_of
 expr_form depth last t ts k is_k fits =
     ap (λ r. and_then r (λ t p. form_of (expr_of depth) t (kind_of t.text) p)) (taken_first Expression last t ts k is_k fits)

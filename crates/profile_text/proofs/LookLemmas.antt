@@ -19,9 +19,8 @@ pub piece_first : (text : List ℕ) → pieces text ≡ begins_with (prefix_len 
 piece_first [] = refl
 piece_first (c ∷ cs) = by_test (nat_eq c 124) refl (piece_first cs)
   where
-    by_test :
-        (v : Bool) → nat_eq c 124 ≡ v → pieces cs ≡ begins_with (prefix_len is_value_byte cs) cs →
-        pieces (c ∷ cs) ≡ begins_with (prefix_len is_value_byte (c ∷ cs)) (c ∷ cs)
+    by_test : (v : Bool) → nat_eq c 124 ≡ v → pieces cs ≡ begins_with (prefix_len is_value_byte cs) cs
+        → pieces (c ∷ cs) ≡ begins_with (prefix_len is_value_byte (c ∷ cs)) (c ∷ cs)
     by_test true h rest =
         ap (λ v. cond v ([] ∷ pieces cs) (onto_first c (pieces cs))) h
         ∙ ap (λ v. begins_with (cond (not v) (1 + prefix_len is_value_byte cs) 0) (c ∷ cs)) (sym h)
@@ -38,9 +37,8 @@ not_empty : (c : ℕ) (cs : List ℕ) → true ≡ nat_eq (length (c ∷ cs)) 0 
 not_empty c cs h = grind (arith, nat_tests, h)
 
 -- a piece that ends the text is the last
-pub last_piece :
-    (text piece after : List ℕ) (n : ℕ) → n ≡ prefix_len is_value_byte text → piece ≡ take n text → after ≡ drop n text →
-    true ≡ nat_eq (length after) 0 → pieces text ≡ piece ∷ []
+pub last_piece : (text piece after : List ℕ) (n : ℕ) → n ≡ prefix_len is_value_byte text → piece ≡ take n text → after ≡ drop n text
+    → true ≡ nat_eq (length after) 0 → pieces text ≡ piece ∷ []
 last_piece text piece [] n n_is piece_is after_is none =
     piece_first text
     ∙ ap (λ m. begins_with m text) (sym n_is)
@@ -49,9 +47,8 @@ last_piece text piece [] n n_is piece_is after_is none =
 last_piece text piece (c ∷ cs) n n_is piece_is after_is none = absurd (not_empty c cs none)
 
 -- a piece that a bar ends is followed by others
-pub next_piece :
-    (text piece after rest : List ℕ) (n : ℕ) → n ≡ prefix_len is_value_byte text → piece ≡ take n text → after ≡ drop n text →
-    false ≡ nat_eq (length after) 0 → rest ≡ drop 1 after → pieces text ≡ piece ∷ pieces rest
+pub next_piece : (text piece after rest : List ℕ) (n : ℕ) → n ≡ prefix_len is_value_byte text → piece ≡ take n text → after ≡ drop n text
+    → false ≡ nat_eq (length after) 0 → rest ≡ drop 1 after → pieces text ≡ piece ∷ pieces rest
 next_piece text piece [] rest n n_is piece_is after_is some rest_is =
     cc
 next_piece text piece (c ∷ cs) rest n n_is piece_is after_is some rest_is =

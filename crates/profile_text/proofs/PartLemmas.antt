@@ -26,9 +26,8 @@ no_part zero current last = refl
 no_part (suc n) current last = refl
 
 -- a part begins with the first token
-pub one_part :
-    (parts : ℕ) (current : Option Section) (last : ℕ) (t : Token) (ts : List Token) →
-    sections_within (suc parts) current last (t ∷ ts)
+pub one_part : (parts : ℕ) (current : Option Section) (last : ℕ) (t : Token) (ts : List Token)
+    → sections_within (suc parts) current last (t ∷ ts)
     ≡ from_front (kind_of t.text) current (λ section p. sections_within parts section p.last p.tokens) t
     (record { last = t.line; tokens = ts })
 unfolding sections_within
@@ -93,9 +92,7 @@ rest_of n section p = sections_within n section p.last p.tokens
 -- a stand with a first token, and the place after it
 module _ (text : List ℕ) (old : Stand) (t : Token) (after : Place) (on : ReadsOn text old) (first : IsFirst old.place t after) where
   -- the whole from the token on
-  from_token :
-      (n : ℕ) →
-      onto old.sections (sections_within (suc n) old.current old.place.last old.place.tokens)
+  from_token : (n : ℕ) → onto old.sections (sections_within (suc n) old.current old.place.last old.place.tokens)
       ≡ onto old.sections (from_front (kind_of t.text) old.current (rest_of n) t after)
   from_token n =
       ap (λ ts. onto old.sections (sections_within (suc n) old.current old.place.last ts)) first.tokens
@@ -104,13 +101,12 @@ module _ (text : List ℕ) (old : Stand) (t : Token) (after : Place) (on : Reads
       (sym first.last)
 
   -- a part that was taken in leaves what the rest adds
-  pub reads_part :
-      (new : Stand) → TakesPart (record old { place = after }) t new → length new.place.tokens ≤ length after.tokens → ReadsOn text new
+  pub reads_part : (new : Stand) → TakesPart (record old { place = after }) t new → length new.place.tokens ≤ length after.tokens
+      → ReadsOn text new
   reads_part new takes further = by_parts on.parts on.enough on.whole
     where
-      by_parts :
-          (parts : ℕ) → length old.place.tokens ≤ parts →
-          profile_of text ≡ onto old.sections (sections_within parts old.current old.place.last old.place.tokens) → ReadsOn text new
+      by_parts : (parts : ℕ) → length old.place.tokens ≤ parts
+          → profile_of text ≡ onto old.sections (sections_within parts old.current old.place.last old.place.tokens) → ReadsOn text new
       by_parts zero enough whole = let none : ⊥ = omega (arith, enough, ap length first.tokens) in absurd none
       by_parts (suc n) enough whole = record {
         parts = n;
@@ -119,13 +115,13 @@ module _ (text : List ℕ) (old : Stand) (t : Token) (after : Place) (on : Reads
       }
 
   -- a part that is refused refuses the whole
-  pub reads_refusal :
-      (e : TextError) → (e ≡ NoMemory) ⊎ RefusesPart (record old { place = after }) t e → (e ≡ NoMemory) ⊎ (profile_of text ≡ Err e)
+  pub reads_refusal : (e : TextError) → (e ≡ NoMemory) ⊎ RefusesPart (record old { place = after }) t e
+      → (e ≡ NoMemory) ⊎ (profile_of text ≡ Err e)
   reads_refusal e (inl memory) = inl memory
   reads_refusal e (inr refuses) = inr (by_parts on.parts on.enough on.whole)
     where
-      by_parts :
-          (parts : ℕ) → length old.place.tokens ≤ parts →
-          profile_of text ≡ onto old.sections (sections_within parts old.current old.place.last old.place.tokens) → profile_of text ≡ Err e
+      by_parts : (parts : ℕ) → length old.place.tokens ≤ parts
+          → profile_of text ≡ onto old.sections (sections_within parts old.current old.place.last old.place.tokens)
+          → profile_of text ≡ Err e
       by_parts zero enough whole = let none : ⊥ = omega (arith, enough, ap length first.tokens) in absurd none
       by_parts (suc n) enough whole = whole ∙ from_token n ∙ ap (onto old.sections) (refuses (rest_of n))

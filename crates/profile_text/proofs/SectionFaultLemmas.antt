@@ -39,10 +39,9 @@ pub record SectionsStop (current : Option Section) (ts : List Token) (e : TextEr
   pub told : SectionsStopAt current front.fill rest e
 
 -- what the first part decides, where there are enough parts
-first_part :
-    (parts : ℕ) (current : Option Section) (last : ℕ) (t : Token) (ts : List Token) (r : Result Sections TextError) →
-    length (t ∷ ts) ≤ parts → ((n : ℕ) → length ts ≤ n → from_front (kind_of t.text) current (rest_of n) t (before t.line ts) ≡ r) →
-    sections_within parts current last (t ∷ ts) ≡ r
+first_part : (parts : ℕ) (current : Option Section) (last : ℕ) (t : Token) (ts : List Token) (r : Result Sections TextError)
+    → length (t ∷ ts) ≤ parts → ((n : ℕ) → length ts ≤ n → from_front (kind_of t.text) current (rest_of n) t (before t.line ts) ≡ r)
+    → sections_within parts current last (t ∷ ts) ≡ r
 first_part zero current last t ts r enough decided = let none : ⊥ = omega (arith, enough) in absurd none
 first_part (suc n) current last t ts r enough decided = one_part n current last t ts ∙ decided n (omega (arith, enough))
 
@@ -51,16 +50,19 @@ not_shorter : (f : Front) (ts : List Token) → length ts ≤ length (f.fill ts)
 not_shorter f ts = omega (arith, ap length (f.is ts), length-append f.tokens ts)
 
 -- with an assignment in front they are refused as without it
-first_refused :
-    (section : Section) (a : Assignment) (r : Result Sections TextError) (e : TextError) → with_first section a r ≡ Err e → r ≡ Err e
+first_refused : (section : Section) (a : Assignment) (r : Result Sections TextError) (e : TextError) → with_first section a r ≡ Err e
+    → r ≡ Err e
 first_refused section a (Ok s) e h = cc
 first_refused section a (Err d) e h = h
 
+-- what is read of a first token of this kind and of what follows it
+abbrev part_from : Kind → ℕ → Option Section → Token → List Token → Result Sections TextError
+part_from k n current t ts = from_front k current (rest_of n) t (before t.line ts)
+
 -- a first token that decides alone
-at_first :
-    (n : ℕ) (current : Option Section) (t : Token) (ts : List Token) (e : TextError) (kind : TextKind) →
-    ((n : ℕ) (ts : List Token) → from_front (kind_of t.text) current (rest_of n) t (before t.line ts) ≡ Err (At t.line kind)) →
-    from_front (kind_of t.text) current (rest_of n) t (before t.line ts) ≡ Err e → SectionsStop current (t ∷ ts) e
+at_first : (n : ℕ) (current : Option Section) (t : Token) (ts : List Token) (e : TextError) (kind : TextKind)
+    → ((n : ℕ) (ts : List Token) → part_from (kind_of t.text) n current t ts ≡ Err (At t.line kind))
+    → part_from (kind_of t.text) n current t ts ≡ Err e → SectionsStop current (t ∷ ts) e
 at_first n current t ts e kind refused h =
     let e_is : At t.line kind ≡ e = same_error {A = Sections} (At t.line kind) e (sym (refused n ts) ∙ h) in
     record {
@@ -76,9 +78,8 @@ at_first n current t ts e kind refused h =
     }
 
 -- a section line that is followed by a fault
-opens_stops :
-    (current : Option Section) (t : Token) (section : Section) (ts : List Token) (e : TextError) → kind_of t.text ≡ Opens section →
-    SectionsStop (Some section) ts e → SectionsStop current (t ∷ ts) e
+opens_stops : (current : Option Section) (t : Token) (section : Section) (ts : List Token) (e : TextError) → kind_of t.text ≡ Opens section
+    → SectionsStop (Some section) ts e → SectionsStop current (t ∷ ts) e
 opens_stops current t section ts e k s = record {
   front = one t s.front;
   rest = s.rest;
@@ -92,9 +93,8 @@ opens_stops current t section ts e k s = record {
   told = by_rest s.rest s.told;
 }
   where
-    by_rest :
-        (rest : List Token) → SectionsStopAt (Some section) s.front.fill rest e →
-        SectionsStopAt current (λ tail. t ∷ s.front.fill tail) rest e
+    by_rest : (rest : List Token) → SectionsStopAt (Some section) s.front.fill rest e
+        → SectionsStopAt current (λ tail. t ∷ s.front.fill tail) rest e
     by_rest [] told = told
     by_rest (bad ∷ rest) told = (
       told.0,
@@ -103,9 +103,8 @@ opens_stops current t section ts e k s = record {
     )
 
 -- an assignment that is at fault
-assign_stops :
-    (section : Section) (t : Token) (ts : List Token) (e : TextError) → kind_of t.text ≡ Assign → assignment_of (before t.line ts) ≡ Err e →
-    SectionsStop (Some section) (t ∷ ts) e
+assign_stops : (section : Section) (t : Token) (ts : List Token) (e : TextError) → kind_of t.text ≡ Assign
+    → assignment_of (before t.line ts) ≡ Err e → SectionsStop (Some section) (t ∷ ts) e
 assign_stops section t ts e k refused =
     let s = assignment_stops section t k t.line ts e refused in
     record {
@@ -116,9 +115,8 @@ assign_stops section t ts e k refused =
       told = by_rest s.front.fill s.rest s.told;
     }
   where
-    by_rest :
-        (fill : List Token → List Token) (rest : List Token) → StopsAt assignment_of fill rest e →
-        SectionsStopAt (Some section) (λ tail. t ∷ fill tail) rest e
+    by_rest : (fill : List Token → List Token) (rest : List Token) → StopsAt assignment_of fill rest e
+        → SectionsStopAt (Some section) (λ tail. t ∷ fill tail) rest e
     by_rest fill [] told = told
     by_rest fill (bad ∷ rest) told = (
       told.0,
@@ -128,9 +126,8 @@ assign_stops section t ts e k refused =
     )
 
 -- an assignment that is followed by a fault
-after_stops :
-    (section : Section) (t : Token) (ts : List Token) (e : TextError) (a : Assignment) (us : List Token) → kind_of t.text ≡ Assign →
-    TakesAssignment ts a us → SectionsStop (Some section) us e → SectionsStop (Some section) (t ∷ ts) e
+after_stops : (section : Section) (t : Token) (ts : List Token) (e : TextError) (a : Assignment) (us : List Token) → kind_of t.text ≡ Assign
+    → TakesAssignment ts a us → SectionsStop (Some section) us e → SectionsStop (Some section) (t ∷ ts) e
 after_stops section t ts e a us k f s = record {
   front = one t (joined f.front s.front);
   rest = s.rest;
@@ -144,9 +141,8 @@ after_stops section t ts e a us k f s = record {
   told = by_rest s.rest s.told;
 }
   where
-    by_rest :
-        (rest : List Token) → SectionsStopAt (Some section) s.front.fill rest e →
-        SectionsStopAt (Some section) (λ tail. t ∷ f.front.fill (s.front.fill tail)) rest e
+    by_rest : (rest : List Token) → SectionsStopAt (Some section) s.front.fill rest e
+        → SectionsStopAt (Some section) (λ tail. t ∷ f.front.fill (s.front.fill tail)) rest e
     by_rest [] told = told
     by_rest (bad ∷ rest) told = (
       told.0,
@@ -161,11 +157,14 @@ after_stops section t ts e a us k f s = record {
           ∙ ap (with_first section a) (told.1 n x.0 more fewer)),
     )
 
+-- sections of at most so many tokens stop so
+abbrev SectionsStopWithin : ℕ → TextError → Type 0
+SectionsStopWithin n e =
+    (section : Section) (p : Place) → length p.tokens ≤ n → rest_of n (Some section) p ≡ Err e → SectionsStop (Some section) p.tokens e
+
 -- what is refused from a token on stops so, where what follows does
-front_stops :
-    (n : ℕ) (current : Option Section) (t : Token) (ts : List Token) (e : TextError) → length ts ≤ n →
-    ((section : Section) (p : Place) → length p.tokens ≤ n → rest_of n (Some section) p ≡ Err e → SectionsStop (Some section) p.tokens e) →
-    (k : Kind) → kind_of t.text ≡ k → from_front k current (rest_of n) t (before t.line ts) ≡ Err e → SectionsStop current (t ∷ ts) e
+front_stops : (n : ℕ) (current : Option Section) (t : Token) (ts : List Token) (e : TextError) → length ts ≤ n → SectionsStopWithin n e
+    → (k : Kind) → kind_of t.text ≡ k → part_from k n current t ts ≡ Err e → SectionsStop current (t ∷ ts) e
 front_stops n current t ts e enough inner (Opens section) k h =
     opens_stops current t section ts e k (inner section (before t.line ts) enough h)
 front_stops n None t ts e enough inner Assign k h =
@@ -173,9 +172,8 @@ front_stops n None t ts e enough inner Assign k h =
     (ap (λ x. from_front x None (rest_of n) t (before t.line ts)) k ∙ h)
 front_stops n (Some section) t ts e enough inner Assign k h = by_result (assignment_of (before t.line ts)) refl h
   where
-    by_result :
-        (r : Result (Read Assignment) TextError) → assignment_of (before t.line ts) ≡ r →
-        and_then r (λ a p. with_first section a (rest_of n (Some section) p)) ≡ Err e → SectionsStop (Some section) (t ∷ ts) e
+    by_result : (r : Result (Read Assignment) TextError) → assignment_of (before t.line ts) ≡ r
+        → and_then r (λ a p. with_first section a (rest_of n (Some section) p)) ≡ Err e → SectionsStop (Some section) (t ∷ ts) e
     by_result (Err d) is h = assign_stops section t ts e k (is ∙ ap Err (same_error {A = Sections} d e h))
     by_result (Ok r) is h =
         let less = assignment_takes (before t.line ts) r.place r.value is in
@@ -187,9 +185,8 @@ front_stops n current t ts e enough inner other k h =
     (ap (λ x. from_front x current (rest_of n) t (before t.line ts)) k ∙ h)
 
 -- sections that are refused stop so
-sections_stop :
-    (parts : ℕ) (current : Option Section) (last : ℕ) (ts : List Token) (e : TextError) → length ts ≤ parts →
-    sections_within parts current last ts ≡ Err e → SectionsStop current ts e
+sections_stop : (parts : ℕ) (current : Option Section) (last : ℕ) (ts : List Token) (e : TextError) → length ts ≤ parts
+    → sections_within parts current last ts ≡ Err e → SectionsStop current ts e
 sections_stop parts current last [] e enough h = absurd (not_err _ _ (sym (no_part parts current last) ∙ h))
 sections_stop zero current last (t ∷ ts) e enough h = let none : ⊥ = omega (arith, enough) in absurd none
 sections_stop (suc n) current last (t ∷ ts) e enough h =

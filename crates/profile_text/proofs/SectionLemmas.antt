@@ -38,8 +38,8 @@ expr_takes _ _ _ _ (an_if depth t u v ts us vs a b c rest k x th y el z) =
 expr_takes _ _ _ _ (a_bracket depth t u ts a rest k x cl) = let h = expr_takes depth ts a (u ∷ rest) x in omega (arith, h)
 
 -- no expression begins with `=`
-pub no_equals :
-    (last depth : ℕ) (ts : List Token) (e : Tree) (rest : List Token) → SpellsExpr depth ts e rest → past_equals last ts ≡ before last ts
+pub no_equals : (last depth : ℕ) (ts : List Token) (e : Tree) (rest : List Token) → SpellsExpr depth ts e rest
+    → past_equals last ts ≡ before last ts
 no_equals last _ _ _ _ (a_number depth t n rest k) = ap (λ x. after_equals x t rest (before last (t ∷ rest))) k
 no_equals last _ _ _ _ (a_true depth t rest k) = ap (λ x. after_equals x t rest (before last (t ∷ rest))) k
 no_equals last _ _ _ _ (a_false depth t rest k) = ap (λ x. after_equals x t rest (before last (t ∷ rest))) k
@@ -52,10 +52,9 @@ no_equals last _ _ _ _ (an_if depth t u v ts us vs a b c rest k x th y el z) = a
 no_equals last _ _ _ _ (a_bracket depth t u ts a rest k x cl) = ap (λ x. after_equals x t ts (before last (t ∷ ts))) k
 
 -- an assignment that is spelled so is read, where the place after the name is known
-pub assignment_read :
-    (last : ℕ) (name : Token) (us ts : List Token) (l : ℕ) (a : Tree) (rest : List Token) → kind_of name.text ≡ Name →
-    past_equals name.line us ≡ before l ts → SpellsExpr most_depth ts a rest → (m : ℕ) ×
-    (assignment_of (before last (name ∷ us)) ≡ read (assigned_to name a) (before m rest))
+pub assignment_read : (last : ℕ) (name : Token) (us ts : List Token) (l : ℕ) (a : Tree) (rest : List Token) → kind_of name.text ≡ Name
+    → past_equals name.line us ≡ before l ts → SpellsExpr most_depth ts a rest
+    → (m : ℕ) × (assignment_of (before last (name ∷ us)) ≡ read (assigned_to name a) (before m rest))
 unfolding assignment_of
 assignment_read last name us ts l a rest k place_is spells =
     let x = spelled_is_read most_depth ts a rest spells l in (
@@ -66,11 +65,18 @@ assignment_read last name us ts l a rest k place_is spells =
           ∙ ap (λ r. and_then r (λ value q. read (assigned_to name value) q)) x.1,
     )
 
+-- these tokens spell sections of a profile, where this one is open
+abbrev SpellsIn : Section → List Token → Sections → Type 0
+SpellsIn section ts s = SpellsSections most_depth (Some section) ts s
+
+-- these tokens are read as sections, where this one is open
+abbrev AreRead : ℕ → Section → ℕ → List Token → Sections → Type 0
+AreRead parts section last ts s = sections_within parts (Some section) last ts ≡ Ok s
+
 -- the parts after an assignment that was read
-part_read :
-    (n last : ℕ) (section : Section) (t : Token) (us rest : List Token) (m : ℕ) (a : Assignment) (s : Sections) → kind_of t.text ≡ Assign →
-    assignment_of (before t.line us) ≡ read a (before m rest) → sections_within n (Some section) m rest ≡ Ok s →
-    sections_within (suc n) (Some section) last (t ∷ us) ≡ Ok (put_first section a s)
+part_read : (n last : ℕ) (section : Section) (t : Token) (us rest : List Token) (m : ℕ) (a : Assignment) (s : Sections)
+    → kind_of t.text ≡ Assign → assignment_of (before t.line us) ≡ read a (before m rest) → AreRead n section m rest s
+    → AreRead (suc n) section last (t ∷ us) (put_first section a s)
 part_read n last section t us rest m a s k assignment more =
     one_part n (Some section) last t us
     ∙ ap (λ x. from_front x (Some section) (rest_of n) t (before t.line us)) k
@@ -78,9 +84,8 @@ part_read n last section t us rest m a s k assignment more =
     ∙ ap (with_first section a) more
 
 -- sections that are spelled so are read, where there are as many parts as tokens
-pub spelled_sections :
-    (current : Option Section) (ts : List Token) (s : Sections) → SpellsSections most_depth current ts s → (parts last : ℕ) →
-    length ts ≤ parts → sections_within parts current last ts ≡ Ok s
+pub spelled_sections : (current : Option Section) (ts : List Token) (s : Sections) → SpellsSections most_depth current ts s
+    → (parts last : ℕ) → length ts ≤ parts → sections_within parts current last ts ≡ Ok s
 spelled_sections _ _ _ (the_end current) parts last enough = no_part parts current last
 spelled_sections _ _ _ (a_section current t section ts s k more) zero last enough = let none : ⊥ = omega (arith, enough) in absurd none
 spelled_sections _ _ _ (a_section current t section ts s k more) (suc n) last enough =
@@ -125,8 +130,8 @@ pub record Assigned (ts : List Token) (a : Assignment) (rest : List Token) : Typ
   pub spells : SpellsExpr most_depth (past_equals name.line after).tokens tree rest
 
 -- each assignment that was read is one
-pub assignment_spelled :
-    (last : ℕ) (ts : List Token) (r : Read Assignment) → assignment_of (before last ts) ≡ Ok r → Assigned ts r.value r.place.tokens
+pub assignment_spelled : (last : ℕ) (ts : List Token) (r : Read Assignment) → assignment_of (before last ts) ≡ Ok r
+    → Assigned ts r.value r.place.tokens
 unfolding assignment_of
 assignment_spelled last ts r h =
     let x =
@@ -156,24 +161,24 @@ pub record Followed (section : Section) (a : Assignment) (r : Result Sections Te
   pub is : put_first section a later ≡ s
 
 -- so they were
-followed :
-    (section : Section) (a : Assignment) (r : Result Sections TextError) (s : Sections) → with_first section a r ≡ Ok s →
-    Followed section a r s
+followed : (section : Section) (a : Assignment) (r : Result Sections TextError) (s : Sections) → with_first section a r ≡ Ok s
+    → Followed section a r s
 followed section a (Ok later) s h = record { later = later; was = refl; is = same_value (put_first section a later) s h }
 followed section a (Err e) s h = cc
 
+-- these tokens after a name spell a value, after the `=` that may stand before it
+abbrev SpellsValue : Token → List Token → Tree → List Token → Type 0
+SpellsValue name after a rest = SpellsExpr most_depth (past_equals name.line after).tokens a rest
+
 -- tokens after a name spell an assignment, with `=` or without
-spells_assignment :
-    (section : Section) (t name : Token) (after : List Token) (a : Tree) (rest : List Token) (s : Sections) → kind_of t.text ≡ Assign →
-    kind_of name.text ≡ Name → SpellsExpr most_depth (past_equals name.line after).tokens a rest →
-    SpellsSections most_depth (Some section) rest s →
-    SpellsSections most_depth (Some section) (t ∷ name ∷ after) (put_first section (assigned_to name a) s)
+spells_assignment : (section : Section) (t name : Token) (after : List Token) (a : Tree) (rest : List Token) (s : Sections)
+    → kind_of t.text ≡ Assign → kind_of name.text ≡ Name → SpellsValue name after a rest → SpellsIn section rest s
+    → SpellsIn section (t ∷ name ∷ after) (put_first section (assigned_to name a) s)
 spells_assignment section t name [] a rest s k named spells more = assigned section t name [] rest a s k named spells more
 spells_assignment section t name (e ∷ es) a rest s k named spells more = by_kind (kind_of e.text) refl spells
   where
-    by_kind :
-        (x : Kind) → kind_of e.text ≡ x → SpellsExpr most_depth (after_equals x e es (before name.line (e ∷ es))).tokens a rest →
-        SpellsSections most_depth (Some section) (t ∷ name ∷ e ∷ es) (put_first section (assigned_to name a) s)
+    by_kind : (x : Kind) → kind_of e.text ≡ x → SpellsExpr most_depth (after_equals x e es (before name.line (e ∷ es))).tokens a rest
+        → SpellsSections most_depth (Some section) (t ∷ name ∷ e ∷ es) (put_first section (assigned_to name a) s)
     by_kind Equals is x = assigned_by section t name e es rest a s k named is x more
     by_kind _ is x = assigned section t name (e ∷ es) rest a s k named x more
 
@@ -186,12 +191,16 @@ past_len last (t ∷ ts) = by_kind (kind_of t.text)
     by_kind Equals = omega arith
     by_kind _ = omega arith
 
+-- sections of at most so many tokens that are read are spelled so
+abbrev AreSpelledWithin : ℕ → Type 0
+AreSpelledWithin n =
+    (section : Section) (p : Place) (s : Sections) → length p.tokens ≤ n → rest_of n (Some section) p ≡ Ok s
+    → SpellsIn section p.tokens s
+
 -- what is read from a token on is spelled so, where what is read after it is
-front_spelled :
-    (n : ℕ) (current : Option Section) (t : Token) (ts : List Token) (s : Sections) → length ts ≤ n →
-    ((section : Section) (p : Place) (s : Sections) → length p.tokens ≤ n → rest_of n (Some section) p ≡ Ok s →
-    SpellsSections most_depth (Some section) p.tokens s) → (k : Kind) → kind_of t.text ≡ k →
-    from_front k current (rest_of n) t (before t.line ts) ≡ Ok s → SpellsSections most_depth current (t ∷ ts) s
+front_spelled : (n : ℕ) (current : Option Section) (t : Token) (ts : List Token) (s : Sections) → length ts ≤ n → AreSpelledWithin n
+    → (k : Kind) → kind_of t.text ≡ k → from_front k current (rest_of n) t (before t.line ts) ≡ Ok s
+    → SpellsSections most_depth current (t ∷ ts) s
 front_spelled n current t ts s enough inner (Opens section) k h =
     a_section current t section ts s k (inner section (before t.line ts) s enough h)
 front_spelled n None t ts s enough inner Assign k h = cc
@@ -211,9 +220,8 @@ front_spelled n (Some section) t ts s enough inner Assign k h =
 front_spelled n current t ts s enough inner _ k h = cc
 
 -- sections that are read are spelled so
-pub read_sections :
-    (parts : ℕ) (current : Option Section) (last : ℕ) (ts : List Token) (s : Sections) → length ts ≤ parts →
-    sections_within parts current last ts ≡ Ok s → SpellsSections most_depth current ts s
+pub read_sections : (parts : ℕ) (current : Option Section) (last : ℕ) (ts : List Token) (s : Sections) → length ts ≤ parts
+    → sections_within parts current last ts ≡ Ok s → SpellsSections most_depth current ts s
 read_sections parts current last [] s enough h =
     let P : Sections → Type 0 = λ s. SpellsSections most_depth current [] s in
     subst P (same_value no_sections s (sym (no_part parts current last) ∙ h)) (the_end current)

@@ -15,9 +15,8 @@ no_overrides [] = refl
 no_overrides (a ∷ rest) = ap (λ r. a ∷ r) (no_overrides rest)
 
 -- a fault of the first step is the fault of both
-refused_then :
-    (first : Result (List (List ℕ × ℤ)) SectionFault) (go : List (List ℕ × ℤ) → Result (List (List ℕ ×
-    ℤ)) SectionFault) (error : ValueError) → IsRefusedBy first error → IsRefusedBy (and_then first go) error
+refused_then : (first : Result (List (List ℕ × ℤ)) SectionFault) (go : List (List ℕ × ℤ) → Result (List (List ℕ × ℤ)) SectionFault)
+    (error : ValueError) → IsRefusedBy first error → IsRefusedBy (and_then first go) error
 refused_then (Ok values) go error refused = absurd refused
 refused_then (Err fault) go error refused = refused
 
@@ -31,17 +30,15 @@ module _ (table : TagTable) (s : Sections) (part : Part) (numbers : List ℕ) wh
   own_part global = values_from (looks_in (rows_of table part) numbers) global [] (assignments_of s part)
 
   -- so the code's evaluation of the global section gives the values of its assignments
-  pub global_is :
-      (none : List (List ℕ × ℤ)) (assignments : List Assignment) → none ≡ [] → assignments ≡ s.global →
-      values_from no_looks none [] assignments ≡ global_part
+  pub global_is : (none : List (List ℕ × ℤ)) (assignments : List Assignment) → none ≡ [] → assignments ≡ s.global
+      → values_from no_looks none [] assignments ≡ global_part
   global_is none assignments none_is assignments_are =
       ap (λ values. values_from no_looks values [] assignments) none_is ∙ ap (values_from no_looks [] []) assignments_are
 
   -- and that of the own section those of its own
-  pub own_is :
-      (tagged : TagNumbers) (global : List (List ℕ × ℤ)) (assignments : List Assignment) →
-      tagged ≡ record { rows = rows_of table part; numbers = numbers } → assignments ≡ assignments_of s part →
-      values_from (looks_in tagged.rows tagged.numbers) global [] assignments ≡ own_part global
+  pub own_is : (tagged : TagNumbers) (global : List (List ℕ × ℤ)) (assignments : List Assignment)
+      → tagged ≡ record { rows = rows_of table part; numbers = numbers } → assignments ≡ assignments_of s part
+      → values_from (looks_in tagged.rows tagged.numbers) global [] assignments ≡ own_part global
   own_is tagged global assignments tagged_is assignments_are =
       ap (λ (t : TagNumbers). values_from (looks_in t.rows t.numbers) global [] assignments) tagged_is
       ∙ ap (values_from (looks_in (rows_of table part) numbers) global []) assignments_are
@@ -58,18 +55,16 @@ module _ (table : TagTable) (s : Sections) (part : Part) (numbers : List ℕ) wh
   refused_global error refused = subst (λ r. IsRefusedBy r error) (sym both_parts) (refused_then global_part _ error refused)
 
   -- where it has none, a fault of the own section is
-  pub refused_own :
-      (error : ValueError) (global : List (List ℕ × ℤ)) → global_part ≡ Ok global → IsRefusedBy (own_part global) error →
-      IsRefusedBy (both_values table s part numbers) error
+  pub refused_own : (error : ValueError) (global : List (List ℕ × ℤ)) → global_part ≡ Ok global → IsRefusedBy (own_part global) error
+      → IsRefusedBy (both_values table s part numbers) error
   refused_own error global global_is refused =
       subst (λ r. IsRefusedBy r error)
       (sym (both_parts ∙ ap (λ g. and_then g (λ values. and_then (own_part values) (λ own. Ok (values ++ own)))) global_is))
       (refused_then (own_part global) _ error refused)
 
   -- where neither has one, the variables are those of the values of both
-  pub vars_both :
-      (global own vars : List (List ℕ × ℤ)) → global_part ≡ Ok global → own_part global ≡ Ok own → AreVars (global ++ own) vars →
-      AreVarsOf (both_values table s part numbers) vars
+  pub vars_both : (global own vars : List (List ℕ × ℤ)) → global_part ≡ Ok global → own_part global ≡ Ok own → AreVars (global ++ own) vars
+      → AreVarsOf (both_values table s part numbers) vars
   vars_both global own vars global_is own_is are =
       subst (λ r. AreVarsOf r vars)
       (sym (both_parts ∙ ap (λ g. and_then g (λ values. and_then (own_part values) (λ own. Ok (values ++ own)))) global_is
@@ -77,8 +72,8 @@ module _ (table : TagTable) (s : Sections) (part : Part) (numbers : List ℕ) wh
       are
 
 -- what is said of the fault of one outcome is said of that of another, or memory ran out
-pub refused_or :
-    (first second : Result (List (List ℕ × ℤ)) SectionFault) (error : ValueError) → (IsRefusedBy first error → IsRefusedBy second error) →
-    (error ≡ NoMemory) ⊎ IsRefusedBy first error → (error ≡ NoMemory) ⊎ IsRefusedBy second error
+pub refused_or : (first second : Result (List (List ℕ × ℤ)) SectionFault) (error : ValueError)
+    → (IsRefusedBy first error → IsRefusedBy second error) → (error ≡ NoMemory) ⊎ IsRefusedBy first error
+    → (error ≡ NoMemory) ⊎ IsRefusedBy second error
 refused_or first second error goes (inl memory) = inl memory
 refused_or first second error goes (inr refused) = inr (goes refused)

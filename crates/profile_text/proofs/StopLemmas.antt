@@ -62,8 +62,20 @@ StopsAt R fill [] e = (line : ℕ) × (e ≡ At line End)
 StopsAt R fill (bad ∷ rest) e =
     ((kind : TextKind) × (e ≡ At bad.line kind)) × ((last : ℕ) (more : List Token) → R (before last (fill (bad ∷ more))) ≡ Err e)
 
+-- something of a front
+abbrev pub Property : Type 1
+Property = (List Token → List Token) → Type 0
+
+-- a front after another has it
+abbrev pub After : Front → Property → Property
+After used W fill = W (λ tail. used.fill (fill tail))
+
+-- one reading and then another
+abbrev pub going : {A B : Type 0} → (Place → Result (Read A) TextError) → (A → Place → Result B TextError) → Place → Result B TextError
+going R go p = and_then (R p) go
+
 -- a reading of these tokens is refused after a front of which something holds
-pub record Stops {B : Type 0} (R : Place → Result B TextError) (V : (List Token → List Token) → Type 0) (ts : List Token)
+pub record Stops {B : Type 0} (R : Place → Result B TextError) (V : Property) (ts : List Token)
     (e : TextError) : Type 0 where
   pub front : Front
   pub rest : List Token
@@ -72,10 +84,9 @@ pub record Stops {B : Type 0} (R : Place → Result B TextError) (V : (List Toke
   pub told : StopsAt R front.fill rest e
 
 -- a refusal within the first of two readings stops both
-pub stops_first :
-    {A B : Type 0} (R : Place → Result (Read A) TextError) (go : A → Place → Result B TextError) (V W : (List Token → List Token) →
-    Type 0) (ts : List Token) (e : TextError) → Stops R V ts e → ((fill : List Token → List Token) → V fill →
-    W fill) → Stops (λ p. and_then (R p) go) W ts e
+pub stops_first : {A B : Type 0} (R : Place → Result (Read A) TextError) (go : A → Place → Result B TextError)
+    (V W : Property) (ts : List Token) (e : TextError) → Stops R V ts e
+    → ((fill : List Token → List Token) → V fill → W fill) → Stops (λ p. and_then (R p) go) W ts e
 stops_first R go V W ts e s then_so = record {
   front = s.front;
   rest = s.rest;
@@ -93,21 +104,18 @@ abbrev pub TakesFront : {A : Type 0} → (Place → Result (Read A) TextError) �
 TakesFront R used a = (last : ℕ) (tail : List Token) → (l : ℕ) × (R (before last (used.fill tail)) ≡ read a (before l tail))
 
 -- a refusal within the second of two readings stops both
-pub stops_second :
-    {A B : Type 0} (R : Place → Result (Read A) TextError) (go : A → Place → Result B TextError) (V W : (List Token → List Token) →
-    Type 0) (ts us : List Token) (e : TextError) (a : A) (used : Front) → TakesFront R used a → ts ≡ used.fill us → Stops (go a) V us e →
-    ((fill : List Token → List Token) → V fill → W (λ tail. used.fill (fill tail))) → Stops (λ p. and_then (R p) go) W ts e
-stops_second R go V W ts us e a used reads ts_is s then_so = record {
+pub stops_second : {A B : Type 0} (R : Place → Result (Read A) TextError) (go : A → Place → Result B TextError) (W : Property)
+    (ts us : List Token) (e : TextError) (a : A) (used : Front) → TakesFront R used a → ts ≡ used.fill us → Stops (go a) (After used W) us e
+    → Stops (going R go) W ts e
+stops_second R go W ts us e a used reads ts_is s = record {
   front = joined used s.front;
   rest = s.rest;
   tokens = ts_is ∙ ap used.fill s.tokens;
-  viable = then_so s.front.fill s.viable;
+  viable = s.viable;
   told = by_rest s.rest s.told;
 }
   where
-    by_rest :
-        (rest : List Token) → StopsAt (go a) s.front.fill rest e →
-        StopsAt (λ p. and_then (R p) go) (λ tail. used.fill (s.front.fill tail)) rest e
+    by_rest : (rest : List Token) → StopsAt (go a) s.front.fill rest e → StopsAt (going R go) (λ tail. used.fill (s.front.fill tail)) rest e
     by_rest [] told = told
     by_rest (bad ∷ rest) told = (
       told.0,
@@ -118,9 +126,8 @@ stops_second R go V W ts us e a used reads ts_is s then_so = record {
 -- ---- One token
 
 -- the token in front is taken where nothing is at fault with it
-pub taken_by :
-    (expected : Expected) (last : ℕ) (t : Token) (ts : List Token) (o : Option TextKind) → fault_of expected (kind_of t.text) ≡ o →
-    taken expected (before last (t ∷ ts)) ≡ allowed o t (before t.line ts)
+pub taken_by : (expected : Expected) (last : ℕ) (t : Token) (ts : List Token) (o : Option TextKind) → fault_of expected (kind_of t.text) ≡ o
+    → taken expected (before last (t ∷ ts)) ≡ allowed o t (before t.line ts)
 unfolding taken
 taken_by expected last t ts o is = ap (λ o. allowed o t (before t.line ts)) is
 
@@ -137,13 +144,16 @@ same_error {A} d e same = ap (error_or d) same
     error_or d (Ok a) = d
     error_or d (Err e) = e
 
+-- what is read after a token that is expected stops so
+abbrev pub LaterStops : {B : Type 0} → Expected → (Token → Place → Result B TextError) → Property → TextError → Type 0
+LaterStops expected go W e =
+    (t : Token) (us : List Token) → fault_of expected (kind_of t.text) ≡ None → go t (before t.line us) ≡ Err e
+    → Stops (go t) (After (one t nothing) W) us e
+
 -- a token is read and then more: where it is refused, what stands before it is whole with other tokens
-pub token_then :
-    {B : Type 0} (expected : Expected) (go : Token → Place → Result B TextError) (W : (List Token → List Token) →
-    Type 0) (last : ℕ) (ts : List Token) (e : TextError) → W (λ tail. tail) → ((t : Token) (us : List Token) →
-    fault_of expected (kind_of t.text) ≡ None → go t (before t.line us) ≡ Err e →
-    Stops (go t) (λ fill. W (λ tail. t ∷ fill tail)) us e) → and_then (taken expected (before last ts)) go ≡ Err e →
-    Stops (λ p. and_then (taken expected p) go) W ts e
+pub token_then : {B : Type 0} (expected : Expected) (go : Token → Place → Result B TextError) (W : Property) (last : ℕ) (ts : List Token)
+    (e : TextError) → W (λ tail. tail) → LaterStops expected go W e → going (taken expected) go (before last ts) ≡ Err e
+    → Stops (going (taken expected) go) W ts e
 token_then expected go W last [] e here later h = record {
   front = nothing;
   rest = [];
@@ -165,7 +175,6 @@ token_then {B} expected go W last (t ∷ ts) e here later h = by_fault (fault_of
           told = ((kind, sym e_is), λ last more. ap (λ r. and_then r go) (taken_by expected last t more (Some kind) is) ∙ ap Err e_is);
         }
     by_fault None is =
-        stops_second (taken expected) go (λ fill. W (λ tail. t ∷ fill tail)) W (t ∷ ts) ts e t (one t nothing)
+        stops_second (taken expected) go W (t ∷ ts) ts e t (one t nothing)
         (λ last tail. (t.line, taken_by expected last t tail None is)) refl
         (later t ts is (sym (ap (λ r. and_then r go) (taken_by expected last t ts None is)) ∙ h))
-        (λ fill viable. viable)

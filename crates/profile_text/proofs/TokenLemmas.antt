@@ -1,14 +1,13 @@
 -- The first token of a text, joined to how the code finds it.
-use Rattle.std.proofs.Common.{◌≡◌, ℕ, suc, ◌+◌, ◌<◌, ◌≤◌, Bool, true, false, nat_eq, cond, ◌&&◌, List, [], ◌∷◌, length, take, drop, refl, sym, ◌∙◌, ap, subst, arith}
+use Rattle.std.proofs.Common.{◌≡◌, ℕ, suc, ◌+◌, ◌<◌, ◌≤◌, Bool, true, false, nat_eq, cond, ◌&&◌, List, [], ◌∷◌, length, take, drop, refl, sym, ◌∙◌, ap, arith}
 use Rattle.std.specs.List.{prefix_len}
 use Rattle.item_list.proofs.ListLemmas.{front_more, some_from_test}
 use Rattle.profile_text.specs.Source.{BeginsInked, token_len}
 use Rattle.profile_text.specs.Token.{Token, is_ink, is_word_byte, is_joined, prepend, comment_after, line_after, tokens_from}
 
 -- a byte that belongs to no token is passed
-pub passed :
-    (comment : Bool) (line c : ℕ) (cs : List ℕ) → is_ink comment c ≡ false →
-    tokens_from comment line (c ∷ cs) ≡ tokens_from (comment_after comment c) (line_after line c) cs
+pub passed : (comment : Bool) (line c : ℕ) (cs : List ℕ) → is_ink comment c ≡ false
+    → tokens_from comment line (c ∷ cs) ≡ tokens_from (comment_after comment c) (line_after line c) cs
 passed comment line c cs h = rw h refl
 
 -- a byte of a token stands outside comments
@@ -21,15 +20,13 @@ pub word_is_ink : (c : ℕ) → is_word_byte c ≡ true → is_ink false c ≡ t
 word_is_ink c h = grind (arith, h)
 
 -- a token that is no word is one byte
-pub one_byte :
-    (line c : ℕ) (cs : List ℕ) → is_ink false c ≡ true → is_joined c cs ≡ false →
-    tokens_from false line (c ∷ cs) ≡ record { line = line; text = c ∷ [] } ∷ tokens_from false line cs
+pub one_byte : (line c : ℕ) (cs : List ℕ) → is_ink false c ≡ true → is_joined c cs ≡ false
+    → tokens_from false line (c ∷ cs) ≡ record { line = line; text = c ∷ [] } ∷ tokens_from false line cs
 one_byte line c cs h j = rw (h, j) refl
 
 -- a byte that goes on stands at the front of the first token
-pub joined_byte :
-    (line c : ℕ) (cs : List ℕ) → is_ink false c ≡ true → is_joined c cs ≡ true →
-    tokens_from false line (c ∷ cs) ≡ prepend c (tokens_from false line cs)
+pub joined_byte : (line c : ℕ) (cs : List ℕ) → is_ink false c ≡ true → is_joined c cs ≡ true
+    → tokens_from false line (c ∷ cs) ≡ prepend c (tokens_from false line cs)
 joined_byte line c cs h j = rw (h, j) refl
 
 -- a byte that belongs to no word isn't joined
@@ -54,16 +51,14 @@ abbrev pub first_is : ℕ → List ℕ → ℕ → List Token
 first_is line text n = record { line = line; text = take n text } ∷ tokens_from false line (drop n text)
 
 -- a word is a token: the bytes of words at the front
-pub word_first :
-    (line c : ℕ) (cs : List ℕ) → is_word_byte c ≡ true →
-    tokens_from false line (c ∷ cs) ≡ first_is line (c ∷ cs) (prefix_len is_word_byte (c ∷ cs))
+pub word_first : (line c : ℕ) (cs : List ℕ) → is_word_byte c ≡ true
+    → tokens_from false line (c ∷ cs) ≡ first_is line (c ∷ cs) (prefix_len is_word_byte (c ∷ cs))
 word_first line c [] h = one_byte line c [] (word_is_ink c h) refl ∙ ap (first_is line (c ∷ [])) (sym (word_more c [] h))
 word_first line c (d ∷ ds) h = by_test (is_word_byte d) refl (word_first line d ds)
   where
-    by_test :
-        (v : Bool) → is_word_byte d ≡ v →
-        (is_word_byte d ≡ true → tokens_from false line (d ∷ ds) ≡ first_is line (d ∷ ds) (prefix_len is_word_byte (d ∷ ds))) →
-        tokens_from false line (c ∷ d ∷ ds) ≡ first_is line (c ∷ d ∷ ds) (prefix_len is_word_byte (c ∷ d ∷ ds))
+    by_test : (v : Bool) → is_word_byte d ≡ v
+        → (is_word_byte d ≡ true → tokens_from false line (d ∷ ds) ≡ first_is line (d ∷ ds) (prefix_len is_word_byte (d ∷ ds)))
+        → tokens_from false line (c ∷ d ∷ ds) ≡ first_is line (c ∷ d ∷ ds) (prefix_len is_word_byte (c ∷ d ∷ ds))
     by_test true g rest =
         let n : ℕ = prefix_len is_word_byte (d ∷ ds) in
         let more = front_more n c (d ∷ ds) in
@@ -77,8 +72,8 @@ word_first line c (d ∷ ds) h = by_test (is_word_byte d) refl (word_first line 
         ∙ ap (first_is line (c ∷ d ∷ ds)) (sym (word_more c (d ∷ ds) h ∙ ap (λ n. 1 + n) (word_none d ds g)))
 
 -- the token in front of a text that begins with one
-pub token_first :
-    (line : ℕ) (text : List ℕ) → BeginsInked text → 0 < length text → tokens_from false line text ≡ first_is line text (token_len text)
+pub token_first : (line : ℕ) (text : List ℕ) → BeginsInked text → 0 < length text
+    → tokens_from false line text ≡ first_is line text (token_len text)
 token_first line [] ink some = let none : ⊥ = omega (arith, some) in absurd none
 token_first line (c ∷ cs) ink some = by_test (is_word_byte c) refl
   where
@@ -88,18 +83,12 @@ token_first line (c ∷ cs) ink some = by_test (is_word_byte c) refl
     by_test false h =
         one_byte line c cs ink (unjoined c cs h) ∙ ap (λ v. first_is line (c ∷ cs) (cond v (prefix_len is_word_byte (c ∷ cs)) 1)) (sym h)
 
--- the first token of a text, after a gap, and the tokens after it
-pub first_at :
-    (rest front bytes after : List ℕ) (gap n before breaks : ℕ) → front ≡ drop gap rest → BeginsInked (drop gap rest) →
-    false ≡ nat_eq (length front) 0
-    → tokens_from false (before + 1) rest ≡ tokens_from false (breaks + 1) (drop gap rest) → n ≡ token_len front → bytes ≡ take n front →
-    after ≡ drop n front
-    → tokens_from false (before + 1) rest ≡ token_is (breaks + 1) bytes ∷ tokens_from false (breaks + 1) after
-first_at rest front bytes after gap n before breaks front_is ink some passes n_is bytes_is after_is =
-    let line : ℕ = breaks + 1 in
-    passes
-    ∙ ap (tokens_from false line) (sym front_is)
-    ∙ token_first line front (subst BeginsInked (sym front_is) ink) (some_from_test front some)
+-- the first token of a text that begins with one, and the tokens after it
+pub first_of_front : (line : ℕ) (front bytes after : List ℕ) (n : ℕ) → BeginsInked front → false ≡ nat_eq (length front) 0
+    → n ≡ token_len front → bytes ≡ take n front → after ≡ drop n front
+    → tokens_from false line front ≡ token_is line bytes ∷ tokens_from false line after
+first_of_front line front bytes after n ink some n_is bytes_is after_is =
+    token_first line front ink (some_from_test front some)
     ∙ ap (first_is line front) (sym n_is)
     ∙ ap (λ w. token_is line w ∷ tokens_from false line (drop n front)) (sym bytes_is)
     ∙ ap (λ w. token_is line bytes ∷ tokens_from false line w) (sym after_is)
@@ -114,11 +103,10 @@ pub few_tokens : (comment : Bool) (line : ℕ) (text : List ℕ) → length (tok
 few_tokens comment line [] = omega arith
 few_tokens comment line (c ∷ cs) = by_test (λ comment line. few_tokens comment line cs) (is_ink comment c) (is_joined c cs)
   where
-    by_test :
-        ((comment : Bool) (line : ℕ) → length (tokens_from comment line cs) ≤ length cs) → (ink joined : Bool) →
-        length (cond ink (cond joined (prepend c (tokens_from false line cs))
-        (record { line = line; text = c ∷ [] } ∷ tokens_from false line cs))
-        (tokens_from (comment_after comment c) (line_after line c) cs)) ≤ suc (length cs)
+    by_test : ((comment : Bool) (line : ℕ) → length (tokens_from comment line cs) ≤ length cs) → (ink joined : Bool)
+        → length (cond ink (cond joined (prepend c (tokens_from false line cs))
+        (record { line = line; text = c ∷ [] } ∷ tokens_from false line cs)) (tokens_from (comment_after comment c) (line_after line c) cs))
+        ≤ suc (length cs)
     by_test few true true = let h = few false line in let i = prepend_len c (tokens_from false line cs) in omega (arith, h, i)
     by_test few true false = let h = few false line in omega (arith, h)
     by_test few false joined = let h = few (comment_after comment c) (line_after line c) in omega (arith, h)

@@ -12,9 +12,8 @@ use Rattle.profile_text.proofs.NameLemmas.{lookup-insert}
 -- ---- Values that come one after the other
 
 -- the value that is assigned last is that of its name; every other name keeps its own
-pub last_value-append :
-    (values : List (List ℕ × ℤ)) (key : List ℕ) (n : ℤ) (name : List ℕ) →
-    last_value (values ++ (key, n) ∷ []) name ≡ cond (bytes_eq name key) (Some n) (last_value values name)
+pub last_value-append : (values : List (List ℕ × ℤ)) (key : List ℕ) (n : ℤ) (name : List ℕ)
+    → last_value (values ++ (key, n) ∷ []) name ≡ cond (bytes_eq name key) (Some n) (last_value values name)
 last_value-append [] key n name = by_test (bytes_eq name key)
   where
     by_test : (b : Bool) → later_value b n None ≡ cond b (Some n) None
@@ -23,9 +22,7 @@ last_value-append [] key n name = by_test (bytes_eq name key)
 last_value-append (v ∷ vs) key n name =
     ap (later_value (bytes_eq name v.0) v.1) (last_value-append vs key n name) ∙ by_test (bytes_eq name key)
   where
-    by_test :
-        (b : Bool) →
-        later_value (bytes_eq name v.0) v.1 (cond b (Some n) (last_value vs name))
+    by_test : (b : Bool) → later_value (bytes_eq name v.0) v.1 (cond b (Some n) (last_value vs name))
         ≡ cond b (Some n) (later_value (bytes_eq name v.0) v.1 (last_value vs name))
     by_test true = refl
     by_test false = refl
@@ -59,9 +56,8 @@ without-other : (n key : List ℕ) (ns : List (List ℕ)) → bytes_eq n key ≡
 without-other n key [] other = ap (λ b. cond (not b) (key ∷ []) []) other
 without-other n key (x ∷ xs) other = by_test (bytes_eq key x) (bytes_eq n x) refl refl (without-other n key xs other)
   where
-    by_test :
-        (b c : Bool) → bytes_eq key x ≡ b → bytes_eq n x ≡ c → without n (with_name xs key) ≡ with_name (without n xs) key →
-        without n (cond b (x ∷ xs) (x ∷ with_name xs key)) ≡ with_name (cond (not c) (x ∷ without n xs) (without n xs)) key
+    by_test : (b c : Bool) → bytes_eq key x ≡ b → bytes_eq n x ≡ c → without n (with_name xs key) ≡ with_name (without n xs) key
+        → without n (cond b (x ∷ xs) (x ∷ with_name xs key)) ≡ with_name (cond (not c) (x ∷ without n xs) (without n xs)) key
     by_test true true key_is n_is rest =
         let a : key ≡ x = (bytes_eq-Decides key x).0 key_is in
         let b : n ≡ x = (bytes_eq-Decides n x).0 n_is in
@@ -83,9 +79,8 @@ first_names-append [] key = refl
 first_names-append (n ∷ ns) key =
     ap (λ r. n ∷ without n r) (first_names-append ns key) ∙ by_test (bytes_eq n key) (bytes_eq key n) refl refl
   where
-    by_test :
-        (b c : Bool) → bytes_eq n key ≡ b → bytes_eq key n ≡ c →
-        n ∷ without n (with_name (first_names ns) key)
+    by_test : (b c : Bool) → bytes_eq n key ≡ b → bytes_eq key n ≡ c
+        → n ∷ without n (with_name (first_names ns) key)
         ≡ cond c (n ∷ without n (first_names ns)) (n ∷ with_name (without n (first_names ns)) key)
     by_test true true b_is c_is =
         subst (λ k. n ∷ without n (with_name (first_names ns) k) ≡ n ∷ without n (first_names ns)) ((bytes_eq-Decides n key).0 b_is)
@@ -99,16 +94,13 @@ first_names-append (n ∷ ns) key =
 -- ---- The index
 
 -- the names of the entries after a key was put in
-names-insert :
-    (entries : List (Vec ℕ Global × ℤ)) (key : Vec ℕ Global) (n : ℤ) →
-    map (λ v. v.0) (by_bytes (insert_entry (λ x y. bytes_eq x.items y.items) entries key n))
+names-insert : (entries : List (Vec ℕ Global × ℤ)) (key : Vec ℕ Global) (n : ℤ)
+    → map (λ v. v.0) (by_bytes (insert_entry (λ x y. bytes_eq x.items y.items) entries key n))
     ≡ with_name (map (λ v. v.0) (by_bytes entries)) key.items
 names-insert [] key n = refl
 names-insert (e ∷ es) key n = by_test (bytes_eq key.items e.0.items) (names-insert es key n)
   where
-    by_test :
-        (b : Bool) →
-        map (λ v. v.0) (by_bytes (insert_entry (λ x y. bytes_eq x.items y.items) es key n))
+    by_test : (b : Bool) → map (λ v. v.0) (by_bytes (insert_entry (λ x y. bytes_eq x.items y.items) es key n))
         ≡ with_name (map (λ v. v.0) (by_bytes es)) key.items
         → map (λ v. v.0) (by_bytes (cond b ((e.0, n) ∷ es) (e ∷ insert_entry (λ x y. bytes_eq x.items y.items) es key n)))
         ≡ cond b (map (λ v. v.0) (by_bytes (e ∷ es))) (e.0.items ∷ with_name (map (λ v. v.0) (by_bytes es)) key.items)
@@ -116,9 +108,8 @@ names-insert (e ∷ es) key n = by_test (bytes_eq key.items e.0.items) (names-in
     by_test false rest = ap (λ r. e.0.items ∷ r) rest
 
 -- a look-up among the entries is one by the bytes of their keys
-lookup-by_bytes :
-    (name : List ℕ) (entries : List (Vec ℕ Global × ℤ)) →
-    lookup (bytes_eq name) (by_bytes entries) ≡ lookup (λ k. bytes_eq name k.items) entries
+lookup-by_bytes : (name : List ℕ) (entries : List (Vec ℕ Global × ℤ))
+    → lookup (bytes_eq name) (by_bytes entries) ≡ lookup (λ k. bytes_eq name k.items) entries
 lookup-by_bytes name [] = refl
 lookup-by_bytes name (e ∷ es) = ap (λ rest. cond (bytes_eq name e.0.items) (Some e.1) rest) (lookup-by_bytes name es)
 
@@ -127,10 +118,9 @@ pub AreVars-none : (entries : List (Vec ℕ Global × ℤ)) → entries ≡ [] �
 AreVars-none entries none = subst (λ es. AreVars [] (by_bytes es)) (sym none) (record { names = refl; numbers = λ name. refl })
 
 -- one more value that is put into the index is one more that was assigned
-pub AreVars-push :
-    (values : List (List ℕ × ℤ)) (entries more : List (Vec ℕ Global × ℤ)) (key : Vec ℕ Global) (name : List ℕ) (n : ℤ) → key.items ≡ name →
-    more ≡ insert_entry (λ x y. bytes_eq x.items y.items) entries key n → AreVars values (by_bytes entries) →
-    AreVars (values ++ (name, n) ∷ []) (by_bytes more)
+pub AreVars-push : (values : List (List ℕ × ℤ)) (entries more : List (Vec ℕ Global × ℤ)) (key : Vec ℕ Global) (name : List ℕ) (n : ℤ)
+    → key.items ≡ name → more ≡ insert_entry (λ x y. bytes_eq x.items y.items) entries key n → AreVars values (by_bytes entries)
+    → AreVars (values ++ (name, n) ∷ []) (by_bytes more)
 AreVars-push values entries more key name n key_is more_is vars =
     subst (λ k. AreVars (values ++ (k, n) ∷ []) (by_bytes more)) key_is (record {
       names =
@@ -162,10 +152,9 @@ take-next {A} xs place x found = ap (λ n. take n xs) next ∙ by_place xs place
     by_place (y ∷ ys) (suc i) found = ap (λ r. y ∷ r) (by_place ys i found)
 
 -- the same of the entries of an index
-pub by_bytes-next :
-    (entries : List (Vec ℕ Global × ℤ)) (place : ℕ) (key : Vec ℕ Global) (name : List ℕ) (n : ℤ) (vars : List (List ℕ × ℤ)) →
-    slice_get entries place ≡ Some (key, n) → name ≡ key.items → vars ≡ by_bytes (take place entries) →
-    vars ++ (name, n) ∷ [] ≡ by_bytes (take (place + 1) entries)
+pub by_bytes-next : (entries : List (Vec ℕ Global × ℤ)) (place : ℕ) (key : Vec ℕ Global) (name : List ℕ) (n : ℤ) (vars : List (List ℕ × ℤ))
+    → slice_get entries place ≡ Some (key, n) → name ≡ key.items → vars ≡ by_bytes (take place entries)
+    → vars ++ (name, n) ∷ [] ≡ by_bytes (take (place + 1) entries)
 by_bytes-next entries place key name n vars found name_is vars_is =
     ap (λ vs. vs ++ (name, n) ∷ []) vars_is
     ∙ ap (λ k. by_bytes (take place entries) ++ (k, n) ∷ []) name_is

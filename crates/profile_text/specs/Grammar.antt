@@ -12,40 +12,31 @@ use Rattle.profile_text.specs.Tree.{Tree, Constant, Variable, TagLook, Negation,
 
 -- these tokens begin with an expression of at most this depth that spells the tree, and the rest follows it
 pub data SpellsExpr : ℕ → List Token → Tree → List Token → Type 0 where
-  a_number :
-      (depth : ℕ) (t : Token) (n : ℤ) (rest : List Token) → kind_of t.text ≡ Number n →
-      SpellsExpr (suc depth) (t ∷ rest) (Constant n) rest
-  a_true :
-      (depth : ℕ) (t : Token) (rest : List Token) → kind_of t.text ≡ True →
-      SpellsExpr (suc depth) (t ∷ rest) (Constant (pos 1000000)) rest
-  a_false :
-      (depth : ℕ) (t : Token) (rest : List Token) → kind_of t.text ≡ False →
-      SpellsExpr (suc depth) (t ∷ rest) (Constant (pos 0)) rest
-  a_name :
-      (depth : ℕ) (t : Token) (rest : List Token) → kind_of t.text ≡ Name →
-      SpellsExpr (suc depth) (t ∷ rest) (Variable t.text t.line) rest
-  a_look :
-      (depth : ℕ) (t : Token) (rest : List Token) → kind_of t.text ≡ Look →
-      SpellsExpr (suc depth) (t ∷ rest) (TagLook (tag_of t.text) (values_of t.text) t.line) rest
-  a_not :
-      (depth : ℕ) (t : Token) (ts : List Token) (a : Tree) (rest : List Token) → kind_of t.text ≡ Not →
-      SpellsExpr depth ts a rest → SpellsExpr (suc depth) (t ∷ ts) (Negation a) rest
-  a_two :
-      (depth : ℕ) (t : Token) (op : Op) (ts us : List Token) (a b : Tree) (rest : List Token) →
-      kind_of t.text ≡ Two op → SpellsExpr depth ts a us → SpellsExpr depth us b rest →
-      SpellsExpr (suc depth) (t ∷ ts) (Operation op a b) rest
-  a_switch :
-      (depth : ℕ) (t : Token) (ts us vs : List Token) (a b c : Tree) (rest : List Token) →
-      kind_of t.text ≡ Switch → SpellsExpr depth ts a us → SpellsExpr depth us b vs →
-      SpellsExpr depth vs c rest → SpellsExpr (suc depth) (t ∷ ts) (Choice a b c) rest
-  an_if :
-      (depth : ℕ) (t u v : Token) (ts us vs : List Token) (a b c : Tree) (rest : List Token) →
-      kind_of t.text ≡ If → SpellsExpr depth ts a (u ∷ us) → kind_of u.text ≡ Then →
-      SpellsExpr depth us b (v ∷ vs) → kind_of v.text ≡ Else → SpellsExpr depth vs c rest →
-      SpellsExpr (suc depth) (t ∷ ts) (Choice a b c) rest
-  a_bracket :
-      (depth : ℕ) (t u : Token) (ts : List Token) (a : Tree) (rest : List Token) → kind_of t.text ≡ Open →
-      SpellsExpr depth ts a (u ∷ rest) → kind_of u.text ≡ Close → SpellsExpr (suc depth) (t ∷ ts) a rest
+  a_number : (depth : ℕ) (t : Token) (n : ℤ) (rest : List Token) → kind_of t.text ≡ Number n
+      → SpellsExpr (suc depth) (t ∷ rest) (Constant n) rest
+  a_true : (depth : ℕ) (t : Token) (rest : List Token) → kind_of t.text ≡ True
+      → SpellsExpr (suc depth) (t ∷ rest) (Constant (pos 1000000)) rest
+  a_false : (depth : ℕ) (t : Token) (rest : List Token) → kind_of t.text ≡ False
+      → SpellsExpr (suc depth) (t ∷ rest) (Constant (pos 0)) rest
+  a_name : (depth : ℕ) (t : Token) (rest : List Token) → kind_of t.text ≡ Name
+      → SpellsExpr (suc depth) (t ∷ rest) (Variable t.text t.line) rest
+  a_look : (depth : ℕ) (t : Token) (rest : List Token) → kind_of t.text ≡ Look
+      → SpellsExpr (suc depth) (t ∷ rest) (TagLook (tag_of t.text) (values_of t.text) t.line) rest
+  a_not : (depth : ℕ) (t : Token) (ts : List Token) (a : Tree) (rest : List Token) → kind_of t.text ≡ Not
+      → SpellsExpr depth ts a rest → SpellsExpr (suc depth) (t ∷ ts) (Negation a) rest
+  a_two : (depth : ℕ) (t : Token) (op : Op) (ts us : List Token) (a b : Tree) (rest : List Token)
+      → kind_of t.text ≡ Two op → SpellsExpr depth ts a us → SpellsExpr depth us b rest
+      → SpellsExpr (suc depth) (t ∷ ts) (Operation op a b) rest
+  a_switch : (depth : ℕ) (t : Token) (ts us vs : List Token) (a b c : Tree) (rest : List Token)
+      → kind_of t.text ≡ Switch → SpellsExpr depth ts a us → SpellsExpr depth us b vs
+      → SpellsExpr depth vs c rest → SpellsExpr (suc depth) (t ∷ ts) (Choice a b c) rest
+  an_if : (depth : ℕ) (t u v : Token) (ts us vs : List Token) (a b c : Tree) (rest : List Token)
+      → kind_of t.text ≡ If → SpellsExpr depth ts a (u ∷ us) → kind_of u.text ≡ Then
+      → SpellsExpr depth us b (v ∷ vs) → kind_of v.text ≡ Else → SpellsExpr depth vs c rest
+      → SpellsExpr (suc depth) (t ∷ ts) (Choice a b c) rest
+  a_bracket : (depth : ℕ) (t u : Token) (ts : List Token) (a : Tree) (rest : List Token)
+      → kind_of t.text ≡ Open → SpellsExpr depth ts a (u ∷ rest) → kind_of u.text ≡ Close
+      → SpellsExpr (suc depth) (t ∷ ts) a rest
 
 -- the assignment of a tree to the name of a token
 abbrev pub assigned_to : Token → Tree → Assignment

@@ -174,9 +174,8 @@ with_value own name (Ok n) = Ok (own ++ (name, n) ∷ [])
 with_value own name (Err fault) = Err (record { place = length own; name = name; fault = fault })
 
 -- the values of a section: those that it has already, and then those of further assignments in order
-abbrev pub values_from :
-    (List ℕ → List (List ℕ) → Option Bool) → List (List ℕ × ℤ) → List (List ℕ × ℤ) → List Assignment →
-    Result (List (List ℕ × ℤ)) SectionFault
+abbrev pub values_from : (looks : List ℕ → List (List ℕ) → Option Bool) (global own : List (List ℕ × ℤ))
+    → List Assignment → Result (List (List ℕ × ℤ)) SectionFault
 values_from looks global own [] = Ok own
 values_from looks global own (a ∷ rest) =
     and_then (with_value own a.name (value_of (variable_in global own) looks a.value))
@@ -201,7 +200,8 @@ assignments_of s Way = s.way
 assignments_of s Node = s.node
 
 -- the values of a part's own section after those of the global one, for the tag numbers of a way or a node
-unfoldable pub own_values :
-    TagTable → Sections → Part → List ℕ → List (List ℕ × ℤ) → Result (List (List ℕ × ℤ)) SectionFault
+unfoldable pub own_values : (table : TagTable) (s : Sections) (part : Part) (numbers : List ℕ)
+    (global : List (List ℕ × ℤ))
+    → Result (List (List ℕ × ℤ)) SectionFault
 own_values table s part numbers global =
     values_from (looks_in (rows_of table part) numbers) global [] (assignments_of s part)

@@ -27,8 +27,8 @@ abbrev pub read : {A : Type 0} → A → Place → Result (Read A) TextError
 read value place = Ok (record { value = value; place = place })
 
 -- goes on with what was read, or keeps the refusal
-abbrev pub and_then :
-    {A B : Type 0} → Result (Read A) TextError → (A → Place → Result B TextError) → Result B TextError
+abbrev pub and_then : {A B : Type 0} → Result (Read A) TextError → (A → Place → Result B TextError)
+    → Result B TextError
 and_then (Ok r) go = go r.value r.place
 and_then (Err e) go = Err e
 
@@ -126,8 +126,8 @@ bracket_of operand place =
     and_then (operand place) (λ a p. and_then (taken Closing p) (λ t q. read a q))
 
 -- the expression that a token of this kind begins; its operands are read one deeper
-abbrev pub form_of :
-    (Place → Result (Read Tree) TextError) → Token → Kind → Place → Result (Read Tree) TextError
+abbrev pub form_of : (operand : Place → Result (Read Tree) TextError) (t : Token) → Kind → (place : Place)
+    → Result (Read Tree) TextError
 form_of operand t (Number n) place = read (Constant n) place
 form_of operand t True place = read (Constant (pos 1000000)) place
 form_of operand t False place = read (Constant (pos 0)) place
@@ -192,17 +192,16 @@ front_fault false BadNumber = Fault.TheVariants.Number
 front_fault false _ = Fault.TheVariants.Token
 
 -- the assignment of the open section, and then those that follow
-abbrev pub assigned :
-    Option Section → (Option Section → Place → Result Sections TextError) → Token → Place →
-    Result Sections TextError
+abbrev pub assigned : Option Section → (more : Option Section → Place → Result Sections TextError) (t : Token)
+    (place : Place) → Result Sections TextError
 assigned None more t place = Err (At t.line Fault.TheVariants.Section)
 assigned (Some section) more t place =
     and_then (assignment_of place) (λ a p. with_first section a (more (Some section) p))
 
 -- the assignments from a token of this kind on
-abbrev pub from_front :
-    Kind → Option Section → (Option Section → Place → Result Sections TextError) → Token → Place →
-    Result Sections TextError
+abbrev pub from_front : Kind
+    → (current : Option Section) (more : Option Section → Place → Result Sections TextError)
+    (t : Token) (place : Place) → Result Sections TextError
 from_front (Opens section) current more t place = more (Some section) place
 from_front Assign current more t place = assigned current more t place
 from_front kind current more t place = Err (At t.line (front_fault (has_dashes t.text) kind))
