@@ -1,16 +1,24 @@
 //! One case of a table.
 
+ghost use Rattle.std.specs.Prelude.{◌≡◌, length};
+ghost use Rattle.case_rows.specs.Words.{word_at};
+
 /// A case: where it stands, its words, of which the first names the call, and the answer that is wanted.
 #[derive(Drop)]
 pub struct Case {
-    pub(crate) line: u64,
-    pub(crate) words: Vec<Vec<u8>>,
-    pub(crate) wanted: Vec<u8>,
+    /// Its line in the table, from 1.
+    pub line: u64,
+    /// Its words.
+    pub words: Vec<Vec<u8>>,
+    /// The answer that is wanted.
+    pub wanted: Vec<u8>,
 }
 
 impl Case {
     /// The word at a place; the empty one where there is none.
-    pub fn word(&self, place: usize) -> &[u8] {
+    pub fn word(&self, place: usize) -> &[u8]
+        ensures value { result.now ≡ word_at self.now.words.items place }
+    {
         match self.words.as_slice().get(place) {
             Some(word) => word.as_slice(),
             None => b"",
@@ -18,7 +26,9 @@ impl Case {
     }
 
     /// How many words the case has.
-    pub fn len(&self) -> usize {
+    pub fn len(&self) -> usize
+        ensures value { result ≡ length self.now.words.items }
+    {
         self.words.len()
     }
 

@@ -1,20 +1,27 @@
 //! What came of the cases.
 
+ghost use Rattle.std.specs.Prelude.{◌≡◌, ◌↔◌, IsNone, IfOk, OnOk};
+ghost use Rattle.case_rows.specs.Counts.{one_more, counted};
+
 use crate::case::Case;
 use crate::escape::shown;
-use std::io;
 use std::alloc::{AllocError, Global};
+use std::io;
 
 /// How many cases were tried, and how many of them differ.
 #[derive(Clone, Copy, Debug, PartialEq, Eq)]
 pub struct Report {
+    /// How many were tried; the count stands still at its last value.
     pub tried: u64,
+    /// How many differ; the count stands still at its last value.
     pub differ: u64,
 }
 
 impl Report {
     /// No case was tried.
-    pub fn new() -> Report {
+    pub fn new() -> Report
+        ensures value { (result.tried ≡ 0) × (result.differ ≡ 0) }
+    {
         Report {
             tried: 0,
             differ: 0,
@@ -27,7 +34,11 @@ impl Report {
         alloc: Global,
         case: &Case,
         answer: &[u8],
-    ) -> Result<Option<String>, AllocError> {
+    ) -> Result<Option<String>, AllocError>
+        ensures exact { IfOk result (λ told. IsNone told ↔ (answer.now ≡ case.now.wanted.items)) }
+        ensures tried { OnOk result (self.new.tried ≡ one_more self.old.tried) }
+        ensures differ { IfOk result (λ told. self.new.differ ≡ counted told self.old.differ) }
+    {
         self.tried = self.tried.saturating_add(1);
         if answer == case.wanted.as_slice() {
             return Ok(None);

@@ -74,5 +74,8 @@ fn covering(alloc: Global, case: &Case) -> Result<String, AllocError> {
         down: mode_of(case.word(9)),
         up: mode_of(case.word(10)),
     };
-    truth(alloc, covers(&a, first_cost, &b, second_cost, kd, ku, &modes))
+    truth(
+        alloc,
+        covers(&a, first_cost, &b, second_cost, kd, ku, &modes),
+    )
 }

@@ -52,7 +52,11 @@ fn segments(alloc: Global, grid: &Grid) -> Result<String, AllocError> {
     let mut text = format!(in alloc; "{}", grid.segments())?;
     for i in 0..grid.segments() {
         let segment = grid.segment(i);
-        write!(text, " {},{},{},{}", segment.k, segment.a, segment.b, segment.class)?;
+        write!(
+            text,
+            " {},{},{},{}",
+            segment.k, segment.a, segment.b, segment.class
+        )?;
     }
     Ok(text)
 }

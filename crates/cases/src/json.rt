@@ -39,7 +39,12 @@ fn sign(step: JsonStep) -> &'static [u8] {
 }
 
 /// Appends a step with its content behind it, or a verdict with its byte.
-fn tell(alloc: Global, told: &mut Vec<u8>, scanner: &Scanner, step: JsonStep) -> Result<(), AllocError> {
+fn tell(
+    alloc: Global,
+    told: &mut Vec<u8>,
+    scanner: &Scanner,
+    step: JsonStep,
+) -> Result<(), AllocError> {
     told.extend_from_slice(sign(step))?;
     if matches!(step, JsonStep::Key | JsonStep::Text | JsonStep::Number) {
         told.extend_from_slice(scanner.text())?;

@@ -61,9 +61,11 @@ fn arrow_between(alloc: Global, case: &Case) -> Result<String, AllocError> {
 
 /// The cosine of the turn at the second of three places.
 fn turn(alloc: Global, case: &Case) -> Result<String, AllocError> {
-    let (Some(start), Some(middle), Some(end)) =
-        (spot_at(case, 1), spot_at(case, 3), spot_at(case, 5))
-    else {
+    let (Some(start), Some(middle), Some(end)) = (
+        spot_at(case, 1),
+        spot_at(case, 3),
+        spot_at(case, 5),
+    ) else {
         return String::from_str(alloc, OUTSIDE);
     };
     let Some(first) = arrow(start, middle) else {

@@ -74,12 +74,7 @@ fn tags(alloc: Global, case: &Case) -> Result<Tags, AllocError> {
 }
 
 /// The numbers of tags, and the text of these numbers.
-fn encoded(
-    alloc: Global,
-    table: &Table,
-    part: Part,
-    case: &Case,
-) -> Result<String, AllocError> {
+fn encoded(alloc: Global, table: &Table, part: Part, case: &Case) -> Result<String, AllocError> {
     let numbers = table.encode(alloc, part, &tags(alloc, case)?)?;
     let printed = table.print(alloc, part, numbers.as_slice())?;
     let mut text = String::new(alloc);

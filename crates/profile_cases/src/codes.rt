@@ -67,12 +67,7 @@ fn of_profile(
 }
 
 /// The code of a profile under a table and overrides; none where the profile is refused.
-fn code_of(
-    alloc: Global,
-    profile: &Profile,
-    table: &Table,
-    overrides: &Overrides,
-) -> Option<Code>
+fn code_of(alloc: Global, profile: &Profile, table: &Table, overrides: &Overrides) -> Option<Code>
     ensures fits { IfSome result (λ code. (part : ThePart) →
         tags_of code part ≡ length (rows_of table.now part)) }
 {
@@ -86,19 +81,17 @@ fn code_of(
 }
 
 /// The answer of the call on the code.
-fn of_code(
-    alloc: Global,
-    case: &Case,
-    table: &Table,
-    code: &Code,
-) -> Result<String, AllocError>
+fn of_code(alloc: Global, case: &Case, table: &Table, code: &Code) -> Result<String, AllocError>
     requires fits { (part : ThePart) → tags_of code.now part ≡ length (rows_of table.now part) }
 {
     let mut scratch = Scratch::new(alloc, code)?;
     match case.word(0) {
         b"listing" => {
             let text = listing(alloc, code)?;
-            String::from_str(alloc, str::from_utf8(text.as_slice()).unwrap_or("(no text)"))
+            String::from_str(
+                alloc,
+                str::from_utf8(text.as_slice()).unwrap_or("(no text)"),
+            )
         }
         b"listing_lines" => {
             let text = listing(alloc, code)?;

@@ -138,6 +138,7 @@ refusal-front first more old new status cause = go status cause
   where
     longer : HasOpened (length first) old new → HasOpened (length (first ++ more)) old new
     longer opened = record { faults = opened.faults; times = opened.times; few = omega (arith, opened.few, length-append first more); opened = opened.opened }
+
     go : (status : Status) → RefusalCause first old new status → RefusalCause (first ++ more) old new status
     go (Usage word) c = c
     go (ReadFault word) c = record { rose = c.rose; before = c.before; opened = c.opened; named = get_front first more c.before word c.named }
@@ -157,6 +158,7 @@ refusal-after first more old mid new status before cause = go status cause
   where
     counted : (n : ℕ) → new.opens ≡ count_after n mid.opens → new.opens ≡ count_after (length first + n) old.opens
     counted n is = is ∙ ap (count_after n) before.opened ∙ count_after-count_after (length first) n old.opens
+
     longer : HasOpened (length more) mid new → HasOpened (length (first ++ more)) old new
     longer opened = record {
       faults = opened.faults ∙ before.faults;
@@ -164,6 +166,7 @@ refusal-after first more old mid new status before cause = go status cause
       few = omega (arith, opened.few, length-append first more);
       opened = counted opened.times opened.opened;
     }
+
     go : (status : Status) → RefusalCause more mid new status → RefusalCause (first ++ more) old new status
     go (Usage word) c = c
     go (ReadFault word) c = record {

@@ -37,4 +37,3 @@ line_of (NotFound word) = word_front word ++ codes "not found"
 line_of (ReadFault word) = word_front word ++ codes "read fault"
 line_of WriteFault = codes "write fault"
 line_of NoMemory = codes "out of memory"
-

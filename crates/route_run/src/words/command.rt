@@ -83,11 +83,7 @@ fn command_with(
 
 /// The command of this name and these entries, before the word at the place `after`.
 #[tactic(auto, unfolding(crate::specs::Words::Command::complete))]
-fn complete<'a>(
-    command: CommandName,
-    entries: &[Entry<'a>],
-    after: u64,
-) -> Result<Command<'a>, u64>
+fn complete<'a>(command: CommandName, entries: &[Entry<'a>], after: u64) -> Result<Command<'a>, u64>
     ensures exact { result ≡ complete command entries.now after }
 {
     match command {
@@ -110,13 +106,7 @@ fn complete_grid<'a>(entries: &[Entry<'a>], after: u64) -> Result<Command<'a>, u
 }
 
 /// The grid of a seed and sizes between two places, where they lie in it.
-fn grid_by<'a>(
-    seed: u64,
-    w: u64,
-    h: u64,
-    from: &Entry,
-    to: &Entry,
-) -> Result<Command<'a>, u64>
+fn grid_by<'a>(seed: u64, w: u64, h: u64, from: &Entry, to: &Entry) -> Result<Command<'a>, u64>
     ensures exact { result ≡ grid_by seed w h from.now to.now }
 {
     if !lies_in(w, h, from.place()) {
