@@ -35,6 +35,15 @@ impl Table {
         }
     }
 
+    /// Gives a text a name, as if it stood in the table.
+    pub fn add_text(&mut self, name: &str, text: &str) -> Result<(), AllocError> {
+        self.texts.push(Text {
+            name: Vec::from_slice(self.alloc, name.as_bytes())?,
+            bytes: Vec::from_slice(self.alloc, text.as_bytes())?,
+        })?;
+        Ok(())
+    }
+
     /// Takes the next line, and gives its case if it is one.
     pub fn take(&mut self, line: &str) -> Result<Option<Case>, AllocError> {
         self.line = self.line.saturating_add(1);

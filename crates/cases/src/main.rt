@@ -12,12 +12,16 @@ mod texts;
 
 use crate::heights::Ground;
 use case_rows::{Case, Report, Table};
+use sample_texts::NAMED;
 use std::alloc::{AllocError, Global};
 use std::io;
 
 fn main(rt: HostRuntime) -> io::Result<()> {
     let mut table = Table::new(rt.alloc());
     let mut ground = Ground::new(rt.alloc());
+    for (name, text) in NAMED {
+        table.add_text(name, text)?;
+    }
     let mut report = Report::new();
     for line in rt.lines(rt.alloc()) {
         if let Some(case) = table.take(line?.as_str())? {

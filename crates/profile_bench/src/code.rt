@@ -3,12 +3,12 @@ ghost use Rattle.std.specs.Prelude.{◌≡◌, IfSome, length};
 ghost use Rattle.lookup_table.specs.First.{rows_of};
 ghost use Rattle.profile_code.specs.Flat.{tags_of};
 
-use crate::texts::{LOOK, TREK};
 use crate::ways::TAGS;
 use context_check::{Overrides, check};
 use lookup_table::{Part, Table};
 use profile_code::{Code, compile};
 use profile_text::Profile;
+use sample_texts::{LOOK, TREK};
 use std::alloc::Global;
 
 /// The most bytes of a text.

@@ -7,7 +7,6 @@ ghost use Rattle.profile_code.specs.Flat.{tags_of};
 ghost use Rattle.profile_code.specs.Scratch.{HoldsGlobals};
 
 mod code;
-mod texts;
 mod ways;
 
 use crate::code::trek_code;

@@ -8,11 +8,15 @@ mod trees;
 mod values;
 
 use case_rows::{Case, Report, Table};
+use sample_texts::NAMED;
 use std::alloc::{AllocError, Global};
 use std::io;
 
 fn main(rt: HostRuntime) -> io::Result<()> {
     let mut table = Table::new(rt.alloc());
+    for (name, text) in NAMED {
+        table.add_text(name, text)?;
+    }
     let mut report = Report::new();
     for line in rt.lines(rt.alloc()) {
         if let Some(case) = table.take(line?.as_str())? {

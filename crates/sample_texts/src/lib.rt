@@ -1,7 +1,8 @@
-//! The tag table and the profile that are run.
+//! A tag table and profiles that the case tables and the timed programs share.
+#![tactic(auto)]
 
-/// A table of six way tags and three node tags.
-pub(crate) const LOOK: &str = "---lookupversion:10
+/// A tag table of six way tags and three node tags.
+pub const LOOK: &str = "---lookupversion:10
 ---minorversion:1
 
 ---context:way
@@ -25,8 +26,8 @@ bicycle;0000000020 yes
 bicycle;0000000010 no
 ";
 
-/// A profile for trekking.
-pub(crate) const TREK: &str = "---context:global   # numbers are this project's own
+/// A profile for trekking, with a form of each kind.
+pub const TREK: &str = "---context:global   # numbers are this project's own
 assign consider_elevation   true
 assign downhillcost   = if consider_elevation then 60 else 0
 assign downhillcutoff = 1.5
@@ -52,3 +53,10 @@ assign costfactor =
 assign nodeaccess  = or nodeaccessgranted=yes barrier=
 assign initialcost = if nodeaccess then 0 else 20
 ";
+
+/// A profile in which a gate stops who wasn't granted to pass.
+pub const GATE: &str = "---context:way assign nodeaccessgranted highway=cycleway assign costfactor 1
+---context:node assign initialcost switch and barrier=gate not nodeaccessgranted=yes 1000000 0";
+
+/// The texts with their names, for tables of cases.
+pub const NAMED: [(&str, &str); 3] = [("LOOK", LOOK), ("TREK", TREK), ("GATE", GATE)];
