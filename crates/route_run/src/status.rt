@@ -3,8 +3,8 @@
 ghost use Rattle.std.specs.Prelude.{◌≡◌, ◌++◌, IfOk, OnOk};
 ghost use Rattle.route_run.specs.Status.{number_of_status, line_of, word_front};
 
-use item_list::{append_number, bytes_of};
 use context_check::CheckError;
+use item_list::{append_number, bytes_of};
 use lookup_table::LookupError;
 use profile_text::TextError;
 use std::alloc::{AllocError, Global};

@@ -10,8 +10,6 @@ use Rattle.route_run.specs.declared.words.rows.CommandName.TheVariants.{Grid, Co
 use Rattle.route_run.specs.declared.words.rows.Key.TheVariants.{Seed, Width, Height, From, To, Lookups, Profile}
 use Rattle.route_run.specs.declared.words.command.Command.{Command}
 use Rattle.route_run.specs.declared.words.command.Command as Form
-use Rattle.route_run.specs.declared.words.command.GridCommand.{GridCommand}
-use Rattle.route_run.specs.declared.words.command.CodeCommand.{CodeCommand}
 use Rattle.route_run.specs.declared.words.value.Place.{Place}
 
 -- a place lies in a grid of these sizes

@@ -4,9 +4,9 @@ ghost use Rattle.std.specs.Prelude.{◌≡◌, ◌++◌, ◌<◌, IfOk, OnOk};
 ghost use Rattle.grid_map.specs.Plan.{IsPlan};
 ghost use Rattle.route_run.specs.Answer.Lines.{grid_lines, cells_text};
 
-use item_list::{append_named, append_number, bytes_of};
 use geo_int::mm3;
 use grid_map::{Grid, GridWalk};
+use item_list::{append_named, append_number, bytes_of};
 use std::alloc::{AllocError, Global};
 
 /// The four lines of a walk across a grid with `w` cells in a row and `h` rows.

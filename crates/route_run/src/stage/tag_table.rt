@@ -16,11 +16,7 @@ use std::alloc::Global;
 const MOST_LOOKUPS: usize = 1_048_576;
 
 /// The tag table of a file that a word names; a refusal names the word.
-pub fn take_table<F: Files>(
-    alloc: Global,
-    file: &FileWord,
-    files: &mut F,
-) -> Result<Table, Status>
+pub fn take_table<F: Files>(alloc: Global, file: &FileWord, files: &mut F) -> Result<Table, Status>
     ensures taken { TakesTable file.now.word file.now.name (F.seen files.old) (F.seen files.new) result }
 {
     let text = take_file(alloc, files, file, MOST_LOOKUPS)?;

@@ -7,7 +7,7 @@ ghost use Rattle.route_run.specs.declared.words.rows.CommandName.{CommandName};
 
 use crate::words::entry::{Entry, FileWord};
 use crate::words::reader::{Refusal, entries_of, entry_with};
-use crate::words::rows::{CommandName, Key};
+use crate::words::rows::{COMMANDS, CommandName, Key};
 use crate::words::value::Place;
 use std::alloc::Global;
 
@@ -34,9 +34,6 @@ pub enum Command<'a> {
     Grid(GridCommand),
     Code(CodeCommand<'a>),
 }
-
-/// The commands that are built.
-const COMMANDS: [CommandName; 2] = [CommandName::Grid, CommandName::Code];
 
 /// The command of the words; `Usage` with the place of the first word at fault.
 pub fn command_of(alloc: Global, words: &[String]) -> Result<Command<'_>, Refusal>
@@ -83,11 +80,7 @@ fn command_with(
 
 /// The command of this name and these entries, before the word at the place `after`.
 #[tactic(auto, unfolding(crate::specs::Words::Command::complete))]
-fn complete<'a>(
-    command: CommandName,
-    entries: &[Entry<'a>],
-    after: u64,
-) -> Result<Command<'a>, u64>
+fn complete<'a>(command: CommandName, entries: &[Entry<'a>], after: u64) -> Result<Command<'a>, u64>
     ensures exact { result ≡ complete command entries.now after }
 {
     match command {
@@ -110,13 +103,7 @@ fn complete_grid<'a>(entries: &[Entry<'a>], after: u64) -> Result<Command<'a>, u
 }
 
 /// The grid of a seed and sizes between two places, where they lie in it.
-fn grid_by<'a>(
-    seed: u64,
-    w: u64,
-    h: u64,
-    from: &Entry,
-    to: &Entry,
-) -> Result<Command<'a>, u64>
+fn grid_by<'a>(seed: u64, w: u64, h: u64, from: &Entry, to: &Entry) -> Result<Command<'a>, u64>
     ensures exact { result ≡ grid_by seed w h from.now to.now }
 {
     if !lies_in(w, h, from.place()) {
