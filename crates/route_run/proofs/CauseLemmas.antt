@@ -1,32 +1,11 @@
 -- How often files were opened by the stages of a command, and when a fault of theirs is answered.
-use Rattle.std.proofs.Common.{◌≡◌, ℕ, zero, suc, ◌+◌, ◌≤◌, ◌⊎◌, inl, inr, List, [], ◌∷◌, ◌++◌, length, Option, Some, None, Result, Ok, Err, refl, sym, ap, ◌∙◌, subst, arith, length-append}
+use Rattle.std.proofs.Common.{◌≡◌, ℕ, zero, suc, ◌+◌, inl, inr, List, [], ◌∷◌, ◌++◌, length, Some, Result, Ok, Err, sym, ap, ◌∙◌, subst, arith, length-append}
 use Rattle.std.specs.Prelude.{slice_get}
 use Rattle.edge_io.specs.Faults.{CountRose, count_after, next_count}
 use Rattle.edge_io.specs.Files.{FilesSeen}
-use Rattle.edge_io.specs.Sink.{SinkSeen}
-use Rattle.lookup_table.specs.First.{TagTable}
-use Rattle.lookup_table.specs.Table.{table_of}
-use Rattle.lookup_table.specs.declared.error.LookupError.{LookupError}
-use Rattle.profile_text.specs.Read.{profile_of}
-use Rattle.profile_text.specs.Tree.{Sections}
-use Rattle.profile_text.specs.declared.error.TextError.{TextError}
-use Rattle.context_check.specs.Refusal.{refusal_of}
-use Rattle.context_check.specs.declared.error.CheckError.{CheckError}
-use Rattle.item_list.specs.Answer.{answer_map}
-use Rattle.route_run.specs.Answer.Code.{IsCodeAnswer, listing_in, listing_by}
-use Rattle.route_run.specs.Answer.Grid.{IsGridAnswer}
-use Rattle.route_run.specs.Ends.{Ends}
-use Rattle.route_run.specs.Outcome.{IsAnswer, IsCommandAnswer, IsComplete, HasReadCause, HasOpened, IsReadFault, command_in, file_words}
-use Rattle.route_run.specs.Stage.Chain.{Settles, Stops, GoesOn, Then}
-use Rattle.route_run.specs.Stage.File.{TakesFile, IsFileAnswer}
-use Rattle.route_run.specs.Stage.Profile.{TakesProfile, profile_in}
-use Rattle.route_run.specs.Stage.TagTable.{TakesTable, table_in}
-use Rattle.route_run.specs.Words.Command.{command_of}
-use Rattle.route_run.specs.declared.words.command.CodeCommand.{CodeCommand}
-use Rattle.route_run.specs.declared.words.command.GridCommand.{GridCommand}
-use Rattle.route_run.specs.declared.words.command.Command.{Command}
-use Rattle.route_run.specs.declared.words.command.Command as Form
-use Rattle.route_run.specs.declared.status.GridError.TheVariants.{NoTrack}
+use Rattle.route_run.specs.Outcome.{HasOpened, IsReadFault}
+use Rattle.route_run.specs.Stage.Chain.{Settles, Then}
+use Rattle.route_run.specs.Stage.File.{TakesFile}
 use Rattle.route_run.specs.declared.status.Status.{Status}
 use Rattle.route_run.specs.declared.status.Status.TheVariants.{Done, Usage, TooLong, Lookup, Text, Check, Grid, NotFound, ReadFault, WriteFault, NoMemory}
 
@@ -96,7 +75,7 @@ file-cause word name limit old new (Err (Grid error)) takes = absurd takes.answe
 file-cause word name limit old new (Err WriteFault) takes = absurd takes.answer
 
 -- nothing was opened where the files are what they were
-opened-none : (old new : FilesSeen) → new ≡ old → HasOpened 0 old new
+pub opened-none : (old new : FilesSeen) → new ≡ old → HasOpened 0 old new
 opened-none old new same = record { faults = ap (λ (s : FilesSeen). s.faults) same; times = 0; few = omega arith; opened = ap (λ (s : FilesSeen). s.opens) same }
 
 -- a status that a stage may give that touches no file
@@ -201,135 +180,3 @@ then-cause first second words more one two old new (Ok b) (inr goes) =
     }
 then-cause first second words more one two old new (Err status) (inr goes) =
     refusal-after words more old goes.between new status (one old goes.between (Ok goes.value) goes.given) (two goes.value goes.between new (Err status) goes.rest)
-
--- ---- The commands
-
--- a reader's refusal is of the kind of its word
-mapped-inner : {A E : Type 0} (told : E → Status) (r : Result A E) → ((e : E) → IsInner (told e)) → (status : Status) → answer_map (λ (a : A). a) told r ≡ Err status → IsInner status
-mapped-inner told (Ok a) inner status is = cc
-mapped-inner told (Err e) inner status is = let same : told e ≡ status = cc in subst IsInner same (inner e)
-
--- so is the listing's
-listing-inner : (word : ℕ) (table : TagTable) (sections : Sections) (status : Status) → listing_in word table sections ≡ Err status → IsInner status
-listing-inner word table sections status is =
-    elim (refusal_of table sections []) as (λ r. listing_by word table sections r ≡ Err status → IsInner status) [
-      | Some error ↦ λ e. let same : Check word error ≡ status = cc in subst IsInner same tt
-      | None ↦ λ e. cc
-    ] is
-
--- the stage of the tag table
-table-cause : (word : ℕ) (name : List ℕ) (old new : FilesSeen) (r : Result TagTable Status) → TakesTable word name old new r → Cause (word ∷ []) old new r
-table-cause word name =
-    then-cause _ _ (word ∷ []) [] (λ old new r. file-cause word name _ old new r)
-    (λ text old new r. settles-cause (table_in word text) old new r (mapped-inner (Lookup word) (table_of text) (λ e. tt)))
-
--- the stage of the profile
-profile-cause : (word : ℕ) (name : List ℕ) (old new : FilesSeen) (r : Result Sections Status) → TakesProfile word name old new r → Cause (word ∷ []) old new r
-profile-cause word name =
-    then-cause _ _ (word ∷ []) [] (λ old new r. file-cause word name _ old new r)
-    (λ text old new r. settles-cause (profile_in word text) old new r (mapped-inner (Text word) (profile_of text) (λ e. tt)))
-
--- the command `code`
-pub code-cause : (command : CodeCommand) (old new : FilesSeen) (r : Result (List ℕ) Status) → IsCodeAnswer command old new r → Cause (command.lookups.word ∷ command.profile.word ∷ []) old new r
-code-cause command =
-    then-cause _ _ (command.lookups.word ∷ []) (command.profile.word ∷ []) (table-cause command.lookups.word command.lookups.name)
-    (λ table. then-cause _ _ (command.profile.word ∷ []) [] (profile-cause command.profile.word command.profile.name)
-    (λ sections old new r. settles-cause (listing_in command.profile.word table sections) old new r (listing-inner command.profile.word table sections)))
-
--- the command `grid`
-grid-cause : (command : GridCommand) (old new : FilesSeen) (r : Result (List ℕ) Status) → IsGridAnswer command r → new ≡ old → Cause [] old new r
-grid-cause command old new (Ok bytes) is same = record { faults = ap (λ (s : FilesSeen). s.faults) same; opened = ap (λ (s : FilesSeen). s.opens) same }
-grid-cause command old new (Err (Grid NoTrack)) is same = opened-none old new same
-grid-cause command old new (Err NoMemory) is same = opened-none old new same
-grid-cause command old new (Err Done) is same = absurd is
-grid-cause command old new (Err (Usage word)) is same = absurd is
-grid-cause command old new (Err (TooLong word)) is same = absurd is
-grid-cause command old new (Err (Lookup word error)) is same = absurd is
-grid-cause command old new (Err (Text word error)) is same = absurd is
-grid-cause command old new (Err (Check word error)) is same = absurd is
-grid-cause command old new (Err (NotFound word)) is same = absurd is
-grid-cause command old new (Err (ReadFault word)) is same = absurd is
-grid-cause command old new (Err WriteFault) is same = absurd is
-
--- each command
-command-cause : (command : Command) (old new : FilesSeen) (r : Result (List ℕ) Status) → IsCommandAnswer command old new r → Cause (file_words (Ok command)) old new r
-command-cause (Form.TheVariants.Grid command) old new r is = grid-cause command old new r is.0 is.1
-command-cause (Form.TheVariants.Code command) old new r is = code-cause command old new r is
-
--- ---- The program
-
--- what a status says follows from its cause
-read-cause : (words : List ℕ) (old new : FilesSeen) (status : Status) → RefusalCause words old new status → HasReadCause words status old new
-read-cause words old new (Usage word) c = absurd c
-read-cause words old new (ReadFault word) c = c
-read-cause words old new WriteFault c = absurd c
-read-cause words old new Done c = c
-read-cause words old new (TooLong word) c = c
-read-cause words old new (Lookup word error) c = c
-read-cause words old new (Text word error) c = c
-read-cause words old new (Check word error) c = c
-read-cause words old new (Grid error) c = c
-read-cause words old new (NotFound word) c = c
-read-cause words old new NoMemory c = c
-
--- no file was opened, whatever files there are
-opened-no : (most : ℕ) (old new : FilesSeen) → new ≡ old → HasOpened most old new
-opened-no most old new same = record { faults = ap (λ (s : FilesSeen). s.faults) same; times = 0; few = omega arith; opened = ap (λ (s : FilesSeen). s.opens) same }
-
--- all files were opened
-opened-all : (words : List ℕ) (old new : FilesSeen) → OpensAll words old new → HasOpened (length words) old new
-opened-all words old new all = record { faults = all.faults; times = length words; few = omega arith; opened = all.opened }
-
--- a value of the words is their command
-mapped-ok : {A E : Type 0} (told : E → Status) (r : Result A E) (a : A) → answer_map (λ (x : A). x) told r ≡ Ok a → r ≡ Ok a
-mapped-ok told (Ok x) a is = let same : x ≡ a = cc in ap Ok same
-mapped-ok told (Err e) a is = cc
-
--- where the words are refused no file is opened
-words-cause : (words : List (List ℕ)) (r : Result Command ℕ) (files : List ℕ) (old new : FilesSeen) (status : Status) → answer_map (λ (c : Command). c) Usage r ≡ Err status → new ≡ old → HasReadCause files status old new
-words-cause words (Ok command) files old new status is same = cc
-words-cause words (Err fault) files old new status is same =
-    let named : Usage fault ≡ status = cc in
-    subst (λ s. HasReadCause files s old new) named (opened-no (length files) old new same)
-
--- what an answer says of the files of the command
-abbrev AnswerCause : List ℕ → FilesSeen → FilesSeen → Result (List ℕ) Status → Type 0
-AnswerCause files old new (Ok bytes) = HasOpened (length files) old new
-AnswerCause files old new (Err status) = HasReadCause files status old new
-
--- of any result with its cause
-any-cause : (files : List ℕ) (old new : FilesSeen) (r : Result (List ℕ) Status) → Cause files old new r → AnswerCause files old new r
-any-cause files old new (Ok bytes) c = opened-all files old new c
-any-cause files old new (Err status) c = read-cause files old new status c
-
--- of any answer
-answer-cause : (words : List (List ℕ)) (old new : FilesSeen) (r : Result (List ℕ) Status) → IsAnswer words old new r → AnswerCause (file_words (command_of words)) old new r
-answer-cause words old new r (inl stops) =
-    subst (AnswerCause (file_words (command_of words)) old new) (sym stops.answer)
-    (elim stops.refused.gives [
-      | inl none ↦ subst (λ s. HasReadCause (file_words (command_of words)) s old new) (sym none) (opened-no _ old new stops.refused.same)
-      | inr is ↦ words-cause words (command_of words) (file_words (command_of words)) old new stops.status is stops.refused.same
-    ])
-answer-cause words old new r (inr goes) =
-    let is : command_of words ≡ Ok goes.value = mapped-ok Usage (command_of words) goes.value goes.given.gives in
-    let cause = subst (λ s. Cause (file_words (Ok goes.value)) s new r) goes.given.same (command-cause goes.value goes.between new r goes.rest) in
-    subst (λ (c : Result Command ℕ). AnswerCause (file_words c) old new r) (sym is) (any-cause (file_words (Ok goes.value)) old new r cause)
-
--- of the status in which an answer ends
-pub ends-cause : (words : List (List ℕ)) (old new : FilesSeen) (out_old out_new : SinkSeen) (answer : Result (List ℕ) Status) (status : Status)
-    → IsAnswer words old new answer → Ends answer status out_old out_new → HasReadCause (file_words (command_of words)) status old new
-ends-cause words old new out_old out_new answer status is ends = go answer status (answer-cause words old new answer is) ends
-  where
-    go : (answer : Result (List ℕ) Status) (status : Status) → AnswerCause (file_words (command_of words)) old new answer → Ends answer status out_old out_new → HasReadCause (file_words (command_of words)) status old new
-    go (Ok bytes) Done c e = c
-    go (Ok bytes) WriteFault c e = c
-    go (Ok bytes) (Usage word) c e = absurd e
-    go (Ok bytes) (TooLong word) c e = absurd e
-    go (Ok bytes) (Lookup word error) c e = absurd e
-    go (Ok bytes) (Text word error) c e = absurd e
-    go (Ok bytes) (Check word error) c e = absurd e
-    go (Ok bytes) (Grid error) c e = absurd e
-    go (Ok bytes) (NotFound word) c e = absurd e
-    go (Ok bytes) (ReadFault word) c e = absurd e
-    go (Ok bytes) NoMemory c e = absurd e
-    go (Err refusal) status c e = subst (λ s. HasReadCause (file_words (command_of words)) s old new) (sym e.0) c

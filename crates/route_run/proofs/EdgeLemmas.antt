@@ -1,11 +1,10 @@
 -- What a command line comes to at the edge of the program.
-use Rattle.std.proofs.Common.{◌≡◌, ◌≢◌, ℕ, inl, inr, List, [], ◌++◌, ◌∙◌, append_assoc, Option, Some, None, Result, Ok, Err, OnOk, OnErr, refl, sym, ap, subst}
+use Rattle.std.proofs.Common.{◌≡◌, ℕ, inl, inr, List, ◌++◌, ◌∙◌, append_assoc, Option, Some, None, Result, Ok, Err, OnOk, OnErr, refl, subst}
 use Rattle.edge_io.specs.Files.{FilesSeen}
 use Rattle.edge_io.specs.Sink.{SinkSeen, Grows, BreaksOff}
-use Rattle.route_run.specs.Edge.{IsReplyBy, IsTelling, IsWritten, IsTold, Tells, told_line}
+use Rattle.route_run.specs.Edge.{IsReplyBy, IsTelling, IsWritten, IsTold, told_line}
 use Rattle.route_run.specs.Ends.{Ends}
-use Rattle.route_run.specs.Outcome.{Reach, IsOutcome, reach}
-use Rattle.route_run.specs.Stage.Chain.{Settles}
+use Rattle.route_run.specs.Outcome.{Reach, reach}
 use Rattle.route_run.specs.Status.{number_of_status}
 use Rattle.route_run.specs.Words.Help.{told_of, keys_text}
 use Rattle.route_run.specs.declared.words.rows.KeyRow.{KeyRow}

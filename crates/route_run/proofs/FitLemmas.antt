@@ -8,7 +8,6 @@ use Rattle.route_run.specs.Words.Value.{number_of, within, number_value, value_o
 use Rattle.route_run.specs.Words.Reader.{key_of, row_for, given_by, given_for, given_in, given_cut, entry_of, entry_with, same_key, count_of, most_of, has_all, entries_after, whole_by, entries_of}
 use Rattle.route_run.specs.Words.Command.{lies_in, grid_by, grid_with, complete, command_with, command_by, command_named, command_of, code_with}
 use Rattle.route_run.specs.Outcome.{IsCommandFit}
-use Rattle.route_run.specs.Answer.Grid.{IsFit}
 use Rattle.route_run.specs.declared.words.command.Command.{Command}
 use Rattle.route_run.specs.declared.words.command.Command as Form
 use Rattle.route_run.specs.declared.words.command.GridCommand.{GridCommand}

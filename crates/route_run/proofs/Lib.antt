@@ -4,3 +4,4 @@ pub mod PathLemmas
 pub mod StageLemmas
 pub mod TextLemmas
 pub mod EdgeLemmas
+pub mod RunLemmas

@@ -1,14 +1,14 @@
 -- What files that are opened and read come to, and what follows for the stages that read them.
-use Rattle.std.proofs.Common.{◌≡◌, ℕ, ◌<◌, ◌≤◌, ◌⊎◌, inl, inr, Bool, true, false, cond, nat_le, Option, Some, None, is_some, Result, Ok, Err, List, length, refl, sym, ap, ◌∙◌, arith, subst}
+use Rattle.std.proofs.Common.{◌≡◌, ℕ, ◌≤◌, inl, inr, true, false, cond, nat_le, Option, Some, None, is_some, Result, Ok, Err, List, length, refl, sym, ap, ◌∙◌, arith, subst}
 use Rattle.std.proofs.lemmas.Bool.Decides.{nat_tests}
-use Rattle.edge_io.specs.Faults.{CountRose, next_count}
-use Rattle.edge_io.specs.Files.{FilesSeen, IsFound, IsLeft, Opens, FailsToOpen, content_of}
-use Rattle.edge_io.specs.Whole.{IsAllLeft, IsTooLong, ReadsBytes, ReadsOn}
+use Rattle.edge_io.specs.Faults.{CountRose}
+use Rattle.edge_io.specs.Files.{FilesSeen, IsFound, IsLeft, Opens, content_of}
+use Rattle.edge_io.specs.Whole.{IsAllLeft, IsTooLong, ReadsOn}
 use Rattle.item_list.specs.Answer.{Answers}
-use Rattle.route_run.specs.Stage.Chain.{seen_as, Settles, Stops, GoesOn, Then}
-use Rattle.route_run.specs.Stage.File.{Taken, Missing, Long, Content, taken_by, IsTaken, IsFileAnswer, TakesFile}
+use Rattle.route_run.specs.Stage.Chain.{seen_as, Settles, Then}
+use Rattle.route_run.specs.Stage.File.{Missing, Long, Content, taken_by, IsTaken, IsFileAnswer, TakesFile}
 use Rattle.route_run.specs.declared.status.Status.{Status}
-use Rattle.route_run.specs.declared.status.Status.TheVariants.{TooLong, NotFound, ReadFault, NoMemory}
+use Rattle.route_run.specs.declared.status.Status.TheVariants.{NoMemory}
 
 -- no file has the name
 pub missing : (files : Option (List (List ℕ × List ℕ))) (name : List ℕ) (limit : ℕ) → IsFound files name false → IsTaken files name limit Missing

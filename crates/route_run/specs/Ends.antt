@@ -1,7 +1,6 @@
 -- How an answer ends over a sink. This project's own rule.
 use Rattle.std.specs.Prelude.{ℕ, ◌≡◌, List, Result, Ok, Err, Vec}
 use Rattle.std.specs.declared.alloc.Global.{Global}
-use Rattle.edge_io.specs.Faults.{CountRose}
 use Rattle.edge_io.specs.Sink.{SinkSeen, Grows, BreaksOff}
 use Rattle.route_run.specs.Stage.Chain.{seen_as}
 use Rattle.route_run.specs.declared.status.Status.{Status}

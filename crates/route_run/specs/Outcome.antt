@@ -12,7 +12,7 @@ use Rattle.route_run.specs.Words.Command.{command_of}
 use Rattle.route_run.specs.declared.words.command.Command.{Command}
 use Rattle.route_run.specs.declared.words.command.Command as Form
 use Rattle.route_run.specs.declared.status.Status.{Status}
-use Rattle.route_run.specs.declared.status.Status.TheVariants.{Done, Usage, TooLong, Lookup, Text, Check, Grid, NotFound, ReadFault, WriteFault, NoMemory}
+use Rattle.route_run.specs.declared.status.Status.TheVariants.{Usage, ReadFault, WriteFault}
 
 -- the command of the words, or the status of the word at fault
 abbrev pub command_in : List (List ℕ) → Result Command Status

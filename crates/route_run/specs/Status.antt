@@ -1,5 +1,5 @@
 -- The number of a status and its line. This project's own rule.
-use Rattle.std.specs.Prelude.{ℕ, List, [], ◌∷◌, ◌++◌, codes, decimal}
+use Rattle.std.specs.Prelude.{ℕ, List, [], ◌++◌, codes, decimal}
 use Rattle.lookup_table.specs.Lines.{lookup_line}
 use Rattle.profile_text.specs.Lines.{text_line}
 use Rattle.context_check.specs.Lines.{check_line}

@@ -23,8 +23,8 @@ listing_by word table sections None = Ok (listing_of (flat_of (record { table = 
 abbrev pub listing_in : ℕ → TagTable → Sections → Result (List ℕ) Status
 listing_in word table sections = listing_by word table sections (refusal_of table sections [])
 
--- What the command `code` answers: the tag table's file is taken in and read, then the profile's, and then the
--- profile's code is listed; the first refusal is the answer.
+-- what the command `code` answers: the tag table's file is taken in and read, then the profile's, and then the
+-- profile's code is listed; the first refusal is the answer
 abbrev pub IsCodeAnswer : CodeCommand → FilesSeen → FilesSeen → Result (List ℕ) Status → Type 0
 IsCodeAnswer command =
     Then (TakesTable command.lookups.word command.lookups.name) (λ table.

@@ -1,5 +1,5 @@
 -- Stages, one after the other, each over the files as the one before left them. This project's own rule.
-use Rattle.std.specs.Prelude.{ℕ, ◌≡◌, ◌⊎◌, Result, Ok, Err}
+use Rattle.std.specs.Prelude.{◌≡◌, ◌⊎◌, Result, Ok, Err}
 use Rattle.edge_io.specs.Files.{FilesSeen}
 use Rattle.item_list.specs.Answer.{Answers, answer_map}
 use Rattle.route_run.specs.declared.status.Status.{Status}

@@ -10,8 +10,6 @@ use Rattle.route_run.specs.declared.words.rows.CommandName.TheVariants.{Grid, Co
 use Rattle.route_run.specs.declared.words.rows.Key.TheVariants.{Seed, Width, Height, From, To, Lookups, Profile}
 use Rattle.route_run.specs.declared.words.command.Command.{Command}
 use Rattle.route_run.specs.declared.words.command.Command as Form
-use Rattle.route_run.specs.declared.words.command.GridCommand.{GridCommand}
-use Rattle.route_run.specs.declared.words.command.CodeCommand.{CodeCommand}
 use Rattle.route_run.specs.declared.words.value.Place.{Place}
 
 -- a place lies in a grid of these sizes
@@ -67,9 +65,9 @@ abbrev pub command_by : Option CommandName → List (List ℕ) → Result Comman
 command_by None texts = Err 0
 command_by (Some command) texts = command_with command texts
 
--- The command of words: its name, and then its keys with their values, each as often as its row wants it. Else the place
+-- the command of words: its name, and then its keys with their values, each as often as its row wants it; else the place
 -- of the first word at fault; where none is, the place after the last, if a key is missing; else the word of a place
--- outside the grid.
+-- outside the grid
 abbrev pub command_of : List (List ℕ) → Result Command ℕ
 command_of [] = Err 0
 command_of (name ∷ texts) = command_by (command_named name) texts

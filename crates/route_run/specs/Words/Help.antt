@@ -1,5 +1,5 @@
 -- What the program tells of itself. This project's own rule.
-use Rattle.std.specs.Prelude.{ℕ, ◌==◌, Bool, cond, nat_eq, nat_lt, List, [], ◌∷◌, ◌++◌, Option, Some, None, codes, decimal}
+use Rattle.std.specs.Prelude.{ℕ, ◌==◌, cond, nat_eq, List, [], ◌∷◌, ◌++◌, Option, Some, None, codes, decimal}
 use lib.Pointwise.{pointwise}
 use Rattle.route_run.specs.Words.Rows.{key_name, command_name, keys_of, about_of, commands}
 use Rattle.route_run.specs.declared.words.rows.Form.{Form}

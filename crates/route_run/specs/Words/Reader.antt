@@ -94,7 +94,7 @@ abbrev pub whole_by : List KeyRow → ℕ → Result (List Given) ℕ → Result
 whole_by keys after (Err word) = Err word
 whole_by keys after (Ok entries) = cond (has_all keys entries) (Ok entries) (Err after)
 
--- What the words after a command give over the rows of its keys, or the place of the first word at fault; where none
--- is, the place after the last, if a key is missing.
+-- what the words after a command give over the rows of its keys, or the place of the first word at fault; where none
+-- is, the place after the last, if a key is missing
 abbrev pub entries_of : List KeyRow → List (List ℕ) → Result (List Given) ℕ
 entries_of keys texts = whole_by keys (length texts + 1) (entries_after keys [] texts)

@@ -7,7 +7,7 @@ ghost use Rattle.route_run.specs.declared.words.rows.CommandName.{CommandName};
 
 use crate::words::entry::{Entry, FileWord};
 use crate::words::reader::{Refusal, entries_of, entry_with};
-use crate::words::rows::{CommandName, Key};
+use crate::words::rows::{COMMANDS, CommandName, Key};
 use crate::words::value::Place;
 use std::alloc::Global;
 
@@ -34,9 +34,6 @@ pub enum Command<'a> {
     Grid(GridCommand),
     Code(CodeCommand<'a>),
 }
-
-/// The commands that are built.
-const COMMANDS: [CommandName; 2] = [CommandName::Grid, CommandName::Code];
 
 /// The command of the words; `Usage` with the place of the first word at fault.
 pub fn command_of(alloc: Global, words: &[String]) -> Result<Command<'_>, Refusal>

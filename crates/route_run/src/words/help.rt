@@ -6,15 +6,12 @@ ghost use Rattle.item_list.specs.Answer.{GivesAny};
 ghost use Rattle.route_run.specs.Words.Help.{about_text, call_text, command_text, commands_text, form_text, help_text, key_text, keys_text, told_by, told_of};
 ghost use Rattle.route_run.specs.Words.Refusals.{texts_of};
 
-use crate::words::rows::{CommandName, Form, KeyRow};
+use crate::words::rows::{COMMANDS, CommandName, Form, KeyRow};
 use item_list::{append_bytes, append_number, bytes_of};
 use std::alloc::{AllocError, Global};
 
 /// What `--version` tells.
 const VERSION: &str = "route_serve 0.1.0\n";
-
-/// The commands that are built.
-const COMMANDS: [CommandName; 2] = [CommandName::Grid, CommandName::Code];
 
 /// What the words ask to be told instead of a command, as a lone `--help` and a lone `--version` do.
 pub fn told_text(alloc: Global, words: &[String]) -> Result<Option<Vec<u8>>, AllocError>

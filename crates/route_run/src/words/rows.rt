@@ -44,6 +44,9 @@ pub enum CommandName {
     Code,
 }
 
+/// The commands that are built.
+pub const COMMANDS: [CommandName; 2] = [CommandName::Grid, CommandName::Code];
+
 /// The keys of the command `grid`.
 const GRID_KEYS: [KeyRow; 5] = [
     KeyRow {

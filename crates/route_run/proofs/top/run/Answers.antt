@@ -1,4 +1,4 @@
-use Rattle.route_run.proofs.CauseLemmas.{ends-cause}
+use Rattle.route_run.proofs.RunLemmas.{ends-cause}
 use Rattle.route_run.specs.Ends.{bytes_in}
 use Rattle.route_run.specs.Words.Refusals.{texts_of}
 use Rattle.route_run.proofs.top.run.Goals as goal

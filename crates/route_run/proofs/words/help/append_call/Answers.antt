@@ -1,6 +1,6 @@
 use Rattle.std.proofs.Common.{◌∙◌}
 use Rattle.route_run.specs.Words.Help.{call_text}
-use Rattle.route_run.specs.Words.Rows.{keys_of, command_name}
+use Rattle.route_run.specs.Words.Rows.{command_name}
 use Rattle.route_run.proofs.EdgeLemmas.{call-is}
 use Rattle.route_run.proofs.words.help.append_call.Goals as goal
 
