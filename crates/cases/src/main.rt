@@ -1,11 +1,14 @@
-//! Runs tables of cases on the public calls of the ground: numbers, places, heights, buffers, tag tables, JSON texts and grids.
+//! Runs tables of cases on the public calls of the ground: lists, files and outputs in memory, numbers, places, heights,
+//! buffers, tag tables, JSON texts and grids.
 #![tactic(auto)]
 
 mod buffers;
 mod grids;
 mod heights;
 mod json;
+mod lists;
 mod numbers;
+mod outside;
 mod places;
 mod tables;
 mod texts;
@@ -55,6 +58,12 @@ fn answer(alloc: Global, case: &Case, ground: &mut Ground) -> Result<String, All
         return Ok(answer);
     }
     if let Some(answer) = grids::answer(alloc, case)? {
+        return Ok(answer);
+    }
+    if let Some(answer) = lists::answer(alloc, case)? {
+        return Ok(answer);
+    }
+    if let Some(answer) = outside::answer(alloc, case)? {
         return Ok(answer);
     }
     String::from_str(alloc, "no such call")

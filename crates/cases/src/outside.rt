@@ -1,0 +1,90 @@
+//! Cases on sinks and files in memory, sending, and files that are read whole.
+
+use crate::texts::{OUTSIDE, text_of};
+use case_rows::Case;
+use edge_io::{Failed, Files, MemFiles, MemSink, WholeError, read_whole, send_all};
+use item_list::{Items, Name, bytes_of};
+use std::alloc::{AllocError, Global};
+
+/// The answer to a case on the outside; none where the call is another.
+pub(crate) fn answer(alloc: Global, case: &Case) -> Result<Option<String>, AllocError> {
+    let text = match case.word(0) {
+        b"send" => sent(alloc, case)?,
+        b"read_file" => read(alloc, case)?,
+        b"failed_open" => opened_again(alloc)?,
+        _ => return Ok(None),
+    };
+    Ok(Some(text))
+}
+
+/// What comes of sending a text to a sink: its room, the most of one call, the failing call, the text.
+fn sent(alloc: Global, case: &Case) -> Result<String, AllocError> {
+    let room = case.count(1).min(1000) as usize;
+    let piece = case.count(2).min(1000) as usize;
+    if piece == 0 {
+        return String::from_str(alloc, OUTSIDE);
+    }
+    let mut sink = MemSink::new(alloc, room, piece, vec![in alloc; case.count(3)]?)?;
+    let told = match send_all(&mut sink, case.word(4)) {
+        Ok(()) => "whole",
+        Err(Failed) => "fault",
+    };
+    let held = text_of(alloc, sink.bytes())?;
+    format!(in alloc; "{told} {held}")
+}
+
+/// A file with its name.
+fn file(alloc: Global, name: &str, text: &str) -> Result<(Name, Vec<u8>), AllocError> {
+    let name = Items::from_vec(bytes_of(alloc, name.as_bytes())?);
+    Ok((name, bytes_of(alloc, text.as_bytes())?))
+}
+
+/// Files with two of one name, and one that is empty.
+fn some_files(alloc: Global) -> Result<Vec<(Name, Vec<u8>)>, AllocError> {
+    let mut files = Vec::new(alloc);
+    files.push(file(alloc, "towns", "a lake and a hill")?)?;
+    files.push(file(alloc, "empty", "")?)?;
+    files.push(file(alloc, "towns", "another")?)?;
+    files.push(file(alloc, "roads", "one road")?)?;
+    Ok(files)
+}
+
+/// What comes of reading a file whole: the most bytes of a read, the failing call, the name, the limit.
+fn read(alloc: Global, case: &Case) -> Result<String, AllocError> {
+    let piece = case.count(1).min(1000) as usize;
+    if piece == 0 {
+        return String::from_str(alloc, OUTSIDE);
+    }
+    let failing = vec![in alloc; case.count(2)]?;
+    let mut files = MemFiles::new(alloc, some_files(alloc)?, piece, failing);
+    let limit = case.count(4).min(1000) as usize;
+    match files.open(case.text(3)) {
+        Ok(true) => whole(alloc, &read_whole(alloc, &mut files, limit)),
+        Ok(false) => String::from_str(alloc, "missing"),
+        Err(Failed) => String::from_str(alloc, "fault"),
+    }
+}
+
+/// What is said of a file that was read whole.
+fn whole(alloc: Global, outcome: &Result<Vec<u8>, WholeError>) -> Result<String, AllocError> {
+    match outcome {
+        Ok(bytes) => {
+            let text = text_of(alloc, bytes.as_slice())?;
+            format!(in alloc; "read {text}")
+        }
+        Err(WholeError::Fault) => String::from_str(alloc, "fault"),
+        Err(WholeError::TooLong) => String::from_str(alloc, "too long"),
+        Err(WholeError::NoMemory) => Err(AllocError),
+    }
+}
+
+/// A file is opened, the next opening fails, and what is left of the file is read: how often was opened, and the text.
+fn opened_again(alloc: Global) -> Result<String, AllocError> {
+    let failing = vec![in alloc; 1u64]?;
+    let mut files = MemFiles::new(alloc, some_files(alloc)?, 9, failing);
+    if files.open("roads") != Ok(true) || files.open("towns") != Err(Failed) {
+        return String::from_str(alloc, "otherwise");
+    }
+    let text = whole(alloc, &read_whole(alloc, &mut files, 8))?;
+    format!(in alloc; "{} {text}", files.opens())
+}
