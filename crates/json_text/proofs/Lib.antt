@@ -9,5 +9,7 @@ pub mod Stops
 pub mod Fronts
 pub mod Verdicts
 pub mod Exists
+pub mod Growing
+pub mod Counts
 pub mod ScannerLemmas
 pub mod CallerLemmas

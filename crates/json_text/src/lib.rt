@@ -10,9 +10,7 @@ mod quoted;
 mod reading;
 mod scanner;
 mod step;
-#[cfg(test)]
-mod tests;
 
-pub use reading::one_reading;
+pub use reading::{few_steps, fixed_steps, lasting_faults, one_reading};
 pub use scanner::Scanner;
 pub use step::JsonStep;

@@ -10,8 +10,8 @@ use crate::mode::{Bracket, Ending, Letters, Mode, Part, Place, Role, Start, Take
 use std::alloc::{AllocError, Global};
 use std::mem;
 
-/// The place in the text, the open brackets, and the content of the text or number that is read and of the last
-/// that was given.
+/// The place in the text, the open brackets, and the content of the text or number that is read
+/// and of the last that was given.
 #[derive(Drop)]
 pub struct Machine {
     pub opens: Vec<Bracket>,
