@@ -12,14 +12,7 @@ use Rattle.json_text.specs.Scanner.{content, most_steps, GaveStep, GaveVerdict, 
 use Rattle.json_text.specs.Tokens.{step_for, verdict_for, steps_seen}
 pub use Rattle.json_text.proofs.Growing.{grows, stays}
 pub use Rattle.json_text.proofs.Counts.{few}
-
--- two values that are there are the same where they are equal as options
-some_same : {A : Type 0} {x y : A} → Some x ≡ Some y → x ≡ y
-some_same e = cc
-
--- nothing is no value
-none_some : {A : Type 0} {x : A} → None ≡ Some x → ⊥
-none_some e = cc
+use Rattle.json_text.proofs.AnswerLemmas.{some_same, none_some}
 
 -- a value is not nothing
 some_none : {A : Type 0} {x : A} → Some x ≡ None → ⊥

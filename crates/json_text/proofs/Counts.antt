@@ -1,5 +1,5 @@
 -- A text has no more steps than bytes.
-use Rattle.std.proofs.Common.{◌≡◌, ◌≤◌, ℕ, suc, ◌+◌, Bool, true, false, List, [], ◌∷◌, ◌++◌, length, refl, sym, ap, subst, arith}
+use Rattle.std.proofs.Common.{◌≡◌, ◌≤◌, ℕ, ◌+◌, Bool, true, false, List, [], ◌∷◌, ◌++◌, length, refl, sym, ap, subst, arith}
 use Rattle.std.proofs.lemmas.List.{length-append}
 use Rattle.json_text.specs.declared.mode.Bracket.{Bracket}
 use Rattle.json_text.specs.declared.mode.Mode.{Mode}
@@ -10,10 +10,9 @@ use Rattle.json_text.specs.Reading.{seen, Verdict, More, Whole, BadAt, IsFrontFo
 use Rattle.json_text.specs.Rest.{Rest}
 use Rattle.json_text.specs.Scanner.{is_number}
 use Rattle.json_text.specs.Machine.{Move, Reads as reads_, Gives, GivesFirst, Finishes, Stuck, move_by}
-use Rattle.json_text.proofs.Lists.{append_nil, head_of, tail_of, no_cons}
-use Rattle.json_text.proofs.Goes.{Goes, Ends}
+use Rattle.json_text.proofs.Lists.{append_nil, head_of, tail_of, no_cons, length_symbols}
+use Rattle.json_text.proofs.Goes.{Goes, Ends, out_reads, out_gives, out_first, out_finishes, out_stuck}
 use Rattle.json_text.proofs.Forth.{forth}
-use Rattle.json_text.proofs.Back.{out_reads, out_gives, out_first, out_finishes, out_stuck}
 use Rattle.json_text.proofs.Stops.{NoNumber, FirstSays, first_says}
 use Rattle.json_text.proofs.Fronts.{empty_front}
 
@@ -122,11 +121,6 @@ few_of : (front rest : List Mark) → IsText (front ++ rest) → length (steps_o
 few_of front rest t =
     let few = few_at front rest mode_.Value 64 [] [] (empty_front.forth (front ++ rest) t) in
     omega (arith, few)
-
--- bytes have as many symbols
-length_symbols : (bytes : List ℕ) → length (symbols bytes) ≡ length bytes
-length_symbols [] = refl
-length_symbols (b ∷ bytes) = ap suc (length_symbols bytes)
 
 -- what was seen is one symbol longer at most
 length_seen : (bytes : List ℕ) (ended : Bool) → length (seen bytes ended) ≤ length bytes + 1

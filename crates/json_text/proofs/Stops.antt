@@ -25,9 +25,8 @@ use Rattle.json_text.specs.Grammar.{closing}
 use Rattle.json_text.specs.Rest.{After, part_after, may_end}
 use Rattle.json_text.specs.Machine.{Move, Reads, Gives, GivesFirst, Finishes, Stuck, letter_after, letters_after, fits_tail, tail_after, start_of, start_move, open_move, name_move, entry_move, end_move, move_by, number_move, word_move, byte_move, tail_move, lead_move, escape_move, text_move, last_move, after_move, first_move}
 use Rattle.json_text.proofs.ByteTests.{eq_of, by_cond, space_kind}
-use Rattle.json_text.proofs.Goes.{Goes, sides}
+use Rattle.json_text.proofs.Goes.{Goes, sides, out_stuck}
 use Rattle.json_text.proofs.Forth.{forth}
-use Rattle.json_text.proofs.Back.{out_stuck}
 
 -- what is read behind a value is nothing of a number
 closing_kind : (bracket : Bracket) (b : ℕ) → b ≡ closing bracket → kind_of b ≡ kind_.Other

@@ -9,9 +9,9 @@ use Rattle.json_text.specs.Reading.{seen, Verdict, More, Whole, BadAt, IsMore, I
 use Rattle.json_text.specs.Rest.{IsFrontOf, first_of}
 use Rattle.json_text.specs.Machine.{Finishes, Stuck, move_by}
 use Rattle.json_text.proofs.Lists.{append_nil, symbols_append, head_of, no_cons, cancel, nothing_more, begins, comparable, begins_trans, begins_more, begins_front, begins_antisym, symbols_begin, steps_begin}
-use Rattle.json_text.proofs.Goes.{Goes, finishes}
+use Rattle.json_text.proofs.Goes.{Goes, finishes, out_stuck, out_finishes}
 use Rattle.json_text.proofs.Alive.{alive}
-use Rattle.json_text.proofs.Back.{back, out_stuck, out_finishes}
+use Rattle.json_text.proofs.Back.{back}
 use Rattle.json_text.proofs.Fronts.{on, shown, ReadsFirst, given_free, longer_by, stands}
 
 -- nothing is fixed behind the front

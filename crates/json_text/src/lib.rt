@@ -4,6 +4,7 @@
 mod answer;
 mod bytes;
 mod content;
+mod entries;
 mod machine;
 mod mode;
 mod quoted;

@@ -2,7 +2,8 @@
 use Rattle.std.proofs.Common.{refl, ◌∙◌, ◌++◌}
 use Rattle.json_text.specs.Reading.{BadAt}
 use Rattle.json_text.proofs.Growing.{stays}
-use Rattle.json_text.proofs.ScannerLemmas.{alike_holds, told_answers, told_exact}
+use Rattle.json_text.proofs.ScannerLemmas.{alike_holds}
+use Rattle.json_text.proofs.AnswerLemmas.{told_answers, told_exact}
 use Rattle.json_text.proofs.scanner.Scanner.next.Goals as goal
 
 pub returns-clause-value : goal.returns-clause-value
