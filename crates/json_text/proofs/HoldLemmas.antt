@@ -16,7 +16,7 @@ use Rattle.json_text.proofs.Verdicts.{more_at, whole_at, bad_at, fixed}
 use Rattle.json_text.proofs.Lists.{append_nil, symbols_append, steps_append, bytes_append, begins, begins_trans, begins_self, begins_more, length_symbols}
 
 -- a front with more symbols known behind it
-widen : {front : List Mark} {next : List Symbol} {mode : Mode} {room : ℕ} {opens : List Bracket} {content : List ℕ} (wider : List Symbol)
+pub widen : {front : List Mark} {next : List Symbol} {mode : Mode} {room : ℕ} {opens : List Bracket} {content : List ℕ} (wider : List Symbol)
     → IsFrontOf front next mode room opens content → Begins next wider → IsFrontOf front wider mode room opens content
 widen {front} wider f b = record { forth = f.forth; back = f.back; only = λ text t g. f.only text t (begins_trans (begins_more (symbols_of front) b) g); kin = f.kin }
 

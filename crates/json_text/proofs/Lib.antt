@@ -16,5 +16,6 @@ pub mod Growing
 pub mod Counts
 pub mod HoldLemmas
 pub mod ScannerLemmas
+pub mod RunLemmas
 pub mod AnswerLemmas
 pub mod CallerLemmas

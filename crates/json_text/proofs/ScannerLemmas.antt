@@ -130,15 +130,6 @@ none_pending [] (suc i) h = refl
 none_pending (x ∷ items) zero h = absurd (omega arith)
 none_pending (x ∷ items) (suc i) h = none_pending items i (omega arith)
 
--- what a scanner stood for it stands for, as far as it has read
-pub record ReadsOn (old new : Scanner) : Type 0 where
-  pub holds : (bytes : List ℕ) (steps : List Step) → Holds old bytes steps → Holds new bytes steps
-  pub fed_same : fed new ≡ fed old
-  pub ended_same : has_ended new ≡ has_ended old
-  pub failed_same : has_failed new ≡ has_failed old
-  pub content_same : content new ≡ content old
-  pub fewer : most_steps new ≤ most_steps old
-
 -- two scanners that differ by their flag of failure alone
 pub record IsAlike (mid new : Scanner) : Type 0 where
   pub input : new.input ≡ mid.input

@@ -9,6 +9,7 @@ mod machine;
 mod mode;
 mod quoted;
 mod reading;
+mod runs;
 mod scanner;
 mod step;
 

@@ -8,6 +8,8 @@ use crate::mode::{Ending, Taken};
 use crate::step::JsonStep;
 use std::alloc::{AllocError, Global};
 
+mod advance;
+
 /// A reader of one JSON text, whose pieces are fed to it and whose steps it gives.
 #[derive(Drop)]
 pub struct Scanner {
@@ -185,8 +187,11 @@ impl Scanner {
         ensures err { OnErr result (scanner.content self.new ≡ scanner.content self.old) }
     {
         'symbols: while self.read < self.input.len() {
-            if let Some(answer) = self.step()? {
-                return Ok(answer);
+            self.advance()?;
+            if self.read < self.input.len() {
+                if let Some(answer) = self.step()? {
+                    return Ok(answer);
+                }
             }
         }
         Ok(self.last())
