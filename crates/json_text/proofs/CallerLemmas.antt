@@ -10,14 +10,9 @@ use Rattle.json_text.specs.Marks.{Step}
 use Rattle.json_text.specs.Reading.{Verdict, Whole, More, BadAt, Reads}
 use Rattle.json_text.specs.Scanner.{content, most_steps, GaveStep, GaveVerdict, Answers, IsNearer, IsVerdict, Stands}
 use Rattle.json_text.specs.Tokens.{step_for, verdict_for, steps_seen}
-
--- two values that are there are the same where they are equal as options
-some_same : {A : Type 0} {x y : A} → Some x ≡ Some y → x ≡ y
-some_same e = cc
-
--- nothing is no value
-none_some : {A : Type 0} {x : A} → None ≡ Some x → ⊥
-none_some e = cc
+pub use Rattle.json_text.proofs.Growing.{grows, stays}
+pub use Rattle.json_text.proofs.Counts.{few}
+use Rattle.json_text.proofs.AnswerLemmas.{some_same, none_some}
 
 -- a value is not nothing
 some_none : {A : Type 0} {x : A} → Some x ≡ None → ⊥

@@ -8,9 +8,9 @@ use Rattle.json_text.specs.Grammar.{IsText, print_value}
 use Rattle.json_text.specs.Rest.{Rest, After, IsFrontOf}
 use Rattle.json_text.specs.Machine.{Move, Reads, Gives, GivesFirst, Stuck, move_by}
 use Rattle.json_text.proofs.Lists.{append_nil, symbols_append, head_of, tail_of, no_cons, cancel, begins, comparable, begins_trans, begins_more, begins_front}
-use Rattle.json_text.proofs.Goes.{Goes, reads, gives, Ends, Follows}
+use Rattle.json_text.proofs.Goes.{Goes, reads, gives, Ends, Follows, out_reads, out_gives, out_first}
 use Rattle.json_text.proofs.Forth.{forth}
-use Rattle.json_text.proofs.Back.{back, out_reads, out_gives, out_first}
+use Rattle.json_text.proofs.Back.{back}
 use Rattle.json_text.proofs.Stops.{number_stops, number_free, Ended, FirstSays, first_says}
 
 -- the marks before any symbol

@@ -5,7 +5,7 @@ use Rattle.json_text.specs.declared.mode.Mode.{Mode}
 use Rattle.json_text.specs.declared.mode.Mode.TheVariants as mode_
 use Rattle.json_text.specs.Marks.{Step, Mark, Seen, Given}
 use Rattle.json_text.specs.Rest.{Rest, After, may_end}
-use Rattle.json_text.specs.Machine.{Move, Reads, Gives, Finishes, move_by}
+use Rattle.json_text.specs.Machine.{Move, Reads, Gives, GivesFirst, Finishes, Stuck, move_by}
 
 -- behind the symbol that made the move stand these marks
 pub data Goes : Move → List Mark → Type 0 where
@@ -38,3 +38,24 @@ if_false {t} {y} {marks} x e g = subst (λ v. Goes (cond v x y) marks) (sym e) g
 pub sides : (t : Bool) (x y : Move) (marks : List Mark) → Goes (cond t x y) marks → ((t ≡ true) × Goes x marks) ⊎ ((t ≡ false) × Goes y marks)
 sides true x y marks g = inl (refl, g)
 sides false x y marks g = inr (refl, g)
+
+-- what a move that is known leads to
+pub out_reads : {mode : Mode} {room : ℕ} {opens : List Bracket} {content : List ℕ} {marks : List Mark} → Goes (Reads mode room opens content) marks → Rest mode room opens content marks
+out_reads (reads r) = r
+
+-- a move that gives leads to its step, and then on
+pub out_gives : {step : Step} {mode : Mode} {room : ℕ} {opens : List Bracket} {content : List ℕ} {marks : List Mark} → Goes (Gives step mode room opens content) marks
+    → (rest : List Mark) × (marks ≡ Given step ∷ rest) × Rest mode room opens content rest
+out_gives (gives {marks = rest} r) = (rest, refl, r)
+
+-- a move that is stuck leads nowhere
+pub out_stuck : {marks : List Mark} → Goes Stuck marks → ⊥
+out_stuck g = elim g [ ]
+
+-- no symbol is read where a step comes first
+pub out_first : {step : Step} {mode : Mode} {room : ℕ} {opens : List Bracket} {content : List ℕ} {marks : List Mark} → Goes (GivesFirst step mode room opens content) marks → ⊥
+out_first g = elim g [ ]
+
+-- behind the end nothing stands
+pub out_finishes : {marks : List Mark} → Goes Finishes marks → marks ≡ []
+out_finishes finishes = refl

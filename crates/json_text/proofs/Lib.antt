@@ -1,7 +1,10 @@
 pub mod ByteTests
 pub mod NumberLemmas
 pub mod Goes
+pub mod ForthTexts
 pub mod Forth
+pub mod BackValues
+pub mod BackTexts
 pub mod Back
 pub mod Lists
 pub mod Alive
@@ -9,5 +12,10 @@ pub mod Stops
 pub mod Fronts
 pub mod Verdicts
 pub mod Exists
+pub mod Growing
+pub mod Counts
+pub mod HoldLemmas
 pub mod ScannerLemmas
+pub mod RunLemmas
+pub mod AnswerLemmas
 pub mod CallerLemmas

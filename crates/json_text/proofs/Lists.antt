@@ -1,5 +1,5 @@
 -- Laws of beginnings, and of the symbols and steps among marks.
-use Rattle.std.proofs.Common.{◌≡◌, ℕ, ◌⊎◌, inl, inr, List, [], ◌∷◌, ◌++◌, refl, sym, ◌∙◌, ap, append_assoc}
+use Rattle.std.proofs.Common.{◌≡◌, ℕ, suc, length, ◌⊎◌, inl, inr, List, [], ◌∷◌, ◌++◌, refl, sym, ◌∙◌, ap, append_assoc}
 use Rattle.json_text.specs.Marks.{Byte, Mark, Seen, Given, symbols_of, steps_of, symbols, Begins}
 
 -- nothing behind a list changes nothing
@@ -97,3 +97,8 @@ begins_more a {b} f = begins f.rest (ap (λ x. a ++ x) f.same ∙ sym (append_as
 -- a front begins what it is the front of
 pub begins_front : {A : Type 0} (a b : List A) → Begins a (a ++ b)
 begins_front a b = begins b refl
+
+-- bytes have as many symbols
+pub length_symbols : (bytes : List ℕ) → length (symbols bytes) ≡ length bytes
+length_symbols [] = refl
+length_symbols (b ∷ bytes) = ap suc (length_symbols bytes)

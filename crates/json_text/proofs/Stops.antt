@@ -14,6 +14,7 @@ use Rattle.json_text.specs.declared.mode.Escape.TheVariants as escape_
 use Rattle.json_text.specs.declared.mode.Start.{Start}
 use Rattle.json_text.specs.declared.mode.Start.TheVariants as start_
 use Rattle.json_text.specs.declared.mode.Role.{Role}
+use Rattle.json_text.specs.declared.mode.Role.TheVariants as role_
 use Rattle.json_text.specs.declared.mode.Place.{Place}
 use Rattle.json_text.specs.declared.mode.Place.TheVariants as place_
 use Rattle.json_text.specs.declared.mode.Mode.{Mode}
@@ -24,9 +25,8 @@ use Rattle.json_text.specs.Grammar.{closing}
 use Rattle.json_text.specs.Rest.{After, part_after, may_end}
 use Rattle.json_text.specs.Machine.{Move, Reads, Gives, GivesFirst, Finishes, Stuck, letter_after, letters_after, fits_tail, tail_after, start_of, start_move, open_move, name_move, entry_move, end_move, move_by, number_move, word_move, byte_move, tail_move, lead_move, escape_move, text_move, last_move, after_move, first_move}
 use Rattle.json_text.proofs.ByteTests.{eq_of, by_cond, space_kind}
-use Rattle.json_text.proofs.Goes.{Goes, sides}
+use Rattle.json_text.proofs.Goes.{Goes, sides, out_stuck}
 use Rattle.json_text.proofs.Forth.{forth}
-use Rattle.json_text.proofs.Back.{out_stuck}
 
 -- what is read behind a value is nothing of a number
 closing_kind : (bracket : Bracket) (b : ℕ) → b ≡ closing bracket → kind_of b ≡ kind_.Other
@@ -99,19 +99,27 @@ pub record Ended (mode : Mode) (room : ℕ) (opens : List Bracket) (content : Li
   pub room_is : room_to ≡ room
   pub opens_is : opens_to ≡ opens
 
--- what is known of a move where it gives a step first
+-- no number is read
+abbrev pub NoNumber : Mode → Type 0
+NoNumber (mode_.Number part) = ⊥
+NoNumber _ = Unit {0}
+
+-- what is known of a move: behind a step no number is read, and a step that comes first is that of a number
 abbrev pub FirstSays : Mode → ℕ → List Bracket → List ℕ → Move → Type 0
+FirstSays mode room opens content (Gives step to room_to opens_to content_to) = NoNumber to
 FirstSays mode room opens content (GivesFirst step to room_to opens_to content_to) = Ended mode room opens content step to room_to opens_to
 FirstSays mode room opens content _ = Unit {0}
 
 -- no other move gives a step first
 abbrev pub NeverFirst : Move → Type 0
+NeverFirst (Gives step to room_to opens_to content_to) = NoNumber to
 NeverFirst (GivesFirst step to room_to opens_to content_to) = ⊥
 NeverFirst Finishes = ⊥
 NeverFirst _ = Unit {0}
 
 -- a byte finishes nothing
 abbrev pub ByteSays : Mode → ℕ → List Bracket → List ℕ → Move → Type 0
+ByteSays mode room opens content (Gives step to room_to opens_to content_to) = NoNumber to
 ByteSays mode room opens content (GivesFirst step to room_to opens_to content_to) = Ended mode room opens content step to room_to opens_to
 ByteSays mode room opens content Finishes = ⊥
 ByteSays mode room opens content _ = Unit {0}
@@ -119,7 +127,7 @@ ByteSays mode room opens content _ = Unit {0}
 -- of any other move nothing has to be known
 never_says : (mode : Mode) (room : ℕ) (opens : List Bracket) (content : List ℕ) (move : Move) → NeverFirst move → ByteSays mode room opens content move
 never_says mode room opens content (Reads m r o c) n = tt
-never_says mode room opens content (Gives s m r o c) n = tt
+never_says mode room opens content (Gives s m r o c) n = n
 never_says mode room opens content (GivesFirst s m r o c) n = absurd n
 never_says mode room opens content Finishes n = absurd n
 never_says mode room opens content Stuck n = tt
@@ -165,7 +173,8 @@ word_never letters (Some next) room opens content = tt
 
 -- nor does the beginning of a character
 lead_never : (role : Role) (w : Option ℕ) (lead : Lead) (room : ℕ) (opens : List Bracket) (content : List ℕ) (b : ℕ) → NeverFirst (lead_move role w lead room opens content b)
-lead_never role w lead_.Quote room opens content b = tt
+lead_never role_.Name w lead_.Quote room opens content b = tt
+lead_never role_.Value w lead_.Quote room opens content b = tt
 lead_never role w lead_.Backslash room opens content b = tt
 lead_never role w lead_.Whole room opens content b = tt
 lead_never role w (lead_.Longer tail) room opens content b = tt
@@ -238,7 +247,7 @@ last_says (mode_.Text role place) room opens content = tt
 -- what is known by a byte is known by a symbol
 byte_first : (mode : Mode) (room : ℕ) (opens : List Bracket) (content : List ℕ) (move : Move) → ByteSays mode room opens content move → FirstSays mode room opens content move
 byte_first mode room opens content (Reads m r o c) s = tt
-byte_first mode room opens content (Gives x m r o c) s = tt
+byte_first mode room opens content (Gives x m r o c) s = s
 byte_first mode room opens content (GivesFirst x m r o c) s = s
 byte_first mode room opens content Finishes s = tt
 byte_first mode room opens content Stuck s = tt

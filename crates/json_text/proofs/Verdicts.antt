@@ -9,9 +9,9 @@ use Rattle.json_text.specs.Reading.{seen, Verdict, More, Whole, BadAt, IsMore, I
 use Rattle.json_text.specs.Rest.{IsFrontOf, first_of}
 use Rattle.json_text.specs.Machine.{Finishes, Stuck, move_by}
 use Rattle.json_text.proofs.Lists.{append_nil, symbols_append, head_of, no_cons, cancel, nothing_more, begins, comparable, begins_trans, begins_more, begins_front, begins_antisym, symbols_begin, steps_begin}
-use Rattle.json_text.proofs.Goes.{Goes, finishes}
+use Rattle.json_text.proofs.Goes.{Goes, finishes, out_stuck, out_finishes}
 use Rattle.json_text.proofs.Alive.{alive}
-use Rattle.json_text.proofs.Back.{back, out_stuck, out_finishes}
+use Rattle.json_text.proofs.Back.{back}
 use Rattle.json_text.proofs.Fronts.{on, shown, ReadsFirst, given_free, longer_by, stands}
 
 -- nothing is fixed behind the front
@@ -68,7 +68,7 @@ bad_at {front} {next} {mode} {room} {opens} {content} bytes ended x others f n s
     ]
 
 -- a front within a text that shows a symbol behind another front, at least as long, lies within that front
-within : (front other rest : List Mark) (x : Symbol) → Begins front (other ++ (Seen x ∷ rest)) → Begins (symbols_of front) (symbols_of other) → Begins front other
+pub within : (front other rest : List Mark) (x : Symbol) → Begins front (other ++ (Seen x ∷ rest)) → Begins (symbols_of front) (symbols_of other) → Begins front other
 within front other rest x g s = elim (comparable front g.rest other (Seen x ∷ rest) (sym g.same)) [
   | inl h ↦ h
   | inr h ↦ within_by h.rest h.same
@@ -106,11 +106,11 @@ same_length bytes ended front other b c = elim (comparable (symbols_of front) (b
 ]
 
 -- what was seen of a text that goes on
-seen_more : (bytes : List ℕ) → seen bytes false ≡ symbols bytes
+pub seen_more : (bytes : List ℕ) → seen bytes false ≡ symbols bytes
 seen_more bytes = append_nil (symbols bytes)
 
 -- the bytes begin a text that goes on from them
-goes_begin : (bytes : List ℕ) (front : List Mark) (m : IsMore bytes front) → Begins (symbols bytes) (symbols_of (front ++ (Seen m.goes_on.0 ∷ m.goes_on.1)))
+pub goes_begin : (bytes : List ℕ) (front : List Mark) (m : IsMore bytes front) → Begins (symbols bytes) (symbols_of (front ++ (Seen m.goes_on.0 ∷ m.goes_on.1)))
 goes_begin bytes front m =
     begins (m.goes_on.0 ∷ symbols_of m.goes_on.1) (symbols_append front (Seen m.goes_on.0 ∷ m.goes_on.1) ∙ ap (λ s. s ++ (m.goes_on.0 ∷ symbols_of m.goes_on.1)) m.same)
 
@@ -151,6 +151,36 @@ unique bytes ended steps others v w b c =
     let s = same_front bytes ended b.front c.front v w b.fits c.fits in
     (sym b.given ∙ ap steps_of s.0 ∙ c.given, s.1)
 
+module _ (bytes : List ℕ) (ended : Bool) (front other : List Mark) (pending : List Symbol) (c : IsBad bytes ended other) (s : seen bytes ended ≡ symbols_of front ++ pending)
+    (rest : List Mark) (t : IsText (front ++ rest)) (only : (y : Symbol) (m : List Symbol) → symbols_of other ≡ symbols_of front ++ (y ∷ m) → Begins front (other ++ c.begins.0)) where
+  -- the front of a fault that has more symbols begins with a front
+  longer : (m : List Symbol) → symbols_of other ≡ symbols_of front ++ m → Begins front other
+  longer [] e = c.all front rest t (sym (e ∙ append_nil (symbols_of front)))
+  longer (y ∷ m) e =
+      let g = only y m e in
+      elim (comparable front g.rest other c.begins.0 (sym g.same)) [
+        | inl h ↦ h
+        | inr h ↦ absurd (no_cons (sym (nothing_more (symbols_of front) (y ∷ (m ++ symbols_of h.rest))
+            (ap symbols_of h.same ∙ symbols_append other h.rest ∙ ap (λ z. z ++ symbols_of h.rest) e ∙ append_assoc (symbols_of front) (y ∷ m) (symbols_of h.rest)))))
+      ]
+
+  -- it has no fewer
+  shorter : (m : List Symbol) → symbols_of front ≡ symbols_of other ++ m → Begins front other
+  shorter [] e = c.all front rest t (e ∙ append_nil (symbols_of other))
+  shorter (y ∷ m) e =
+      let p : c.next ∷ c.others ≡ y ∷ (m ++ pending) =
+      cancel (symbols_of other) (sym c.same ∙ s ∙ ap (λ z. z ++ pending) e ∙ append_assoc (symbols_of other) (y ∷ m) pending) in
+      let g : Begins (symbols_of other ++ (c.next ∷ [])) (symbols_of front) =
+      begins m (e ∙ ap (λ z. symbols_of other ++ (z ∷ m)) (sym (head_of p)) ∙ sym (append_assoc (symbols_of other) (c.next ∷ []) m)) in
+      absurd (c.longest (front ++ rest) t (begins_trans g (symbols_begin (begins_front front rest))))
+
+  -- a front that texts with more symbols begin with begins the front of a fault
+  pub bad_behind : Begins front other
+  bad_behind = elim (comparable (symbols_of front) pending (symbols_of other) (c.next ∷ c.others) (sym s ∙ c.same)) [
+    | inl g ↦ longer g.rest g.same
+    | inr g ↦ shorter g.rest g.same
+  ]
+
 -- the first symbol begins what it is the first of
 first_begins : (pending : List Symbol) → Begins (first_of pending) pending
 first_begins [] = begins [] refl
@@ -162,41 +192,21 @@ module _ {front : List Mark} {mode : Mode} {room : ℕ} {opens : List Bracket} {
   next_seen : Begins (symbols_of front ++ first_of pending) (seen bytes ended)
   next_seen = subst (λ z. Begins (symbols_of front ++ first_of pending) z) (sym s) (begins_more (symbols_of front) (first_begins pending))
 
-  -- the front begins each front of a reading
+  -- the front begins that of a fault
   before_bad : (other : List Mark) → IsBad bytes ended other → Begins front other
-  before_bad other c = elim (comparable (symbols_of front) pending (symbols_of other) (c.next ∷ c.others) (sym s ∙ c.same)) [
-    | inl g ↦ longer g.rest g.same
-    | inr g ↦ shorter g.rest g.same
-  ]
+  before_bad other c =
+      let a = alive mode room opens content in
+      bad_behind bytes ended front other pending c s (Seen a.symbol ∷ a.rest) (f.back (Seen a.symbol ∷ a.rest) a.follows) longer
     where
-      equal : symbols_of front ≡ symbols_of other → Begins front other
-      equal e = let a = alive mode room opens content in c.all front (Seen a.symbol ∷ a.rest) (f.back (Seen a.symbol ∷ a.rest) a.follows) e
-
-      longer : (m : List Symbol) → symbols_of other ≡ symbols_of front ++ m → Begins front other
-      longer [] e = equal (sym (e ∙ append_nil (symbols_of front)))
-      longer (y ∷ m) e =
+      longer : (y : Symbol) (m : List Symbol) → symbols_of other ≡ symbols_of front ++ (y ∷ m) → Begins front (other ++ c.begins.0)
+      longer y m e =
           let p : pending ≡ y ∷ (m ++ (c.next ∷ c.others)) =
           cancel (symbols_of front) (sym s ∙ c.same ∙ ap (λ z. z ++ (c.next ∷ c.others)) e ∙ append_assoc (symbols_of front) (y ∷ m) (c.next ∷ c.others)) in
           let n : Begins (symbols_of front ++ first_of pending) (symbols_of other) =
           begins m (e ∙ sym (append_assoc (symbols_of front) (y ∷ []) m) ∙ ap (λ z. (symbols_of front ++ first_of z) ++ m) (sym p)) in
-          let g = f.only (other ++ c.begins.0) c.begins.1 (begins_trans n (symbols_begin (begins_front other c.begins.0))) in
-          elim (comparable front g.rest other c.begins.0 (sym g.same)) [
-            | inl h ↦ h
-            | inr h ↦ absurd (no_cons (sym (nothing_more (symbols_of front) (y ∷ (m ++ symbols_of h.rest))
-                (ap symbols_of h.same ∙ symbols_append other h.rest ∙ ap (λ z. z ++ symbols_of h.rest) e ∙ append_assoc (symbols_of front) (y ∷ m) (symbols_of h.rest)))))
-          ]
+          f.only (other ++ c.begins.0) c.begins.1 (begins_trans n (symbols_begin (begins_front other c.begins.0)))
 
-      shorter : (m : List Symbol) → symbols_of front ≡ symbols_of other ++ m → Begins front other
-      shorter [] e = equal (e ∙ append_nil (symbols_of other))
-      shorter (y ∷ m) e =
-          let a = alive mode room opens content in
-          let p : c.next ∷ c.others ≡ y ∷ (m ++ pending) =
-          cancel (symbols_of other) (sym c.same ∙ s ∙ ap (λ z. z ++ pending) e ∙ append_assoc (symbols_of other) (y ∷ m) pending) in
-          let g : Begins (symbols_of other ++ (c.next ∷ [])) (symbols_of front) =
-          begins m (e ∙ ap (λ z. symbols_of other ++ (z ∷ m)) (sym (head_of p)) ∙ sym (append_assoc (symbols_of other) (c.next ∷ []) m)) in
-          absurd (c.longest (front ++ (Seen a.symbol ∷ a.rest)) (f.back (Seen a.symbol ∷ a.rest) a.follows)
-          (begins_trans g (symbols_begin (begins_front front (Seen a.symbol ∷ a.rest)))))
-
+  -- and that of a text that may go on
   before_more : (other : List Mark) → ended ≡ false → IsMore bytes other → Begins front other
   before_more other e c =
       let q : symbols bytes ≡ symbols_of front ++ pending = sym (seen_more bytes) ∙ ap (λ t. seen bytes t) (sym e) ∙ s in
@@ -206,10 +216,12 @@ module _ {front : List Mark} {mode : Mode} {room : ℕ} {opens : List Bracket} {
       (f.only (other ++ (Seen c.goes_on.0 ∷ c.goes_on.1)) c.goes_on.2 (begins_trans n (goes_begin bytes other c)))
       (begins pending (c.same ∙ q))
 
+  -- and that of a whole text
   before_whole : (other : List Mark) → ended ≡ true → IsWhole bytes other → Begins front other
   before_whole other e c =
       f.only other c.is_text (subst (λ z. Begins (symbols_of front ++ first_of pending) z) (ap (λ t. seen bytes t) e ∙ sym c.same) next_seen)
 
+  -- so it begins each front of a reading
   before : (other : List Mark) (v : Verdict) → IsFrontFor bytes ended other v → Begins front other
   before other More (e, c) = before_more other e c
   before other Whole (e, c) = before_whole other e c

@@ -1,5 +1,5 @@
 -- Kinds of bytes: RFC 8259 for white space, numbers and escapes, RFC 3629 for characters of several bytes.
-use Rattle.std.specs.Prelude.{ℕ, ◌-◌, List, [], ◌∷◌, ◌≡◌, Bool, true, false, if◌then◌else◌, ◌==◌, nat_le, nat_lt, ◌&&◌, ◌||◌}
+use Rattle.std.specs.Prelude.{ℕ, ◌-◌, List, [], ◌∷◌, ◌≡◌, Bool, true, false, if◌then◌else◌, ◌==◌, nat_le, nat_lt, ◌&&◌, ◌||◌, not}
 use Rattle.json_text.specs.declared.mode.Kind.{Kind}
 use Rattle.json_text.specs.declared.mode.Kind.TheVariants as kind_
 use Rattle.json_text.specs.declared.mode.Tail.{Tail}
@@ -117,3 +117,7 @@ escape_of b =
     if b == 114 then escape_.Short 13 else
     if b == 116 then escape_.Short 9 else
     if b == 117 then escape_.Coded else escape_.Nothing
+
+-- a byte that stands for itself between quotation marks, and is a character alone
+abbrev pub is_plain : ℕ → Bool
+is_plain b = nat_le 32 b && nat_lt b 128 && not (b == 34) && not (b == 92)

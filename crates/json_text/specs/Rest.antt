@@ -110,6 +110,13 @@ may_end part_.Fraction = true
 may_end part_.Exponent = true
 may_end _ = false
 
+-- these parts go on with each digit
+abbrev pub takes_digits : Part → Bool
+takes_digits part_.Whole = true
+takes_digits part_.Fraction = true
+takes_digits part_.Exponent = true
+takes_digits _ = false
+
 -- a part is there, and a fact holds of it
 abbrev pub OnPart : Option Part → (Part → Type 0) → Type 0
 OnPart None fact = ⊥

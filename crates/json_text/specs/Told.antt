@@ -1,10 +1,13 @@
 -- What a scanner tells while it works on a call, for the private clauses.
-use Rattle.std.specs.Prelude.{ℕ, List, [], ◌∷◌, ◌++◌, ◌≡◌, ◌<◌, Option, Some, None}
+use Rattle.std.specs.Prelude.{ℕ, List, [], ◌∷◌, ◌++◌, ◌≡◌, ◌<◌, ◌≤◌, Option, Some, None}
 use Rattle.json_text.specs.declared.step.JsonStep.{JsonStep}
 use Rattle.json_text.specs.declared.scanner.Scanner.{Scanner}
 use Rattle.json_text.specs.Marks.{Step}
 use Rattle.json_text.specs.Reading.{Verdict, Reads}
-use Rattle.json_text.specs.Scanner.{Holds, content, most_steps, IsNearer}
+use Rattle.json_text.specs.declared.mode.Part.{Part}
+use Rattle.json_text.specs.Bytes.{kind_of}
+use Rattle.json_text.specs.Rest.{part_after, OnPart}
+use Rattle.json_text.specs.Scanner.{Holds, content, most_steps, IsNearer, fed, has_ended, has_failed}
 use Rattle.json_text.specs.Tokens.{step_for, verdict_for}
 
 -- a step more was given, or the verdict told
@@ -21,3 +24,17 @@ Found (Some answer) new bytes steps = Told answer new bytes steps
 abbrev pub IsNearerBy : Option JsonStep → Scanner → Scanner → Type 0
 IsNearerBy None old new = most_steps new < most_steps old
 IsNearerBy (Some answer) old new = IsNearer answer old new
+
+-- what a scanner stood for it stands for, as far as it has read
+pub record ReadsOn (old new : Scanner) : Type 0 where
+  pub holds : (bytes : List ℕ) (steps : List Step) → Holds old bytes steps → Holds new bytes steps
+  pub fed_same : fed new ≡ fed old
+  pub ended_same : has_ended new ≡ has_ended old
+  pub failed_same : has_failed new ≡ has_failed old
+  pub content_same : content new ≡ content old
+  pub fewer : most_steps new ≤ most_steps old
+
+-- a number goes on over these bytes from one part to another
+abbrev pub PartsGo : Part → List ℕ → Part → Type 0
+PartsGo part [] to = to ≡ part
+PartsGo part (b ∷ bytes) to = OnPart (part_after part (kind_of b)) (λ next. PartsGo next bytes to)

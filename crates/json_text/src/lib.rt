@@ -4,15 +4,15 @@
 mod answer;
 mod bytes;
 mod content;
+mod entries;
 mod machine;
 mod mode;
 mod quoted;
 mod reading;
+mod runs;
 mod scanner;
 mod step;
-#[cfg(test)]
-mod tests;
 
-pub use reading::one_reading;
+pub use reading::{few_steps, fixed_steps, lasting_faults, one_reading};
 pub use scanner::Scanner;
 pub use step::JsonStep;

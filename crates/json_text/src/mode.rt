@@ -50,8 +50,8 @@ pub enum Part {
     Exponent,
 }
 
-/// What is still to come of a character of several bytes: so many bytes, or those behind a first byte that
-/// restricts the second.
+/// What is still to come of a character of several bytes: so many bytes, or those behind a first
+/// byte that restricts the second.
 #[derive(Clone, Copy)]
 pub enum Tail {
     One,
@@ -98,8 +98,8 @@ pub enum Role {
     Value,
 }
 
-/// Where between quotation marks a scanner stands, with the first half of a pair of surrogates that waits for
-/// the second.
+/// Where between quotation marks a scanner stands, with the first half of a pair of surrogates
+/// that waits for the second.
 #[derive(Clone, Copy)]
 pub enum Place {
     Chars(Option<u16>),

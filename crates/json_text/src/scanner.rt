@@ -8,6 +8,8 @@ use crate::mode::{Ending, Taken};
 use crate::step::JsonStep;
 use std::alloc::{AllocError, Global};
 
+mod advance;
+
 /// A reader of one JSON text, whose pieces are fed to it and whose steps it gives.
 #[derive(Drop)]
 pub struct Scanner {
@@ -24,7 +26,7 @@ pub struct Scanner {
 impl Scanner {
     ghost use Rattle.std.specs.Prelude.{◌≡◌, ◌∷◌, ◌++◌, [], ℕ, List, Bool, true, false, length, OnOk, OnErr, IfOk, IsErr, IsNone};
     ghost use Rattle.json_text.specs.Marks.{Step};
-    ghost use Rattle.json_text.specs.Reading.{Reads, Verdict};
+    ghost use Rattle.json_text.specs.Reading.{Reads, Verdict, BadAt};
     ghost use Rattle.json_text.specs.Tokens.{KeepsContent, KeepsFound};
     ghost use Rattle.json_text.specs.Scanner.{Stands, Holds, Answers, IsVerdict, IsNearer, fed, has_ended, has_failed};
     ghost use Rattle.json_text.specs.Scanner as scanner;
@@ -89,8 +91,8 @@ impl Scanner {
         }
     }
 
-    /// Takes the next piece of the text. Fewer than 2^63 bytes may come in all, and none behind the end. Where
-    /// memory is wanting, every later call says so too.
+    /// Takes the next piece of the text. Fewer than 2^63 bytes may come in all, and none behind
+    /// the end. Where memory is wanting, every later call says so too.
     pub fn feed(&mut self, piece: &[u8]) -> Result<(), AllocError>
         requires open { has_ended self.old ≡ false }
         requires few { fed self.old + length piece.now < 2 ^ 63 }
@@ -185,24 +187,33 @@ impl Scanner {
         ensures err { OnErr result (scanner.content self.new ≡ scanner.content self.old) }
     {
         'symbols: while self.read < self.input.len() {
-            if let Some(answer) = self.step()? {
-                return Ok(answer);
+            self.advance()?;
+            if self.read < self.input.len() {
+                if let Some(answer) = self.step()? {
+                    return Ok(answer);
+                }
             }
         }
         Ok(self.last())
     }
 
-    /// The next fixed step of the text, or the verdict where there is none. Where memory is wanting, every later
-    /// call says so too.
+    /// The next fixed step of the text, or the verdict where there is none. Where memory is
+    /// wanting, every later call says so too.
     pub fn next(&mut self) -> Result<JsonStep, AllocError>
         // Either the next step, which is fixed, or the verdict behind all fixed steps.
         ensures value { (bytes : List ℕ) (ended : Bool) (steps : List Step) →
             Stands self.old bytes ended steps →
             IfOk result (λ answer. Answers answer self.new bytes ended steps) }
-        // Once all fixed steps were given, the verdict and nothing else, at this call and at each later one.
+        // Once all fixed steps were given, the verdict and nothing else, at this call and at each
+        // later one.
         ensures exact { (bytes : List ℕ) (ended : Bool) (steps : List Step) (verdict : Verdict) →
             Stands self.old bytes ended steps → Reads bytes ended steps verdict →
             IfOk result (λ answer. IsVerdict answer verdict) }
+        // What is bad stays bad at the same byte for ever, also where more was fed since, or the
+        // end was said.
+        ensures stays { (bytes more : List ℕ) (ended : Bool) (steps : List Step) (at : ℕ) →
+            Stands self.old (bytes ++ more) ended steps → Reads bytes false steps (BadAt at) →
+            IfOk result (λ answer. IsVerdict answer (BadAt at)) }
 
         // So the steps that come before more is fed are few, and a loop over them ends.
         ensures nearer { IfOk result (λ answer. IsNearer answer self.old self.new) }

@@ -1,7 +1,7 @@
 //! What a scanner tells of a text.
 
-/// One step of a JSON text, or what there is to say where no step is fixed. The content of a `Key`, a `Text`
-/// and a `Number` is what `Scanner::text` gives.
+/// One step of a JSON text, or what there is to say where no step is fixed. The content of a
+/// `Key`, a `Text` and a `Number` is what `Scanner::text` gives.
 #[derive(Clone, Copy, PartialEq, Eq, Debug)]
 pub enum JsonStep {
     /// An object begins.

@@ -1,6 +1,6 @@
 -- The scanner keeps all but that the end was said.
 use Rattle.std.proofs.Common.{refl}
-use Rattle.json_text.proofs.ScannerLemmas.{end_holds}
+use Rattle.json_text.proofs.HoldLemmas.{end_holds}
 use Rattle.json_text.proofs.scanner.Scanner.end.Goals as goal
 
 pub returns-clause-value : goal.returns-clause-value

@@ -1,7 +1,7 @@
 -- What was pending is pending, and then the piece.
 use Rattle.std.proofs.Common.{refl, ap, ◌∙◌, ◌++◌, arith, drop}
 use Rattle.std.proofs.lemmas.List.{drop-append-le}
-use Rattle.json_text.proofs.ScannerLemmas.{feed_holds}
+use Rattle.json_text.proofs.HoldLemmas.{feed_holds}
 use Rattle.json_text.proofs.scanner.Scanner.feed.Goals as goal
 
 pub returns-clause-value : goal.returns-clause-value

@@ -1,6 +1,6 @@
 -- Nothing is pending, and the machine is before any symbol.
 use Rattle.std.proofs.Common.{ap, drop, refl, arith}
-use Rattle.json_text.proofs.ScannerLemmas.{new_holds}
+use Rattle.json_text.proofs.HoldLemmas.{new_holds}
 use Rattle.json_text.proofs.scanner.Scanner.new.Goals as goal
 
 pub returns-clause-value : goal.returns-clause-value

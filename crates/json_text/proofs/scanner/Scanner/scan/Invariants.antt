@@ -1,6 +1,6 @@
 -- The scanner reads on; each byte is read once.
 use Rattle.std.proofs.Common.{vec_len, ◌-◌}
-use Rattle.json_text.proofs.ScannerLemmas.{ReadsOn}
+use Rattle.json_text.specs.Told.{ReadsOn}
 use Rattle.json_text.proofs.scanner.Scanner.scan.Given as goal
 
 abbrev pub invariant-symbols : goal.invariant-symbols

@@ -1,0 +1,255 @@
+-- What runs of bytes do that are read without a step.
+use Rattle.std.proofs.Common.{eqb, ◌≡◌, ◌≤◌, ◌<◌, ◌+◌, ◌-◌, ℕ, zero, suc, Bool, true, false, cond, List, [], ◌∷◌, ◌++◌, length, take, drop, get_or, vec_len, refl, sym, ◌∙◌, ap, subst, append_assoc, arith, Option, Some, None, if◌then◌else◌, reverse}
+use Rattle.std.proofs.lemmas.List.{take-append-drop, get_or-drop, length-drop}
+use Rattle.json_text.specs.declared.mode.Bracket.{Bracket}
+use Rattle.json_text.specs.declared.mode.Kind.TheVariants as kind_
+use Rattle.json_text.specs.declared.mode.Part.{Part}
+use Rattle.json_text.specs.declared.mode.Part.TheVariants as part_
+use Rattle.json_text.specs.declared.mode.Lead.{Lead}
+use Rattle.json_text.specs.declared.mode.Lead.TheVariants as lead_
+use Rattle.json_text.specs.declared.mode.Role.{Role}
+use Rattle.json_text.specs.declared.mode.Place.{Place}
+use Rattle.json_text.specs.declared.mode.Place.TheVariants as place_
+use Rattle.json_text.specs.declared.mode.Mode.{Mode}
+use Rattle.json_text.specs.declared.mode.Mode.TheVariants as mode_
+use Rattle.json_text.specs.declared.scanner.Scanner.{Scanner}
+use Rattle.json_text.specs.Marks.{Symbol, Byte, End, Step, Mark, Seen, symbols_of, steps_of, symbols, see, Begins}
+use Rattle.json_text.specs.Bytes.{AreAll, is_space, is_plain, is_within, kind_of, lead_of}
+use Rattle.json_text.specs.Rest.{IsFrontOf, first_of, part_after, takes_digits, OnPart}
+use Rattle.json_text.specs.Machine.{Move, Reads, Stuck, move_by, byte_move, start_of, start_move, first_move, after_move, name_move, number_move, lead_move}
+use Rattle.json_text.specs.Taking.{room_of, opens_of, MaySpace}
+use Rattle.json_text.specs.Scanner.{fed, pending, symbols_left, Holds, is_number, most_steps}
+use Rattle.json_text.specs.Told.{PartsGo, ReadsOn}
+use Rattle.std.proofs.lemmas.Bool.Decides.{nat_tests}
+use Rattle.json_text.proofs.Lists.{append_nil, symbols_append, steps_append, bytes_append, begins, begins_self}
+use Rattle.json_text.proofs.Fronts.{reads_on}
+use Rattle.json_text.proofs.HoldLemmas.{widen}
+use Rattle.json_text.proofs.ScannerLemmas.{same_holds}
+
+-- one more byte that passes
+pub all_more : (p : ℕ → Bool) (n : ℕ) (bytes : List ℕ) → AreAll p (take n bytes) → n < length bytes → p (get_or bytes n 0) ≡ true → AreAll p (take (suc n) bytes)
+all_more p n [] a l h = absurd (omega arith)
+all_more p zero (b ∷ bytes) a l h = (h, tt)
+all_more p (suc n) (b ∷ bytes) a l h = (a.0, all_more p n bytes a.1 (omega arith) h)
+
+-- what follows of a part follows where it is there
+on_part : (o : Option Part) (p q : Part → Type 0) → OnPart o p → ((z : Part) → p z → q z) → OnPart o q
+on_part None p q k f = k
+on_part (Some z) p q k f = f z k
+
+-- a number goes on over one more byte
+pub parts_more : (part : Part) (n : ℕ) (bytes : List ℕ) (last next : Part) → PartsGo part (take n bytes) last → n < length bytes
+    → part_after last (kind_of (get_or bytes n 0)) ≡ Some next → PartsGo part (take (suc n) bytes) next
+parts_more part n [] last next g l h = absurd (omega arith)
+parts_more part zero (b ∷ bytes) last next g l h = subst (λ o. OnPart o (λ z. next ≡ z)) (sym (ap (λ z. part_after z (kind_of b)) (sym g) ∙ h)) refl
+parts_more part (suc n) (b ∷ bytes) last next g l h =
+    on_part (part_after part (kind_of b)) (λ z. PartsGo z (take n bytes) last) (λ z. PartsGo z (take (suc n) bytes) next) g
+    (λ z k. parts_more z n bytes last next k (omega arith) h)
+
+-- the moves by a run of bytes only read, and lead to a mode and a content
+abbrev pub Runs : Mode → ℕ → List Bracket → List ℕ → List ℕ → Mode → List ℕ → Type 0
+Runs mode room opens content [] to after = (to ≡ mode) × (after ≡ content)
+Runs mode room opens content (b ∷ run) to after =
+    (next : Mode) × (longer : List ℕ) × (byte_move mode room opens content b ≡ Reads next room opens longer) × Runs next room opens longer run to after
+
+-- white space leaves the place
+space_move : (mode : Mode) (room : ℕ) (opens : List Bracket) (content : List ℕ) (b : ℕ) → MaySpace mode → is_space b ≡ true
+    → byte_move mode room opens content b ≡ Reads mode room opens content
+space_move mode_.Value room opens content b m e = ap (λ t. cond t (Reads mode_.Value room opens content) (start_move (start_of b) room opens content b)) e
+space_move mode_.First room opens content b m e = ap (λ t. cond t (Reads mode_.First room opens content) (first_move room opens content b)) e
+space_move mode_.After room opens content b m e = ap (λ t. cond t (Reads mode_.After room opens content) (after_move room opens content b)) e
+space_move mode_.Name room opens content b m e = ap (λ t. cond t (Reads mode_.Name room opens content) (name_move room opens content b)) e
+space_move mode_.Colon room opens content b m e = ap (λ t. cond t (Reads mode_.Colon room opens content) (cond (eqb b 58) (Reads mode_.Value room opens content) Stuck)) e
+space_move (mode_.Word letters) room opens content b m e = absurd m
+space_move (mode_.Number part) room opens content b m e = absurd m
+space_move (mode_.Text role place) room opens content b m e = absurd m
+
+-- so does a run of it
+pub space_run : (mode : Mode) (room : ℕ) (opens : List Bracket) (content run : List ℕ) → MaySpace mode → AreAll is_space run → Runs mode room opens content run mode content
+space_run mode room opens content [] m a = (refl, refl)
+space_run mode room opens content (b ∷ run) m a = (mode, content, space_move mode room opens content b m a.0, space_run mode room opens content run m a.1)
+
+-- a plain byte is a character alone
+plain_lead : (b : ℕ) → is_plain b ≡ true → lead_of b ≡ lead_.Whole
+plain_lead b e = grind (arith, nat_tests)
+
+-- plain bytes are content
+pub plain_run : (role : Role) (room : ℕ) (opens : List Bracket) (content run : List ℕ) → AreAll is_plain run
+    → Runs (mode_.Text role (place_.Chars None)) room opens content run (mode_.Text role (place_.Chars None)) (content ++ run)
+plain_run role room opens content [] a = (refl, append_nil content)
+plain_run role room opens content (b ∷ run) a = (
+  mode_.Text role (place_.Chars None),
+  (content ++ []) ++ (b ∷ []),
+  ap (λ l. lead_move role None l room opens content b) (plain_lead b a.0),
+  subst (λ z. Runs (mode_.Text role (place_.Chars None)) room opens ((content ++ []) ++ (b ∷ [])) run (mode_.Text role (place_.Chars None)) z)
+      (append_assoc (content ++ []) (b ∷ []) run ∙ ap (λ z. z ++ (b ∷ run)) (append_nil content))
+      (plain_run role room opens ((content ++ []) ++ (b ∷ [])) run a.1),
+)
+
+-- so are the bytes of a number
+pub number_run : (part : Part) (room : ℕ) (opens : List Bracket) (content run : List ℕ) (to : Part) → PartsGo part run to
+    → Runs (mode_.Number part) room opens content run (mode_.Number to) (content ++ run)
+number_run part room opens content [] to g = (ap mode_.Number g, append_nil content)
+number_run part room opens content (b ∷ run) to g =
+    on (part_after part (kind_of b)) refl g (λ z k. number_run z room opens (content ++ (b ∷ [])) run to k)
+  where
+    on : (o : Option Part) → part_after part (kind_of b) ≡ o → OnPart o (λ z. PartsGo z run to)
+        → ((z : Part) → PartsGo z run to → Runs (mode_.Number z) room opens (content ++ (b ∷ [])) run (mode_.Number to) ((content ++ (b ∷ [])) ++ run))
+        → Runs (mode_.Number part) room opens content (b ∷ run) (mode_.Number to) (content ++ (b ∷ run))
+    on None e k goes = absurd k
+    on (Some next) e k goes = (
+      mode_.Number next,
+      content ++ (b ∷ []),
+      ap (λ o. number_move part o room opens content b) e,
+      subst (λ z. Runs (mode_.Number next) room opens (content ++ (b ∷ [])) run (mode_.Number to) z) (append_assoc content (b ∷ []) run) (goes next k),
+    )
+
+-- a front grows over a run
+run_front : {front : List Mark} {next : List Symbol} {mode : Mode} {room : ℕ} {opens : List Bracket} {content : List ℕ} (b : ℕ) (run : List ℕ) (to : Mode) (after : List ℕ)
+    → IsFrontOf front next mode room opens content → Begins next (Byte b ∷ []) → Runs mode room opens content (b ∷ run) to after
+    → IsFrontOf (front ++ see (b ∷ run) []) [] to room opens after
+run_front {front} {next} {mode} {room} {opens} {content} b [] to after f n (m, c, e, (same, kept)) =
+    subst (λ z. IsFrontOf (front ++ (Seen (Byte b) ∷ [])) [] z room opens after) (sym same)
+    (subst (λ z. IsFrontOf (front ++ (Seen (Byte b) ∷ [])) [] m room opens z) (sym kept) (reads_on f (Byte b) n m room opens c e))
+run_front {front} {next} {mode} {room} {opens} {content} b (d ∷ run) to after f n (m, c, e, more) =
+    subst (λ z. IsFrontOf z [] to room opens after) (append_assoc front (Seen (Byte b) ∷ []) (see (d ∷ run) []))
+    (run_front d run to after (reads_on f (Byte b) n m room opens c e) (begins (Byte d ∷ []) refl) more)
+
+-- the symbols of a run
+symbols_see : (run : List ℕ) → symbols_of (see run []) ≡ symbols run
+symbols_see [] = refl
+symbols_see (b ∷ run) = ap (λ z. Byte b ∷ z) (symbols_see run)
+
+-- it has no steps
+steps_see : (run : List ℕ) → steps_of (see run []) ≡ []
+steps_see [] = refl
+steps_see (b ∷ run) = steps_see run
+
+-- of nothing, nothing is taken and nothing left
+nothing : (a k : ℕ) → ◌≡◌ {A = List ℕ} [] (take a [] ++ drop k [])
+nothing zero zero = refl
+nothing zero (suc k) = refl
+nothing (suc a) zero = refl
+nothing (suc a) (suc k) = refl
+
+-- what is pending is a run and what is pending then
+pub run_pending : (items : List ℕ) (i n : ℕ) → i ≤ n → drop i items ≡ take (n - i) (drop i items) ++ drop n items
+run_pending items zero n h = let e : n - 0 ≡ n = omega arith in sym (ap (λ k. take k items ++ drop n items) e ∙ take-append-drop n items)
+run_pending [] (suc i) n h = nothing (n - suc i) n
+run_pending (b ∷ items) (suc i) zero h = absurd (omega arith)
+run_pending (b ∷ items) (suc i) (suc n) h =
+    let e : suc n - suc i ≡ n - i = omega arith in
+    run_pending items i n (omega arith) ∙ ap (λ k. take k (drop i items) ++ drop n items) (sym e)
+
+-- a run is read
+pub run_holds : (old new : Scanner) (run : List ℕ) → Runs old.machine.mode (room_of old.machine) (opens_of old.machine) old.machine.content.items run new.machine.mode new.machine.content.items
+    → new.machine.opens.items ≡ old.machine.opens.items → pending old ≡ run ++ pending new → fed new ≡ fed old → new.ended ≡ old.ended
+    → (bytes : List ℕ) (steps : List Step) → Holds old bytes steps → Holds new bytes steps
+run_holds old new [] (m, c) o p n e bytes steps h = same_holds old new bytes steps h (sym p) n e (record { mode = m; opens = o; content = c })
+run_holds old new (b ∷ run) r o p n e bytes steps h = record {
+  front = h.front ++ see (b ∷ run) [];
+  given = steps_append h.front (see (b ∷ run) []) ∙ ap (λ z. steps_of h.front ++ z) (steps_see (b ∷ run)) ∙ append_nil (steps_of h.front) ∙ h.given;
+  split = h.split ∙ ap (λ z. symbols_of h.front ++ symbols z) p ∙ ap (λ z. symbols_of h.front ++ z) (bytes_append (b ∷ run) (pending new))
+      ∙ sym (append_assoc (symbols_of h.front) (symbols (b ∷ run)) (symbols (pending new)))
+      ∙ ap (λ z. z ++ symbols (pending new)) (sym (symbols_append h.front (see (b ∷ run) []) ∙ ap (λ z. symbols_of h.front ++ z) (symbols_see (b ∷ run))));
+  count = h.count ∙ sym n;
+  is_front = widen (first_of (symbols_left new)) placed (begins (first_of (symbols_left new)) refl);
+}
+  where
+    next_is : Begins (first_of (symbols_left old)) (Byte b ∷ [])
+    next_is = begins [] (ap (λ ps. first_of (symbols ps ++ (if old.ended then End ∷ [] else []))) (sym p) ∙ sym (append_nil (first_of (symbols_left old))))
+
+    placed : IsFrontOf (h.front ++ see (b ∷ run) []) [] new.machine.mode (room_of new.machine) (opens_of new.machine) new.machine.content.items
+    placed =
+        subst (λ x. IsFrontOf (h.front ++ see (b ∷ run) []) [] new.machine.mode (64 - length x) (reverse x) new.machine.content.items) (sym o)
+        (run_front b run new.machine.mode new.machine.content.items h.is_front next_is r)
+
+-- one more byte of a list that passes, behind a place
+pub all_at : (p : ℕ → Bool) (from at : ℕ) (bytes : List ℕ) → from ≤ at → at < length bytes → AreAll p (take (at - from) (drop from bytes))
+    → p (get_or bytes at 0) ≡ true → AreAll p (take (at + 1 - from) (drop from bytes))
+all_at p from at bytes f l a h =
+    let longer : suc (at - from) ≡ at + 1 - from = omega arith in
+    let place : from + (at - from) ≡ at = omega arith in
+    let inside : at - from < length (drop from bytes) = omega (arith, length-drop from bytes) in
+    subst (λ k. AreAll p (take k (drop from bytes))) longer
+    (all_more p (at - from) (drop from bytes) a inside (ap p (get_or-drop from bytes (at - from) 0 ∙ ap (λ k. get_or bytes k 0) place) ∙ h))
+
+-- one more byte of a number, behind a place
+pub parts_at : (part last next : Part) (from at : ℕ) (bytes : List ℕ) → from ≤ at → at < length bytes → PartsGo part (take (at - from) (drop from bytes)) last
+    → part_after last (kind_of (get_or bytes at 0)) ≡ Some next → PartsGo part (take (at + 1 - from) (drop from bytes)) next
+parts_at part last next from at bytes f l g h =
+    let longer : suc (at - from) ≡ at + 1 - from = omega arith in
+    let place : from + (at - from) ≡ at = omega arith in
+    let inside : at - from < length (drop from bytes) = omega (arith, length-drop from bytes) in
+    subst (λ k. PartsGo part (take k (drop from bytes)) next) longer
+    (parts_more part (at - from) (drop from bytes) last next g inside
+    (ap (λ b. part_after last (kind_of b)) (get_or-drop from bytes (at - from) 0 ∙ ap (λ k. get_or bytes k 0) place) ∙ h))
+
+-- a scanner has gone on in what it keeps, and left all but the place and the content that is read
+pub record Onward (old new : Scanner) : Type 0 where
+  pub input : new.input ≡ old.input
+  pub before : new.before ≡ old.before
+  pub ended : new.ended ≡ old.ended
+  pub failed : new.failed ≡ old.failed
+  pub opens : new.machine.opens.items ≡ old.machine.opens.items
+  pub text : new.machine.text.items ≡ old.machine.text.items
+  pub onward : old.read ≤ new.read
+  pub within : new.read ≤ vec_len old.input
+  pub fewer : is_number new.machine.mode + old.read ≤ is_number old.machine.mode + new.read
+
+-- the bytes that it read
+abbrev pub run_of : Scanner → Scanner → List ℕ
+run_of old new = take (new.read - old.read) (drop old.read old.input.items)
+
+-- so it stands for what it stood for, if the moves by these bytes only read
+pub reads_run : (old new : Scanner) → Onward old new
+    → Runs old.machine.mode (room_of old.machine) (opens_of old.machine) old.machine.content.items (run_of old new) new.machine.mode new.machine.content.items → ReadsOn old new
+reads_run old new o r = record {
+  holds = run_holds old new (run_of old new) r o.opens pends count o.ended;
+  fed_same = count;
+  ended_same = o.ended;
+  failed_same = o.failed;
+  content_same = o.text;
+  fewer = few;
+}
+  where
+    pends : pending old ≡ run_of old new ++ pending new
+    pends = run_pending old.input.items old.read new.read o.onward ∙ ap (λ i. run_of old new ++ drop new.read i.items) (sym o.input)
+
+    count : fed new ≡ fed old
+    count = ap (λ i. new.before + vec_len i) o.input ∙ ap (λ k. k + vec_len old.input) o.before
+
+    same : vec_len new.input ≡ vec_len old.input
+    same = ap (λ i. vec_len i) o.input
+
+    few : most_steps new ≤ most_steps old
+    few = omega (arith, same, o.onward, o.within, o.fewer)
+
+-- white space was read
+pub spaces_on : (old new : Scanner) → Onward old new → MaySpace old.machine.mode → new.machine.mode ≡ old.machine.mode → new.machine.content.items ≡ old.machine.content.items
+    → AreAll is_space (run_of old new) → ReadsOn old new
+spaces_on old new o m e c a =
+    reads_run old new o
+    (subst (λ z. Runs old.machine.mode (room_of old.machine) (opens_of old.machine) old.machine.content.items (run_of old new) z new.machine.content.items) (sym e)
+    (subst (λ z. Runs old.machine.mode (room_of old.machine) (opens_of old.machine) old.machine.content.items (run_of old new) old.machine.mode z) (sym c)
+    (space_run old.machine.mode (room_of old.machine) (opens_of old.machine) old.machine.content.items (run_of old new) m a)))
+
+-- plain bytes were read
+pub plain_on : (old new : Scanner) (role : Role) → Onward old new → old.machine.mode ≡ mode_.Text role (place_.Chars None) → new.machine.mode ≡ old.machine.mode
+    → new.machine.content.items ≡ old.machine.content.items ++ run_of old new → AreAll is_plain (run_of old new) → ReadsOn old new
+plain_on old new role o m e c a =
+    reads_run old new o
+    (subst (λ z. Runs z (room_of old.machine) (opens_of old.machine) old.machine.content.items (run_of old new) new.machine.mode new.machine.content.items) (sym m)
+    (subst (λ z. Runs (mode_.Text role (place_.Chars None)) (room_of old.machine) (opens_of old.machine) old.machine.content.items (run_of old new) z new.machine.content.items) (sym (e ∙ m))
+    (subst (λ z. Runs (mode_.Text role (place_.Chars None)) (room_of old.machine) (opens_of old.machine) old.machine.content.items (run_of old new) (mode_.Text role (place_.Chars None)) z) (sym c)
+    (plain_run role (room_of old.machine) (opens_of old.machine) old.machine.content.items (run_of old new) a))))
+
+-- bytes of a number were read
+pub number_on : (old new : Scanner) (part last : Part) → Onward old new → old.machine.mode ≡ mode_.Number part → new.machine.mode ≡ mode_.Number last
+    → new.machine.content.items ≡ old.machine.content.items ++ run_of old new → PartsGo part (run_of old new) last → ReadsOn old new
+number_on old new part last o m e c g =
+    reads_run old new o
+    (subst (λ z. Runs z (room_of old.machine) (opens_of old.machine) old.machine.content.items (run_of old new) new.machine.mode new.machine.content.items) (sym m)
+    (subst (λ z. Runs (mode_.Number part) (room_of old.machine) (opens_of old.machine) old.machine.content.items (run_of old new) z new.machine.content.items) (sym e)
+    (subst (λ z. Runs (mode_.Number part) (room_of old.machine) (opens_of old.machine) old.machine.content.items (run_of old new) (mode_.Number last) z) (sym c)
+    (number_run part (room_of old.machine) (opens_of old.machine) old.machine.content.items (run_of old new) last g))))

@@ -1,0 +1,10 @@
+-- Each byte so far passes.
+use Rattle.std.proofs.Common.{length, ◌-◌, ◌≤◌, take, drop}
+use Rattle.json_text.specs.Bytes.{AreAll, is_space}
+use Rattle.json_text.proofs.runs.spaces_end.Given as goal
+
+abbrev pub invariant-run : goal.invariant-run
+invariant-run l = (l.from ≤ l.at) × (l.at ≤ length l.bytes) × AreAll is_space (take (l.at - l.from) (drop l.from l.bytes))
+
+abbrev pub decreases-run : goal.decreases-run
+decreases-run l = length l.bytes - l.at

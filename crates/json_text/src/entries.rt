@@ -1,0 +1,188 @@
+//! How a symbol that begins or ends a value or an entry changes what a scanner keeps.
+
+use crate::bytes::{closing, entry_mode, start_of};
+use crate::machine::Machine;
+use crate::mode::{Bracket, Mode, Part, Place, Role, Start, Taken, Token};
+use std::alloc::AllocError;
+
+impl Machine {
+    ghost use Rattle.std.specs.Prelude.{◌≡◌, ◌∷◌, [], ◌==◌, suc, cond, IfOk, OnErr, Option, Some, None};
+    ghost use Rattle.json_text.specs.declared.mode.Mode.TheVariants as mode_;
+    ghost use Rattle.json_text.specs.Bytes as bytes_;
+    ghost use Rattle.json_text.specs.Rest as rest;
+    ghost use Rattle.json_text.specs.Machine as machine;
+    ghost use Rattle.json_text.specs.declared.mode.Place.TheVariants as place_;
+    ghost use Rattle.json_text.specs.Marks.{Step, Byte, End};
+    ghost use Rattle.json_text.specs.Machine.{start_move, open_move, move_by, Reads, Gives, Stuck};
+    ghost use Rattle.json_text.specs.Taking.{room_of, opens_of, top_of, rest_of, move_of, KeepsText, Stays, MaySpace, end_move_of, EndStays};
+
+    /// Opens a bracket where there is room.
+    fn open(&mut self, bracket: Bracket) -> Result<Taken, AllocError>
+        ensures moves { IfOk result (λ taken.
+            move_of taken self.new ≡ open_move bracket (room_of self.old)
+            (opens_of self.old) self.old.content.items) }
+        ensures kept { IfOk result (λ taken. KeepsText taken self.old self.new) }
+        ensures stays { IfOk result (λ taken. Stays taken self.old self.new) }
+        ensures err { OnErr result (self.new.text.items ≡ self.old.text.items) }
+    {
+        if self.opens.len() >= 64 {
+            return Ok(Taken::Stuck);
+        }
+        self.opens.push(bracket)?;
+        self.mode = Mode::First;
+        Ok(Taken::Given(Token::Open(bracket)))
+    }
+
+    /// Begins a text between quotation marks.
+    fn quote(&mut self, role: Role) -> Result<Taken, AllocError>
+        ensures moves { IfOk result (λ taken.
+            move_of taken self.new ≡ Reads (mode_.Text role (place_.Chars None)) (room_of self.old)
+            (opens_of self.old) []) }
+        ensures kept { IfOk result (λ taken. KeepsText taken self.old self.new) }
+        ensures stays { IfOk result (λ taken. Stays taken self.old self.new) }
+        ensures err { OnErr result (self.new.text.items ≡ self.old.text.items) }
+    {
+        self.content.clear();
+        self.mode = Mode::Text(role, Place::Chars(None));
+        Ok(Taken::Read)
+    }
+
+    /// Begins a number.
+    fn digit(&mut self, part: Part, b: u8) -> Result<Taken, AllocError>
+        ensures moves { IfOk result (λ taken.
+            move_of taken self.new ≡ Reads (mode_.Number part) (room_of self.old)
+            (opens_of self.old) (b ∷ [])) }
+        ensures kept { IfOk result (λ taken. KeepsText taken self.old self.new) }
+        ensures stays { IfOk result (λ taken. Stays taken self.old self.new) }
+        ensures err { OnErr result (self.new.text.items ≡ self.old.text.items) }
+    {
+        self.content.clear();
+        self.content.push(b)?;
+        self.mode = Mode::Number(part);
+        Ok(Taken::Read)
+    }
+
+    /// Begins a value.
+    pub fn start(&mut self, b: u8) -> Result<Taken, AllocError>
+        ensures moves { IfOk result (λ taken.
+            move_of taken self.new ≡ start_move (machine.start_of b) (room_of self.old)
+            (opens_of self.old) self.old.content.items b) }
+        ensures kept { IfOk result (λ taken. KeepsText taken self.old self.new) }
+        ensures stays { IfOk result (λ taken. Stays taken self.old self.new) }
+        ensures err { OnErr result (self.new.text.items ≡ self.old.text.items) }
+    {
+        match start_of(b) {
+            Start::Quote => self.quote(Role::Value),
+            Start::Open(bracket) => self.open(bracket),
+            Start::Word(letters) => {
+                self.mode = Mode::Word(letters);
+                Ok(Taken::Read)
+            }
+            Start::Number(part) => self.digit(part, b),
+            Start::Nothing => Ok(Taken::Stuck),
+        }
+    }
+
+    /// Begins the name of a member.
+    pub fn name(&mut self, b: u8) -> Result<Taken, AllocError>
+        ensures moves { IfOk result (λ taken.
+            move_of taken self.new ≡ machine.name_move (room_of self.old)
+            (opens_of self.old) self.old.content.items b) }
+        ensures kept { IfOk result (λ taken. KeepsText taken self.old self.new) }
+        ensures stays { IfOk result (λ taken. Stays taken self.old self.new) }
+        ensures err { OnErr result (self.new.text.items ≡ self.old.text.items) }
+    {
+        if b == 34 {
+            self.quote(Role::Name)
+        } else {
+            Ok(Taken::Stuck)
+        }
+    }
+
+    /// The innermost bracket that is open.
+    fn top(&self) -> Option<Bracket>
+        ensures value { result ≡ top_of (opens_of self.now) }
+    {
+        let n = self.opens.len();
+        if n == 0 {
+            None
+        } else {
+            Some(self.opens[n - 1])
+        }
+    }
+
+    /// Closes the innermost bracket.
+    fn close(&mut self, bracket: Bracket) -> Result<Taken, AllocError>
+        requires open { top_of (opens_of self.old) ≡ Some bracket }
+        ensures moves { IfOk result (λ taken.
+            move_of taken self.new ≡ Gives (Step.Closes bracket) mode_.After
+            (suc (room_of self.old)) (rest_of (opens_of self.old)) self.old.content.items) }
+        ensures kept { IfOk result (λ taken. KeepsText taken self.old self.new) }
+        ensures stays { IfOk result (λ taken. Stays taken self.old self.new) }
+        ensures err { OnErr result (self.new.text.items ≡ self.old.text.items) }
+    {
+        let _ = self.opens.pop();
+        self.mode = Mode::After;
+        Ok(Taken::Given(Token::Close(bracket)))
+    }
+
+    /// Begins an entry.
+    fn entry(&mut self, bracket: Bracket, b: u8) -> Result<Taken, AllocError>
+        ensures moves { IfOk result (λ taken.
+            move_of taken self.new ≡ machine.entry_move bracket (room_of self.old)
+            (opens_of self.old) self.old.content.items b) }
+        ensures kept { IfOk result (λ taken. KeepsText taken self.old self.new) }
+        ensures stays { IfOk result (λ taken. Stays taken self.old self.new) }
+        ensures err { OnErr result (self.new.text.items ≡ self.old.text.items) }
+    {
+        match bracket {
+            Bracket::Square => self.start(b),
+            Bracket::Curly => self.name(b),
+        }
+    }
+
+    /// Behind a bracket that opened.
+    pub fn first(&mut self, b: u8) -> Result<Taken, AllocError>
+        ensures moves { IfOk result (λ taken.
+            move_of taken self.new ≡ machine.first_move (room_of self.old)
+            (opens_of self.old) self.old.content.items b) }
+        ensures kept { IfOk result (λ taken. KeepsText taken self.old self.new) }
+        ensures stays { IfOk result (λ taken. Stays taken self.old self.new) }
+        ensures err { OnErr result (self.new.text.items ≡ self.old.text.items) }
+    {
+        match self.top() {
+            Some(bracket) => {
+                if b == closing(bracket) {
+                    self.close(bracket)
+                } else {
+                    self.entry(bracket, b)
+                }
+            }
+            None => self.start(b),
+        }
+    }
+
+    /// Behind a value.
+    pub fn after(&mut self, b: u8) -> Result<Taken, AllocError>
+        ensures moves { IfOk result (λ taken.
+            move_of taken self.new ≡ machine.after_move (room_of self.old)
+            (opens_of self.old) self.old.content.items b) }
+        ensures kept { IfOk result (λ taken. KeepsText taken self.old self.new) }
+        ensures stays { IfOk result (λ taken. Stays taken self.old self.new) }
+        ensures err { OnErr result (self.new.text.items ≡ self.old.text.items) }
+    {
+        match self.top() {
+            Some(bracket) => {
+                if b == closing(bracket) {
+                    self.close(bracket)
+                } else if b == 44 {
+                    self.mode = entry_mode(bracket);
+                    Ok(Taken::Read)
+                } else {
+                    Ok(Taken::Stuck)
+                }
+            }
+            None => Ok(Taken::Stuck),
+        }
+    }
+}
