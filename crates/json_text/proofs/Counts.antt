@@ -27,7 +27,7 @@ ends_small [] = omega arith
 ends_small (mark ∷ rest) = omega arith
 
 -- a mode is one number at most
-is_small : (mode : Mode) → is_number mode ≤ 1
+pub is_small : (mode : Mode) → is_number mode ≤ 1
 is_small mode_.Value = omega arith
 is_small mode_.First = omega arith
 is_small mode_.After = omega arith

@@ -17,5 +17,6 @@ pub mod Counts
 pub mod HoldLemmas
 pub mod ScannerLemmas
 pub mod RunLemmas
+pub mod BeginLemmas
 pub mod AnswerLemmas
 pub mod CallerLemmas

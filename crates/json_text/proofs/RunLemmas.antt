@@ -1,27 +1,23 @@
 -- What runs of bytes do that are read without a step.
-use Rattle.std.proofs.Common.{eqb, ◌≡◌, ◌≤◌, ◌<◌, ◌+◌, ◌-◌, ℕ, zero, suc, Bool, true, false, cond, List, [], ◌∷◌, ◌++◌, length, take, drop, get_or, vec_len, refl, sym, ◌∙◌, ap, subst, append_assoc, arith, Option, Some, None, if◌then◌else◌, reverse}
+use Rattle.std.proofs.Common.{eqb, ◌≡◌, ◌≤◌, ◌<◌, ◌+◌, ◌-◌, ℕ, zero, suc, Bool, true, cond, List, [], ◌∷◌, ◌++◌, length, take, drop, get_or, vec_len, refl, sym, ◌∙◌, ap, subst, append_assoc, arith, Option, Some, None, if◌then◌else◌, reverse}
 use Rattle.std.proofs.lemmas.List.{take-append-drop, get_or-drop, length-drop}
 use Rattle.json_text.specs.declared.mode.Bracket.{Bracket}
-use Rattle.json_text.specs.declared.mode.Kind.TheVariants as kind_
 use Rattle.json_text.specs.declared.mode.Part.{Part}
-use Rattle.json_text.specs.declared.mode.Part.TheVariants as part_
-use Rattle.json_text.specs.declared.mode.Lead.{Lead}
 use Rattle.json_text.specs.declared.mode.Lead.TheVariants as lead_
 use Rattle.json_text.specs.declared.mode.Role.{Role}
-use Rattle.json_text.specs.declared.mode.Place.{Place}
 use Rattle.json_text.specs.declared.mode.Place.TheVariants as place_
 use Rattle.json_text.specs.declared.mode.Mode.{Mode}
 use Rattle.json_text.specs.declared.mode.Mode.TheVariants as mode_
 use Rattle.json_text.specs.declared.scanner.Scanner.{Scanner}
 use Rattle.json_text.specs.Marks.{Symbol, Byte, End, Step, Mark, Seen, symbols_of, steps_of, symbols, see, Begins}
-use Rattle.json_text.specs.Bytes.{AreAll, is_space, is_plain, is_within, kind_of, lead_of}
-use Rattle.json_text.specs.Rest.{IsFrontOf, first_of, part_after, takes_digits, OnPart}
-use Rattle.json_text.specs.Machine.{Move, Reads, Stuck, move_by, byte_move, start_of, start_move, first_move, after_move, name_move, number_move, lead_move}
+use Rattle.json_text.specs.Bytes.{AreAll, is_space, is_plain, kind_of, lead_of}
+use Rattle.json_text.specs.Rest.{IsFrontOf, first_of, part_after, OnPart}
+use Rattle.json_text.specs.Machine.{Reads, Stuck, byte_move, start_of, start_move, first_move, after_move, name_move, number_move, lead_move}
 use Rattle.json_text.specs.Taking.{room_of, opens_of, MaySpace}
 use Rattle.json_text.specs.Scanner.{fed, pending, symbols_left, Holds, is_number, most_steps}
 use Rattle.json_text.specs.Told.{PartsGo, ReadsOn}
 use Rattle.std.proofs.lemmas.Bool.Decides.{nat_tests}
-use Rattle.json_text.proofs.Lists.{append_nil, symbols_append, steps_append, bytes_append, begins, begins_self}
+use Rattle.json_text.proofs.Lists.{append_nil, symbols_append, steps_append, bytes_append, begins}
 use Rattle.json_text.proofs.Fronts.{reads_on}
 use Rattle.json_text.proofs.HoldLemmas.{widen}
 use Rattle.json_text.proofs.ScannerLemmas.{same_holds}

@@ -14,7 +14,7 @@ use Rattle.json_text.specs.Reading.{More, Whole, BadAt, Reads}
 use Rattle.json_text.specs.Rest.{IsFrontOf, first_of}
 use Rattle.json_text.specs.Machine.{move_by}
 use Rattle.json_text.specs.Taking.{room_of, opens_of, move_of, IsSame, Stays, end_move_of, IsUnchanged, EndStays}
-use Rattle.json_text.specs.Scanner.{most_steps, is_number, fed, has_ended, has_failed, content, pending, symbols_left, Holds}
+use Rattle.json_text.specs.Scanner.{is_number, fed, content, pending, symbols_left, Holds}
 use Rattle.json_text.specs.Tokens.{step_of, step_for}
 use Rattle.json_text.specs.Told.{Told, told_step, told_verdict}
 use Rattle.json_text.proofs.Stops.{Ended, FirstSays, first_says}

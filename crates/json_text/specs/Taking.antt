@@ -1,6 +1,9 @@
 -- A machine of the code as the scanner's moves see it.
 use Rattle.std.specs.Prelude.{ℕ, List, [], ◌∷◌, ◌≡◌, Option, Some, None, ◌-◌, length, reverse}
 use Rattle.json_text.specs.declared.mode.Bracket.{Bracket}
+use Rattle.json_text.specs.declared.mode.Bracket.TheVariants as bracket_
+use Rattle.json_text.specs.declared.mode.Role.{Role}
+use Rattle.json_text.specs.declared.mode.Role.TheVariants as role_
 use Rattle.json_text.specs.declared.mode.Mode.{Mode}
 use Rattle.json_text.specs.declared.mode.Mode.TheVariants as mode_
 use Rattle.json_text.specs.declared.mode.Taken.{Taken}
@@ -62,6 +65,14 @@ MaySpace mode_.After = Unit {0}
 MaySpace mode_.Name = Unit {0}
 MaySpace mode_.Colon = Unit {0}
 MaySpace _ = ⊥
+
+-- a value may begin there, or a name
+abbrev pub MayQuote : Role → Mode → List Bracket → Type 0
+MayQuote role_.Value mode_.Value opens = Unit {0}
+MayQuote role_.Value mode_.First opens = top_of opens ≡ Some bracket_.Square
+MayQuote role_.Name mode_.Name opens = Unit {0}
+MayQuote role_.Name mode_.First opens = top_of opens ≡ Some bracket_.Curly
+MayQuote _ _ opens = ⊥
 
 -- the same for the end
 abbrev pub end_move_of : Ending → Machine → Move

@@ -100,7 +100,7 @@ impl Machine {
     }
 
     /// The innermost bracket that is open.
-    fn top(&self) -> Option<Bracket>
+    pub fn top(&self) -> Option<Bracket>
         ensures value { result ≡ top_of (opens_of self.now) }
     {
         let n = self.opens.len();

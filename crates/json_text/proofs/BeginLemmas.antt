@@ -1,0 +1,133 @@
+-- What single bytes do that begin a text, a number or an entry, with the run behind them.
+use Rattle.std.proofs.Common.{drop-cons, eqb, ◌≡◌, ◌<◌, ◌+◌, ◌-◌, ℕ, suc, cond, List, [], ◌∷◌, length, take, drop, get_or, vec_len, refl, sym, ◌∙◌, ap, subst, arith, Option, Some, None}
+use Rattle.json_text.specs.declared.mode.Bracket.{Bracket}
+use Rattle.json_text.specs.declared.mode.Bracket.TheVariants as bracket_
+use Rattle.json_text.specs.declared.mode.Part.{Part}
+use Rattle.json_text.specs.declared.mode.Part.TheVariants as part_
+use Rattle.json_text.specs.declared.mode.Role.{Role}
+use Rattle.json_text.specs.declared.mode.Role.TheVariants as role_
+use Rattle.json_text.specs.declared.mode.Place.TheVariants as place_
+use Rattle.json_text.specs.declared.mode.Mode.{Mode}
+use Rattle.json_text.specs.declared.mode.Mode.TheVariants as mode_
+use Rattle.json_text.specs.declared.scanner.Scanner.{Scanner}
+use Rattle.json_text.specs.Marks.{Step}
+use Rattle.json_text.specs.Bytes.{AreAll, is_plain, kind_of}
+use Rattle.json_text.specs.Rest.{part_after, OnPart}
+use Rattle.json_text.specs.Machine.{Reads, Gives, byte_move, start_of, start_move}
+use Rattle.json_text.specs.Taking.{room_of, opens_of, MayQuote}
+use Rattle.json_text.specs.Told.{PartsGo, ReadsOn}
+use Rattle.json_text.proofs.ByteTests.{begins_number}
+use Rattle.json_text.proofs.RunLemmas.{Runs, plain_run, number_run, Onward, run_of, reads_run}
+
+-- a run begins with the byte that comes
+run_cons : (items : List ℕ) (i n : ℕ) → i < n → i < length items → take (n - i) (drop i items) ≡ get_or items i 0 ∷ take (n - (i + 1)) (drop (i + 1) items)
+run_cons items i n l h =
+    let e : n - i ≡ suc (n - (i + 1)) = omega (arith, l) in
+    let next : suc i ≡ i + 1 = omega arith in
+    ap (λ k. take k (drop i items)) e ∙ ap (λ xs. take (suc (n - (i + 1))) xs) (drop-cons items i 0 h)
+    ∙ ap (λ k. get_or items i 0 ∷ take (n - (i + 1)) (drop k items)) next
+
+-- a run of one byte
+run_one : (items : List ℕ) (i n : ℕ) → n ≡ i + 1 → i < length items → take (n - i) (drop i items) ≡ get_or items i 0 ∷ []
+run_one items i n e h =
+    let l : i < n = omega (arith, e) in
+    let none : n - (i + 1) ≡ 0 = omega (arith, e) in
+    run_cons items i n l h ∙ ap (λ k. get_or items i 0 ∷ take k (drop (i + 1) items)) none
+
+-- the place was left for another by one byte
+pub pass_on : (old new : Scanner) → Onward old new → new.read ≡ old.read + 1 → old.read < vec_len old.input
+    → byte_move old.machine.mode (room_of old.machine) (opens_of old.machine) old.machine.content.items (get_or old.input.items old.read 0)
+    ≡ Reads new.machine.mode (room_of old.machine) (opens_of old.machine) old.machine.content.items
+    → new.machine.content.items ≡ old.machine.content.items → ReadsOn old new
+pass_on old new o n l m c =
+    let inside : old.read < length old.input.items = omega (arith, l, old.input.ok.0) in
+    reads_run old new o
+    (subst (λ run. Runs old.machine.mode (room_of old.machine) (opens_of old.machine) old.machine.content.items run new.machine.mode new.machine.content.items)
+    (sym (run_one old.input.items old.read new.read n inside)) (new.machine.mode, old.machine.content.items, m, (refl, c)))
+
+-- a quotation mark begins a text
+quote_move : (role : Role) (mode : Mode) (room : ℕ) (opens : List Bracket) (content : List ℕ) → MayQuote role mode opens
+    → byte_move mode room opens content 34 ≡ Reads (mode_.Text role (place_.Chars None)) room opens []
+quote_move role_.Value mode_.Value room opens content m = refl
+quote_move role_.Value mode_.First room [] content m = absurd cc
+quote_move role_.Value mode_.First room (bracket_.Square ∷ opens) content m = refl
+quote_move role_.Value mode_.First room (bracket_.Curly ∷ opens) content m = absurd cc
+quote_move role_.Value mode_.After room opens content m = absurd m
+quote_move role_.Value mode_.Name room opens content m = absurd m
+quote_move role_.Value mode_.Colon room opens content m = absurd m
+quote_move role_.Value (mode_.Word letters) room opens content m = absurd m
+quote_move role_.Value (mode_.Number part) room opens content m = absurd m
+quote_move role_.Value (mode_.Text role place) room opens content m = absurd m
+quote_move role_.Name mode_.Name room opens content m = refl
+quote_move role_.Name mode_.First room [] content m = absurd cc
+quote_move role_.Name mode_.First room (bracket_.Square ∷ opens) content m = absurd cc
+quote_move role_.Name mode_.First room (bracket_.Curly ∷ opens) content m = refl
+quote_move role_.Name mode_.After room opens content m = absurd m
+quote_move role_.Name mode_.Value room opens content m = absurd m
+quote_move role_.Name mode_.Colon room opens content m = absurd m
+quote_move role_.Name (mode_.Word letters) room opens content m = absurd m
+quote_move role_.Name (mode_.Number part) room opens content m = absurd m
+quote_move role_.Name (mode_.Text role place) room opens content m = absurd m
+
+-- a text was begun, and plain bytes behind the mark were read
+pub quote_on : (old new : Scanner) (role : Role) → Onward old new → MayQuote role old.machine.mode (opens_of old.machine) → old.read < vec_len old.input
+    → old.read < new.read → get_or old.input.items old.read 0 ≡ 34 → new.machine.mode ≡ mode_.Text role (place_.Chars None)
+    → new.machine.content.items ≡ take (new.read - (old.read + 1)) (drop (old.read + 1) old.input.items)
+    → AreAll is_plain (take (new.read - (old.read + 1)) (drop (old.read + 1) old.input.items)) → ReadsOn old new
+quote_on old new role o m l n b t c a =
+    let run = take (new.read - (old.read + 1)) (drop (old.read + 1) old.input.items) in
+    let inside : old.read < length old.input.items = omega (arith, l, old.input.ok.0) in
+    reads_run old new o
+    (subst (λ xs. Runs old.machine.mode (room_of old.machine) (opens_of old.machine) old.machine.content.items xs new.machine.mode new.machine.content.items)
+    (sym (run_cons old.input.items old.read new.read n inside ∙ ap (λ x. x ∷ run) b))
+    (subst (λ z. Runs old.machine.mode (room_of old.machine) (opens_of old.machine) old.machine.content.items (34 ∷ run) z new.machine.content.items) (sym t)
+    (subst (λ z. Runs old.machine.mode (room_of old.machine) (opens_of old.machine) old.machine.content.items (34 ∷ run) (mode_.Text role (place_.Chars None)) z) (sym c) (
+      mode_.Text role (place_.Chars None),
+      [],
+      quote_move role old.machine.mode (room_of old.machine) (opens_of old.machine) old.machine.content.items m,
+      plain_run role (room_of old.machine) (opens_of old.machine) [] run a,
+    ))))
+
+-- a byte of a number begins one
+digit_move : (mode : Mode) (room : ℕ) (opens : List Bracket) (content : List ℕ) (b : ℕ) (part : Part) → MayQuote role_.Value mode opens
+    → part_after part_.Nothing (kind_of b) ≡ Some part → byte_move mode room opens content b ≡ Reads (mode_.Number part) room opens (b ∷ [])
+digit_move mode_.Value room opens content b part m e =
+    let n = begins_number b part e in
+    ap (λ t. cond t (Reads mode_.Value room opens content) (start_move (start_of b) room opens content b)) n.1 ∙ ap (λ s. start_move s room opens content b) n.0
+digit_move mode_.First room [] content b part m e = absurd cc
+digit_move mode_.First room (bracket_.Square ∷ opens) content b part m e =
+    let n = begins_number b part e in
+    let entry = start_move (start_of b) room (bracket_.Square ∷ opens) content b in
+    let closed = Gives (Step.Closes bracket_.Square) mode_.After (suc room) opens content in
+    ap (λ t. cond t (Reads mode_.First room (bracket_.Square ∷ opens) content) (cond (eqb b 93) closed entry)) n.1
+    ∙ ap (λ t. cond t closed entry) n.2 ∙ ap (λ s. start_move s room (bracket_.Square ∷ opens) content b) n.0
+digit_move mode_.First room (bracket_.Curly ∷ opens) content b part m e = absurd cc
+digit_move mode_.After room opens content b part m e = absurd m
+digit_move mode_.Name room opens content b part m e = absurd m
+digit_move mode_.Colon room opens content b part m e = absurd m
+digit_move (mode_.Word letters) room opens content b part m e = absurd m
+digit_move (mode_.Number p) room opens content b part m e = absurd m
+digit_move (mode_.Text role place) room opens content b part m e = absurd m
+
+-- a number is read from its first byte on
+number_begins : (mode : Mode) (room : ℕ) (opens : List Bracket) (content : List ℕ) (b : ℕ) (run : List ℕ) (last : Part) → MayQuote role_.Value mode opens
+    → PartsGo part_.Nothing (b ∷ run) last → Runs mode room opens content (b ∷ run) (mode_.Number last) (b ∷ run)
+number_begins mode room opens content b run last m g = on (part_after part_.Nothing (kind_of b)) refl g
+  where
+    on : (o : Option Part) → part_after part_.Nothing (kind_of b) ≡ o → OnPart o (λ z. PartsGo z run last) → Runs mode room opens content (b ∷ run) (mode_.Number last) (b ∷ run)
+    on None e k = absurd k
+    on (Some next) e k = (mode_.Number next, b ∷ [], digit_move mode room opens content b next m e, number_run next room opens (b ∷ []) run last k)
+
+-- a number was begun, and read on
+pub digits_on : (old new : Scanner) (last : Part) → Onward old new → MayQuote role_.Value old.machine.mode (opens_of old.machine) → old.read < vec_len old.input
+    → old.read < new.read → new.machine.mode ≡ mode_.Number last → new.machine.content.items ≡ run_of old new → PartsGo part_.Nothing (run_of old new) last → ReadsOn old new
+digits_on old new last o m l n t c g =
+    let b = get_or old.input.items old.read 0 in
+    let run = take (new.read - (old.read + 1)) (drop (old.read + 1) old.input.items) in
+    let inside : old.read < length old.input.items = omega (arith, l, old.input.ok.0) in
+    let cut : run_of old new ≡ b ∷ run = run_cons old.input.items old.read new.read n inside in
+    reads_run old new o
+    (subst (λ z. Runs old.machine.mode (room_of old.machine) (opens_of old.machine) old.machine.content.items (run_of old new) z new.machine.content.items) (sym t)
+    (subst (λ z. Runs old.machine.mode (room_of old.machine) (opens_of old.machine) old.machine.content.items (run_of old new) (mode_.Number last) z) (sym c)
+    (subst (λ z. Runs old.machine.mode (room_of old.machine) (opens_of old.machine) old.machine.content.items z (mode_.Number last) z) (sym cut)
+    (number_begins old.machine.mode (room_of old.machine) (opens_of old.machine) old.machine.content.items b run last m (subst (λ z. PartsGo part_.Nothing z last) cut g)))))
