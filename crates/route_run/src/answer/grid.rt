@@ -31,14 +31,17 @@ fn walk_lines(alloc: Global, command: &GridCommand) -> Result<Option<Vec<u8>>, A
     ensures exact { IfOk result (λ answer.
         MatchOption answer (HasNoWalk command.now) (λ text. ShowsWalk command.now text.items)) }
 {
-    let w = command.w as u32;
-    let h = command.h as u32;
-    let grid = Grid::made(alloc, command.seed as u32, w, h)?;
+    let grid = Grid::made(
+        alloc,
+        command.seed as u32,
+        command.w as u32,
+        command.h as u32,
+    )?;
     let from = cell_at(command, command.from);
     let to = cell_at(command, command.to);
     match shortest_walk(alloc, &grid, from, to)? {
         Some(walk) => {
-            let text = grid_lines(alloc, &grid, w, h, &walk)?;
+            let text = grid_lines(alloc, &grid, &walk)?;
             Ok(Some(text))
         }
         None => Ok(None),

@@ -1,7 +1,6 @@
 //! What the command `grid` prints.
 
 ghost use Rattle.std.specs.Prelude.{◌≡◌, ◌++◌, ◌<◌, IfOk, OnOk};
-ghost use Rattle.grid_map.specs.Plan.{IsPlan};
 ghost use Rattle.route_run.specs.Answer.Lines.{grid_lines, cells_text};
 
 use geo_int::mm3;
@@ -9,23 +8,15 @@ use grid_map::{Grid, GridWalk};
 use item_list::{append_named, append_number, bytes_of};
 use std::alloc::{AllocError, Global};
 
-/// The four lines of a walk across a grid with `w` cells in a row and `h` rows.
+/// The four lines of a walk across a grid.
 #[tactic(auto, unfolding(crate::specs::Answer::Lines::grid_lines))]
-pub fn grid_lines(
-    alloc: Global,
-    grid: &Grid,
-    w: u32,
-    h: u32,
-    walk: &GridWalk,
-) -> Result<Vec<u8>, AllocError>
-    requires width { grid.now.width ≡ w }
-    requires height { grid.now.height ≡ h }
-    requires lawful { IsPlan grid.now }
+pub fn grid_lines(alloc: Global, grid: &Grid, walk: &GridWalk) -> Result<Vec<u8>, AllocError>
     ensures value { IfOk result (λ text.
         text.items ≡ grid_lines grid.now walk.now.cells walk.now.cost) }
 {
+    let w = grid.width();
     let mut text = bytes_of(alloc, b"nodes ")?;
-    append_number(&mut text, w as u64 * h as u64)?;
+    append_number(&mut text, w as u64 * grid.height() as u64)?;
     append_named(&mut text, b"\nsegments ", grid.segments() as u64)?;
     text.extend_from_slice(b"\nlength ")?;
     mm3(&mut text, walk.cost)?;
