@@ -17,7 +17,7 @@ use Rattle.json_text.specs.Machine.{Reads, Gives, byte_move, start_of, start_mov
 use Rattle.json_text.specs.Taking.{room_of, opens_of, MayQuote}
 use Rattle.json_text.specs.Told.{PartsGo, ReadsOn}
 use Rattle.json_text.proofs.ByteTests.{begins_number}
-use Rattle.json_text.proofs.RunLemmas.{Runs, plain_run, number_run, Onward, run_of, reads_run}
+use Rattle.json_text.proofs.RunLemmas.{Runs, RunsFrom, plain_run, number_run, Onward, run_of, reads_run}
 
 -- a run begins with the byte that comes
 run_cons : (items : List ℕ) (i n : ℕ) → i < n → i < length items → take (n - i) (drop i items) ≡ get_or items i 0 ∷ take (n - (i + 1)) (drop (i + 1) items)
@@ -33,17 +33,6 @@ run_one items i n e h =
     let l : i < n = omega (arith, e) in
     let none : n - (i + 1) ≡ 0 = omega (arith, e) in
     run_cons items i n l h ∙ ap (λ k. get_or items i 0 ∷ take k (drop (i + 1) items)) none
-
--- the place was left for another by one byte
-pub pass_on : (old new : Scanner) → Onward old new → new.read ≡ old.read + 1 → old.read < vec_len old.input
-    → byte_move old.machine.mode (room_of old.machine) (opens_of old.machine) old.machine.content.items (get_or old.input.items old.read 0)
-    ≡ Reads new.machine.mode (room_of old.machine) (opens_of old.machine) old.machine.content.items
-    → new.machine.content.items ≡ old.machine.content.items → ReadsOn old new
-pass_on old new o n l m c =
-    let inside : old.read < length old.input.items = omega (arith, l, old.input.ok.0) in
-    reads_run old new o
-    (subst (λ run. Runs old.machine.mode (room_of old.machine) (opens_of old.machine) old.machine.content.items run new.machine.mode new.machine.content.items)
-    (sym (run_one old.input.items old.read new.read n inside)) (new.machine.mode, old.machine.content.items, m, (refl, c)))
 
 -- a quotation mark begins a text
 quote_move : (role : Role) (mode : Mode) (room : ℕ) (opens : List Bracket) (content : List ℕ) → MayQuote role mode opens
@@ -69,19 +58,22 @@ quote_move role_.Name (mode_.Word letters) room opens content m = absurd m
 quote_move role_.Name (mode_.Number part) room opens content m = absurd m
 quote_move role_.Name (mode_.Text role place) room opens content m = absurd m
 
+-- the bytes behind the first that was read
+abbrev pub behind : Scanner → Scanner → List ℕ
+behind old new = take (new.read - (old.read + 1)) (drop (old.read + 1) old.input.items)
+
 -- a text was begun, and plain bytes behind the mark were read
 pub quote_on : (old new : Scanner) (role : Role) → Onward old new → MayQuote role old.machine.mode (opens_of old.machine) → old.read < vec_len old.input
     → old.read < new.read → get_or old.input.items old.read 0 ≡ 34 → new.machine.mode ≡ mode_.Text role (place_.Chars None)
-    → new.machine.content.items ≡ take (new.read - (old.read + 1)) (drop (old.read + 1) old.input.items)
-    → AreAll is_plain (take (new.read - (old.read + 1)) (drop (old.read + 1) old.input.items)) → ReadsOn old new
+    → new.machine.content.items ≡ behind old new → AreAll is_plain (behind old new) → ReadsOn old new
 quote_on old new role o m l n b t c a =
-    let run = take (new.read - (old.read + 1)) (drop (old.read + 1) old.input.items) in
+    let run = behind old new in
     let inside : old.read < length old.input.items = omega (arith, l, old.input.ok.0) in
     reads_run old new o
-    (subst (λ xs. Runs old.machine.mode (room_of old.machine) (opens_of old.machine) old.machine.content.items xs new.machine.mode new.machine.content.items)
+    (subst (λ xs. RunsFrom old xs new.machine.mode new.machine.content.items)
     (sym (run_cons old.input.items old.read new.read n inside ∙ ap (λ x. x ∷ run) b))
-    (subst (λ z. Runs old.machine.mode (room_of old.machine) (opens_of old.machine) old.machine.content.items (34 ∷ run) z new.machine.content.items) (sym t)
-    (subst (λ z. Runs old.machine.mode (room_of old.machine) (opens_of old.machine) old.machine.content.items (34 ∷ run) (mode_.Text role (place_.Chars None)) z) (sym c) (
+    (subst (λ z. RunsFrom old (34 ∷ run) z new.machine.content.items) (sym t)
+    (subst (λ z. RunsFrom old (34 ∷ run) (mode_.Text role (place_.Chars None)) z) (sym c) (
       mode_.Text role (place_.Chars None),
       [],
       quote_move role old.machine.mode (room_of old.machine) (opens_of old.machine) old.machine.content.items m,
@@ -123,11 +115,22 @@ pub digits_on : (old new : Scanner) (last : Part) → Onward old new → MayQuot
     → old.read < new.read → new.machine.mode ≡ mode_.Number last → new.machine.content.items ≡ run_of old new → PartsGo part_.Nothing (run_of old new) last → ReadsOn old new
 digits_on old new last o m l n t c g =
     let b = get_or old.input.items old.read 0 in
-    let run = take (new.read - (old.read + 1)) (drop (old.read + 1) old.input.items) in
+    let run = behind old new in
     let inside : old.read < length old.input.items = omega (arith, l, old.input.ok.0) in
     let cut : run_of old new ≡ b ∷ run = run_cons old.input.items old.read new.read n inside in
     reads_run old new o
-    (subst (λ z. Runs old.machine.mode (room_of old.machine) (opens_of old.machine) old.machine.content.items (run_of old new) z new.machine.content.items) (sym t)
-    (subst (λ z. Runs old.machine.mode (room_of old.machine) (opens_of old.machine) old.machine.content.items (run_of old new) (mode_.Number last) z) (sym c)
-    (subst (λ z. Runs old.machine.mode (room_of old.machine) (opens_of old.machine) old.machine.content.items z (mode_.Number last) z) (sym cut)
+    (subst (λ z. RunsFrom old (run_of old new) z new.machine.content.items) (sym t)
+    (subst (λ z. RunsFrom old (run_of old new) (mode_.Number last) z) (sym c)
+    (subst (λ z. RunsFrom old z (mode_.Number last) z) (sym cut)
     (number_begins old.machine.mode (room_of old.machine) (opens_of old.machine) old.machine.content.items b run last m (subst (λ z. PartsGo part_.Nothing z last) cut g)))))
+
+-- the place was left for another by one byte
+pub pass_on : (old new : Scanner) → Onward old new → new.read ≡ old.read + 1 → old.read < vec_len old.input
+    → RunsFrom old (get_or old.input.items old.read 0 ∷ []) new.machine.mode old.machine.content.items
+    → new.machine.content.items ≡ old.machine.content.items → ReadsOn old new
+pass_on old new o n l m c =
+    let inside : old.read < length old.input.items = omega (arith, l, old.input.ok.0) in
+    reads_run old new o
+    (subst (λ run. RunsFrom old run new.machine.mode new.machine.content.items)
+    (sym (run_one old.input.items old.read new.read n inside))
+    (subst (λ z. RunsFrom old (get_or old.input.items old.read 0 ∷ []) new.machine.mode z) (sym c) m))

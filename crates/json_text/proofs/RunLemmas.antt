@@ -48,6 +48,10 @@ Runs mode room opens content [] to after = (to ≡ mode) × (after ≡ content)
 Runs mode room opens content (b ∷ run) to after =
     (next : Mode) × (longer : List ℕ) × (byte_move mode room opens content b ≡ Reads next room opens longer) × Runs next room opens longer run to after
 
+-- the same from where a scanner stands
+abbrev pub RunsFrom : Scanner → List ℕ → Mode → List ℕ → Type 0
+RunsFrom old run to after = Runs old.machine.mode (room_of old.machine) (opens_of old.machine) old.machine.content.items run to after
+
 -- white space leaves the place
 space_move : (mode : Mode) (room : ℕ) (opens : List Bracket) (content : List ℕ) (b : ℕ) → MaySpace mode → is_space b ≡ true
     → byte_move mode room opens content b ≡ Reads mode room opens content
@@ -138,7 +142,7 @@ run_pending (b ∷ items) (suc i) (suc n) h =
     run_pending items i n (omega arith) ∙ ap (λ k. take k (drop i items) ++ drop n items) (sym e)
 
 -- a run is read
-pub run_holds : (old new : Scanner) (run : List ℕ) → Runs old.machine.mode (room_of old.machine) (opens_of old.machine) old.machine.content.items run new.machine.mode new.machine.content.items
+pub run_holds : (old new : Scanner) (run : List ℕ) → RunsFrom old run new.machine.mode new.machine.content.items
     → new.machine.opens.items ≡ old.machine.opens.items → pending old ≡ run ++ pending new → fed new ≡ fed old → new.ended ≡ old.ended
     → (bytes : List ℕ) (steps : List Step) → Holds old bytes steps → Holds new bytes steps
 run_holds old new [] (m, c) o p n e bytes steps h = same_holds old new bytes steps h (sym p) n e (record { mode = m; opens = o; content = c })
@@ -199,13 +203,10 @@ run_of old new = take (new.read - old.read) (drop old.read old.input.items)
 
 -- so it stands for what it stood for, if the moves by these bytes only read
 pub reads_run : (old new : Scanner) → Onward old new
-    → Runs old.machine.mode (room_of old.machine) (opens_of old.machine) old.machine.content.items (run_of old new) new.machine.mode new.machine.content.items → ReadsOn old new
+    → RunsFrom old (run_of old new) new.machine.mode new.machine.content.items → ReadsOn old new
 reads_run old new o r = record {
   holds = run_holds old new (run_of old new) r o.opens pends count o.ended;
-  fed_same = count;
-  ended_same = o.ended;
-  failed_same = o.failed;
-  content_same = o.text;
+  leaves = record { fed_same = count; ended_same = o.ended; failed_same = o.failed; content_same = o.text };
   fewer = few;
 }
   where
@@ -226,8 +227,8 @@ pub spaces_on : (old new : Scanner) → Onward old new → MaySpace old.machine.
     → AreAll is_space (run_of old new) → ReadsOn old new
 spaces_on old new o m e c a =
     reads_run old new o
-    (subst (λ z. Runs old.machine.mode (room_of old.machine) (opens_of old.machine) old.machine.content.items (run_of old new) z new.machine.content.items) (sym e)
-    (subst (λ z. Runs old.machine.mode (room_of old.machine) (opens_of old.machine) old.machine.content.items (run_of old new) old.machine.mode z) (sym c)
+    (subst (λ z. RunsFrom old (run_of old new) z new.machine.content.items) (sym e)
+    (subst (λ z. RunsFrom old (run_of old new) old.machine.mode z) (sym c)
     (space_run old.machine.mode (room_of old.machine) (opens_of old.machine) old.machine.content.items (run_of old new) m a)))
 
 -- plain bytes were read

@@ -25,13 +25,17 @@ abbrev pub IsNearerBy : Option JsonStep → Scanner → Scanner → Type 0
 IsNearerBy None old new = most_steps new < most_steps old
 IsNearerBy (Some answer) old new = IsNearer answer old new
 
--- what a scanner stood for it stands for, as far as it has read
-pub record ReadsOn (old new : Scanner) : Type 0 where
-  pub holds : (bytes : List ℕ) (steps : List Step) → Holds old bytes steps → Holds new bytes steps
+-- what was fed, the end, the flag of failure and the last content are as they were
+pub record Leaves (old new : Scanner) : Type 0 where
   pub fed_same : fed new ≡ fed old
   pub ended_same : has_ended new ≡ has_ended old
   pub failed_same : has_failed new ≡ has_failed old
   pub content_same : content new ≡ content old
+
+-- what a scanner stood for it stands for, as far as it has read
+pub record ReadsOn (old new : Scanner) : Type 0 where
+  pub holds : (bytes : List ℕ) (steps : List Step) → Holds old bytes steps → Holds new bytes steps
+  pub leaves : Leaves old new
   pub fewer : most_steps new ≤ most_steps old
 
 -- a number goes on over these bytes from one part to another

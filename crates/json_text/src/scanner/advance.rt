@@ -10,11 +10,10 @@ impl Scanner {
     ghost use Rattle.json_text.specs.declared.mode.Role.TheVariants as role_;
     ghost use Rattle.json_text.specs.declared.mode.Mode.TheVariants as mode_;
     ghost use Rattle.json_text.specs.declared.mode.Place.TheVariants as place_;
-    ghost use Rattle.json_text.specs.Scanner.{fed, has_ended, has_failed, is_number};
-    ghost use Rattle.json_text.specs.Scanner as scanner;
+    ghost use Rattle.json_text.specs.Scanner.{is_number};
     ghost use Rattle.json_text.specs.Machine.{byte_move, Reads};
     ghost use Rattle.json_text.specs.Taking.{MaySpace, MayQuote, room_of, opens_of};
-    ghost use Rattle.json_text.specs.Told.{ReadsOn};
+    ghost use Rattle.json_text.specs.Told.{Leaves, ReadsOn};
 
     /// Reads the white space that comes.
     fn spaces(&mut self)
@@ -29,10 +28,7 @@ impl Scanner {
     fn plain(&mut self, role: Role) -> Result<(), AllocError>
         requires place { self.old.machine.mode ≡ mode_.Text role (place_.Chars None) }
         ensures on { OnOk result (ReadsOn self.old self.new) }
-        ensures fed { fed self.new ≡ fed self.old }
-        ensures ended { has_ended self.new ≡ has_ended self.old }
-        ensures failed { has_failed self.new ≡ has_failed self.old }
-        ensures content { scanner.content self.new ≡ scanner.content self.old }
+        ensures leaves { Leaves self.old self.new }
     {
         let end = plain_end(&self.input, self.read);
         self.machine
@@ -46,10 +42,7 @@ impl Scanner {
     fn number(&mut self, part: Part) -> Result<(), AllocError>
         requires place { self.old.machine.mode ≡ mode_.Number part }
         ensures on { OnOk result (ReadsOn self.old self.new) }
-        ensures fed { fed self.new ≡ fed self.old }
-        ensures ended { has_ended self.new ≡ has_ended self.old }
-        ensures failed { has_failed self.new ≡ has_failed self.old }
-        ensures content { scanner.content self.new ≡ scanner.content self.old }
+        ensures leaves { Leaves self.old self.new }
     {
         let (end, last) = number_end(&self.input, self.read, part);
         self.machine
@@ -66,10 +59,7 @@ impl Scanner {
         requires left { self.old.read < vec_len self.old.input }
         requires next { get_or self.old.input.items self.old.read 0 ≡ 34 }
         ensures on { OnOk result (ReadsOn self.old self.new) }
-        ensures fed { fed self.new ≡ fed self.old }
-        ensures ended { has_ended self.new ≡ has_ended self.old }
-        ensures failed { has_failed self.new ≡ has_failed self.old }
-        ensures content { scanner.content self.new ≡ scanner.content self.old }
+        ensures leaves { Leaves self.old self.new }
     {
         let from = self.read + 1;
         let end = plain_end(&self.input, from);
@@ -86,10 +76,7 @@ impl Scanner {
     fn digits(&mut self) -> Result<(), AllocError>
         requires place { MayQuote role_.Value self.old.machine.mode (opens_of self.old.machine) }
         ensures on { OnOk result (ReadsOn self.old self.new) }
-        ensures fed { fed self.new ≡ fed self.old }
-        ensures ended { has_ended self.new ≡ has_ended self.old }
-        ensures failed { has_failed self.new ≡ has_failed self.old }
-        ensures content { scanner.content self.new ≡ scanner.content self.old }
+        ensures leaves { Leaves self.old self.new }
     {
         let (end, last) = number_end(&self.input, self.read, Part::Nothing);
         if end == self.read {
@@ -137,10 +124,7 @@ impl Scanner {
         requires place { MayQuote role self.old.machine.mode (opens_of self.old.machine) }
         requires space { MaySpace self.old.machine.mode }
         ensures on { OnOk result (ReadsOn self.old self.new) }
-        ensures fed { fed self.new ≡ fed self.old }
-        ensures ended { has_ended self.new ≡ has_ended self.old }
-        ensures failed { has_failed self.new ≡ has_failed self.old }
-        ensures content { scanner.content self.new ≡ scanner.content self.old }
+        ensures leaves { Leaves self.old self.new }
     {
         self.spaces();
         if self.comes() == 34 {
@@ -156,10 +140,7 @@ impl Scanner {
     fn first(&mut self) -> Result<(), AllocError>
         requires place { self.old.machine.mode ≡ mode_.First }
         ensures on { OnOk result (ReadsOn self.old self.new) }
-        ensures fed { fed self.new ≡ fed self.old }
-        ensures ended { has_ended self.new ≡ has_ended self.old }
-        ensures failed { has_failed self.new ≡ has_failed self.old }
-        ensures content { scanner.content self.new ≡ scanner.content self.old }
+        ensures leaves { Leaves self.old self.new }
     {
         match self.machine.top() {
             Some(Bracket::Square) => self.begin(Role::Value),
@@ -172,10 +153,7 @@ impl Scanner {
     fn after(&mut self) -> Result<(), AllocError>
         requires place { self.old.machine.mode ≡ mode_.After }
         ensures on { OnOk result (ReadsOn self.old self.new) }
-        ensures fed { fed self.new ≡ fed self.old }
-        ensures ended { has_ended self.new ≡ has_ended self.old }
-        ensures failed { has_failed self.new ≡ has_failed self.old }
-        ensures content { scanner.content self.new ≡ scanner.content self.old }
+        ensures leaves { Leaves self.old self.new }
     {
         self.spaces();
         if self.comes() != 44 {
@@ -198,10 +176,7 @@ impl Scanner {
     fn colon(&mut self) -> Result<(), AllocError>
         requires place { self.old.machine.mode ≡ mode_.Colon }
         ensures on { OnOk result (ReadsOn self.old self.new) }
-        ensures fed { fed self.new ≡ fed self.old }
-        ensures ended { has_ended self.new ≡ has_ended self.old }
-        ensures failed { has_failed self.new ≡ has_failed self.old }
-        ensures content { scanner.content self.new ≡ scanner.content self.old }
+        ensures leaves { Leaves self.old self.new }
     {
         self.spaces();
         if self.comes() != 58 {
@@ -214,10 +189,7 @@ impl Scanner {
     /// Reads on as far as no step is given, but for escapes and other characters of several bytes.
     pub fn advance(&mut self) -> Result<(), AllocError>
         ensures on { OnOk result (ReadsOn self.old self.new) }
-        ensures fed { fed self.new ≡ fed self.old }
-        ensures ended { has_ended self.new ≡ has_ended self.old }
-        ensures failed { has_failed self.new ≡ has_failed self.old }
-        ensures content { scanner.content self.new ≡ scanner.content self.old }
+        ensures leaves { Leaves self.old self.new }
     {
         match self.machine.mode {
             Mode::Text(role, Place::Chars(None)) => self.plain(role),
