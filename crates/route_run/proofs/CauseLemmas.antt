@@ -40,7 +40,7 @@ pub record OpensAll (words : List ℕ) (old new : FilesSeen) : Type 0 where
 abbrev pub RefusalCause : List ℕ → FilesSeen → FilesSeen → Status → Type 0
 RefusalCause words old new (Usage word) = ⊥
 RefusalCause words old new (ReadFault word) = IsReadFault words word old new
-RefusalCause words old new Done = HasOpened (length words) old new
+RefusalCause words old new Done = ⊥
 RefusalCause words old new (TooLong word) = HasOpened (length words) old new
 RefusalCause words old new (Lookup word error) = HasOpened (length words) old new
 RefusalCause words old new (Text word error) = HasOpened (length words) old new
@@ -83,6 +83,7 @@ abbrev pub IsInner : Status → Type 0
 IsInner (Usage word) = ⊥
 IsInner (ReadFault word) = ⊥
 IsInner WriteFault = ⊥
+IsInner Done = ⊥
 IsInner status = Unit {0}
 
 -- such a status has its cause
@@ -90,7 +91,7 @@ inner-cause : (old new : FilesSeen) (status : Status) → IsInner status → new
 inner-cause old new (Usage word) inner same = absurd inner
 inner-cause old new (ReadFault word) inner same = absurd inner
 inner-cause old new WriteFault inner same = absurd inner
-inner-cause old new Done inner same = opened-none old new same
+inner-cause old new Done inner same = absurd inner
 inner-cause old new (TooLong word) inner same = opened-none old new same
 inner-cause old new (Lookup word error) inner same = opened-none old new same
 inner-cause old new (Text word error) inner same = opened-none old new same
@@ -122,7 +123,7 @@ refusal-front first more old new status cause = go status cause
     go (Usage word) c = c
     go (ReadFault word) c = record { rose = c.rose; before = c.before; opened = c.opened; named = get_front first more c.before word c.named }
     go WriteFault c = c
-    go Done c = longer c
+    go Done c = c
     go (TooLong word) c = longer c
     go (Lookup word error) c = longer c
     go (Text word error) c = longer c
@@ -155,7 +156,7 @@ refusal-after first more old mid new status before cause = go status cause
       named = get_after first more c.before word c.named;
     }
     go WriteFault c = c
-    go Done c = longer c
+    go Done c = c
     go (TooLong word) c = longer c
     go (Lookup word error) c = longer c
     go (Text word error) c = longer c

@@ -11,7 +11,7 @@ use Rattle.item_list.specs.Answer.{answer_map}
 use Rattle.route_run.specs.Answer.Code.{IsCodeAnswer, listing_in, listing_by}
 use Rattle.route_run.specs.Answer.Grid.{IsGridAnswer}
 use Rattle.route_run.specs.Ends.{Ends}
-use Rattle.route_run.specs.Outcome.{IsAnswer, IsCommandAnswer, HasReadCause, HasOpened, file_words}
+use Rattle.route_run.specs.Outcome.{IsAnswer, IsCommandAnswer, HasReadCause, HasOpened, HasOpenedAll, file_words}
 use Rattle.route_run.specs.Stage.Profile.{TakesProfile, profile_in}
 use Rattle.route_run.specs.Stage.TagTable.{TakesTable, table_in}
 use Rattle.route_run.specs.Words.Command.{command_of}
@@ -85,7 +85,7 @@ read-cause : (words : List ℕ) (old new : FilesSeen) (status : Status) → Refu
 read-cause words old new (Usage word) c = absurd c
 read-cause words old new (ReadFault word) c = c
 read-cause words old new WriteFault c = absurd c
-read-cause words old new Done c = c
+read-cause words old new Done c = absurd c
 read-cause words old new (TooLong word) c = c
 read-cause words old new (Lookup word error) c = c
 read-cause words old new (Text word error) c = c
@@ -99,8 +99,8 @@ opened-no : (most : ℕ) (old new : FilesSeen) → new ≡ old → HasOpened mos
 opened-no most old new same = record { faults = ap (λ (s : FilesSeen). s.faults) same; times = 0; few = omega arith; opened = ap (λ (s : FilesSeen). s.opens) same }
 
 -- all files were opened
-opened-all : (words : List ℕ) (old new : FilesSeen) → OpensAll words old new → HasOpened (length words) old new
-opened-all words old new all = record { faults = all.faults; times = length words; few = omega arith; opened = all.opened }
+opened-all : (words : List ℕ) (old new : FilesSeen) → OpensAll words old new → HasOpenedAll (length words) old new
+opened-all words old new all = record { faults = all.faults; opened = all.opened }
 
 -- a value of the words is their command
 mapped-ok : {A E : Type 0} (told : E → Status) (r : Result A E) (a : A) → answer_map (λ (x : A). x) told r ≡ Ok a → r ≡ Ok a
@@ -116,7 +116,7 @@ words-cause words (Err fault) files old new status is same =
 
 -- what an answer says of the files of the command
 abbrev AnswerCause : List ℕ → FilesSeen → FilesSeen → Result (List ℕ) Status → Type 0
-AnswerCause files old new (Ok bytes) = HasOpened (length files) old new
+AnswerCause files old new (Ok bytes) = HasOpenedAll (length files) old new
 AnswerCause files old new (Err status) = HasReadCause files status old new
 
 -- of any result with its cause

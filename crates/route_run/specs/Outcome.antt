@@ -12,7 +12,7 @@ use Rattle.route_run.specs.Words.Command.{command_of}
 use Rattle.route_run.specs.declared.words.command.Command.{Command}
 use Rattle.route_run.specs.declared.words.command.Command as Form
 use Rattle.route_run.specs.declared.status.Status.{Status}
-use Rattle.route_run.specs.declared.status.Status.TheVariants.{Usage, ReadFault, WriteFault}
+use Rattle.route_run.specs.declared.status.Status.TheVariants.{Done, Usage, ReadFault, WriteFault}
 
 -- the command of the words, or the status of the word at fault
 abbrev pub command_in : List (List ℕ) → Result Command Status
@@ -67,10 +67,17 @@ pub record HasOpened (most : ℕ) (old new : FilesSeen) : Type 0 where
   pub few : times ≤ most
   pub opened : new.opens ≡ count_after times old.opens
 
+-- no call on the files failed, and each of them was opened once
+pub record HasOpenedAll (all : ℕ) (old new : FilesSeen) : Type 0 where
+  pub faults : new.faults ≡ old.faults
+  pub opened : new.opens ≡ count_after all old.opens
+
 -- what a status says of the files whose words stand in this order: a read fault comes where their count of faults rose;
--- every other status leaves it
+-- every other status leaves it; where the output was begun, each file was opened once
 abbrev pub HasReadCause : List ℕ → Status → FilesSeen → FilesSeen → Type 0
 HasReadCause words (ReadFault word) old new = IsReadFault words word old new
+HasReadCause words Done old new = HasOpenedAll (length words) old new
+HasReadCause words WriteFault old new = HasOpenedAll (length words) old new
 HasReadCause words status old new = HasOpened (length words) old new
 
 -- with a command and no fault of the outside, the status is one of the command's own or want of memory
