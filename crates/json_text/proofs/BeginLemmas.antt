@@ -62,24 +62,6 @@ quote_move role_.Name (mode_.Text role place) room opens content m = absurd m
 abbrev pub behind : Scanner → Scanner → List ℕ
 behind old new = take (new.read - (old.read + 1)) (drop (old.read + 1) old.input.items)
 
--- a text was begun, and plain bytes behind the mark were read
-pub quote_on : (old new : Scanner) (role : Role) → Onward old new → MayQuote role old.machine.mode (opens_of old.machine) → old.read < vec_len old.input
-    → old.read < new.read → get_or old.input.items old.read 0 ≡ 34 → new.machine.mode ≡ mode_.Text role (place_.Chars None)
-    → new.machine.content.items ≡ behind old new → AreAll is_plain (behind old new) → ReadsOn old new
-quote_on old new role o m l n b t c a =
-    let run = behind old new in
-    let inside : old.read < length old.input.items = omega (arith, l, old.input.ok.0) in
-    reads_run old new o
-    (subst (λ xs. RunsFrom old xs new.machine.mode new.machine.content.items)
-    (sym (run_cons old.input.items old.read new.read n inside ∙ ap (λ x. x ∷ run) b))
-    (subst (λ z. RunsFrom old (34 ∷ run) z new.machine.content.items) (sym t)
-    (subst (λ z. RunsFrom old (34 ∷ run) (mode_.Text role (place_.Chars None)) z) (sym c) (
-      mode_.Text role (place_.Chars None),
-      [],
-      quote_move role old.machine.mode (room_of old.machine) (opens_of old.machine) old.machine.content.items m,
-      plain_run role (room_of old.machine) (opens_of old.machine) [] run a,
-    ))))
-
 -- a byte of a number begins one
 digit_move : (mode : Mode) (room : ℕ) (opens : List Bracket) (content : List ℕ) (b : ℕ) (part : Part) → MayQuote role_.Value mode opens
     → part_after part_.Nothing (kind_of b) ≡ Some part → byte_move mode room opens content b ≡ Reads (mode_.Number part) room opens (b ∷ [])
@@ -110,27 +92,47 @@ number_begins mode room opens content b run last m g = on (part_after part_.Noth
     on None e k = absurd k
     on (Some next) e k = (mode_.Number next, b ∷ [], digit_move mode room opens content b next m e, number_run next room opens (b ∷ []) run last k)
 
--- a number was begun, and read on
-pub digits_on : (old new : Scanner) (last : Part) → Onward old new → MayQuote role_.Value old.machine.mode (opens_of old.machine) → old.read < vec_len old.input
-    → old.read < new.read → new.machine.mode ≡ mode_.Number last → new.machine.content.items ≡ run_of old new → PartsGo part_.Nothing (run_of old new) last → ReadsOn old new
-digits_on old new last o m l n t c g =
-    let b = get_or old.input.items old.read 0 in
-    let run = behind old new in
-    let inside : old.read < length old.input.items = omega (arith, l, old.input.ok.0) in
-    let cut : run_of old new ≡ b ∷ run = run_cons old.input.items old.read new.read n inside in
-    reads_run old new o
-    (subst (λ z. RunsFrom old (run_of old new) z new.machine.content.items) (sym t)
-    (subst (λ z. RunsFrom old (run_of old new) (mode_.Number last) z) (sym c)
-    (subst (λ z. RunsFrom old z (mode_.Number last) z) (sym cut)
-    (number_begins old.machine.mode (room_of old.machine) (opens_of old.machine) old.machine.content.items b run last m (subst (λ z. PartsGo part_.Nothing z last) cut g)))))
+module _ (old new : Scanner) (o : Onward old new) (n : old.read < new.read) where
+  -- a byte came
+  inside : old.read < length old.input.items
+  inside = omega (arith, n, o.within, old.input.ok.0)
 
--- the place was left for another by one byte
-pub pass_on : (old new : Scanner) → Onward old new → new.read ≡ old.read + 1 → old.read < vec_len old.input
-    → RunsFrom old (get_or old.input.items old.read 0 ∷ []) new.machine.mode old.machine.content.items
-    → new.machine.content.items ≡ old.machine.content.items → ReadsOn old new
-pass_on old new o n l m c =
-    let inside : old.read < length old.input.items = omega (arith, l, old.input.ok.0) in
-    reads_run old new o
-    (subst (λ run. RunsFrom old run new.machine.mode new.machine.content.items)
-    (sym (run_one old.input.items old.read new.read n inside))
-    (subst (λ z. RunsFrom old (get_or old.input.items old.read 0 ∷ []) new.machine.mode z) (sym c) m))
+  -- the place was left for another by one byte
+  pub pass_on : new.read ≡ old.read + 1
+      → RunsFrom old (get_or old.input.items old.read 0 ∷ []) new.machine.mode old.machine.content.items
+      → new.machine.content.items ≡ old.machine.content.items → ReadsOn old new
+  pass_on e m c =
+      reads_run old new o
+      (subst (λ run. RunsFrom old run new.machine.mode new.machine.content.items)
+      (sym (run_one old.input.items old.read new.read e inside))
+      (subst (λ z. RunsFrom old (get_or old.input.items old.read 0 ∷ []) new.machine.mode z) (sym c) m))
+
+  -- a text was begun, and plain bytes behind the mark were read
+  pub quote_on : (role : Role) → MayQuote role old.machine.mode (opens_of old.machine)
+      → get_or old.input.items old.read 0 ≡ 34 → new.machine.mode ≡ mode_.Text role (place_.Chars None)
+      → new.machine.content.items ≡ behind old new → AreAll is_plain (behind old new) → ReadsOn old new
+  quote_on role m b t c a =
+      let run = behind old new in
+      reads_run old new o
+      (subst (λ xs. RunsFrom old xs new.machine.mode new.machine.content.items)
+      (sym (run_cons old.input.items old.read new.read n inside ∙ ap (λ x. x ∷ run) b))
+      (subst (λ z. RunsFrom old (34 ∷ run) z new.machine.content.items) (sym t)
+      (subst (λ z. RunsFrom old (34 ∷ run) (mode_.Text role (place_.Chars None)) z) (sym c) (
+        mode_.Text role (place_.Chars None),
+        [],
+        quote_move role old.machine.mode (room_of old.machine) (opens_of old.machine) old.machine.content.items m,
+        plain_run role (room_of old.machine) (opens_of old.machine) [] run a,
+      ))))
+
+  -- a number was begun, and read on
+  pub digits_on : (last : Part) → MayQuote role_.Value old.machine.mode (opens_of old.machine)
+      → new.machine.mode ≡ mode_.Number last → new.machine.content.items ≡ run_of old new → PartsGo part_.Nothing (run_of old new) last → ReadsOn old new
+  digits_on last m t c g =
+      let b = get_or old.input.items old.read 0 in
+      let run = behind old new in
+      let cut : run_of old new ≡ b ∷ run = run_cons old.input.items old.read new.read n inside in
+      reads_run old new o
+      (subst (λ z. RunsFrom old (run_of old new) z new.machine.content.items) (sym t)
+      (subst (λ z. RunsFrom old (run_of old new) (mode_.Number last) z) (sym c)
+      (subst (λ z. RunsFrom old z (mode_.Number last) z) (sym cut)
+      (number_begins old.machine.mode (room_of old.machine) (opens_of old.machine) old.machine.content.items b run last m (subst (λ z. PartsGo part_.Nothing z last) cut g)))))

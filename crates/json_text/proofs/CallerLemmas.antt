@@ -107,14 +107,15 @@ seen_more view (x ∷ kept) one step e =
     ap (λ s. option_to_list (step_for (view x).0 (view x).1) ++ s) (seen_more view kept one step e)
     ∙ sym (append_assoc (option_to_list (step_for (view x).0 (view x).1)) (steps_seen (map view kept)) (step ∷ []))
 
--- so a caller that keeps each step with its content keeps the steps
-pub stands_more : {A : Type 0} (view : A → JsonStep × List ℕ) (kept : List A) (one : A) (answer : JsonStep) (new : Scanner) (bytes : List ℕ) (ended : Bool)
-    → verdict_for answer ≡ None → Answers answer new bytes ended (steps_seen (map view kept)) → (view one).0 ≡ answer → (view one).1 ≡ content new
-    → Stands new bytes ended (steps_seen (map view (kept ++ (one ∷ []))))
-stands_more view kept one answer new bytes ended v a e t =
-    let s = answer_step answer new new bytes ended (steps_seen (map view kept)) v a in
-    let is : step_for (view one).0 (view one).1 ≡ Some s.step = ap (λ x. step_for x (view one).1) e ∙ ap (λ x. step_for answer x) t ∙ s.is in
-    subst (λ xs. Stands new bytes ended xs) (sym (seen_more view kept one s.step is)) s.gave.stands
+module _ {A : Type 0} (view : A → JsonStep × List ℕ) (kept : List A) (one : A) where
+  -- so a caller that keeps each step with its content keeps the steps
+  pub stands_more : (answer : JsonStep) (new : Scanner) (bytes : List ℕ) (ended : Bool)
+      → verdict_for answer ≡ None → Answers answer new bytes ended (steps_seen (map view kept)) → (view one).0 ≡ answer → (view one).1 ≡ content new
+      → Stands new bytes ended (steps_seen (map view (kept ++ (one ∷ []))))
+  stands_more answer new bytes ended v a e t =
+      let s = answer_step answer new new bytes ended (steps_seen (map view kept)) v a in
+      let is : step_for (view one).0 (view one).1 ≡ Some s.step = ap (λ x. step_for x (view one).1) e ∙ ap (λ x. step_for answer x) t ∙ s.is in
+      subst (λ xs. Stands new bytes ended xs) (sym (seen_more view kept one s.step is)) s.gave.stands
 
 -- pieces of a text, one behind the other
 pub pieces_meet : (text : List ℕ) (at n : ℕ) → take at text ++ take ((at + n) - at) (drop at text) ≡ take (at + n) text

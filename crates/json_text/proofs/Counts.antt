@@ -73,18 +73,19 @@ seen_few x y front rest numbers (GivesFirst step m r o c) ih g = absurd (out_fir
 seen_few x y front rest numbers Finishes ih g = absurd (no_cons (sym (out_finishes g)))
 seen_few x y front rest numbers Stuck ih g = absurd (out_stuck g)
 
--- a symbol and a step
-step_few : (x : Symbol) (step : Step) (front rest : List Mark) (numbers : ℕ) (mode : Mode) (room : ℕ) (opens : List Bracket) (content : List ℕ) (move : Move)
-    → FewAnywhere (Given step ∷ front) rest → FewAnywhere front rest → FirstSays mode room opens content move
-    → Goes move (Given step ∷ (front ++ rest)) → AreFew (Seen x ∷ Given step ∷ front) rest numbers
-step_few x step front rest numbers mode room opens content (reads_ m r o c) ih on says g = let few = ih m r o c (out_reads g) in omega (arith, few, is_small m)
-step_few x step front rest numbers mode room opens content (Gives other m r o c) ih on says g =
-    let out = out_gives g in
-    let few = on m r o c (subst (λ z. Rest m r o c z) (sym (tail_of out.1)) out.2) in
-    omega (arith, few, none_of m says)
-step_few x step front rest numbers mode room opens content (GivesFirst other m r o c) ih on says g = absurd (out_first g)
-step_few x step front rest numbers mode room opens content Finishes ih on says g = absurd (no_cons (sym (out_finishes g)))
-step_few x step front rest numbers mode room opens content Stuck ih on says g = absurd (out_stuck g)
+module _ (mode : Mode) (room : ℕ) (opens : List Bracket) (content : List ℕ) where
+  -- a symbol and a step
+  step_few : (x : Symbol) (step : Step) (front rest : List Mark) (numbers : ℕ) (move : Move)
+      → FewAnywhere (Given step ∷ front) rest → FewAnywhere front rest → FirstSays mode room opens content move
+      → Goes move (Given step ∷ (front ++ rest)) → AreFew (Seen x ∷ Given step ∷ front) rest numbers
+  step_few x step front rest numbers (reads_ m r o c) ih on says g = let few = ih m r o c (out_reads g) in omega (arith, few, is_small m)
+  step_few x step front rest numbers (Gives other m r o c) ih on says g =
+      let out = out_gives g in
+      let few = on m r o c (subst (λ z. Rest m r o c z) (sym (tail_of out.1)) out.2) in
+      omega (arith, few, none_of m says)
+  step_few x step front rest numbers (GivesFirst other m r o c) ih on says g = absurd (out_first g)
+  step_few x step front rest numbers Finishes ih on says g = absurd (no_cons (sym (out_finishes g)))
+  step_few x step front rest numbers Stuck ih on says g = absurd (out_stuck g)
 
 -- a step that comes first
 first_few : (step : Step) (front rest : List Mark) (mode : Mode) (room : ℕ) (opens : List Bracket) (content : List ℕ)
@@ -108,7 +109,7 @@ few_at (Seen x ∷ Seen y ∷ front) rest mode room opens content r =
     (λ m ro o c h. few_at (Seen y ∷ front) rest m ro o c h)
     (forth mode room opens content (Seen x ∷ Seen y ∷ (front ++ rest)) r)
 few_at (Seen x ∷ Given step ∷ front) rest mode room opens content r =
-    step_few x step front rest (is_number mode) mode room opens content (move_by mode room opens content x)
+    step_few mode room opens content x step front rest (is_number mode) (move_by mode room opens content x)
     (λ m ro o c h. few_at (Given step ∷ front) rest m ro o c h) (λ m ro o c h. few_at front rest m ro o c h)
     (first_says mode room opens content x)
     (forth mode room opens content (Seen x ∷ Given step ∷ (front ++ rest)) r)

@@ -73,10 +73,14 @@ bad_reading bytes ended front b = (steps_of front, BadAt (length (symbols_of fro
 no_finish : (mode : Mode) (room : ℕ) (opens : List Bracket) (content : List ℕ) (b : ℕ) → move_by mode room opens content (Byte b) ≡ Finishes → ⊥
 no_finish mode room opens content b e = subst (ByteSays mode room opens content) e (byte_says mode room opens content b)
 
+-- the end finishes the text, or is stuck
+abbrev pub EndsBy : Move → Type 0
+EndsBy move = (move ≡ Finishes) ⊎ (move ≡ Stuck)
+
 -- at the end of a text
 end_reading : {front : List Mark} {next : List Symbol} {mode : Mode} {room : ℕ} {opens : List Bracket} {content : List ℕ} (bytes : List ℕ)
     → IsFrontOf front next mode room opens content → Begins next (End ∷ []) → symbols_of front ≡ symbols bytes
-    → (move_by mode room opens content End ≡ Finishes) ⊎ (move_by mode room opens content End ≡ Stuck) → Reading bytes true
+    → EndsBy (move_by mode room opens content End) → Reading bytes true
 end_reading {front} bytes f n s (inl e) =
     (steps_of (front ++ (Seen End ∷ [])), Whole, record { front = front ++ (Seen End ∷ []); given = refl; fits = (refl, whole_at bytes f n s e) })
 end_reading {front} bytes f n s (inr e) = bad_reading bytes true front (bad_at bytes true End [] f n (ap (λ z. z ++ (End ∷ [])) (sym s)) e)
@@ -116,10 +120,15 @@ all_seen : {front : List Mark} {mode : Mode} {room : ℕ} {opens : List Bracket}
 all_seen {front} bytes false f s = (steps_of front, More, record { front = front; given = refl; fits = (refl, more_at bytes f s) })
 all_seen {front} {mode} bytes true f s = at_end mode bytes f s
 
+-- the text has a reading from each longer front on, behind which these bytes are left
+abbrev pub ReadsLater : List ℕ → Bool → List ℕ → Type 0
+ReadsLater bytes ended left =
+    (longer : List Mark) (mode : Mode) (room : ℕ) (opens : List Bracket) (content : List ℕ) → IsFrontOf longer [] mode room opens content
+    → symbols bytes ≡ symbols_of longer ++ symbols left → Reading bytes ended
+
 -- where some are left, by how it goes on behind the next
 one_left : {front : List Mark} (bytes : List ℕ) (ended : Bool) (b : ℕ) (left : List ℕ) → symbols bytes ≡ symbols_of front ++ (Byte b ∷ symbols left)
-    → ((longer : List Mark) (mode : Mode) (room : ℕ) (opens : List Bracket) (content : List ℕ) → IsFrontOf longer [] mode room opens content → symbols bytes ≡ symbols_of longer ++ symbols left → Reading bytes ended)
-    → Comes front (Byte b) → Reading bytes ended
+    → ReadsLater bytes ended left → Comes front (Byte b) → Reading bytes ended
 one_left {front} bytes ended b left s go (goes longer mode room opens content g e) =
     go longer mode room opens content g (s ∙ sym (append_assoc (symbols_of front) (Byte b ∷ []) (symbols left)) ∙ ap (λ z. z ++ symbols left) (sym e))
 one_left bytes ended b left s go (stays longer next mode room opens content g n e (inl m)) = absurd (no_finish mode room opens content b m)

@@ -8,7 +8,7 @@ use Rattle.json_text.proofs.scanner.Scanner.digits.Goals as goal
 pub returns-clause-on : goal.returns-clause-on
 returns-clause-on c =
     let grew : c.args.self.now.read < c.number_end-end.result.0 = omega (arith, c.number_end-end.ensures.onward, c.if-end-self.false) in
-    digits_on c.args.self.now _ c.number_end-end.result.1
+    digits_on c.args.self.now _
     (record {
       input = refl;
       before = refl;
@@ -20,7 +20,7 @@ returns-clause-on c =
       within = omega (arith, c.number_end-end.ensures.within, c.deref.ensures.len);
       fewer = omega (arith, grew);
     })
-    c.requires.place (omega (arith, grew, c.number_end-end.ensures.within, c.deref.ensures.len)) grew refl
+    grew c.number_end-end.result.1 c.requires.place refl
     (c.in_ok-extend_from_slice.ensures.items
     ∙ ap (λ zs. zs ++ take (c.number_end-end.result.0 - c.args.self.now.read) (drop c.args.self.now.read c.deref-2.result.now)) c.clear.ensures.items
     ∙ ap (λ xs. take (c.number_end-end.result.0 - c.args.self.now.read) (drop c.args.self.now.read xs)) c.deref-2.ensures.value)

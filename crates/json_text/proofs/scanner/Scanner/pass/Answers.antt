@@ -17,4 +17,4 @@ returns-clause-on c =
       within = omega (arith, c.requires.left);
       fewer = omega (arith, c.requires.plain);
     })
-    refl c.requires.left (_, _, c.requires.place, (refl, refl)) refl
+    (omega arith) refl (_, _, c.requires.place, (refl, refl)) refl

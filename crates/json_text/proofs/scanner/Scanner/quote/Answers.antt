@@ -6,7 +6,7 @@ use Rattle.json_text.proofs.scanner.Scanner.quote.Goals as goal
 
 pub returns-clause-on : goal.returns-clause-on
 returns-clause-on c =
-    quote_on c.args.self.now _ c.args.role
+    quote_on c.args.self.now _
     (record {
       input = refl;
       before = refl;
@@ -18,7 +18,7 @@ returns-clause-on c =
       within = omega (arith, c.plain_end-end.ensures.within, c.deref.ensures.len);
       fewer = omega (arith, c.plain_end-end.ensures.onward);
     })
-    c.requires.place c.requires.left (omega (arith, c.plain_end-end.ensures.onward)) c.requires.next refl
+    (omega (arith, c.plain_end-end.ensures.onward)) c.args.role c.requires.place c.requires.next refl
     (c.in_ok-extend_from_slice.ensures.items
     ∙ ap (λ zs. zs ++ take (c.plain_end-end.result - (c.args.self.now.read + 1)) (drop (c.args.self.now.read + 1) c.deref-2.result.now)) c.clear.ensures.items
     ∙ ap (λ xs. take (c.plain_end-end.result - (c.args.self.now.read + 1)) (drop (c.args.self.now.read + 1) xs)) c.deref-2.ensures.value)
