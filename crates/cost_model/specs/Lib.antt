@@ -1,0 +1,4 @@
+pub mod Facts
+pub mod Prices
+pub mod Parts
+pub mod Walks
