@@ -33,8 +33,14 @@ along-wide length (pos n) fits short low high =
     let rate_fits : SFits w128 (pos n) = fits_signed_from_abs w128 (pos n) (omega (arith, ints)) in
     let product : SFits w128 (pos (length * n)) = fits_signed_from_abs w128 _ (omega arith) in
     let quotient : SFits w128 (pos (length * n / 1000)) = fits_signed_from_abs w128 _ (omega arith) in
-    rw (to_z-of_z w64 (pos n) fits, l, to_z-of_z w128 (pos n) rate_fits, to_z-of_z w128 (pos (length * n)) product,
-        to_z-of_z w128 (pos (length * n / 1000)) quotient, per_metre-pos length n) refl
+    rw (
+      to_z-of_z w64 (pos n) fits,
+      l,
+      to_z-of_z w128 (pos n) rate_fits,
+      to_z-of_z w128 (pos (length * n)) product,
+      to_z-of_z w128 (pos (length * n / 1000)) quotient,
+      per_metre-pos length n,
+    ) refl
 along-wide length (negsuc n) fits short low high = absurd (omega (arith, ints))
 
 -- a rate that is no less than nothing comes to nothing or more
