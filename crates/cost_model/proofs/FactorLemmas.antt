@@ -1,12 +1,12 @@
 -- What follows from the definition of the factor of the distance.
-use Rattle.std.proofs.Common.{◌≡◌, ℕ, suc, ◌+◌, ◌*◌, ◌/◌, ◌≤◌, ◌<◌, ℤ, pos, negsuc, ◌+ℤ◌, ◌-ℤ◌, ◌*ℤ◌, ◌≤ℤ◌, ◌<ℤ◌, refl, ap, ◌∙◌, sym, subst, unsigned_abs, SFits, w64, to_z, of_z, arith}
-use Rattle.std.specs.Int.{w128, int_div_euclid, int_max, int_min}
+use Rattle.std.proofs.Common.{◌≡◌, suc, ◌+◌, ◌*◌, ◌/◌, ◌≤◌, ◌<◌, ℤ, pos, negsuc, ◌+ℤ◌, ◌-ℤ◌, ◌*ℤ◌, ◌≤ℤ◌, refl, ap, ◌∙◌, unsigned_abs, SFits, w64, arith}
+use Rattle.std.specs.Int.{w128, int_div_euclid, int_min}
 use Rattle.std.proofs.Math.IntN.{*ℤ_comm, *ℤ-zero}
-use Rattle.std.proofs.lemmas.Int.{ints, clamps, by_lt_z, fits_signed_from_abs, unsigned_abs-mul}
+use Rattle.std.proofs.lemmas.Int.{ints, clamps, fits_signed_from_abs, unsigned_abs-mul}
 use Rattle.std.proofs.lemmas.Nat.{mul-le, div_below, le-div}
 use Rattle.std.proofs.Math.Nat.{div-mul-le_self}
 use Rattle.cost_model.specs.Facts.{IsCost, AreFacts}
-use Rattle.cost_model.specs.Parts.{IsWeight, MovesWithWeights, moved_of, factor_of, least_factor, per_metre, least_distance, distance_of}
+use Rattle.cost_model.specs.Parts.{IsWeight, MovesWithWeights, moved_of, factor_of, least_factor, least_distance, distance_of}
 use Rattle.cost_model.specs.declared.facts.LinkFacts.{LinkFacts}
 use Rattle.cost_model.proofs.NumberLemmas.{pull_fits, per_metre-grows}
 

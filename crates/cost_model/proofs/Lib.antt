@@ -1,3 +1,4 @@
 pub mod NumberLemmas
 pub mod FactorLemmas
+pub mod RateLemmas
 pub mod CallerLemmas

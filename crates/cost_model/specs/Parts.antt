@@ -1,8 +1,8 @@
 -- What one link costs, in five parts in millionths (this project's own rule).
-use Rattle.std.specs.Prelude.{◌≡◌, ℕ, ℤ, pos, negsuc, ◌+ℤ◌, ◌-ℤ◌, ◌*ℤ◌, ◌≤ℤ◌, ◌<ℤ◌, ◌^◌, neg_ℤ, int_le, ◌&&◌, Bool, true, false, cond, Option, Some, None, unsigned_abs}
+use Rattle.std.specs.Prelude.{◌≡◌, ℕ, ℤ, pos, ◌+ℤ◌, ◌-ℤ◌, ◌*ℤ◌, ◌≤ℤ◌, ◌<ℤ◌, ◌^◌, int_le, ◌&&◌, Bool, true, false, cond, Option, Some, None, unsigned_abs}
 use Rattle.std.specs.Int.{int_div_euclid, int_max, int_min}
 use Rattle.geo_int.specs.Turn.{turn_cosine}
-use Rattle.elev_buffer.specs.Covers.{Climb, down_step, up_step, after}
+use Rattle.elev_buffer.specs.Covers.{Climb, down_step, up_step}
 use Rattle.elev_buffer.specs.declared.labels.Pair.{Pair}
 use Rattle.cost_model.specs.Prices.{Prices}
 use Rattle.cost_model.specs.declared.facts.LinkFacts.{LinkFacts}

@@ -1,5 +1,5 @@
 -- What a walk costs, by the positions of its list of links (this project's own rule).
-use Rattle.std.specs.Prelude.{◌≡◌, ℕ, zero, suc, ◌+◌, ℤ, pos, Bool, List, [], ◌∷◌, ◌++◌, length, get_or, take, Option, Some, None}
+use Rattle.std.specs.Prelude.{◌≡◌, ℕ, zero, suc, ◌+◌, pos, Bool, List, [], ◌∷◌, ◌++◌, length, get_or, take, Option, Some, None}
 use Rattle.elev_buffer.specs.Covers.{after}
 use Rattle.elev_buffer.specs.declared.labels.Pair.{Pair}
 use Rattle.cost_model.specs.Prices.{Prices}

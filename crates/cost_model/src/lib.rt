@@ -1,5 +1,5 @@
-//! What a link of a map costs a rider: its facts, the five parts of a link's cost, and the distance
-//! part.
+//! What a link of a map costs a rider: its facts, the rates of a profile, the five parts of a link's
+//! cost, and the distance part.
 #![tactic(auto)]
 
 mod distance;
@@ -10,4 +10,4 @@ mod rates;
 pub use distance::distance_part;
 pub use facts::{FactsOf, LinkFacts};
 pub use parts::{Carry, Parts};
-pub use rates::RateError;
+pub use rates::{RateError, Rates};

@@ -1,7 +1,7 @@
-use Rattle.std.proofs.Common.{◌≡◌, SFits, w64, arith}
-use Rattle.std.proofs.lemmas.Int.{ints, clamps, to_z-of_z, fits_signed_from_abs}
+use Rattle.std.proofs.Common.{SFits, w64, arith}
+use Rattle.std.proofs.lemmas.Int.{ints, clamps, to_z-of_z}
 use Rattle.cost_model.proofs.NumberLemmas.{cost-fits, same-bits}
-use Rattle.cost_model.proofs.FactorLemmas.{factor-flat, factor-within}
+use Rattle.cost_model.proofs.FactorLemmas.{factor-flat}
 use Rattle.cost_model.proofs.distance.factor.Goals as goal
 
 pub returns-then-facts-2-clause-exact : goal.returns-then-facts-2-clause-exact
