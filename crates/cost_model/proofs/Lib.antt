@@ -1,4 +1,7 @@
 pub mod NumberLemmas
 pub mod FactorLemmas
 pub mod RateLemmas
+pub mod LinkLemmas
+pub mod PaidLemmas
+pub mod WalkLemmas
 pub mod CallerLemmas

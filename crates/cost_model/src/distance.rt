@@ -8,7 +8,7 @@ use crate::facts::LinkFacts;
 
 /// What a rate for a metre comes to along so many millimetres. Products of 128 bits are divided
 /// only for rates above 90,000: that is much slower.
-fn along(length: u64, rate: i64) -> i128
+pub(crate) fn along(length: u64, rate: i64) -> i128
     requires length { length ≤ 100000000 }
     requires low { pos 0 ≤ℤ rate }
     requires high { rate ≤ℤ pos 3000000000000000 }
