@@ -4,4 +4,5 @@ pub mod RateLemmas
 pub mod LinkLemmas
 pub mod PaidLemmas
 pub mod WalkLemmas
+pub mod ModeLemmas
 pub mod CallerLemmas
