@@ -1,0 +1,5 @@
+pub mod Facts
+pub mod Prices
+pub mod Parts
+pub mod Walks
+pub mod Modes
