@@ -1,0 +1,130 @@
+//! Cases on prices.
+
+ghost use Rattle.std.specs.Prelude.{IfSome};
+ghost use Rattle.cost_model.specs.Facts.{AreFacts};
+
+use case_rows::Case;
+use cost_model::{LinkFacts, RateError, Rates, distance_part, enter, first};
+use fixed_num::Num;
+use geo_int::{Spot, arrow};
+use std::alloc::{AllocError, Global};
+
+/// What is answered where the words aren't such as the call takes.
+const OUTSIDE: &str = "(outside)";
+
+/// The most of a cost in millionths.
+const MOST: i64 = 1_000_000_000_000_000;
+
+/// The answer to a case on prices.
+pub(crate) fn answer(alloc: Global, case: &Case) -> Result<String, AllocError> {
+    match case.word(0) {
+        b"rates" => rates(alloc, case),
+        b"distance" => distance(alloc, case),
+        b"climb" => climb(alloc, case),
+        _ => String::from_str(alloc, "no such call"),
+    }
+}
+
+/// The seven global values that the words from a place on are.
+fn globals(case: &Case) -> Option<[Num; 7]> {
+    Some([
+        Num::of(case.signed(1))?,
+        Num::of(case.signed(2))?,
+        Num::of(case.signed(3))?,
+        Num::of(case.signed(4))?,
+        Num::of(case.signed(5))?,
+        Num::of(case.signed(6))?,
+        Num::of(case.signed(7))?,
+    ])
+}
+
+/// The two prices and the most of a buffer, or why there are no rates.
+fn rates(alloc: Global, case: &Case) -> Result<String, AllocError> {
+    let Some(globals) = globals(case) else {
+        return String::from_str(alloc, OUTSIDE);
+    };
+    match Rates::new(&globals) {
+        Ok(rates) => {
+            format!(in alloc;
+                "{} {} {}",
+                rates.up_rate(),
+                rates.down_rate(),
+                rates.most()
+            )
+        }
+        Err(RateError::NegativeRate { which }) => format!(in alloc; "negative {which}"),
+        Err(RateError::BufferOrder { penalty, most }) => {
+            format!(in alloc; "order {penalty} {most}")
+        }
+    }
+}
+
+/// The facts of a link along the equator of so many microdegrees, up a slope of 24 millimetres for each, with these factors.
+fn facts_of(lon: i64, costfactor: i64, upfactor: i64, downfactor: i64) -> Option<LinkFacts>
+    ensures found { IfSome result (λ facts. AreFacts facts) }
+{
+    let arrow = arrow(Spot::new(0, 0)?, Spot::new(lon, 0)?)?;
+    if lon < 0 || lon > 1_000_000 || costfactor < 0 || costfactor > MOST {
+        return None;
+    }
+    if upfactor < 0 || upfactor > MOST || downfactor < 0 || downfactor > MOST {
+        return None;
+    }
+    Some(LinkFacts {
+        arrow,
+        rise: 24_000 * lon,
+        costfactor,
+        turncost: 0,
+        initialcost: 0,
+        classifier: 0,
+        charge: 0,
+        granted: false,
+        upfactor,
+        downfactor,
+    })
+}
+
+/// The distance part: microdegrees, the three factors, the weights of descending and climbing.
+fn distance(alloc: Global, case: &Case) -> Result<String, AllocError> {
+    let (down, up) = (case.signed(5), case.signed(6));
+    let facts = facts_of(
+        case.signed(1),
+        case.signed(2),
+        case.signed(3),
+        case.signed(4),
+    );
+    match facts {
+        Some(facts) if 0 <= down && down <= 1_000_000 && 0 <= up && up <= 1_000_000 => {
+            format!(in alloc; "{}", distance_part(&facts, down, up))
+        }
+        _ => String::from_str(alloc, OUTSIDE),
+    }
+}
+
+/// A walk of three links up the slope, of so many microdegrees each, by the rates of seven values: the elevation part and the
+/// buffer of climbing behind each link, and the cost of the walk.
+fn climb(alloc: Global, case: &Case) -> Result<String, AllocError> {
+    let Some(globals) = globals(case) else {
+        return String::from_str(alloc, OUTSIDE);
+    };
+    let Ok(rates) = Rates::new(&globals) else {
+        return String::from_str(alloc, OUTSIDE);
+    };
+    let one = 1_000_000;
+    let (Some(a), Some(b), Some(c)) = (
+        facts_of(case.signed(8), one, one, one),
+        facts_of(case.signed(9), one, one, one),
+        facts_of(case.signed(10), one, one, one),
+    ) else {
+        return String::from_str(alloc, OUTSIDE);
+    };
+    let (behind_a, parts_a) = first(0, &a, &rates);
+    let (behind_b, parts_b) = enter(&behind_a, &a, 1, &b, &rates);
+    let (behind_c, parts_c) = enter(&behind_b, &b, 2, &c, &rates);
+    let cost = parts_a.sum() + parts_b.sum() + parts_c.sum();
+    let (x, y, z) = (parts_a.elevation, parts_b.elevation, parts_c.elevation);
+    format!(in alloc;
+        "{x} {} {y} {} {z} {} {cost}",
+        behind_a.up, behind_b.up, behind_c.up
+    )
+}
