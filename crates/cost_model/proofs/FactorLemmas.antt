@@ -8,7 +8,7 @@ use Rattle.std.proofs.Math.Nat.{div-mul-le_self}
 use Rattle.cost_model.specs.Facts.{IsCost, AreFacts}
 use Rattle.cost_model.specs.Parts.{IsWeight, MovesWithWeights, moved_of, factor_of, least_factor, least_distance, distance_of}
 use Rattle.cost_model.specs.declared.facts.LinkFacts.{LinkFacts}
-use Rattle.cost_model.proofs.NumberLemmas.{pull_fits, per_metre-grows}
+use Rattle.cost_model.proofs.NumberLemmas.{pull_fits, per_metre-grows, cost-fits, cost-wide, pull-wide}
 
 -- a division rounded down does not fall where what is divided grows
 pub div-grows : (x y : ℤ) → x ≤ℤ y → int_div_euclid x (pos 1000000) ≤ℤ int_div_euclid y (pos 1000000)
@@ -48,8 +48,12 @@ no_pull a b w same =
     let none : a -ℤ b ≡ pos 0 = omega (arith, ints) in
     ap (λ x. x *ℤ w) none ∙ *ℤ_comm (pos 0) w ∙ *ℤ-zero w
 
--- the sums on the way to a factor
+-- the numbers on the way to a factor
 pub record MovedFits (cost down up : ℤ) : Type 0 where
+  pub cost_narrow : SFits w64 cost
+  pub cost_wide : SFits w128 cost
+  pub down_fits : SFits w128 down
+  pub up_fits : SFits w128 up
   pub millions : SFits w128 (cost *ℤ pos 1000000)
   pub one : SFits w128 (cost *ℤ pos 1000000 +ℤ down)
   pub both : SFits w128 (cost *ℤ pos 1000000 +ℤ down +ℤ up)
@@ -70,6 +74,10 @@ moved_fits cf down up is d u =
     let both : unsigned_abs (cf *ℤ pos 1000000 +ℤ down +ℤ up) ≤ 3000000000000000000000 = omega (arith, ints) in
     let within = div-within (cf *ℤ pos 1000000 +ℤ down +ℤ up) both in
     record {
+      cost_narrow = cost-fits cf is;
+      cost_wide = cost-wide cf is;
+      down_fits = pull-wide down d;
+      up_fits = pull-wide up u;
       millions = fits_signed_from_abs w128 _ (omega arith);
       one = fits_signed_from_abs w128 _ (omega arith);
       both = fits_signed_from_abs w128 _ (omega arith);

@@ -41,8 +41,7 @@ slope_fits length rate short is =
 -- the numbers on the way to the price of a turn
 pub record PriceFits (turncost cosine : ℤ) : Type 0 where
   pub cost : SFits w128 turncost
-  pub rest : SFits w64 (pos 1000000 -ℤ cosine)
-  pub wide : SFits w128 (pos 1000000 -ℤ cosine)
+  pub rest : SFits w64 (pos 1000000 -ℤ cosine) × SFits w128 (pos 1000000 -ℤ cosine)
   pub product : SFits w128 (turncost *ℤ (pos 1000000 -ℤ cosine))
   pub quotient : SFits w128 (int_div_euclid (turncost *ℤ (pos 1000000 -ℤ cosine)) (pos 1000000))
 
@@ -55,8 +54,7 @@ price_fits turncost cosine t k =
     let q = div-within (turncost *ℤ (pos 1000000 -ℤ cosine)) (omega arith) in
     record {
       cost = fits_signed_from_abs w128 _ (omega arith);
-      rest = fits_signed_from_abs w64 _ (omega arith);
-      wide = fits_signed_from_abs w128 _ (omega arith);
+      rest = (fits_signed_from_abs w64 _ (omega arith), fits_signed_from_abs w128 _ (omega arith));
       product = fits_signed_from_abs w128 _ (omega arith);
       quotient = fits_signed_from_abs w128 _ (omega arith);
     }
@@ -101,28 +99,6 @@ step_fits p added r e is positive small held =
       left = left;
       most = step-within p.limits added r e is.limits;
     }
-
--- so does that of the buffer of descending
-pub descent_fits : (p : Prices) (facts : LinkFacts) (pair : Pair) → IsPrices p → AreFacts facts → IsHeld p pair →
-    StepFits p (down_step (climb_of p facts) pair)
-unfolding climb_of
-descent_fits p facts pair is f held =
-    let slope = slope_fits facts.arrow.len p.down_cutoff f.arrow.short is.down_cutoff in
-    let reduction = slope_fits facts.arrow.len p.reduction f.arrow.short is.reduction in
-    let low = slope.low in
-    let rise = f.rise in
-    step_fits p _ _ pair.down is reduction.low (omega (arith, ints)) held.down_high
-
--- and that of the buffer of climbing
-pub ascent_fits : (p : Prices) (facts : LinkFacts) (pair : Pair) → IsPrices p → AreFacts facts → IsHeld p pair →
-    StepFits p (up_step (climb_of p facts) pair)
-unfolding climb_of
-ascent_fits p facts pair is f held =
-    let slope = slope_fits facts.arrow.len p.up_cutoff f.arrow.short is.up_cutoff in
-    let reduction = slope_fits facts.arrow.len p.reduction f.arrow.short is.reduction in
-    let low = slope.low in
-    let rise = f.rise in
-    step_fits p _ _ pair.up is reduction.low (omega (arith, ints)) held.up_high
 
 -- the numbers of a step, and the price of what it pays
 pub record StepNarrow (s : Stepped) (rate : ℤ) : Type 0 where
@@ -183,32 +159,48 @@ pub record StepsAre (p : Prices) (facts : LinkFacts) (pair : Pair) (d u : Steppe
   pub down_weight : IsWeight d.weight
   pub up_weight : IsWeight u.weight
 
--- are those that are computed
-pub steps_are : (p : Prices) (facts : LinkFacts) (pair : Pair) (d u : Stepped) → IsPrices p → AreFacts facts → IsHeld p pair →
-    d ≡ step_of p.limits (climb_of p facts).down_added (climb_of p facts).reduction (to_z w64 (of_z w64 pair.down)) →
-    u ≡ step_of p.limits (climb_of p facts).up_added (climb_of p facts).reduction (to_z w64 (of_z w64 pair.up)) →
-    StepsAre p facts pair d u
-unfolding climb_of
-steps_are p facts pair d u is f held de ue =
-    let dl = held.down_low in
-    let dh = held.down_high in
-    let ul = held.up_low in
-    let uh = held.up_high in
-    let most = is.limits.most in
-    let narrow : SFits w64 pair.down = fits_signed_from_abs w64 _ (omega (arith, ints)) in
-    let also : SFits w64 pair.up = fits_signed_from_abs w64 _ (omega (arith, ints)) in
-    let down : d ≡ down_step (climb_of p facts) pair = de ∙ ap (λ e. step_of p.limits (climb_of p facts).down_added (climb_of p facts).reduction e) (to_z-of_z w64 pair.down narrow) in
-    let up : u ≡ up_step (climb_of p facts) pair = ue ∙ ap (λ e. step_of p.limits (climb_of p facts).up_added (climb_of p facts).reduction e) (to_z-of_z w64 pair.up also) in
-    let df : StepFits p d = rw down (descent_fits p facts pair is f held) in
-    let uf : StepFits p u = rw up (ascent_fits p facts pair is f held) in
-    record {
-      down = down;
-      up = up;
-      down_fits = step_narrow p d p.down_rate is is.down_rate df;
-      up_fits = step_narrow p u p.up_rate is is.up_rate uf;
-      down_weight = df.weight;
-      up_weight = uf.weight;
-    }
+module _ (p : Prices) (facts : LinkFacts) (pair : Pair) (is : IsPrices p) (f : AreFacts facts) (held : IsHeld p pair) where
+  -- a slope along the link is no less than nothing
+  slope-low : (rate : ℤ) → IsSlope rate → pos 0 ≤ℤ per_metre facts.arrow.len rate
+  slope-low rate s = (slope_fits facts.arrow.len rate f.arrow.short s).low
+
+  -- the step of the buffer of descending keeps its bounds
+  pub descent_fits : StepFits p (down_step (climb_of p facts) pair)
+  unfolding climb_of
+  descent_fits =
+      step_fits p _ _ pair.down is (slope-low p.reduction is.reduction) (omega (arith, ints, slope-low p.down_cutoff is.down_cutoff, f.rise)) held.down_high
+
+  -- so does that of the buffer of climbing
+  pub ascent_fits : StepFits p (up_step (climb_of p facts) pair)
+  unfolding climb_of
+  ascent_fits =
+      step_fits p _ _ pair.up is (slope-low p.reduction is.reduction) (omega (arith, ints, slope-low p.up_cutoff is.up_cutoff, f.rise)) held.up_high
+
+  -- both steps are those that are computed
+  pub steps_are : (d u : Stepped) →
+      d ≡ step_of p.limits (climb_of p facts).down_added (climb_of p facts).reduction (to_z w64 (of_z w64 pair.down)) →
+      u ≡ step_of p.limits (climb_of p facts).up_added (climb_of p facts).reduction (to_z w64 (of_z w64 pair.up)) → StepsAre p facts pair d u
+  unfolding climb_of
+  steps_are d u de ue =
+      let dl = held.down_low in
+      let dh = held.down_high in
+      let ul = held.up_low in
+      let uh = held.up_high in
+      let most = is.limits.most in
+      let narrow : SFits w64 pair.down = fits_signed_from_abs w64 _ (omega (arith, ints)) in
+      let also : SFits w64 pair.up = fits_signed_from_abs w64 _ (omega (arith, ints)) in
+      let down : d ≡ down_step (climb_of p facts) pair = de ∙ ap (λ e. step_of p.limits (climb_of p facts).down_added (climb_of p facts).reduction e) (to_z-of_z w64 pair.down narrow) in
+      let up : u ≡ up_step (climb_of p facts) pair = ue ∙ ap (λ e. step_of p.limits (climb_of p facts).up_added (climb_of p facts).reduction e) (to_z-of_z w64 pair.up also) in
+      let df : StepFits p d = rw down (descent_fits) in
+      let uf : StepFits p u = rw up (ascent_fits) in
+      record {
+        down = down;
+        up = up;
+        down_fits = step_narrow p d p.down_rate is is.down_rate df;
+        up_fits = step_narrow p u p.up_rate is is.up_rate uf;
+        down_weight = df.weight;
+        up_weight = uf.weight;
+      }
 
 -- the parts that are computed are those of the definition
 pub parts-are : (p : Prices) (facts : LinkFacts) (pair : Pair) (d u : Stepped) (distance turn initial elevation : ℤ) →

@@ -88,14 +88,8 @@ pub record PullFits (factor costfactor weight : ℤ) : Type 0 where
 -- a pull keeps them
 pub pull_fits : (factor costfactor w : ℤ) → IsCost factor → IsCost costfactor → IsWeight w → PullFits factor costfactor w
 pull_fits factor costfactor w f c is =
-    let fl = f.low in
-    let fh = f.high in
-    let cl = c.low in
-    let ch = c.high in
-    let wl = is.low in
-    let wh = is.high in
-    let d : unsigned_abs (factor -ℤ costfactor) ≤ 1000000000000000 = omega (arith, ints) in
-    let u : unsigned_abs w ≤ 1000000 = omega (arith, ints) in
+    let d : unsigned_abs (factor -ℤ costfactor) ≤ 1000000000000000 = omega (arith, ints, f.low, f.high, c.low, c.high) in
+    let u : unsigned_abs w ≤ 1000000 = omega (arith, ints, is.low, is.high) in
     let p : unsigned_abs ((factor -ℤ costfactor) *ℤ w) ≤ 1000000000000000 * 1000000 =
     omega (arith, unsigned_abs-mul (factor -ℤ costfactor) w, mul-le (unsigned_abs (factor -ℤ costfactor)) (unsigned_abs w) 1000000000000000 1000000 d u) in
     record {
@@ -106,8 +100,17 @@ pull_fits factor costfactor w f c is =
       within = omega arith;
     }
 
--- the sums of the first parts
+-- a number of the size of a pull fits 128 bits
+pub pull-wide : (n : ℤ) → unsigned_abs n ≤ 1000000000000000000000 → SFits w128 n
+pull-wide n h = fits_signed_from_abs w128 n (omega arith)
+
+-- the parts, and the sums of the first ones
 pub record SumFits (parts : Parts) : Type 0 where
+  pub distance : SFits w128 parts.distance
+  pub turn : SFits w128 parts.turn
+  pub initial : SFits w128 parts.initial
+  pub node : SFits w128 parts.node
+  pub elevation : SFits w128 parts.elevation
   pub two : SFits w128 (parts.distance +ℤ parts.turn)
   pub three : SFits w128 (parts.distance +ℤ parts.turn +ℤ parts.initial)
   pub four : SFits w128 (parts.distance +ℤ parts.turn +ℤ parts.initial +ℤ parts.node)
@@ -117,41 +120,16 @@ pub record SumFits (parts : Parts) : Type 0 where
 -- stay below 2^81
 pub sum_fits : (parts : Parts) → ArePaid parts → SumFits parts
 sum_fits parts is =
-    let d = is.distance in
-    let t = is.turn in
-    let i = is.initial in
-    let n = is.node in
-    let e = is.elevation in
-    let b = is.below in
-    record {
-      two = fits_signed_from_abs w128 _ (omega (arith, ints));
-      three = fits_signed_from_abs w128 _ (omega (arith, ints));
-      four = fits_signed_from_abs w128 _ (omega (arith, ints));
-      five = fits_signed_from_abs w128 _ (omega (arith, ints));
-      low = omega (arith, ints);
-    }
-
--- each part
-pub record PartsFit (parts : Parts) : Type 0 where
-  pub distance : SFits w128 parts.distance
-  pub turn : SFits w128 parts.turn
-  pub initial : SFits w128 parts.initial
-  pub node : SFits w128 parts.node
-  pub elevation : SFits w128 parts.elevation
-
--- stays below 2^81 too
-pub parts_fit : (parts : Parts) → ArePaid parts → PartsFit parts
-parts_fit parts is =
-    let d = is.distance in
-    let t = is.turn in
-    let i = is.initial in
-    let n = is.node in
-    let e = is.elevation in
-    let b = is.below in
+    let record { distance = d; turn = t; initial = i; node = n; elevation = e; below = b } = is in
     record {
       distance = fits_signed_from_abs w128 _ (omega (arith, ints));
       turn = fits_signed_from_abs w128 _ (omega (arith, ints));
       initial = fits_signed_from_abs w128 _ (omega (arith, ints));
       node = fits_signed_from_abs w128 _ (omega (arith, ints));
       elevation = fits_signed_from_abs w128 _ (omega (arith, ints));
+      two = fits_signed_from_abs w128 _ (omega (arith, ints));
+      three = fits_signed_from_abs w128 _ (omega (arith, ints));
+      four = fits_signed_from_abs w128 _ (omega (arith, ints));
+      five = fits_signed_from_abs w128 _ (omega (arith, ints));
+      low = omega (arith, ints);
     }

@@ -98,18 +98,12 @@ sizes-paid : (d t i n e : ℤ) → pos 0 ≤ℤ d → d ≤ℤ pos 6000000000000
     pos 0 ≤ℤ e → e ≤ℤ pos 2002000000000000000000000 →
     ArePaid (record { distance = d; turn = t; initial = i; node = n; elevation = e })
 sizes-paid d t i n e dl dh ts is ns el eh =
-    let tl = ts.low in
-    let th = ts.high in
-    let il = is.low in
-    let ih = is.high in
-    let nl = ns.low in
-    let nh = ns.high in
-    let sum : (d +ℤ t +ℤ i +ℤ n +ℤ e) ≤ℤ pos 2010000000000000000000000 = omega (arith, ints) in
+    let sum : (d +ℤ t +ℤ i +ℤ n +ℤ e) ≤ℤ pos 2010000000000000000000000 = omega (arith, ints, ts.high, is.high, ns.high) in
     record {
       distance = dl;
-      turn = tl;
-      initial = il;
-      node = nl;
+      turn = ts.low;
+      initial = is.low;
+      node = ns.low;
       elevation = el;
       below = omega (arith, ints);
     }

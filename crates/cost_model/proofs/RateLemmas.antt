@@ -1,5 +1,5 @@
 -- What follows from the definition of the prices of global values.
-use Rattle.std.proofs.Common.{◌≡◌, ℕ, ◌≤◌, ℤ, pos, negsuc, ◌≤ℤ◌, int_lt, Bool, true, false, cond, List, length, Some, None, Ok, Err, refl, inl, inr, arith}
+use Rattle.std.proofs.Common.{◌≡◌, ℕ, ◌≤◌, ℤ, pos, negsuc, ◌≤ℤ◌, int_lt, Bool, true, false, cond, List, length, Some, None, Ok, Err, refl, sym, inl, inr, arith}
 use Rattle.std.specs.List.{position, position_or_len}
 use Rattle.std.proofs.lemmas.Bool.{cases_lt, ltb-false}
 use Rattle.std.proofs.lemmas.Int.{ints}
@@ -33,14 +33,18 @@ pub rates-negative : (globals : List ℤ) (which : ℕ) → position is_negative
 unfolding rates_of
 rates-negative globals which e = rw e refl
 
--- the refusal of a most below the penalty buffer
-pub rates-order : (globals : List ℤ) → position is_negative globals ≡ None → int_lt (value_at globals 5) (value_at globals 4) ≡ true →
-    rates_of globals ≡ Err (BufferOrder (value_at globals 4) (value_at globals 5))
-unfolding rates_of
-rates-order globals e less = rw (e, less) refl
+module _ (globals : List ℤ) (penalty most : ℤ) (none : position is_negative globals ≡ None)
+    (is_penalty : penalty ≡ value_at globals 4) (is_most : most ≡ value_at globals 5) where
+  -- the refusal of a most below the penalty buffer
+  pub rates-order : int_lt most penalty ≡ true → rates_of globals ≡ Err (BufferOrder penalty most)
+  unfolding rates_of
+  rates-order less =
+      let order : int_lt (value_at globals 5) (value_at globals 4) ≡ true = rw (sym is_penalty, sym is_most) less in
+      rw (none, order, is_penalty, is_most) refl
 
--- prices where nothing is refused
-pub rates-fit : (globals : List ℤ) → position is_negative globals ≡ None → int_lt (value_at globals 5) (value_at globals 4) ≡ false →
-    rates_of globals ≡ Ok (prices_of globals)
-unfolding rates_of
-rates-fit globals e more = rw (e, more) refl
+  -- prices where nothing is refused
+  pub rates-fit : int_lt most penalty ≡ false → rates_of globals ≡ Ok (prices_of globals)
+  unfolding rates_of
+  rates-fit more =
+      let order : int_lt (value_at globals 5) (value_at globals 4) ≡ false = rw (sym is_penalty, sym is_most) more in
+      rw (none, order) refl

@@ -81,7 +81,7 @@ elevation_of prices facts pair = let climb = climb_of prices facts in
     (down_step climb pair).paid *ℤ prices.down_rate +ℤ (up_step climb pair).paid *ℤ prices.up_rate
 
 -- the five parts of a link with these turn and initial parts and these buffers
-unfoldable pub parts_with : Prices → ℤ → ℤ → LinkFacts → Pair → Parts
+unfoldable pub parts_with : (prices : Prices) (turn initial : ℤ) (facts : LinkFacts) (pair : Pair) → Parts
 parts_with prices turn initial facts pair = let climb = climb_of prices facts in record {
   distance = distance_of facts (down_step climb pair).weight (up_step climb pair).weight;
   turn = turn;

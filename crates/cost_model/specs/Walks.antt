@@ -13,7 +13,7 @@ abbrev pub empty_pair : Pair
 empty_pair = record { down = pos 0; up = pos 0 }
 
 -- the buffers after all these links, from these buffers
-abbrev pub buffers_along : Prices → (ℕ → LinkFacts) → Pair → List ℕ → Pair
+abbrev pub buffers_along : (prices : Prices) (facts : ℕ → LinkFacts) (pair : Pair) (links : List ℕ) → Pair
 buffers_along prices facts pair [] = pair
 buffers_along prices facts pair (link ∷ links) =
     buffers_along prices facts (after (climb_of prices (facts link)) pair) links
@@ -23,7 +23,7 @@ abbrev pub buffers_after : Prices → (ℕ → LinkFacts) → List ℕ → Pair
 buffers_after prices facts links = buffers_along prices facts empty_pair links
 
 -- the buffers before a position of a walk: those after all links before it
-abbrev pub buffers_before : Prices → (ℕ → LinkFacts) → List ℕ → ℕ → Pair
+abbrev pub buffers_before : (prices : Prices) (facts : ℕ → LinkFacts) (links : List ℕ) (position : ℕ) → Pair
 buffers_before prices facts links position = buffers_after prices facts (take position links)
 
 -- the link at a position of a walk
@@ -41,7 +41,7 @@ facts_of facts None = None
 facts_of facts (Some link) = Some (facts link)
 
 -- the five parts at a position of a walk
-unfoldable pub parts_at : Prices → (ℕ → LinkFacts) → List ℕ → ℕ → Parts
+unfoldable pub parts_at : (prices : Prices) (facts : ℕ → LinkFacts) (links : List ℕ) (position : ℕ) → Parts
 parts_at prices facts links position =
     parts_after prices (facts_of facts (link_before links position)) (facts (link_at links position))
     (buffers_before prices facts links position)
@@ -52,7 +52,7 @@ sum_before count zero = 0
 sum_before count (suc position) = sum_before count position + count position
 
 -- the cost at a position of a walk
-abbrev pub cost_at : Prices → (ℕ → LinkFacts) → List ℕ → ℕ → ℕ
+abbrev pub cost_at : (prices : Prices) (facts : ℕ → LinkFacts) (links : List ℕ) (position : ℕ) → ℕ
 cost_at prices facts links position = cost_of (parts_at prices facts links position)
 
 -- the cost of a walk: the sum over its positions
@@ -61,12 +61,12 @@ walk_cost prices facts links = sum_before (cost_at prices facts links) (length l
 
 -- the rank at a position of a walk: the cost, with the distance counted twice where the link's segment
 -- was used
-abbrev pub rank_at : Prices → (ℕ → LinkFacts) → (ℕ → Bool) → List ℕ → ℕ → ℕ
+abbrev pub rank_at : (prices : Prices) (facts : ℕ → LinkFacts) (used : ℕ → Bool) (links : List ℕ) (position : ℕ) → ℕ
 rank_at prices facts used links position =
     cost_of (ranked (used (link_at links position)) (parts_at prices facts links position))
 
 -- the rank of a walk where the segments of these links were used: the sum over its positions
-abbrev pub walk_rank : Prices → (ℕ → LinkFacts) → (ℕ → Bool) → List ℕ → ℕ
+abbrev pub walk_rank : (prices : Prices) (facts : ℕ → LinkFacts) (used : ℕ → Bool) (links : List ℕ) → ℕ
 walk_rank prices facts used links = sum_before (rank_at prices facts used links) (length links)
 
 -- the last link of a walk; none of the empty walk

@@ -1,7 +1,7 @@
 //! The steps of both buffers over a link.
 
-ghost use Rattle.std.specs.Prelude.{◌≡◌, ◌≤◌, ◌≤ℤ◌, pos, unsigned_abs};
-ghost use Rattle.elev_buffer.specs.Step.{IsLimits, step_of};
+ghost use Rattle.std.specs.Prelude.{◌≡◌, ◌≤◌, ◌≤ℤ◌, pos};
+ghost use Rattle.elev_buffer.specs.Step.{step_of};
 ghost use Rattle.cost_model.specs.Facts.{AreFacts};
 ghost use Rattle.cost_model.specs.Parts.{climb_of, per_metre};
 ghost use Rattle.cost_model.specs.Prices.{IsPrices, IsSlope};

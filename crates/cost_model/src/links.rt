@@ -1,6 +1,6 @@
 //! What it costs to enter a link, and what is carried on from it.
 
-ghost use Rattle.std.specs.Prelude.{◌≡◌, ◌≤◌, ◌≤ℤ◌, ℕ, ◌*ℤ◌, pos, true, None, Some, List, [], unsigned_abs};
+ghost use Rattle.std.specs.Prelude.{◌≡◌, ◌≤◌, ◌≤ℤ◌, ℕ, ◌*ℤ◌, true, None, Some, List, [], unsigned_abs};
 ghost use Rattle.geo_int.specs.Arrow.{IsArrow};
 ghost use Rattle.cost_model.specs.Facts.{AreFacts};
 ghost use Rattle.cost_model.specs.Parts.{ArePaid, IsHeld, MovesWithWeights, initial_of, least_distance, parts_after, parts_with, ranked, turn_of, turn_price};

@@ -13,8 +13,8 @@ use Rattle.json_text.specs.declared.mode.Mode.TheVariants as mode_
 use Rattle.json_text.specs.Marks.{Byte, Step, Mark, Seen, Given, see}
 use Rattle.json_text.specs.Bytes.{is_space, kind_of}
 use Rattle.json_text.specs.Chars.{print_text}
-use Rattle.json_text.specs.Grammar.{NoName, Named, Value, Word, Number, Text, Group, Entries, Empty, Entry, Others, Last, Next, letters_of, opening, closing, print_value, print_entries, print_others, IsValue, AreEntries, AreOthers}
-use Rattle.json_text.specs.Rest.{After, BeforeValue, BeforeColon, BeforeName, BeforeFirst, word_of, letters_left, part_after, may_end, OnPart, Completes, InText, Rest}
+use Rattle.json_text.specs.Grammar.{NoName, Named, Value, Word, Number, Text, Group, Empty, Entry, Last, Next, letters_of, opening, closing, print_value, IsValue}
+use Rattle.json_text.specs.Rest.{Kept, keeping, holding, After, BeforeValue, BeforeColon, BeforeName, BeforeFirst, word_of, letters_left, part_after, may_end, OnPart, Completes, InText, Rest}
 use Rattle.json_text.specs.Machine.{letter_after, letters_after, start_of, start_of_number, start_move, open_move, name_move, entry_move, entry_mode, end_move, number_move, word_move, byte_move}
 use Rattle.json_text.proofs.ByteTests.{eq_of, by_cond}
 use Rattle.json_text.proofs.NumberLemmas.{number_spelled}
@@ -67,16 +67,16 @@ opened bracket (suc room) opens content b marks e g = opened_at (out_gives g)
         record { value = Group bracket entries; rest = rest; is = h; printed = cons e (p ∙ ap (λ m. Given (Step.Opens bracket) ∷ m) q); after = a }
 
 -- what a byte begins goes on to a value
-found : (start : Start) (room : ℕ) (opens : List Bracket) (content : List ℕ) (b : ℕ) (marks : List Mark)
-    → Says start b → Goes (start_move start room opens content b) marks → Found room opens (Seen (Byte b) ∷ marks)
-found start_.Quote room opens content b marks s g = text_at (out_reads g)
+found : (start : Start) (kept : Kept) (b : ℕ) (marks : List Mark)
+    → Says start b → Goes (start_move start kept b) marks → Found kept.room kept.opens (Seen (Byte b) ∷ marks)
+found start_.Quote kept b marks s g = text_at (out_reads g)
   where
-    text_at : InText role_.Value room opens [] None marks → Found room opens (Seen (Byte b) ∷ marks)
+    text_at : InText role_.Value (holding kept []) None marks → Found kept.room kept.opens (Seen (Byte b) ∷ marks)
     text_at (chars, rest, h, p, a) = record { value = Text chars; rest = rest; is = h; printed = cons s p; after = a }
-found (start_.Open bracket) room opens content b marks s g = opened bracket room opens content b marks s g
-found (start_.Word letters) room opens content b marks s g = word_at (out_reads g)
+found (start_.Open bracket) kept b marks s g = opened bracket kept.room kept.opens kept.content b marks s g
+found (start_.Word letters) kept b marks s g = word_at (out_reads g)
   where
-    word_at : (rest : List Mark) × (marks ≡ see (letters_left letters) (Given (Step.Word (word_of letters)) ∷ rest)) × After room opens rest → Found room opens (Seen (Byte b) ∷ marks)
+    word_at : (rest : List Mark) × (marks ≡ see (letters_left letters) (Given (Step.Word (word_of letters)) ∷ rest)) × After kept.room kept.opens rest → Found kept.room kept.opens (Seen (Byte b) ∷ marks)
     word_at (rest, p, a) = record {
       value = Word (word_of letters);
       rest = rest;
@@ -84,9 +84,9 @@ found (start_.Word letters) room opens content b marks s g = word_at (out_reads 
       printed = ap (λ m. Seen (Byte b) ∷ m) p ∙ ap (λ ls. see ls (Given (Step.Word (word_of letters)) ∷ rest)) (sym s);
       after = a;
     }
-found (start_.Number part) room opens content b marks s g = number_at (out_reads g)
+found (start_.Number part) kept b marks s g = number_at (out_reads g)
   where
-    number_at : (bytes : List ℕ) × (rest : List Mark) × Completes bytes part × (marks ≡ see bytes (Given (Step.Number (b ∷ bytes)) ∷ rest)) × After room opens rest → Found room opens (Seen (Byte b) ∷ marks)
+    number_at : (bytes : List ℕ) × (rest : List Mark) × Completes bytes part × (marks ≡ see bytes (Given (Step.Number (b ∷ bytes)) ∷ rest)) × After kept.room kept.opens rest → Found kept.room kept.opens (Seen (Byte b) ∷ marks)
     number_at (bytes, rest, c, p, a) = record {
       value = Number (b ∷ bytes);
       rest = rest;
@@ -94,31 +94,33 @@ found (start_.Number part) room opens content b marks s g = number_at (out_reads
       printed = ap (λ m. Seen (Byte b) ∷ m) p;
       after = a;
     }
-found start_.Nothing room opens content b marks s g = absurd (out_stuck g)
+found start_.Nothing kept b marks s g = absurd (out_stuck g)
 
 -- so does each byte that begins something
-pub found_at : (room : ℕ) (opens : List Bracket) (content : List ℕ) (b : ℕ) (marks : List Mark)
-    → Goes (start_move (start_of b) room opens content b) marks → Found room opens (Seen (Byte b) ∷ marks)
-found_at room opens content b marks g = found (start_of b) room opens content b marks (says b) g
+pub found_at : (kept : Kept) (b : ℕ) (marks : List Mark)
+    → Goes (start_move (start_of b) kept b) marks → Found kept.room kept.opens (Seen (Byte b) ∷ marks)
+found_at kept b marks g = found (start_of b) kept b marks (says b) g
 
--- a space more in front
-more_others : (bracket : Bracket) (room : ℕ) (b : ℕ) (others : Others) → is_space b ≡ true → AreOthers others bracket room
-    → (wider : Others) × AreOthers wider bracket room × ((rest : List Mark) → Seen (Byte b) ∷ print_others others bracket rest ≡ print_others wider bracket rest)
-more_others bracket room b (Last space) e h = (Last (b ∷ space), (e, h), λ rest. refl)
-more_others bracket room b (Next space behind name value others) e h = (Next (b ∷ space) behind name value others, ((e, h.0), h.1, h.2, h.3, h.4), λ rest. refl)
+-- a space more behind an entry
+others_spaced : (bracket : Bracket) (room : ℕ) (opens : List Bracket) (b : ℕ) (marks : List Mark) → is_space b ≡ true
+    → After room (bracket ∷ opens) marks → After room (bracket ∷ opens) (Seen (Byte b) ∷ marks)
+others_spaced bracket room opens b marks e (Last space, rest, h, p, a) = (Last (b ∷ space), rest, (e, h), ap (λ m. Seen (Byte b) ∷ m) p, a)
+others_spaced bracket room opens b marks e (Next space behind name value others, rest, h, p, a) =
+    (Next (b ∷ space) behind name value others, rest, ((e, h.0), h.1, h.2, h.3, h.4), ap (λ m. Seen (Byte b) ∷ m) p, a)
 
 -- a space more in front of all entries
-more_entries : (bracket : Bracket) (room : ℕ) (b : ℕ) (entries : Entries) → is_space b ≡ true → AreEntries entries bracket room
-    → (wider : Entries) × AreEntries wider bracket room × ((rest : List Mark) → Seen (Byte b) ∷ print_entries entries bracket rest ≡ print_entries wider bracket rest)
-more_entries bracket room b (Empty space) e h = (Empty (b ∷ space), (e, h), λ rest. refl)
-more_entries bracket room b (Entry space name value others) e h = (Entry (b ∷ space) name value others, ((e, h.0), h.1, h.2, h.3), λ rest. refl)
+entries_spaced : (bracket : Bracket) (room : ℕ) (opens : List Bracket) (b : ℕ) (marks : List Mark) → is_space b ≡ true
+    → BeforeFirst room (bracket ∷ opens) marks → BeforeFirst room (bracket ∷ opens) (Seen (Byte b) ∷ marks)
+entries_spaced bracket room opens b marks e (Empty space, rest, h, p, a) = (Empty (b ∷ space), rest, (e, h), ap (λ m. Seen (Byte b) ∷ m) p, a)
+entries_spaced bracket room opens b marks e (Entry space name value others, rest, h, p, a) =
+    (Entry (b ∷ space) name value others, rest, ((e, h.0), h.1, h.2, h.3), ap (λ m. Seen (Byte b) ∷ m) p, a)
 
 -- an entry in front of others
-entry_others : (bracket : Bracket) (room : ℕ) (opens : List Bracket) (content : List ℕ) (b : ℕ) (marks : List Mark)
-    → b ≡ 44 → Rest (entry_mode bracket) room (bracket ∷ opens) content marks → After room (bracket ∷ opens) (Seen (Byte b) ∷ marks)
-entry_others bracket_.Square room opens content b marks e (space, value, r1, h, v, p, (others, rest, ho, q, a)) =
+entry_others : (bracket : Bracket) (kept : Kept) (b : ℕ) (marks : List Mark)
+    → b ≡ 44 → Rest (entry_mode bracket) (keeping kept.room (bracket ∷ kept.opens) kept.content) marks → After kept.room (bracket ∷ kept.opens) (Seen (Byte b) ∷ marks)
+entry_others bracket_.Square kept b marks e (space, value, r1, h, v, p, (others, rest, ho, q, a)) =
     (Next [] space NoName value others, rest, (tt, h, tt, v, ho), cons e (p ∙ ap (λ r. see space (print_value value r)) q), a)
-entry_others bracket_.Curly room opens content b marks e (space, chars, r1, h, hc, p, (c, r2, hs, q, (d, value, r3, hd, v, r, (others, rest, ho, s, a)))) = (
+entry_others bracket_.Curly kept b marks e (space, chars, r1, h, hc, p, (c, r2, hs, q, (d, value, r3, hd, v, r, (others, rest, ho, s, a)))) = (
   Next [] space (Named chars c d) value others,
   rest,
   (tt, h, (hc, hs, hd), v, ho),
@@ -127,25 +129,20 @@ entry_others bracket_.Curly room opens content b marks e (space, chars, r1, h, h
 )
 
 -- behind an entry
-others_back : (bracket : Bracket) (room : ℕ) (opens : List Bracket) (content : List ℕ) (b : ℕ) (marks : List Mark)
-    → Goes (byte_move mode_.After room (bracket ∷ opens) content b) marks → After room (bracket ∷ opens) (Seen (Byte b) ∷ marks)
-others_back bracket room opens content b marks g = elim (sides (is_space b) _ _ marks g) [
-  | inl f ↦ spaced f.0 (out_reads f.1)
+others_back : (bracket : Bracket) (kept : Kept) (b : ℕ) (marks : List Mark)
+    → Goes (byte_move mode_.After (keeping kept.room (bracket ∷ kept.opens) kept.content) b) marks → After kept.room (bracket ∷ kept.opens) (Seen (Byte b) ∷ marks)
+others_back bracket kept b marks g = elim (sides (is_space b) _ _ marks g) [
+  | inl f ↦ others_spaced bracket kept.room kept.opens b marks f.0 (out_reads f.1)
   | inr f ↦ elim (sides (eqb b (closing bracket)) _ _ marks f.1) [
     | inl k ↦ closed (eq_of b (closing bracket) k.0) (out_gives k.1)
     | inr k ↦ elim (sides (eqb b 44) _ _ marks k.1) [
-      | inl l ↦ entry_others bracket room opens content b marks (eq_of b 44 l.0) (out_reads l.1)
+      | inl l ↦ entry_others bracket kept b marks (eq_of b 44 l.0) (out_reads l.1)
       | inr l ↦ absurd (out_stuck l.1)
     ]
   ]
 ]
   where
-    spaced : is_space b ≡ true → After room (bracket ∷ opens) marks → After room (bracket ∷ opens) (Seen (Byte b) ∷ marks)
-    spaced e (others, rest, h, p, a) =
-        let w = more_others bracket room b others e h in
-        (w.0, rest, w.1, ap (λ m. Seen (Byte b) ∷ m) p ∙ w.2 rest, a)
-
-    closed : b ≡ closing bracket → (rest : List Mark) × (marks ≡ Given (Step.Closes bracket) ∷ rest) × After (suc room) opens rest → After room (bracket ∷ opens) (Seen (Byte b) ∷ marks)
+    closed : b ≡ closing bracket → (rest : List Mark) × (marks ≡ Given (Step.Closes bracket) ∷ rest) × After (suc kept.room) kept.opens rest → After kept.room (bracket ∷ kept.opens) (Seen (Byte b) ∷ marks)
     closed e (rest, p, a) = (Last [], rest, tt, cons e p, a)
 
 -- before a value
@@ -157,30 +154,30 @@ pub value_found : (room : ℕ) (opens : List Bracket) (marks : List Mark) → Fo
 value_found room opens marks f = ([], f.value, f.rest, tt, f.is, f.printed, f.after)
 
 -- the name of a member, begun by its quotation mark
-named : (room : ℕ) (opens : List Bracket) (content : List ℕ) (b : ℕ) (marks : List Mark)
-    → Goes (name_move room opens content b) marks → BeforeName room opens (Seen (Byte b) ∷ marks)
-named room opens content b marks g = elim (sides (eqb b 34) _ _ marks g) [
+named : (kept : Kept) (b : ℕ) (marks : List Mark)
+    → Goes (name_move kept b) marks → BeforeName kept.room kept.opens (Seen (Byte b) ∷ marks)
+named kept b marks g = elim (sides (eqb b 34) _ _ marks g) [
   | inl f ↦ named_at (eq_of b 34 f.0) (out_reads f.1)
   | inr f ↦ absurd (out_stuck f.1)
 ]
   where
-    named_at : b ≡ 34 → InText role_.Name room opens [] None marks → BeforeName room opens (Seen (Byte b) ∷ marks)
+    named_at : b ≡ 34 → InText role_.Name (holding kept []) None marks → BeforeName kept.room kept.opens (Seen (Byte b) ∷ marks)
     named_at e (chars, rest, h, p, k) = ([], chars, rest, tt, h, cons e p, k)
 
 -- the first entry
-first_entry : (bracket : Bracket) (room : ℕ) (opens : List Bracket) (content : List ℕ) (b : ℕ) (marks : List Mark)
-    → Goes (entry_move bracket room (bracket ∷ opens) content b) marks → BeforeFirst room (bracket ∷ opens) (Seen (Byte b) ∷ marks)
-first_entry bracket_.Square room opens content b marks g = item (found_at room (bracket_.Square ∷ opens) content b marks g)
+first_entry : (bracket : Bracket) (kept : Kept) (b : ℕ) (marks : List Mark)
+    → Goes (entry_move bracket (keeping kept.room (bracket ∷ kept.opens) kept.content) b) marks → BeforeFirst kept.room (bracket ∷ kept.opens) (Seen (Byte b) ∷ marks)
+first_entry bracket_.Square kept b marks g = item (found_at (keeping kept.room (bracket_.Square ∷ kept.opens) kept.content) b marks g)
   where
-    item_at : (value : Value) (r1 : List Mark) → IsValue value room → Seen (Byte b) ∷ marks ≡ print_value value r1 → After room (bracket_.Square ∷ opens) r1
-        → BeforeFirst room (bracket_.Square ∷ opens) (Seen (Byte b) ∷ marks)
+    item_at : (value : Value) (r1 : List Mark) → IsValue value kept.room → Seen (Byte b) ∷ marks ≡ print_value value r1 → After kept.room (bracket_.Square ∷ kept.opens) r1
+        → BeforeFirst kept.room (bracket_.Square ∷ kept.opens) (Seen (Byte b) ∷ marks)
     item_at value r1 v p (others, rest, ho, q, a) = (Entry [] NoName value others, rest, (tt, tt, v, ho), p ∙ ap (λ r. print_value value r) q, a)
 
-    item : Found room (bracket_.Square ∷ opens) (Seen (Byte b) ∷ marks) → BeforeFirst room (bracket_.Square ∷ opens) (Seen (Byte b) ∷ marks)
+    item : Found kept.room (bracket_.Square ∷ kept.opens) (Seen (Byte b) ∷ marks) → BeforeFirst kept.room (bracket_.Square ∷ kept.opens) (Seen (Byte b) ∷ marks)
     item f = item_at f.value f.rest f.is f.printed f.after
-first_entry bracket_.Curly room opens content b marks g = member (named room (bracket_.Curly ∷ opens) content b marks g)
+first_entry bracket_.Curly kept b marks g = member (named (keeping kept.room (bracket_.Curly ∷ kept.opens) kept.content) b marks g)
   where
-    member : BeforeName room (bracket_.Curly ∷ opens) (Seen (Byte b) ∷ marks) → BeforeFirst room (bracket_.Curly ∷ opens) (Seen (Byte b) ∷ marks)
+    member : BeforeName kept.room (bracket_.Curly ∷ kept.opens) (Seen (Byte b) ∷ marks) → BeforeFirst kept.room (bracket_.Curly ∷ kept.opens) (Seen (Byte b) ∷ marks)
     member (space, chars, r1, h, hc, p, (c, r2, hs, q, (d, value, r3, hd, v, r, (others, rest, ho, s, a)))) = (
       Entry space (Named chars c d) value others,
       rest,
@@ -190,28 +187,23 @@ first_entry bracket_.Curly room opens content b marks g = member (named room (br
     )
 
 -- behind a bracket that opened
-pub first_back : (bracket : Bracket) (room : ℕ) (opens : List Bracket) (content : List ℕ) (b : ℕ) (marks : List Mark)
-    → Goes (byte_move mode_.First room (bracket ∷ opens) content b) marks → BeforeFirst room (bracket ∷ opens) (Seen (Byte b) ∷ marks)
-first_back bracket room opens content b marks g = elim (sides (is_space b) _ _ marks g) [
-  | inl f ↦ spaced f.0 (out_reads f.1)
+pub first_back : (bracket : Bracket) (kept : Kept) (b : ℕ) (marks : List Mark)
+    → Goes (byte_move mode_.First (keeping kept.room (bracket ∷ kept.opens) kept.content) b) marks → BeforeFirst kept.room (bracket ∷ kept.opens) (Seen (Byte b) ∷ marks)
+first_back bracket kept b marks g = elim (sides (is_space b) _ _ marks g) [
+  | inl f ↦ entries_spaced bracket kept.room kept.opens b marks f.0 (out_reads f.1)
   | inr f ↦ elim (sides (eqb b (closing bracket)) _ _ marks f.1) [
     | inl k ↦ closed (eq_of b (closing bracket) k.0) (out_gives k.1)
-    | inr k ↦ first_entry bracket room opens content b marks k.1
+    | inr k ↦ first_entry bracket kept b marks k.1
   ]
 ]
   where
-    spaced : is_space b ≡ true → BeforeFirst room (bracket ∷ opens) marks → BeforeFirst room (bracket ∷ opens) (Seen (Byte b) ∷ marks)
-    spaced e (entries, rest, h, p, a) =
-        let w = more_entries bracket room b entries e h in
-        (w.0, rest, w.1, ap (λ m. Seen (Byte b) ∷ m) p ∙ w.2 rest, a)
-
-    closed : b ≡ closing bracket → (rest : List Mark) × (marks ≡ Given (Step.Closes bracket) ∷ rest) × After (suc room) opens rest → BeforeFirst room (bracket ∷ opens) (Seen (Byte b) ∷ marks)
+    closed : b ≡ closing bracket → (rest : List Mark) × (marks ≡ Given (Step.Closes bracket) ∷ rest) × After (suc kept.room) kept.opens rest → BeforeFirst kept.room (bracket ∷ kept.opens) (Seen (Byte b) ∷ marks)
     closed e (rest, p, a) = (Empty [], rest, tt, cons e p, a)
 
 -- behind the name of a member
-pub colon_back : (room : ℕ) (opens : List Bracket) (content : List ℕ) (b : ℕ) (marks : List Mark)
-    → Goes (byte_move mode_.Colon room opens content b) marks → BeforeColon room opens (Seen (Byte b) ∷ marks)
-colon_back room opens content b marks g = elim (sides (is_space b) _ _ marks g) [
+pub colon_back : (kept : Kept) (b : ℕ) (marks : List Mark)
+    → Goes (byte_move mode_.Colon kept b) marks → BeforeColon kept.room kept.opens (Seen (Byte b) ∷ marks)
+colon_back kept b marks g = elim (sides (is_space b) _ _ marks g) [
   | inl f ↦ spaced f.0 (out_reads f.1)
   | inr f ↦ elim (sides (eqb b 58) _ _ marks f.1) [
     | inl k ↦ ([], marks, tt, cons (eq_of b 58 k.0) refl, out_reads k.1)
@@ -219,23 +211,23 @@ colon_back room opens content b marks g = elim (sides (is_space b) _ _ marks g) 
   ]
 ]
   where
-    spaced : is_space b ≡ true → BeforeColon room opens marks → BeforeColon room opens (Seen (Byte b) ∷ marks)
+    spaced : is_space b ≡ true → BeforeColon kept.room kept.opens marks → BeforeColon kept.room kept.opens (Seen (Byte b) ∷ marks)
     spaced e (space, rest, h, p, v) = (b ∷ space, rest, (e, h), ap (λ m. Seen (Byte b) ∷ m) p, v)
 
 -- before the name of a member
-pub name_back : (room : ℕ) (opens : List Bracket) (content : List ℕ) (b : ℕ) (marks : List Mark)
-    → Goes (byte_move mode_.Name room opens content b) marks → BeforeName room opens (Seen (Byte b) ∷ marks)
-name_back room opens content b marks g = elim (sides (is_space b) _ _ marks g) [
+pub name_back : (kept : Kept) (b : ℕ) (marks : List Mark)
+    → Goes (byte_move mode_.Name kept b) marks → BeforeName kept.room kept.opens (Seen (Byte b) ∷ marks)
+name_back kept b marks g = elim (sides (is_space b) _ _ marks g) [
   | inl f ↦ spaced f.0 (out_reads f.1)
-  | inr f ↦ named room opens content b marks f.1
+  | inr f ↦ named kept b marks f.1
 ]
   where
-    spaced : is_space b ≡ true → BeforeName room opens marks → BeforeName room opens (Seen (Byte b) ∷ marks)
+    spaced : is_space b ≡ true → BeforeName kept.room kept.opens marks → BeforeName kept.room kept.opens (Seen (Byte b) ∷ marks)
     spaced e (space, chars, rest, h, c, p, k) = (b ∷ space, chars, rest, (e, h), c, ap (λ m. Seen (Byte b) ∷ m) p, k)
 
 -- behind a value
 pub after_back : (room : ℕ) (opens : List Bracket) (content : List ℕ) (b : ℕ) (marks : List Mark)
-    → Goes (byte_move mode_.After room opens content b) marks → After room opens (Seen (Byte b) ∷ marks)
+    → Goes (byte_move mode_.After (keeping room opens content) b) marks → After room opens (Seen (Byte b) ∷ marks)
 after_back room [] content b marks g = elim (sides (is_space b) _ _ marks g) [
   | inl f ↦ spaced f.0 (out_reads f.1)
   | inr f ↦ absurd (out_stuck f.1)
@@ -243,40 +235,40 @@ after_back room [] content b marks g = elim (sides (is_space b) _ _ marks g) [
   where
     spaced : is_space b ≡ true → After room [] marks → After room [] (Seen (Byte b) ∷ marks)
     spaced e (space, h, p) = (b ∷ space, (e, h), ap (λ m. Seen (Byte b) ∷ m) p)
-after_back room (bracket ∷ opens) content b marks g = others_back bracket room opens content b marks g
+after_back room (bracket ∷ opens) content b marks g = others_back bracket (keeping room opens content) b marks g
 
 -- in a word
-pub word_back : (letters : Letters) (room : ℕ) (opens : List Bracket) (content : List ℕ) (b : ℕ) (marks : List Mark) → b ≡ letter_after letters
-    → Goes (word_move letters (letters_after letters) room opens content) marks → Rest (mode_.Word letters) room opens content (Seen (Byte b) ∷ marks)
-word_back letters_.T room opens content b marks e g = let (rest, p, a) = out_reads g in (rest, cons e p, a)
-word_back letters_.Tr room opens content b marks e g = let (rest, p, a) = out_reads g in (rest, cons e p, a)
-word_back letters_.Tru room opens content b marks e g = let (rest, p, a) = out_gives g in (rest, cons e p, a)
-word_back letters_.F room opens content b marks e g = let (rest, p, a) = out_reads g in (rest, cons e p, a)
-word_back letters_.Fa room opens content b marks e g = let (rest, p, a) = out_reads g in (rest, cons e p, a)
-word_back letters_.Fal room opens content b marks e g = let (rest, p, a) = out_reads g in (rest, cons e p, a)
-word_back letters_.Fals room opens content b marks e g = let (rest, p, a) = out_gives g in (rest, cons e p, a)
-word_back letters_.N room opens content b marks e g = let (rest, p, a) = out_reads g in (rest, cons e p, a)
-word_back letters_.Nu room opens content b marks e g = let (rest, p, a) = out_reads g in (rest, cons e p, a)
-word_back letters_.Nul room opens content b marks e g = let (rest, p, a) = out_gives g in (rest, cons e p, a)
+pub word_back : (letters : Letters) (kept : Kept) (b : ℕ) (marks : List Mark) → b ≡ letter_after letters
+    → Goes (word_move letters (letters_after letters) kept) marks → Rest (mode_.Word letters) kept (Seen (Byte b) ∷ marks)
+word_back letters_.T kept b marks e g = let (rest, p, a) = out_reads g in (rest, cons e p, a)
+word_back letters_.Tr kept b marks e g = let (rest, p, a) = out_reads g in (rest, cons e p, a)
+word_back letters_.Tru kept b marks e g = let (rest, p, a) = out_gives g in (rest, cons e p, a)
+word_back letters_.F kept b marks e g = let (rest, p, a) = out_reads g in (rest, cons e p, a)
+word_back letters_.Fa kept b marks e g = let (rest, p, a) = out_reads g in (rest, cons e p, a)
+word_back letters_.Fal kept b marks e g = let (rest, p, a) = out_reads g in (rest, cons e p, a)
+word_back letters_.Fals kept b marks e g = let (rest, p, a) = out_gives g in (rest, cons e p, a)
+word_back letters_.N kept b marks e g = let (rest, p, a) = out_reads g in (rest, cons e p, a)
+word_back letters_.Nu kept b marks e g = let (rest, p, a) = out_reads g in (rest, cons e p, a)
+word_back letters_.Nul kept b marks e g = let (rest, p, a) = out_gives g in (rest, cons e p, a)
 
 -- in a number
-pub no_end : (part : Part) (room : ℕ) (opens : List Bracket) (content : List ℕ) (marks : List Mark) → Goes (end_move part room opens content) marks → ⊥
-no_end part room opens content marks g = elim (sides (may_end part) _ _ marks g) [
+pub no_end : (part : Part) (kept : Kept) (marks : List Mark) → Goes (end_move part kept) marks → ⊥
+no_end part kept marks g = elim (sides (may_end part) _ _ marks g) [
   | inl f ↦ out_first f.1
   | inr f ↦ out_stuck f.1
 ]
 
 -- a byte more of a number
-pub number_back : (part : Part) (next : Option Part) (room : ℕ) (opens : List Bracket) (content : List ℕ) (b : ℕ) (marks : List Mark)
-    → part_after part (kind_of b) ≡ next → Goes (number_move part next room opens content b) marks → Rest (mode_.Number part) room opens content (Seen (Byte b) ∷ marks)
-number_back part None room opens content b marks e g = absurd (no_end part room opens content marks g)
-number_back part (Some next) room opens content b marks e g = digit_at (out_reads g)
+pub number_back : (part : Part) (next : Option Part) (kept : Kept) (b : ℕ) (marks : List Mark)
+    → part_after part (kind_of b) ≡ next → Goes (number_move part next kept b) marks → Rest (mode_.Number part) kept (Seen (Byte b) ∷ marks)
+number_back part None kept b marks e g = absurd (no_end part kept marks g)
+number_back part (Some next) kept b marks e g = digit_at (out_reads g)
   where
-    digit_at : Rest (mode_.Number next) room opens (content ++ (b ∷ [])) marks → Rest (mode_.Number part) room opens content (Seen (Byte b) ∷ marks)
+    digit_at : Rest (mode_.Number next) (holding kept (kept.content ++ (b ∷ []))) marks → Rest (mode_.Number part) kept (Seen (Byte b) ∷ marks)
     digit_at (bytes, rest, c, p, a) = (
       b ∷ bytes,
       rest,
       subst (λ o. OnPart o (Completes bytes)) (sym e) c,
-      ap (λ m. Seen (Byte b) ∷ m) (p ∙ ap (λ x. see bytes (Given (Step.Number x) ∷ rest)) (append_assoc content (b ∷ []) bytes)),
+      ap (λ m. Seen (Byte b) ∷ m) (p ∙ ap (λ x. see bytes (Given (Step.Number x) ∷ rest)) (append_assoc kept.content (b ∷ []) bytes)),
       a,
     )

@@ -1,5 +1,5 @@
 -- What single bytes do that begin a text, a number or an entry, with the run behind them.
-use Rattle.std.proofs.Common.{drop-cons, eqb, ◌≡◌, ◌<◌, ◌+◌, ◌-◌, ℕ, suc, cond, List, [], ◌∷◌, length, take, drop, get_or, vec_len, refl, sym, ◌∙◌, ap, subst, arith, Option, Some, None}
+use Rattle.std.proofs.Common.{drop-cons, eqb, ◌≡◌, ◌<◌, ◌+◌, ◌-◌, ℕ, suc, cond, List, [], ◌∷◌, length, take, drop, get_or, refl, sym, ◌∙◌, ap, subst, arith, Option, Some, None}
 use Rattle.json_text.specs.declared.mode.Bracket.{Bracket}
 use Rattle.json_text.specs.declared.mode.Bracket.TheVariants as bracket_
 use Rattle.json_text.specs.declared.mode.Part.{Part}
@@ -12,12 +12,12 @@ use Rattle.json_text.specs.declared.mode.Mode.TheVariants as mode_
 use Rattle.json_text.specs.declared.scanner.Scanner.{Scanner}
 use Rattle.json_text.specs.Marks.{Step}
 use Rattle.json_text.specs.Bytes.{AreAll, is_plain, kind_of}
-use Rattle.json_text.specs.Rest.{part_after, OnPart}
+use Rattle.json_text.specs.Rest.{Kept, keeping, holding, part_after, OnPart}
 use Rattle.json_text.specs.Machine.{Reads, Gives, byte_move, start_of, start_move}
-use Rattle.json_text.specs.Taking.{room_of, opens_of, MayQuote}
+use Rattle.json_text.specs.Taking.{kept_of, opens_of, MayQuote}
 use Rattle.json_text.specs.Told.{PartsGo, ReadsOn}
 use Rattle.json_text.proofs.ByteTests.{begins_number}
-use Rattle.json_text.proofs.RunLemmas.{Runs, RunsFrom, plain_run, number_run, Onward, run_of, reads_run}
+use Rattle.json_text.proofs.RunLemmas.{Runs, RunsFrom, plain_run, number_run, Onward, run_of, reads_to}
 
 -- a run begins with the byte that comes
 run_cons : (items : List ℕ) (i n : ℕ) → i < n → i < length items → take (n - i) (drop i items) ≡ get_or items i 0 ∷ take (n - (i + 1)) (drop (i + 1) items)
@@ -34,63 +34,58 @@ run_one items i n e h =
     let none : n - (i + 1) ≡ 0 = omega (arith, e) in
     run_cons items i n l h ∙ ap (λ k. get_or items i 0 ∷ take k (drop (i + 1) items)) none
 
+-- a quotation mark begins a text behind a bracket that opened
+quote_first : (role : Role) (room : ℕ) (opens : List Bracket) (content : List ℕ) → MayQuote role mode_.First opens
+    → byte_move mode_.First (keeping room opens content) 34 ≡ Reads (mode_.Text role (place_.Chars None)) (keeping room opens [])
+quote_first role_.Value room [] content m = absurd cc
+quote_first role_.Value room (bracket_.Square ∷ opens) content m = refl
+quote_first role_.Value room (bracket_.Curly ∷ opens) content m = absurd cc
+quote_first role_.Name room [] content m = absurd cc
+quote_first role_.Name room (bracket_.Square ∷ opens) content m = absurd cc
+quote_first role_.Name room (bracket_.Curly ∷ opens) content m = refl
+
 -- a quotation mark begins a text
-quote_move : (role : Role) (mode : Mode) (room : ℕ) (opens : List Bracket) (content : List ℕ) → MayQuote role mode opens
-    → byte_move mode room opens content 34 ≡ Reads (mode_.Text role (place_.Chars None)) room opens []
-quote_move role_.Value mode_.Value room opens content m = refl
-quote_move role_.Value mode_.First room [] content m = absurd cc
-quote_move role_.Value mode_.First room (bracket_.Square ∷ opens) content m = refl
-quote_move role_.Value mode_.First room (bracket_.Curly ∷ opens) content m = absurd cc
-quote_move role_.Value mode_.After room opens content m = absurd m
-quote_move role_.Value mode_.Name room opens content m = absurd m
-quote_move role_.Value mode_.Colon room opens content m = absurd m
-quote_move role_.Value (mode_.Word letters) room opens content m = absurd m
-quote_move role_.Value (mode_.Number part) room opens content m = absurd m
-quote_move role_.Value (mode_.Text role place) room opens content m = absurd m
-quote_move role_.Name mode_.Name room opens content m = refl
-quote_move role_.Name mode_.First room [] content m = absurd cc
-quote_move role_.Name mode_.First room (bracket_.Square ∷ opens) content m = absurd cc
-quote_move role_.Name mode_.First room (bracket_.Curly ∷ opens) content m = refl
-quote_move role_.Name mode_.After room opens content m = absurd m
-quote_move role_.Name mode_.Value room opens content m = absurd m
-quote_move role_.Name mode_.Colon room opens content m = absurd m
-quote_move role_.Name (mode_.Word letters) room opens content m = absurd m
-quote_move role_.Name (mode_.Number part) room opens content m = absurd m
-quote_move role_.Name (mode_.Text role place) room opens content m = absurd m
+quote_move : (role : Role) (mode : Mode) (kept : Kept) → MayQuote role mode kept.opens
+    → byte_move mode kept 34 ≡ Reads (mode_.Text role (place_.Chars None)) (holding kept [])
+quote_move role_.Value mode_.Value kept m = refl
+quote_move role_.Name mode_.Name kept m = refl
+quote_move role_.Value mode_.First kept m = quote_first role_.Value kept.room kept.opens kept.content m
+quote_move role_.Name mode_.First kept m = quote_first role_.Name kept.room kept.opens kept.content m
+quote_move _ _ kept m = absurd m
 
 -- the bytes behind the first that was read
 abbrev pub behind : Scanner → Scanner → List ℕ
 behind old new = take (new.read - (old.read + 1)) (drop (old.read + 1) old.input.items)
 
+-- a byte of a number begins one behind a bracket that opened
+digit_first : (room : ℕ) (opens : List Bracket) (content : List ℕ) (b : ℕ) (part : Part) → MayQuote role_.Value mode_.First opens
+    → part_after part_.Nothing (kind_of b) ≡ Some part → byte_move mode_.First (keeping room opens content) b ≡ Reads (mode_.Number part) (keeping room opens (b ∷ []))
+digit_first room [] content b part m e = absurd cc
+digit_first room (bracket_.Square ∷ opens) content b part m e =
+    let n = begins_number b part e in
+    let here = keeping room (bracket_.Square ∷ opens) content in
+    let entry = start_move (start_of b) here b in
+    let closed = Gives (Step.Closes bracket_.Square) mode_.After (keeping (suc room) opens content) in
+    ap (λ t. cond t (Reads mode_.First here) (cond (eqb b 93) closed entry)) n.1 ∙ ap (λ t. cond t closed entry) n.2 ∙ ap (λ s. start_move s here b) n.0
+digit_first room (bracket_.Curly ∷ opens) content b part m e = absurd cc
+
 -- a byte of a number begins one
-digit_move : (mode : Mode) (room : ℕ) (opens : List Bracket) (content : List ℕ) (b : ℕ) (part : Part) → MayQuote role_.Value mode opens
-    → part_after part_.Nothing (kind_of b) ≡ Some part → byte_move mode room opens content b ≡ Reads (mode_.Number part) room opens (b ∷ [])
-digit_move mode_.Value room opens content b part m e =
+digit_move : (mode : Mode) (kept : Kept) (b : ℕ) (part : Part) → MayQuote role_.Value mode kept.opens
+    → part_after part_.Nothing (kind_of b) ≡ Some part → byte_move mode kept b ≡ Reads (mode_.Number part) (holding kept (b ∷ []))
+digit_move mode_.Value kept b part m e =
     let n = begins_number b part e in
-    ap (λ t. cond t (Reads mode_.Value room opens content) (start_move (start_of b) room opens content b)) n.1 ∙ ap (λ s. start_move s room opens content b) n.0
-digit_move mode_.First room [] content b part m e = absurd cc
-digit_move mode_.First room (bracket_.Square ∷ opens) content b part m e =
-    let n = begins_number b part e in
-    let entry = start_move (start_of b) room (bracket_.Square ∷ opens) content b in
-    let closed = Gives (Step.Closes bracket_.Square) mode_.After (suc room) opens content in
-    ap (λ t. cond t (Reads mode_.First room (bracket_.Square ∷ opens) content) (cond (eqb b 93) closed entry)) n.1
-    ∙ ap (λ t. cond t closed entry) n.2 ∙ ap (λ s. start_move s room (bracket_.Square ∷ opens) content b) n.0
-digit_move mode_.First room (bracket_.Curly ∷ opens) content b part m e = absurd cc
-digit_move mode_.After room opens content b part m e = absurd m
-digit_move mode_.Name room opens content b part m e = absurd m
-digit_move mode_.Colon room opens content b part m e = absurd m
-digit_move (mode_.Word letters) room opens content b part m e = absurd m
-digit_move (mode_.Number p) room opens content b part m e = absurd m
-digit_move (mode_.Text role place) room opens content b part m e = absurd m
+    ap (λ t. cond t (Reads mode_.Value kept) (start_move (start_of b) kept b)) n.1 ∙ ap (λ s. start_move s kept b) n.0
+digit_move mode_.First kept b part m e = digit_first kept.room kept.opens kept.content b part m e
+digit_move _ kept b part m e = absurd m
 
 -- a number is read from its first byte on
-number_begins : (mode : Mode) (room : ℕ) (opens : List Bracket) (content : List ℕ) (b : ℕ) (run : List ℕ) (last : Part) → MayQuote role_.Value mode opens
-    → PartsGo part_.Nothing (b ∷ run) last → Runs mode room opens content (b ∷ run) (mode_.Number last) (b ∷ run)
-number_begins mode room opens content b run last m g = on (part_after part_.Nothing (kind_of b)) refl g
+number_begins : (mode : Mode) (kept : Kept) (b : ℕ) (run : List ℕ) (last : Part) → MayQuote role_.Value mode kept.opens
+    → PartsGo part_.Nothing (b ∷ run) last → Runs mode kept (b ∷ run) (mode_.Number last) (b ∷ run)
+number_begins mode kept b run last m g = on (part_after part_.Nothing (kind_of b)) refl g
   where
-    on : (o : Option Part) → part_after part_.Nothing (kind_of b) ≡ o → OnPart o (λ z. PartsGo z run last) → Runs mode room opens content (b ∷ run) (mode_.Number last) (b ∷ run)
+    on : (o : Option Part) → part_after part_.Nothing (kind_of b) ≡ o → OnPart o (λ z. PartsGo z run last) → Runs mode kept (b ∷ run) (mode_.Number last) (b ∷ run)
     on None e k = absurd k
-    on (Some next) e k = (mode_.Number next, b ∷ [], digit_move mode room opens content b next m e, number_run next room opens (b ∷ []) run last k)
+    on (Some next) e k = (mode_.Number next, b ∷ [], digit_move mode kept b next m e, number_run next (holding kept (b ∷ [])) run last k)
 
 module _ (old new : Scanner) (o : Onward old new) (n : old.read < new.read) where
   -- a byte came
@@ -102,10 +97,8 @@ module _ (old new : Scanner) (o : Onward old new) (n : old.read < new.read) wher
       → RunsFrom old (get_or old.input.items old.read 0 ∷ []) new.machine.mode old.machine.content.items
       → new.machine.content.items ≡ old.machine.content.items → ReadsOn old new
   pass_on e m c =
-      reads_run old new o
-      (subst (λ run. RunsFrom old run new.machine.mode new.machine.content.items)
-      (sym (run_one old.input.items old.read new.read e inside))
-      (subst (λ z. RunsFrom old (get_or old.input.items old.read 0 ∷ []) new.machine.mode z) (sym c) m))
+      reads_to old new new.machine.mode old.machine.content.items o refl c
+      (subst (λ run. RunsFrom old run new.machine.mode old.machine.content.items) (sym (run_one old.input.items old.read new.read e inside)) m)
 
   -- a text was begun, and plain bytes behind the mark were read
   pub quote_on : (role : Role) → MayQuote role old.machine.mode (opens_of old.machine)
@@ -113,16 +106,10 @@ module _ (old new : Scanner) (o : Onward old new) (n : old.read < new.read) wher
       → new.machine.content.items ≡ behind old new → AreAll is_plain (behind old new) → ReadsOn old new
   quote_on role m b t c a =
       let run = behind old new in
-      reads_run old new o
-      (subst (λ xs. RunsFrom old xs new.machine.mode new.machine.content.items)
-      (sym (run_cons old.input.items old.read new.read n inside ∙ ap (λ x. x ∷ run) b))
-      (subst (λ z. RunsFrom old (34 ∷ run) z new.machine.content.items) (sym t)
-      (subst (λ z. RunsFrom old (34 ∷ run) (mode_.Text role (place_.Chars None)) z) (sym c) (
-        mode_.Text role (place_.Chars None),
-        [],
-        quote_move role old.machine.mode (room_of old.machine) (opens_of old.machine) old.machine.content.items m,
-        plain_run role (room_of old.machine) (opens_of old.machine) [] run a,
-      ))))
+      let to = mode_.Text role (place_.Chars None) in
+      reads_to old new to run o t c
+      (subst (λ xs. RunsFrom old xs to run) (sym (run_cons old.input.items old.read new.read n inside ∙ ap (λ x. x ∷ run) b))
+      (to, [], quote_move role old.machine.mode (kept_of old.machine) m, plain_run role (holding (kept_of old.machine) []) run a))
 
   -- a number was begun, and read on
   pub digits_on : (last : Part) → MayQuote role_.Value old.machine.mode (opens_of old.machine)
@@ -131,8 +118,6 @@ module _ (old new : Scanner) (o : Onward old new) (n : old.read < new.read) wher
       let b = get_or old.input.items old.read 0 in
       let run = behind old new in
       let cut : run_of old new ≡ b ∷ run = run_cons old.input.items old.read new.read n inside in
-      reads_run old new o
-      (subst (λ z. RunsFrom old (run_of old new) z new.machine.content.items) (sym t)
-      (subst (λ z. RunsFrom old (run_of old new) (mode_.Number last) z) (sym c)
+      reads_to old new (mode_.Number last) (run_of old new) o t c
       (subst (λ z. RunsFrom old z (mode_.Number last) z) (sym cut)
-      (number_begins old.machine.mode (room_of old.machine) (opens_of old.machine) old.machine.content.items b run last m (subst (λ z. PartsGo part_.Nothing z last) cut g)))))
+      (number_begins old.machine.mode (kept_of old.machine) b run last m (subst (λ z. PartsGo part_.Nothing z last) cut g)))

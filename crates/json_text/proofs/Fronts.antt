@@ -5,7 +5,7 @@ use Rattle.json_text.specs.declared.mode.Mode.{Mode}
 use Rattle.json_text.specs.declared.mode.Mode.TheVariants as mode_
 use Rattle.json_text.specs.Marks.{Symbol, End, Step, Mark, Seen, Given, symbols_of, see, Begins}
 use Rattle.json_text.specs.Grammar.{IsText, print_value}
-use Rattle.json_text.specs.Rest.{Rest, After, IsFrontOf}
+use Rattle.json_text.specs.Rest.{Kept, keeping, holding, Rest, After, IsFrontOf}
 use Rattle.json_text.specs.Machine.{Move, Reads, Gives, GivesFirst, Stuck, move_by}
 use Rattle.json_text.proofs.Lists.{append_nil, symbols_append, head_of, tail_of, no_cons, cancel, begins, comparable, begins_trans, begins_more, begins_front}
 use Rattle.json_text.proofs.Goes.{Goes, reads, gives, Ends, Follows, out_reads, out_gives, out_first}
@@ -14,7 +14,7 @@ use Rattle.json_text.proofs.Back.{back}
 use Rattle.json_text.proofs.Stops.{number_stops, number_free, Ended, FirstSays, first_says}
 
 -- the marks before any symbol
-pub empty_front : IsFrontOf [] [] mode_.Value 64 [] []
+pub empty_front : IsFrontOf [] [] mode_.Value (keeping 64 [] [])
 empty_front = record {
   forth = λ rest t. (t.before, t.value, see t.behind (Seen End ∷ []), t.before_is, t.value_is, t.printed, (t.behind, t.behind_is, refl));
   back = λ rest r. text_of rest r;
@@ -22,7 +22,7 @@ empty_front = record {
   kin = λ other rest t e. inr (begins other refl);
 }
   where
-    text_of : (rest : List Mark) → Rest mode_.Value 64 [] [] rest → IsText rest
+    text_of : (rest : List Mark) → Rest mode_.Value (keeping 64 [] []) rest → IsText rest
     text_of rest (before, value, middle, h, v, p, (behind, k, q)) = record {
       before = before;
       value = value;
@@ -34,76 +34,64 @@ empty_front = record {
     }
 
 -- the marks that follow a front in a text, which begin with this symbol
-pub record GoesOn (front : List Mark) (x : Symbol) (more : List Symbol) (mode : Mode) (room : ℕ) (opens : List Bracket) (content : List ℕ) (text : List Mark) : Type 0 where
+pub record GoesOn (front : List Mark) (x : Symbol) (more : List Symbol) (mode : Mode) (kept : Kept) (text : List Mark) : Type 0 where
   pub rest : List Mark
   pub same : text ≡ front ++ rest
-  pub follows : Follows mode room opens content rest
+  pub follows : Follows mode kept rest
   pub seen : symbols_of rest ≡ x ∷ more
 
-module _ {front : List Mark} {next : List Symbol} {mode : Mode} {room : ℕ} {opens : List Bracket} {content : List ℕ} (f : IsFrontOf front next mode room opens content) where
+module _ {front : List Mark} {next : List Symbol} {mode : Mode} {kept : Kept} (f : IsFrontOf front next mode kept) where
   -- how a text goes on behind the front
   pub on : (x : Symbol) → Begins next (x ∷ []) → (text : List Mark) → IsText text → (b : Begins (symbols_of front ++ (x ∷ [])) (symbols_of text))
-      → GoesOn front x b.rest mode room opens content text
+      → GoesOn front x b.rest mode kept text
   on x n text t b = on_at (f.only text t (begins_trans (begins_more (symbols_of front) n) b))
     where
-      on_at : Begins front text → GoesOn front x b.rest mode room opens content text
+      on_at : Begins front text → GoesOn front x b.rest mode kept text
       on_at g = record {
         rest = g.rest;
         same = g.same;
-        follows = forth mode room opens content g.rest (f.forth g.rest (subst IsText g.same t));
+        follows = forth mode kept g.rest (f.forth g.rest (subst IsText g.same t));
         seen = cancel (symbols_of front) (sym (symbols_append front g.rest) ∙ sym (ap symbols_of g.same) ∙ b.same ∙ append_assoc (symbols_of front) (x ∷ []) b.rest);
       }
 
 -- a step that stands first is that of a number, and the symbol behind it ends the number
 given_after : (room : ℕ) (opens : List Bracket) (x : Symbol) (more : List Symbol) (rest : List Mark)
     → After room opens rest → symbols_of rest ≡ x ∷ more → (others : List Mark) × After room opens (Seen x ∷ others)
-given_after room opens x more rest a s = split rest a (forth mode_.After room opens [] rest a) s
+given_after room opens x more rest a s = split rest a (forth mode_.After (keeping room opens []) rest a) s
   where
-    split : (rest : List Mark) → After room opens rest → Follows mode_.After room opens [] rest → symbols_of rest ≡ x ∷ more → (others : List Mark) × After room opens (Seen x ∷ others)
+    split : (rest : List Mark) → After room opens rest → Follows mode_.After (keeping room opens []) rest → symbols_of rest ≡ x ∷ more → (others : List Mark) × After room opens (Seen x ∷ others)
     split [] a f s = absurd f
     split (Seen y ∷ others) a f s = (others, subst (λ z. After room opens (Seen z ∷ others)) (head_of s) a)
     split (Given step ∷ others) a f s = absurd f
 
 -- so the move by that symbol gives the step first
-pub given_first : (mode : Mode) (room : ℕ) (opens : List Bracket) (content : List ℕ) (x : Symbol) (more : List Symbol) (step : Step) (rest : List Mark)
-    → Ends mode room opens content step rest → symbols_of rest ≡ x ∷ more → move_by mode room opens content x ≡ GivesFirst step mode_.After room opens []
-given_first (mode_.Number part) room opens content x more step rest (m, e, a) s =
-    let r = given_after room opens x more rest a s in
-    number_stops part room opens content x r.0 m r.1 ∙ ap (λ y. GivesFirst y mode_.After room opens []) (sym e)
-given_first mode_.After room opens content x more step rest h s = absurd h
-given_first mode_.Value room opens content x more step rest h s = absurd h
-given_first mode_.First room opens content x more step rest h s = absurd h
-given_first mode_.Name room opens content x more step rest h s = absurd h
-given_first mode_.Colon room opens content x more step rest h s = absurd h
-given_first (mode_.Word letters) room opens content x more step rest h s = absurd h
-given_first (mode_.Text role place) room opens content x more step rest h s = absurd h
+pub given_first : (mode : Mode) (kept : Kept) (x : Symbol) (more : List Symbol) (step : Step) (rest : List Mark)
+    → Ends mode kept step rest → symbols_of rest ≡ x ∷ more → move_by mode kept x ≡ GivesFirst step mode_.After (holding kept [])
+given_first (mode_.Number part) kept x more step rest (m, e, a) s =
+    let r = given_after kept.room kept.opens x more rest a s in
+    number_stops part kept x r.0 m r.1 ∙ ap (λ y. GivesFirst y mode_.After (holding kept [])) (sym e)
+given_first _ kept x more step rest h s = absurd h
 
 -- where a step stands first, no move is stuck
-pub given_free : (mode : Mode) (room : ℕ) (opens : List Bracket) (content : List ℕ) (x : Symbol) (step : Step) (rest : List Mark)
-    → Ends mode room opens content step rest → move_by mode room opens content x ≡ Stuck → ⊥
-given_free (mode_.Number part) room opens content x step rest (m, e, a) s = number_free part room opens content x m s
-given_free mode_.After room opens content x step rest h s = absurd h
-given_free mode_.Value room opens content x step rest h s = absurd h
-given_free mode_.First room opens content x step rest h s = absurd h
-given_free mode_.Name room opens content x step rest h s = absurd h
-given_free mode_.Colon room opens content x step rest h s = absurd h
-given_free (mode_.Word letters) room opens content x step rest h s = absurd h
-given_free (mode_.Text role place) room opens content x step rest h s = absurd h
+pub given_free : (mode : Mode) (kept : Kept) (x : Symbol) (step : Step) (rest : List Mark)
+    → Ends mode kept step rest → move_by mode kept x ≡ Stuck → ⊥
+given_free (mode_.Number part) kept x step rest (m, e, a) s = number_free part kept x m s
+given_free _ kept x step rest h s = absurd h
 
 -- a move that gives no step first
 abbrev pub ReadsFirst : Move → Type 0
-ReadsFirst (GivesFirst step mode room opens content) = ⊥
+ReadsFirst (GivesFirst step mode kept) = ⊥
 ReadsFirst _ = Unit {0}
 
 -- behind a front whose move reads, a text that has the next symbol shows it first
-pub shown : (mode : Mode) (room : ℕ) (opens : List Bracket) (content : List ℕ) (x : Symbol) (more : List Symbol) (rest : List Mark)
-    → ReadsFirst (move_by mode room opens content x) → Follows mode room opens content rest → symbols_of rest ≡ x ∷ more
-    → (others : List Mark) × (rest ≡ Seen x ∷ others) × Goes (move_by mode room opens content x) others
-shown mode room opens content x more [] n f s = absurd (no_cons s)
-shown mode room opens content x more (Seen y ∷ others) n f s =
-    (others, ap (λ z. Seen z ∷ others) (head_of s), subst (λ z. Goes (move_by mode room opens content z) others) (head_of s) f)
-shown mode room opens content x more (Given step ∷ others) n f s =
-    absurd (subst ReadsFirst (given_first mode room opens content x more step others f s) n)
+pub shown : (mode : Mode) (kept : Kept) (x : Symbol) (more : List Symbol) (rest : List Mark)
+    → ReadsFirst (move_by mode kept x) → Follows mode kept rest → symbols_of rest ≡ x ∷ more
+    → (others : List Mark) × (rest ≡ Seen x ∷ others) × Goes (move_by mode kept x) others
+shown mode kept x more [] n f s = absurd (no_cons s)
+shown mode kept x more (Seen y ∷ others) n f s =
+    (others, ap (λ z. Seen z ∷ others) (head_of s), subst (λ z. Goes (move_by mode kept z) others) (head_of s) f)
+shown mode kept x more (Given step ∷ others) n f s =
+    absurd (subst ReadsFirst (given_first mode kept x more step others f s) n)
 
 -- marks that each text with their symbols begins with have kin alone
 kin_of : (front : List Mark) → ((text : List Mark) → IsText text → Begins (symbols_of front ++ []) (symbols_of text) → Begins front text)
@@ -114,7 +102,7 @@ kin_of front only other rest t e =
     let g = only (other ++ rest) t b in
     comparable other rest front g.rest g.same
 
-module _ {front : List Mark} {next : List Symbol} {mode : Mode} {room : ℕ} {opens : List Bracket} {content : List ℕ} (f : IsFrontOf front next mode room opens content)
+module _ {front : List Mark} {next : List Symbol} {mode : Mode} {kept : Kept} (f : IsFrontOf front next mode kept)
     (x : Symbol) (n : Begins next (x ∷ [])) where
   -- with one more symbol, a text that begins so
   with_next : (added : List Mark) → symbols_of added ≡ x ∷ [] → (text : List Mark)
@@ -123,52 +111,52 @@ module _ {front : List Mark} {next : List Symbol} {mode : Mode} {room : ℕ} {op
       subst (λ s. Begins s (symbols_of text)) (append_nil (symbols_of (front ++ added)) ∙ symbols_append front added ∙ ap (λ s. symbols_of front ++ s) e) b
 
   -- a move that reads
-  pub reads_on : (to : Mode) (room_to : ℕ) (opens_to : List Bracket) (content_to : List ℕ)
-      → move_by mode room opens content x ≡ Reads to room_to opens_to content_to → IsFrontOf (front ++ (Seen x ∷ [])) [] to room_to opens_to content_to
-  reads_on to room_to opens_to content_to e = record { forth = forth_to; back = back_to; only = only_to; kin = kin_of (front ++ (Seen x ∷ [])) only_to }
+  pub reads_on : (to : Mode) (kept_to : Kept)
+      → move_by mode kept x ≡ Reads to kept_to → IsFrontOf (front ++ (Seen x ∷ [])) [] to kept_to
+  reads_on to kept_to e = record { forth = forth_to; back = back_to; only = only_to; kin = kin_of (front ++ (Seen x ∷ [])) only_to }
     where
-      forth_to : (rest : List Mark) → IsText ((front ++ (Seen x ∷ [])) ++ rest) → Rest to room_to opens_to content_to rest
+      forth_to : (rest : List Mark) → IsText ((front ++ (Seen x ∷ [])) ++ rest) → Rest to kept_to rest
       forth_to rest t =
-          let g : Goes (move_by mode room opens content x) rest =
-          forth mode room opens content (Seen x ∷ rest) (f.forth (Seen x ∷ rest) (subst IsText (append_assoc front (Seen x ∷ []) rest) t)) in
+          let g : Goes (move_by mode kept x) rest =
+          forth mode kept (Seen x ∷ rest) (f.forth (Seen x ∷ rest) (subst IsText (append_assoc front (Seen x ∷ []) rest) t)) in
           out_reads (subst (λ v. Goes v rest) e g)
 
-      back_to : (rest : List Mark) → Rest to room_to opens_to content_to rest → IsText ((front ++ (Seen x ∷ [])) ++ rest)
+      back_to : (rest : List Mark) → Rest to kept_to rest → IsText ((front ++ (Seen x ∷ [])) ++ rest)
       back_to rest r =
-          let g : Goes (move_by mode room opens content x) rest = subst (λ v. Goes v rest) (sym e) (reads r) in
-          subst IsText (sym (append_assoc front (Seen x ∷ []) rest)) (f.back (Seen x ∷ rest) (back mode room opens content (Seen x ∷ rest) g))
+          let g : Goes (move_by mode kept x) rest = subst (λ v. Goes v rest) (sym e) (reads r) in
+          subst IsText (sym (append_assoc front (Seen x ∷ []) rest)) (f.back (Seen x ∷ rest) (back mode kept (Seen x ∷ rest) g))
 
       only_to : (text : List Mark) → IsText text → Begins (symbols_of (front ++ (Seen x ∷ [])) ++ []) (symbols_of text) → Begins (front ++ (Seen x ∷ [])) text
       only_to text t b =
           let c = with_next (Seen x ∷ []) refl text b in
           let o = on f x n text t c in
-          let s = shown mode room opens content x c.rest o.rest (subst ReadsFirst (sym e) tt) o.follows o.seen in
+          let s = shown mode kept x c.rest o.rest (subst ReadsFirst (sym e) tt) o.follows o.seen in
           begins s.0 (o.same ∙ ap (λ r. front ++ r) s.1 ∙ sym (append_assoc front (Seen x ∷ []) s.0))
 
   -- a move that reads and gives a step
-  pub gives_on : (step : Step) (to : Mode) (room_to : ℕ) (opens_to : List Bracket) (content_to : List ℕ)
-      → move_by mode room opens content x ≡ Gives step to room_to opens_to content_to → IsFrontOf (front ++ (Seen x ∷ Given step ∷ [])) [] to room_to opens_to content_to
-  gives_on step to room_to opens_to content_to e = record { forth = forth_to; back = back_to; only = only_to; kin = kin_of (front ++ (Seen x ∷ Given step ∷ [])) only_to }
+  pub gives_on : (step : Step) (to : Mode) (kept_to : Kept)
+      → move_by mode kept x ≡ Gives step to kept_to → IsFrontOf (front ++ (Seen x ∷ Given step ∷ [])) [] to kept_to
+  gives_on step to kept_to e = record { forth = forth_to; back = back_to; only = only_to; kin = kin_of (front ++ (Seen x ∷ Given step ∷ [])) only_to }
     where
-      forth_to : (rest : List Mark) → IsText ((front ++ (Seen x ∷ Given step ∷ [])) ++ rest) → Rest to room_to opens_to content_to rest
+      forth_to : (rest : List Mark) → IsText ((front ++ (Seen x ∷ Given step ∷ [])) ++ rest) → Rest to kept_to rest
       forth_to rest t =
-          let g : Goes (move_by mode room opens content x) (Given step ∷ rest) =
-          forth mode room opens content (Seen x ∷ Given step ∷ rest)
+          let g : Goes (move_by mode kept x) (Given step ∷ rest) =
+          forth mode kept (Seen x ∷ Given step ∷ rest)
           (f.forth (Seen x ∷ Given step ∷ rest) (subst IsText (append_assoc front (Seen x ∷ Given step ∷ []) rest) t)) in
           let o = out_gives (subst (λ v. Goes v (Given step ∷ rest)) e g) in
-          subst (λ r. Rest to room_to opens_to content_to r) (sym (tail_of o.1)) o.2
+          subst (λ r. Rest to kept_to r) (sym (tail_of o.1)) o.2
 
-      back_to : (rest : List Mark) → Rest to room_to opens_to content_to rest → IsText ((front ++ (Seen x ∷ Given step ∷ [])) ++ rest)
+      back_to : (rest : List Mark) → Rest to kept_to rest → IsText ((front ++ (Seen x ∷ Given step ∷ [])) ++ rest)
       back_to rest r =
-          let g : Goes (move_by mode room opens content x) (Given step ∷ rest) = subst (λ v. Goes v (Given step ∷ rest)) (sym e) (gives r) in
+          let g : Goes (move_by mode kept x) (Given step ∷ rest) = subst (λ v. Goes v (Given step ∷ rest)) (sym e) (gives r) in
           subst IsText (sym (append_assoc front (Seen x ∷ Given step ∷ []) rest))
-          (f.back (Seen x ∷ Given step ∷ rest) (back mode room opens content (Seen x ∷ Given step ∷ rest) g))
+          (f.back (Seen x ∷ Given step ∷ rest) (back mode kept (Seen x ∷ Given step ∷ rest) g))
 
       only_to : (text : List Mark) → IsText text → Begins (symbols_of (front ++ (Seen x ∷ Given step ∷ [])) ++ []) (symbols_of text) → Begins (front ++ (Seen x ∷ Given step ∷ [])) text
       only_to text t b =
           let c = with_next (Seen x ∷ Given step ∷ []) refl text b in
           let o = on f x n text t c in
-          let s = shown mode room opens content x c.rest o.rest (subst ReadsFirst (sym e) tt) o.follows o.seen in
+          let s = shown mode kept x c.rest o.rest (subst ReadsFirst (sym e) tt) o.follows o.seen in
           let g = out_gives (subst (λ v. Goes v s.0) e s.2) in
           begins g.0 (o.same ∙ ap (λ r. front ++ r) (s.1 ∙ ap (λ r. Seen x ∷ r) g.1) ∙ sym (append_assoc front (Seen x ∷ Given step ∷ []) g.0))
 
@@ -188,53 +176,52 @@ longer_by front other g e = elim (no_symbols g.rest none) [
     none : symbols_of g.rest ≡ []
     none = cancel (symbols_of front) (sym (symbols_append front g.rest) ∙ sym (ap symbols_of g.same) ∙ e ∙ sym (append_nil (symbols_of front)))
 
-module _ {front : List Mark} {next : List Symbol} {mode : Mode} {room : ℕ} {opens : List Bracket} {content : List ℕ} (f : IsFrontOf front next mode room opens content)
+module _ {front : List Mark} {next : List Symbol} {mode : Mode} {kept : Kept} (f : IsFrontOf front next mode kept)
     (x : Symbol) (n : Begins next (x ∷ [])) where
   -- the steps that may stand behind the front
-  pub stands : (step : Step) (others rest : List Mark) → IsText ((front ++ (Given step ∷ others)) ++ rest) → Ends mode room opens content step (others ++ rest)
+  pub stands : (step : Step) (others rest : List Mark) → IsText ((front ++ (Given step ∷ others)) ++ rest) → Ends mode kept step (others ++ rest)
   stands step others rest t =
-      forth mode room opens content (Given step ∷ (others ++ rest))
+      forth mode kept (Given step ∷ (others ++ rest))
       (f.forth (Given step ∷ (others ++ rest)) (subst IsText (append_assoc front (Given step ∷ others) rest) t))
 
   -- a move that gives a step without reading
-  pub first_on : (step : Step) (to : Mode) (room_to : ℕ) (opens_to : List Bracket) (content_to : List ℕ)
-      → move_by mode room opens content x ≡ GivesFirst step to room_to opens_to content_to → IsFrontOf (front ++ (Given step ∷ [])) (x ∷ []) to room_to opens_to content_to
-  first_on step to room_to opens_to content_to e = first_by (subst (FirstSays mode room opens content) e (first_says mode room opens content x))
+  pub first_on : (step : Step) (to : Mode) (kept_to : Kept)
+      → move_by mode kept x ≡ GivesFirst step to kept_to → IsFrontOf (front ++ (Given step ∷ [])) (x ∷ []) to kept_to
+  first_on step to kept_to e = first_by (subst (FirstSays mode kept) e (first_says mode kept x))
     where
-      first_by : Ended mode room opens content step to room_to opens_to → IsFrontOf (front ++ (Given step ∷ [])) (x ∷ []) to room_to opens_to content_to
+      first_by : Ended mode kept step to kept_to → IsFrontOf (front ++ (Given step ∷ [])) (x ∷ []) to kept_to
       first_by d = record { forth = forth_to; back = back_to; only = only_to; kin = kin_to }
         where
-          here : (rest : List Mark) → Ends mode room opens content step rest → Ends (mode_.Number d.part) room opens content step rest
-          here rest h = subst (λ m. Ends m room opens content step rest) d.is_number h
+          here : (rest : List Mark) → Ends mode kept step rest → Ends (mode_.Number d.part) kept step rest
+          here rest h = subst (λ m. Ends m kept step rest) d.is_number h
 
-          there : (rest : List Mark) → Ends (mode_.Number d.part) room opens content step rest → Ends mode room opens content step rest
-          there rest h = subst (λ m. Ends m room opens content step rest) (sym d.is_number) h
+          there : (rest : List Mark) → Ends (mode_.Number d.part) kept step rest → Ends mode kept step rest
+          there rest h = subst (λ m. Ends m kept step rest) (sym d.is_number) h
 
-          arrives : (rest : List Mark) → After room opens rest → Rest to room_to opens_to content_to rest
+          arrives : (rest : List Mark) → After kept.room kept.opens rest → Rest to kept_to rest
           arrives rest a =
-              subst (λ m. Rest m room_to opens_to content_to rest) (sym d.mode_is)
-              (subst (λ r. After r opens_to rest) (sym d.room_is) (subst (λ o. After room o rest) (sym d.opens_is) a))
+              subst (λ m. Rest m kept_to rest) (sym d.mode_is)
+              (subst (λ z. After z.room z.opens rest) (sym d.kept_is) a)
 
-          left : (rest : List Mark) → Rest to room_to opens_to content_to rest → After room opens rest
+          left : (rest : List Mark) → Rest to kept_to rest → After kept.room kept.opens rest
           left rest r =
-              let a : After room_to opens_to rest = subst (λ m. Rest m room_to opens_to content_to rest) d.mode_is r in
-              subst (λ o. After room o rest) d.opens_is (subst (λ r. After r opens_to rest) d.room_is a)
+              subst (λ z. After z.room z.opens rest) d.kept_is (subst (λ m. Rest m kept_to rest) d.mode_is r)
 
-          forth_to : (rest : List Mark) → IsText ((front ++ (Given step ∷ [])) ++ rest) → Rest to room_to opens_to content_to rest
+          forth_to : (rest : List Mark) → IsText ((front ++ (Given step ∷ [])) ++ rest) → Rest to kept_to rest
           forth_to rest t = arrives rest (here rest (stands step [] rest t)).2
 
-          back_to : (rest : List Mark) → Rest to room_to opens_to content_to rest → IsText ((front ++ (Given step ∷ [])) ++ rest)
+          back_to : (rest : List Mark) → Rest to kept_to rest → IsText ((front ++ (Given step ∷ [])) ++ rest)
           back_to rest r =
               subst IsText (sym (append_assoc front (Given step ∷ []) rest))
-              (f.back (Given step ∷ rest) (back mode room opens content (Given step ∷ rest) (there rest (d.ends, d.step_is, left rest r))))
+              (f.back (Given step ∷ rest) (back mode kept (Given step ∷ rest) (there rest (d.ends, d.step_is, left rest r))))
 
-          step_same : (other : Step) (rest : List Mark) → Ends mode room opens content other rest → other ≡ step
-          step_same other rest h = (subst (λ m. Ends m room opens content other rest) d.is_number h).1 ∙ sym d.step_is
+          step_same : (other : Step) (rest : List Mark) → Ends mode kept other rest → other ≡ step
+          step_same other rest h = (subst (λ m. Ends m kept other rest) d.is_number h).1 ∙ sym d.step_is
 
-          only_rest : (rest : List Mark) (more : List Symbol) → Follows mode room opens content rest → symbols_of rest ≡ x ∷ more → (others : List Mark) × (rest ≡ Given step ∷ others)
+          only_rest : (rest : List Mark) (more : List Symbol) → Follows mode kept rest → symbols_of rest ≡ x ∷ more → (others : List Mark) × (rest ≡ Given step ∷ others)
           only_rest [] more h s = absurd h
           only_rest (Seen y ∷ others) more h s =
-              absurd (out_first (subst (λ v. Goes v others) e (subst (λ z. Goes (move_by mode room opens content z) others) (head_of s) h)))
+              absurd (out_first (subst (λ v. Goes v others) e (subst (λ z. Goes (move_by mode kept z) others) (head_of s) h)))
           only_rest (Given other ∷ others) more h s = (others, ap (λ z. Given z ∷ others) (step_same other others h))
 
           only_to : (text : List Mark) → IsText text → Begins (symbols_of (front ++ (Given step ∷ [])) ++ (x ∷ [])) (symbols_of text) → Begins (front ++ (Given step ∷ [])) text

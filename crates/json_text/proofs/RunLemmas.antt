@@ -11,9 +11,9 @@ use Rattle.json_text.specs.declared.mode.Mode.TheVariants as mode_
 use Rattle.json_text.specs.declared.scanner.Scanner.{Scanner}
 use Rattle.json_text.specs.Marks.{Symbol, Byte, End, Step, Mark, Seen, symbols_of, steps_of, symbols, see, Begins}
 use Rattle.json_text.specs.Bytes.{AreAll, is_space, is_plain, kind_of, lead_of}
-use Rattle.json_text.specs.Rest.{IsFrontOf, first_of, part_after, OnPart}
+use Rattle.json_text.specs.Rest.{Kept, keeping, holding, IsFrontOf, first_of, part_after, OnPart}
 use Rattle.json_text.specs.Machine.{Reads, Stuck, byte_move, start_of, start_move, first_move, after_move, name_move, number_move, lead_move}
-use Rattle.json_text.specs.Taking.{room_of, opens_of, MaySpace}
+use Rattle.json_text.specs.Taking.{kept_of, MaySpace}
 use Rattle.json_text.specs.Scanner.{fed, pending, symbols_left, Holds, is_number, most_steps}
 use Rattle.json_text.specs.Told.{PartsGo, ReadsOn}
 use Rattle.std.proofs.lemmas.Bool.Decides.{nat_tests}
@@ -43,77 +43,79 @@ parts_more part (suc n) (b ∷ bytes) last next g l h =
     (λ z k. parts_more z n bytes last next k (omega arith) h)
 
 -- the moves by a run of bytes only read, and lead to a mode and a content
-abbrev pub Runs : Mode → ℕ → List Bracket → List ℕ → List ℕ → Mode → List ℕ → Type 0
-Runs mode room opens content [] to after = (to ≡ mode) × (after ≡ content)
-Runs mode room opens content (b ∷ run) to after =
-    (next : Mode) × (longer : List ℕ) × (byte_move mode room opens content b ≡ Reads next room opens longer) × Runs next room opens longer run to after
+abbrev pub Runs : Mode → Kept → List ℕ → Mode → List ℕ → Type 0
+Runs mode kept [] to after = (to ≡ mode) × (after ≡ kept.content)
+Runs mode kept (b ∷ run) to after =
+    (next : Mode) × (longer : List ℕ) × (byte_move mode kept b ≡ Reads next (holding kept longer)) × Runs next (holding kept longer) run to after
 
 -- the same from where a scanner stands
 abbrev pub RunsFrom : Scanner → List ℕ → Mode → List ℕ → Type 0
-RunsFrom old run to after = Runs old.machine.mode (room_of old.machine) (opens_of old.machine) old.machine.content.items run to after
+RunsFrom old run to after = Runs old.machine.mode (kept_of old.machine) run to after
+
+-- the same to where another stands
+abbrev pub RunsTo : Scanner → List ℕ → Scanner → Type 0
+RunsTo old run new = RunsFrom old run new.machine.mode new.machine.content.items
 
 -- white space leaves the place
-space_move : (mode : Mode) (room : ℕ) (opens : List Bracket) (content : List ℕ) (b : ℕ) → MaySpace mode → is_space b ≡ true
-    → byte_move mode room opens content b ≡ Reads mode room opens content
-space_move mode_.Value room opens content b m e = ap (λ t. cond t (Reads mode_.Value room opens content) (start_move (start_of b) room opens content b)) e
-space_move mode_.First room opens content b m e = ap (λ t. cond t (Reads mode_.First room opens content) (first_move room opens content b)) e
-space_move mode_.After room opens content b m e = ap (λ t. cond t (Reads mode_.After room opens content) (after_move room opens content b)) e
-space_move mode_.Name room opens content b m e = ap (λ t. cond t (Reads mode_.Name room opens content) (name_move room opens content b)) e
-space_move mode_.Colon room opens content b m e = ap (λ t. cond t (Reads mode_.Colon room opens content) (cond (eqb b 58) (Reads mode_.Value room opens content) Stuck)) e
-space_move (mode_.Word letters) room opens content b m e = absurd m
-space_move (mode_.Number part) room opens content b m e = absurd m
-space_move (mode_.Text role place) room opens content b m e = absurd m
+space_move : (mode : Mode) (kept : Kept) (b : ℕ) → MaySpace mode → is_space b ≡ true
+    → byte_move mode kept b ≡ Reads mode kept
+space_move mode_.Value kept b m e = ap (λ t. cond t (Reads mode_.Value kept) (start_move (start_of b) kept b)) e
+space_move mode_.First kept b m e = ap (λ t. cond t (Reads mode_.First kept) (first_move kept.room kept.opens kept.content b)) e
+space_move mode_.After kept b m e = ap (λ t. cond t (Reads mode_.After kept) (after_move kept.room kept.opens kept.content b)) e
+space_move mode_.Name kept b m e = ap (λ t. cond t (Reads mode_.Name kept) (name_move kept b)) e
+space_move mode_.Colon kept b m e = ap (λ t. cond t (Reads mode_.Colon kept) (cond (eqb b 58) (Reads mode_.Value kept) Stuck)) e
+space_move _ kept b m e = absurd m
 
 -- so does a run of it
-pub space_run : (mode : Mode) (room : ℕ) (opens : List Bracket) (content run : List ℕ) → MaySpace mode → AreAll is_space run → Runs mode room opens content run mode content
-space_run mode room opens content [] m a = (refl, refl)
-space_run mode room opens content (b ∷ run) m a = (mode, content, space_move mode room opens content b m a.0, space_run mode room opens content run m a.1)
+pub space_run : (mode : Mode) (kept : Kept) (run : List ℕ) → MaySpace mode → AreAll is_space run → Runs mode kept run mode kept.content
+space_run mode kept [] m a = (refl, refl)
+space_run mode kept (b ∷ run) m a = (mode, kept.content, space_move mode kept b m a.0, space_run mode kept run m a.1)
 
 -- a plain byte is a character alone
 plain_lead : (b : ℕ) → is_plain b ≡ true → lead_of b ≡ lead_.Whole
 plain_lead b e = grind (arith, nat_tests)
 
 -- plain bytes are content
-pub plain_run : (role : Role) (room : ℕ) (opens : List Bracket) (content run : List ℕ) → AreAll is_plain run
-    → Runs (mode_.Text role (place_.Chars None)) room opens content run (mode_.Text role (place_.Chars None)) (content ++ run)
-plain_run role room opens content [] a = (refl, append_nil content)
-plain_run role room opens content (b ∷ run) a = (
+pub plain_run : (role : Role) (kept : Kept) (run : List ℕ) → AreAll is_plain run
+    → Runs (mode_.Text role (place_.Chars None)) kept run (mode_.Text role (place_.Chars None)) (kept.content ++ run)
+plain_run role kept [] a = (refl, append_nil kept.content)
+plain_run role kept (b ∷ run) a = (
   mode_.Text role (place_.Chars None),
-  (content ++ []) ++ (b ∷ []),
-  ap (λ l. lead_move role None l room opens content b) (plain_lead b a.0),
-  subst (λ z. Runs (mode_.Text role (place_.Chars None)) room opens ((content ++ []) ++ (b ∷ [])) run (mode_.Text role (place_.Chars None)) z)
-      (append_assoc (content ++ []) (b ∷ []) run ∙ ap (λ z. z ++ (b ∷ run)) (append_nil content))
-      (plain_run role room opens ((content ++ []) ++ (b ∷ [])) run a.1),
+  (kept.content ++ []) ++ (b ∷ []),
+  ap (λ l. lead_move role None l kept b) (plain_lead b a.0),
+  subst (λ z. Runs (mode_.Text role (place_.Chars None)) (holding kept ((kept.content ++ []) ++ (b ∷ []))) run (mode_.Text role (place_.Chars None)) z)
+      (append_assoc (kept.content ++ []) (b ∷ []) run ∙ ap (λ z. z ++ (b ∷ run)) (append_nil kept.content))
+      (plain_run role (holding kept ((kept.content ++ []) ++ (b ∷ []))) run a.1),
 )
 
 -- so are the bytes of a number
-pub number_run : (part : Part) (room : ℕ) (opens : List Bracket) (content run : List ℕ) (to : Part) → PartsGo part run to
-    → Runs (mode_.Number part) room opens content run (mode_.Number to) (content ++ run)
-number_run part room opens content [] to g = (ap mode_.Number g, append_nil content)
-number_run part room opens content (b ∷ run) to g =
-    on (part_after part (kind_of b)) refl g (λ z k. number_run z room opens (content ++ (b ∷ [])) run to k)
+pub number_run : (part : Part) (kept : Kept) (run : List ℕ) (to : Part) → PartsGo part run to
+    → Runs (mode_.Number part) kept run (mode_.Number to) (kept.content ++ run)
+number_run part kept [] to g = (ap mode_.Number g, append_nil kept.content)
+number_run part kept (b ∷ run) to g =
+    on (part_after part (kind_of b)) refl g (λ z k. number_run z (holding kept (kept.content ++ (b ∷ []))) run to k)
   where
     on : (o : Option Part) → part_after part (kind_of b) ≡ o → OnPart o (λ z. PartsGo z run to)
-        → ((z : Part) → PartsGo z run to → Runs (mode_.Number z) room opens (content ++ (b ∷ [])) run (mode_.Number to) ((content ++ (b ∷ [])) ++ run))
-        → Runs (mode_.Number part) room opens content (b ∷ run) (mode_.Number to) (content ++ (b ∷ run))
+        → ((z : Part) → PartsGo z run to → Runs (mode_.Number z) (holding kept (kept.content ++ (b ∷ []))) run (mode_.Number to) ((kept.content ++ (b ∷ [])) ++ run))
+        → Runs (mode_.Number part) kept (b ∷ run) (mode_.Number to) (kept.content ++ (b ∷ run))
     on None e k goes = absurd k
     on (Some next) e k goes = (
       mode_.Number next,
-      content ++ (b ∷ []),
-      ap (λ o. number_move part o room opens content b) e,
-      subst (λ z. Runs (mode_.Number next) room opens (content ++ (b ∷ [])) run (mode_.Number to) z) (append_assoc content (b ∷ []) run) (goes next k),
+      kept.content ++ (b ∷ []),
+      ap (λ o. number_move part o kept b) e,
+      subst (λ z. Runs (mode_.Number next) (holding kept (kept.content ++ (b ∷ []))) run (mode_.Number to) z) (append_assoc kept.content (b ∷ []) run) (goes next k),
     )
 
 -- a front grows over a run
-run_front : {front : List Mark} {next : List Symbol} {mode : Mode} {room : ℕ} {opens : List Bracket} {content : List ℕ} (b : ℕ) (run : List ℕ) (to : Mode) (after : List ℕ)
-    → IsFrontOf front next mode room opens content → Begins next (Byte b ∷ []) → Runs mode room opens content (b ∷ run) to after
-    → IsFrontOf (front ++ see (b ∷ run) []) [] to room opens after
-run_front {front} {next} {mode} {room} {opens} {content} b [] to after f n (m, c, e, (same, kept)) =
-    subst (λ z. IsFrontOf (front ++ (Seen (Byte b) ∷ [])) [] z room opens after) (sym same)
-    (subst (λ z. IsFrontOf (front ++ (Seen (Byte b) ∷ [])) [] m room opens z) (sym kept) (reads_on f (Byte b) n m room opens c e))
-run_front {front} {next} {mode} {room} {opens} {content} b (d ∷ run) to after f n (m, c, e, more) =
-    subst (λ z. IsFrontOf z [] to room opens after) (append_assoc front (Seen (Byte b) ∷ []) (see (d ∷ run) []))
-    (run_front d run to after (reads_on f (Byte b) n m room opens c e) (begins (Byte d ∷ []) refl) more)
+run_front : {front : List Mark} {next : List Symbol} {mode : Mode} {kept : Kept} (b : ℕ) (run : List ℕ) (to : Mode) (after : List ℕ)
+    → IsFrontOf front next mode kept → Begins next (Byte b ∷ []) → Runs mode kept (b ∷ run) to after
+    → IsFrontOf (front ++ see (b ∷ run) []) [] to (holding kept after)
+run_front {front} {next} {mode} {kept} b [] to after f n (m, c, e, (same, stays)) =
+    subst (λ z. IsFrontOf (front ++ (Seen (Byte b) ∷ [])) [] z (holding kept after)) (sym same)
+    (subst (λ z. IsFrontOf (front ++ (Seen (Byte b) ∷ [])) [] m (holding kept z)) (sym stays) (reads_on f (Byte b) n m (holding kept c) e))
+run_front {front} {next} {mode} {kept} b (d ∷ run) to after f n (m, c, e, more) =
+    subst (λ z. IsFrontOf z [] to (holding kept after)) (append_assoc front (Seen (Byte b) ∷ []) (see (d ∷ run) []))
+    (run_front d run to after (reads_on f (Byte b) n m (holding kept c) e) (begins (Byte d ∷ []) refl) more)
 
 -- the symbols of a run
 symbols_see : (run : List ℕ) → symbols_of (see run []) ≡ symbols run
@@ -142,10 +144,11 @@ run_pending (b ∷ items) (suc i) (suc n) h =
     run_pending items i n (omega arith) ∙ ap (λ k. take k (drop i items) ++ drop n items) (sym e)
 
 -- a run is read
-pub run_holds : (old new : Scanner) (run : List ℕ) → RunsFrom old run new.machine.mode new.machine.content.items
+pub run_holds : (old new : Scanner) (run : List ℕ) → RunsTo old run new
     → new.machine.opens.items ≡ old.machine.opens.items → pending old ≡ run ++ pending new → fed new ≡ fed old → new.ended ≡ old.ended
     → (bytes : List ℕ) (steps : List Step) → Holds old bytes steps → Holds new bytes steps
-run_holds old new [] (m, c) o p n e bytes steps h = same_holds old new bytes steps h (sym p) n e (record { mode = m; opens = o; content = c })
+run_holds old new [] (m, c) o p n e bytes steps h =
+    same_holds old new bytes steps h (record { pending_same = sym p; fed_same = n; ended_same = e }) (record { mode = m; opens = o; content = c })
 run_holds old new (b ∷ run) r o p n e bytes steps h = record {
   front = h.front ++ see (b ∷ run) [];
   given = steps_append h.front (see (b ∷ run) []) ∙ ap (λ z. steps_of h.front ++ z) (steps_see (b ∷ run)) ∙ append_nil (steps_of h.front) ∙ h.given;
@@ -159,9 +162,9 @@ run_holds old new (b ∷ run) r o p n e bytes steps h = record {
     next_is : Begins (first_of (symbols_left old)) (Byte b ∷ [])
     next_is = begins [] (ap (λ ps. first_of (symbols ps ++ (if old.ended then End ∷ [] else []))) (sym p) ∙ sym (append_nil (first_of (symbols_left old))))
 
-    placed : IsFrontOf (h.front ++ see (b ∷ run) []) [] new.machine.mode (room_of new.machine) (opens_of new.machine) new.machine.content.items
+    placed : IsFrontOf (h.front ++ see (b ∷ run) []) [] new.machine.mode (kept_of new.machine)
     placed =
-        subst (λ x. IsFrontOf (h.front ++ see (b ∷ run) []) [] new.machine.mode (64 - length x) (reverse x) new.machine.content.items) (sym o)
+        subst (λ x. IsFrontOf (h.front ++ see (b ∷ run) []) [] new.machine.mode (keeping (64 - length x) (reverse x) new.machine.content.items)) (sym o)
         (run_front b run new.machine.mode new.machine.content.items h.is_front next_is r)
 
 -- one more byte of a list that passes, behind a place
@@ -185,14 +188,18 @@ parts_at part last next from at bytes f l g h =
     (parts_more part (at - from) (drop from bytes) last next g inside
     (ap (λ b. part_after last (kind_of b)) (get_or-drop from bytes (at - from) 0 ∙ ap (λ k. get_or bytes k 0) place) ∙ h))
 
+-- what a scanner has beside its place and the content that is read
+abbrev pub Beside : Type 0
+Beside = List ℕ × ℕ × ℕ × Bool × Bool × List Bracket × List ℕ
+
+-- its bytes and how many they are, the bytes before them, both flags, the brackets and the last content
+abbrev pub beside : Scanner → Beside
+beside scanner =
+    (scanner.input.items, vec_len scanner.input, scanner.before, scanner.ended, scanner.failed, scanner.machine.opens.items, scanner.machine.text.items)
+
 -- a scanner has gone on in what it keeps, and left all but the place and the content that is read
 pub record Onward (old new : Scanner) : Type 0 where
-  pub input : new.input ≡ old.input
-  pub before : new.before ≡ old.before
-  pub ended : new.ended ≡ old.ended
-  pub failed : new.failed ≡ old.failed
-  pub opens : new.machine.opens.items ≡ old.machine.opens.items
-  pub text : new.machine.text.items ≡ old.machine.text.items
+  pub same : beside new ≡ beside old
   pub onward : old.read ≤ new.read
   pub within : new.read ≤ vec_len old.input
   pub fewer : is_number new.machine.mode + old.read ≤ is_number old.machine.mode + new.read
@@ -202,51 +209,54 @@ abbrev pub run_of : Scanner → Scanner → List ℕ
 run_of old new = take (new.read - old.read) (drop old.read old.input.items)
 
 -- so it stands for what it stood for, if the moves by these bytes only read
-pub reads_run : (old new : Scanner) → Onward old new
-    → RunsFrom old (run_of old new) new.machine.mode new.machine.content.items → ReadsOn old new
+pub reads_run : (old new : Scanner) → Onward old new → RunsTo old (run_of old new) new → ReadsOn old new
 reads_run old new o r = record {
-  holds = run_holds old new (run_of old new) r o.opens pends count o.ended;
-  leaves = record { fed_same = count; ended_same = o.ended; failed_same = o.failed; content_same = o.text };
+  holds = run_holds old new (run_of old new) r (ap (λ (p : Beside). p.5) o.same) pends count ended;
+  leaves = record { fed_same = count; ended_same = ended; failed_same = ap (λ (p : Beside). p.4) o.same; content_same = ap (λ (p : Beside). p.6) o.same };
   fewer = few;
 }
   where
+    total : vec_len new.input ≡ vec_len old.input
+    total = ap (λ (p : Beside). p.1) o.same
+
+    ended : new.ended ≡ old.ended
+    ended = ap (λ (p : Beside). p.3) o.same
+
     pends : pending old ≡ run_of old new ++ pending new
-    pends = run_pending old.input.items old.read new.read o.onward ∙ ap (λ i. run_of old new ++ drop new.read i.items) (sym o.input)
+    pends = run_pending old.input.items old.read new.read o.onward ∙ ap (λ (p : Beside). run_of old new ++ drop new.read p.0) (sym o.same)
 
     count : fed new ≡ fed old
-    count = ap (λ i. new.before + vec_len i) o.input ∙ ap (λ k. k + vec_len old.input) o.before
-
-    same : vec_len new.input ≡ vec_len old.input
-    same = ap (λ i. vec_len i) o.input
+    count = ap (λ (p : Beside). p.2 + p.1) o.same
 
     few : most_steps new ≤ most_steps old
-    few = omega (arith, same, o.onward, o.within, o.fewer)
+    few = omega (arith, total, o.onward, o.within, o.fewer)
+
+-- the same where the mode and the content that it came to are known
+pub reads_to : (old new : Scanner) (to : Mode) (after : List ℕ) → Onward old new → new.machine.mode ≡ to → new.machine.content.items ≡ after
+    → RunsFrom old (run_of old new) to after → ReadsOn old new
+reads_to old new to after o m c r =
+    reads_run old new o
+    (subst (λ z. RunsFrom old (run_of old new) z new.machine.content.items) (sym m) (subst (λ z. RunsFrom old (run_of old new) to z) (sym c) r))
 
 -- white space was read
-pub spaces_on : (old new : Scanner) → Onward old new → MaySpace old.machine.mode → new.machine.mode ≡ old.machine.mode → new.machine.content.items ≡ old.machine.content.items
-    → AreAll is_space (run_of old new) → ReadsOn old new
+pub spaces_on : (old new : Scanner) → Onward old new → MaySpace old.machine.mode → new.machine.mode ≡ old.machine.mode
+    → new.machine.content.items ≡ old.machine.content.items → AreAll is_space (run_of old new) → ReadsOn old new
 spaces_on old new o m e c a =
-    reads_run old new o
-    (subst (λ z. RunsFrom old (run_of old new) z new.machine.content.items) (sym e)
-    (subst (λ z. RunsFrom old (run_of old new) old.machine.mode z) (sym c)
-    (space_run old.machine.mode (room_of old.machine) (opens_of old.machine) old.machine.content.items (run_of old new) m a)))
+    reads_to old new old.machine.mode old.machine.content.items o e c (space_run old.machine.mode (kept_of old.machine) (run_of old new) m a)
 
 -- plain bytes were read
 pub plain_on : (old new : Scanner) (role : Role) → Onward old new → old.machine.mode ≡ mode_.Text role (place_.Chars None) → new.machine.mode ≡ old.machine.mode
     → new.machine.content.items ≡ old.machine.content.items ++ run_of old new → AreAll is_plain (run_of old new) → ReadsOn old new
 plain_on old new role o m e c a =
-    reads_run old new o
-    (subst (λ z. Runs z (room_of old.machine) (opens_of old.machine) old.machine.content.items (run_of old new) new.machine.mode new.machine.content.items) (sym m)
-    (subst (λ z. Runs (mode_.Text role (place_.Chars None)) (room_of old.machine) (opens_of old.machine) old.machine.content.items (run_of old new) z new.machine.content.items) (sym (e ∙ m))
-    (subst (λ z. Runs (mode_.Text role (place_.Chars None)) (room_of old.machine) (opens_of old.machine) old.machine.content.items (run_of old new) (mode_.Text role (place_.Chars None)) z) (sym c)
-    (plain_run role (room_of old.machine) (opens_of old.machine) old.machine.content.items (run_of old new) a))))
+    let to = mode_.Text role (place_.Chars None) in
+    let after = old.machine.content.items ++ run_of old new in
+    reads_to old new to after o (e ∙ m) c
+    (subst (λ z. Runs z (kept_of old.machine) (run_of old new) to after) (sym m) (plain_run role (kept_of old.machine) (run_of old new) a))
 
 -- bytes of a number were read
 pub number_on : (old new : Scanner) (part last : Part) → Onward old new → old.machine.mode ≡ mode_.Number part → new.machine.mode ≡ mode_.Number last
     → new.machine.content.items ≡ old.machine.content.items ++ run_of old new → PartsGo part (run_of old new) last → ReadsOn old new
 number_on old new part last o m e c g =
-    reads_run old new o
-    (subst (λ z. Runs z (room_of old.machine) (opens_of old.machine) old.machine.content.items (run_of old new) new.machine.mode new.machine.content.items) (sym m)
-    (subst (λ z. Runs (mode_.Number part) (room_of old.machine) (opens_of old.machine) old.machine.content.items (run_of old new) z new.machine.content.items) (sym e)
-    (subst (λ z. Runs (mode_.Number part) (room_of old.machine) (opens_of old.machine) old.machine.content.items (run_of old new) (mode_.Number last) z) (sym c)
-    (number_run part (room_of old.machine) (opens_of old.machine) old.machine.content.items (run_of old new) last g))))
+    let after = old.machine.content.items ++ run_of old new in
+    reads_to old new (mode_.Number last) after o e c
+    (subst (λ z. Runs z (kept_of old.machine) (run_of old new) (mode_.Number last) after) (sym m) (number_run part (kept_of old.machine) (run_of old new) last g))

@@ -22,8 +22,8 @@ use Rattle.json_text.specs.declared.mode.Mode.TheVariants as mode_
 use Rattle.json_text.specs.Marks.{Symbol, Byte, End, Step, Mark, Seen}
 use Rattle.json_text.specs.Bytes.{is_space, kind_of, is_hex, lead_of, escape_of}
 use Rattle.json_text.specs.Grammar.{closing}
-use Rattle.json_text.specs.Rest.{After, part_after, may_end}
-use Rattle.json_text.specs.Machine.{Move, Reads, Gives, GivesFirst, Finishes, Stuck, letter_after, letters_after, fits_tail, tail_after, start_of, start_move, open_move, name_move, entry_move, end_move, move_by, number_move, word_move, byte_move, tail_move, lead_move, escape_move, text_move, last_move, after_move, first_move}
+use Rattle.json_text.specs.Rest.{Kept, keeping, holding, After, part_after, may_end}
+use Rattle.json_text.specs.Machine.{Move, Reads, Gives, GivesFirst, Finishes, Stuck, letter_after, letters_after, fits_tail, tail_after, start_of, start_move, open_move, name_move, entry_move, end_move, move_by, number_move, word_move, byte_move, tail_move, lead_move, escape_move, text_move, last_move, finish_move, after_move, first_move}
 use Rattle.json_text.proofs.ByteTests.{eq_of, by_cond, space_kind}
 use Rattle.json_text.proofs.Goes.{Goes, sides, out_stuck}
 use Rattle.json_text.proofs.Forth.{forth}
@@ -35,7 +35,7 @@ closing_kind bracket_.Curly b e = subst (λ x. kind_of x ≡ kind_.Other) (sym e
 
 -- so is each byte that is read behind a value
 after_kind : (room : ℕ) (opens : List Bracket) (content : List ℕ) (b : ℕ) (marks : List Mark)
-    → Goes (byte_move mode_.After room opens content b) marks → kind_of b ≡ kind_.Other
+    → Goes (byte_move mode_.After (keeping room opens content) b) marks → kind_of b ≡ kind_.Other
 after_kind room [] content b marks g = elim (sides (is_space b) _ _ marks g) [
   | inl f ↦ space_kind b f.0
   | inr f ↦ absurd (out_stuck f.1)
@@ -64,40 +64,39 @@ part_none part_.Sign = refl
 part_none part_.Exponent = refl
 
 -- a part that may end gives the number
-pub may_end_gives : (part : Part) (room : ℕ) (opens : List Bracket) (content : List ℕ) → may_end part ≡ true
-    → end_move part room opens content ≡ GivesFirst (Step.Number content) mode_.After room opens []
-may_end_gives part room opens content m =
-    subst (λ t. cond t (GivesFirst (Step.Number content) mode_.After room opens []) Stuck ≡ GivesFirst (Step.Number content) mode_.After room opens []) (sym m) refl
+pub may_end_gives : (part : Part) (kept : Kept) → may_end part ≡ true
+    → end_move part kept ≡ GivesFirst (Step.Number kept.content) mode_.After (holding kept [])
+may_end_gives part kept m =
+    subst (λ t. cond t (GivesFirst (Step.Number kept.content) mode_.After (holding kept [])) Stuck ≡ GivesFirst (Step.Number kept.content) mode_.After (holding kept [])) (sym m) refl
 
 -- where a value may end, a number that may end does
-pub number_stops : (part : Part) (room : ℕ) (opens : List Bracket) (content : List ℕ) (x : Symbol) (marks : List Mark)
-    → may_end part ≡ true → After room opens (Seen x ∷ marks)
-    → move_by (mode_.Number part) room opens content x ≡ GivesFirst (Step.Number content) mode_.After room opens []
-number_stops part room opens content End marks m a = may_end_gives part room opens content m
-number_stops part room opens content (Byte b) marks m a =
-    let k : kind_of b ≡ kind_.Other = after_kind room opens content b marks (forth mode_.After room opens content (Seen (Byte b) ∷ marks) a) in
-    subst (λ o. number_move part o room opens content b ≡ GivesFirst (Step.Number content) mode_.After room opens [])
-    (sym (ap (λ x. part_after part x) k ∙ part_none part)) (may_end_gives part room opens content m)
+pub number_stops : (part : Part) (kept : Kept) (x : Symbol) (marks : List Mark)
+    → may_end part ≡ true → After kept.room kept.opens (Seen x ∷ marks)
+    → move_by (mode_.Number part) kept x ≡ GivesFirst (Step.Number kept.content) mode_.After (holding kept [])
+number_stops part kept End marks m a = may_end_gives part kept m
+number_stops part kept (Byte b) marks m a =
+    let k : kind_of b ≡ kind_.Other = after_kind kept.room kept.opens kept.content b marks (forth mode_.After kept (Seen (Byte b) ∷ marks) a) in
+    subst (λ o. number_move part o kept b ≡ GivesFirst (Step.Number kept.content) mode_.After (holding kept []))
+    (sym (ap (λ x. part_after part x) k ∙ part_none part)) (may_end_gives part kept m)
 
 -- a number that may end is never stuck
-pub number_free : (part : Part) (room : ℕ) (opens : List Bracket) (content : List ℕ) (x : Symbol)
-    → may_end part ≡ true → move_by (mode_.Number part) room opens content x ≡ Stuck → ⊥
-number_free part room opens content End m e = let f = may_end_gives part room opens content m in cc
-number_free part room opens content (Byte b) m e = free_by (part_after part (kind_of b)) e
+pub number_free : (part : Part) (kept : Kept) (x : Symbol)
+    → may_end part ≡ true → move_by (mode_.Number part) kept x ≡ Stuck → ⊥
+number_free part kept End m e = let f = may_end_gives part kept m in cc
+number_free part kept (Byte b) m e = free_by (part_after part (kind_of b)) e
   where
-    free_by : (next : Option Part) → number_move part next room opens content b ≡ Stuck → ⊥
-    free_by None s = let f = may_end_gives part room opens content m in cc
+    free_by : (next : Option Part) → number_move part next kept b ≡ Stuck → ⊥
+    free_by None s = let f = may_end_gives part kept m in cc
     free_by (Some next) s = cc
 
 -- what a move that gives a step first says
-pub record Ended (mode : Mode) (room : ℕ) (opens : List Bracket) (content : List ℕ) (step : Step) (to : Mode) (room_to : ℕ) (opens_to : List Bracket) : Type 0 where
+pub record Ended (mode : Mode) (kept : Kept) (step : Step) (to : Mode) (kept_to : Kept) : Type 0 where
   pub part : Part
   pub is_number : mode ≡ mode_.Number part
   pub ends : may_end part ≡ true
-  pub step_is : step ≡ Step.Number content
+  pub step_is : step ≡ Step.Number kept.content
   pub mode_is : to ≡ mode_.After
-  pub room_is : room_to ≡ room
-  pub opens_is : opens_to ≡ opens
+  pub kept_is : kept_to ≡ holding kept []
 
 -- no number is read
 abbrev pub NoNumber : Mode → Type 0
@@ -105,32 +104,32 @@ NoNumber (mode_.Number part) = ⊥
 NoNumber _ = Unit {0}
 
 -- what is known of a move: behind a step no number is read, and a step that comes first is that of a number
-abbrev pub FirstSays : Mode → ℕ → List Bracket → List ℕ → Move → Type 0
-FirstSays mode room opens content (Gives step to room_to opens_to content_to) = NoNumber to
-FirstSays mode room opens content (GivesFirst step to room_to opens_to content_to) = Ended mode room opens content step to room_to opens_to
-FirstSays mode room opens content _ = Unit {0}
+abbrev pub FirstSays : Mode → Kept → Move → Type 0
+FirstSays mode kept (Gives step to kept_to) = NoNumber to
+FirstSays mode kept (GivesFirst step to kept_to) = Ended mode kept step to kept_to
+FirstSays mode kept _ = Unit {0}
 
 -- no other move gives a step first
 abbrev pub NeverFirst : Move → Type 0
-NeverFirst (Gives step to room_to opens_to content_to) = NoNumber to
-NeverFirst (GivesFirst step to room_to opens_to content_to) = ⊥
+NeverFirst (Gives step to kept_to) = NoNumber to
+NeverFirst (GivesFirst step to kept_to) = ⊥
 NeverFirst Finishes = ⊥
 NeverFirst _ = Unit {0}
 
 -- a byte finishes nothing
-abbrev pub ByteSays : Mode → ℕ → List Bracket → List ℕ → Move → Type 0
-ByteSays mode room opens content (Gives step to room_to opens_to content_to) = NoNumber to
-ByteSays mode room opens content (GivesFirst step to room_to opens_to content_to) = Ended mode room opens content step to room_to opens_to
-ByteSays mode room opens content Finishes = ⊥
-ByteSays mode room opens content _ = Unit {0}
+abbrev pub ByteSays : Mode → Kept → Move → Type 0
+ByteSays mode kept (Gives step to kept_to) = NoNumber to
+ByteSays mode kept (GivesFirst step to kept_to) = Ended mode kept step to kept_to
+ByteSays mode kept Finishes = ⊥
+ByteSays mode kept _ = Unit {0}
 
 -- of any other move nothing has to be known
-never_says : (mode : Mode) (room : ℕ) (opens : List Bracket) (content : List ℕ) (move : Move) → NeverFirst move → ByteSays mode room opens content move
-never_says mode room opens content (Reads m r o c) n = tt
-never_says mode room opens content (Gives s m r o c) n = n
-never_says mode room opens content (GivesFirst s m r o c) n = absurd n
-never_says mode room opens content Finishes n = absurd n
-never_says mode room opens content Stuck n = tt
+never_says : (mode : Mode) (kept : Kept) (move : Move) → NeverFirst move → ByteSays mode kept move
+never_says mode kept (Reads m k) n = tt
+never_says mode kept (Gives s m k) n = n
+never_says mode kept (GivesFirst s m k) n = absurd n
+never_says mode kept Finishes n = absurd n
+never_says mode kept Stuck n = tt
 
 -- a bracket that opens gives no step first
 open_never : (bracket : Bracket) (room : ℕ) (opens : List Bracket) (content : List ℕ) → NeverFirst (open_move bracket room opens content)
@@ -138,27 +137,27 @@ open_never bracket zero opens content = tt
 open_never bracket (suc room) opens content = tt
 
 -- nor does the beginning of a value
-start_never : (start : Start) (room : ℕ) (opens : List Bracket) (content : List ℕ) (b : ℕ) → NeverFirst (start_move start room opens content b)
-start_never start_.Quote room opens content b = tt
-start_never (start_.Open bracket) room opens content b = open_never bracket room opens content
-start_never (start_.Word letters) room opens content b = tt
-start_never (start_.Number part) room opens content b = tt
-start_never start_.Nothing room opens content b = tt
+start_never : (start : Start) (kept : Kept) (b : ℕ) → NeverFirst (start_move start kept b)
+start_never start_.Quote kept b = tt
+start_never (start_.Open bracket) kept b = open_never bracket kept.room kept.opens kept.content
+start_never (start_.Word letters) kept b = tt
+start_never (start_.Number part) kept b = tt
+start_never start_.Nothing kept b = tt
 
 -- nor does the beginning of a name
-name_never : (room : ℕ) (opens : List Bracket) (content : List ℕ) (b : ℕ) → NeverFirst (name_move room opens content b)
-name_never room opens content b = by_cond NeverFirst (eqb b 34) _ _ (λ e. tt) (λ e. tt)
+name_never : (kept : Kept) (b : ℕ) → NeverFirst (name_move kept b)
+name_never kept b = by_cond NeverFirst (eqb b 34) _ _ (λ e. tt) (λ e. tt)
 
 -- nor does the beginning of an entry
-entry_never : (bracket : Bracket) (room : ℕ) (opens : List Bracket) (content : List ℕ) (b : ℕ) → NeverFirst (entry_move bracket room opens content b)
-entry_never bracket_.Square room opens content b = start_never (start_of b) room opens content b
-entry_never bracket_.Curly room opens content b = name_never room opens content b
+entry_never : (bracket : Bracket) (kept : Kept) (b : ℕ) → NeverFirst (entry_move bracket kept b)
+entry_never bracket_.Square kept b = start_never (start_of b) kept b
+entry_never bracket_.Curly kept b = name_never kept b
 
 -- nor does anything behind a bracket that opened
 first_never : (room : ℕ) (opens : List Bracket) (content : List ℕ) (b : ℕ) → NeverFirst (first_move room opens content b)
-first_never room [] content b = start_never (start_of b) room [] content b
+first_never room [] content b = start_never (start_of b) (keeping room [] content) b
 first_never room (bracket ∷ opens) content b =
-    by_cond NeverFirst (eqb b (closing bracket)) _ _ (λ e. tt) (λ e. entry_never bracket room (bracket ∷ opens) content b)
+    by_cond NeverFirst (eqb b (closing bracket)) _ _ (λ e. tt) (λ e. entry_never bracket (keeping room (bracket ∷ opens) content) b)
 
 -- nor does anything behind a value
 after_never : (room : ℕ) (opens : List Bracket) (content : List ℕ) (b : ℕ) → NeverFirst (after_move room opens content b)
@@ -167,92 +166,91 @@ after_never room (bracket ∷ opens) content b =
     by_cond NeverFirst (eqb b (closing bracket)) _ _ (λ e. tt) (λ e. by_cond NeverFirst (eqb b 44) _ _ (λ f. tt) (λ f. tt))
 
 -- nor does a letter of a word
-word_never : (letters : Letters) (next : Option Letters) (room : ℕ) (opens : List Bracket) (content : List ℕ) → NeverFirst (word_move letters next room opens content)
-word_never letters None room opens content = tt
-word_never letters (Some next) room opens content = tt
+word_never : (letters : Letters) (next : Option Letters) (kept : Kept) → NeverFirst (word_move letters next kept)
+word_never letters None kept = tt
+word_never letters (Some next) kept = tt
 
 -- nor does the beginning of a character
-lead_never : (role : Role) (w : Option ℕ) (lead : Lead) (room : ℕ) (opens : List Bracket) (content : List ℕ) (b : ℕ) → NeverFirst (lead_move role w lead room opens content b)
-lead_never role_.Name w lead_.Quote room opens content b = tt
-lead_never role_.Value w lead_.Quote room opens content b = tt
-lead_never role w lead_.Backslash room opens content b = tt
-lead_never role w lead_.Whole room opens content b = tt
-lead_never role w (lead_.Longer tail) room opens content b = tt
-lead_never role w lead_.Nothing room opens content b = tt
+lead_never : (role : Role) (w : Option ℕ) (lead : Lead) (kept : Kept) (b : ℕ) → NeverFirst (lead_move role w lead kept b)
+lead_never role_.Name w lead_.Quote kept b = tt
+lead_never role_.Value w lead_.Quote kept b = tt
+lead_never role w lead_.Backslash kept b = tt
+lead_never role w lead_.Whole kept b = tt
+lead_never role w (lead_.Longer tail) kept b = tt
+lead_never role w lead_.Nothing kept b = tt
 
 -- nor does a letter behind a backslash
-escape_never : (role : Role) (w : Option ℕ) (escape : Escape) (room : ℕ) (opens : List Bracket) (content : List ℕ) → NeverFirst (escape_move role w escape room opens content)
-escape_never role w (escape_.Short b) room opens content = tt
-escape_never role w escape_.Coded room opens content = tt
-escape_never role w escape_.Nothing room opens content = tt
+escape_never : (role : Role) (w : Option ℕ) (escape : Escape) (kept : Kept) → NeverFirst (escape_move role w escape kept)
+escape_never role w (escape_.Short b) kept = tt
+escape_never role w escape_.Coded kept = tt
+escape_never role w escape_.Nothing kept = tt
 
 -- nor does a byte of a character
-tail_never : (role : Role) (next : Option Tail) (room : ℕ) (opens : List Bracket) (content : List ℕ) → NeverFirst (tail_move role next room opens content)
-tail_never role None room opens content = tt
-tail_never role (Some tail) room opens content = tt
+tail_never : (role : Role) (next : Option Tail) (kept : Kept) → NeverFirst (tail_move role next kept)
+tail_never role None kept = tt
+tail_never role (Some tail) kept = tt
 
 -- nor does anything between quotation marks
-text_never : (role : Role) (place : Place) (room : ℕ) (opens : List Bracket) (content : List ℕ) (b : ℕ) → NeverFirst (text_move role place room opens content b)
-text_never role (place_.Chars w) room opens content b = lead_never role w (lead_of b) room opens content b
-text_never role (place_.Escape w) room opens content b = escape_never role w (escape_of b) room opens content
-text_never role (place_.Hex1 w) room opens content b = by_cond NeverFirst (is_hex b) _ _ (λ e. tt) (λ e. tt)
-text_never role (place_.Hex2 w x) room opens content b = by_cond NeverFirst (is_hex b) _ _ (λ e. tt) (λ e. tt)
-text_never role (place_.Hex3 w x y) room opens content b = by_cond NeverFirst (is_hex b) _ _ (λ e. tt) (λ e. tt)
-text_never role (place_.Hex4 w x y z) room opens content b = by_cond NeverFirst (is_hex b) _ _ (λ e. tt) (λ e. tt)
-text_never role (place_.Tail tail) room opens content b =
-    by_cond NeverFirst (fits_tail tail b) _ _ (λ e. tail_never role (tail_after tail) room opens (content ++ (b ∷ []))) (λ e. tt)
+text_never : (role : Role) (place : Place) (kept : Kept) (b : ℕ) → NeverFirst (text_move role place kept b)
+text_never role (place_.Chars w) kept b = lead_never role w (lead_of b) kept b
+text_never role (place_.Escape w) kept b = escape_never role w (escape_of b) kept
+text_never role (place_.Hex1 w) kept b = by_cond NeverFirst (is_hex b) _ _ (λ e. tt) (λ e. tt)
+text_never role (place_.Hex2 w x) kept b = by_cond NeverFirst (is_hex b) _ _ (λ e. tt) (λ e. tt)
+text_never role (place_.Hex3 w x y) kept b = by_cond NeverFirst (is_hex b) _ _ (λ e. tt) (λ e. tt)
+text_never role (place_.Hex4 w x y z) kept b = by_cond NeverFirst (is_hex b) _ _ (λ e. tt) (λ e. tt)
+text_never role (place_.Tail tail) kept b =
+    by_cond NeverFirst (fits_tail tail b) _ _ (λ e. tail_never role (tail_after tail) (holding kept (kept.content ++ (b ∷ [])))) (λ e. tt)
 
 -- where a number ends, it may end
-end_says_byte : (part : Part) (room : ℕ) (opens : List Bracket) (content : List ℕ) → ByteSays (mode_.Number part) room opens content (end_move part room opens content)
-end_says_byte part room opens content = by_cond (ByteSays (mode_.Number part) room opens content) (may_end part) _ _
-    (λ e. record { part = part; is_number = refl; ends = e; step_is = refl; mode_is = refl; room_is = refl; opens_is = refl })
+end_says_byte : (part : Part) (kept : Kept) → ByteSays (mode_.Number part) kept (end_move part kept)
+end_says_byte part kept = by_cond (ByteSays (mode_.Number part) kept) (may_end part) _ _
+    (λ e. record { part = part; is_number = refl; ends = e; step_is = refl; mode_is = refl; kept_is = refl })
     (λ e. tt)
 
 -- the same for the end of the text
-end_says : (part : Part) (room : ℕ) (opens : List Bracket) (content : List ℕ) → FirstSays (mode_.Number part) room opens content (end_move part room opens content)
-end_says part room opens content = by_cond (FirstSays (mode_.Number part) room opens content) (may_end part) _ _
-    (λ e. record { part = part; is_number = refl; ends = e; step_is = refl; mode_is = refl; room_is = refl; opens_is = refl })
+end_says : (part : Part) (kept : Kept) → FirstSays (mode_.Number part) kept (end_move part kept)
+end_says part kept = by_cond (FirstSays (mode_.Number part) kept) (may_end part) _ _
+    (λ e. record { part = part; is_number = refl; ends = e; step_is = refl; mode_is = refl; kept_is = refl })
     (λ e. tt)
 
 -- in a number a step is given first only where it may end
-number_says : (part : Part) (next : Option Part) (room : ℕ) (opens : List Bracket) (content : List ℕ) (b : ℕ)
-    → ByteSays (mode_.Number part) room opens content (number_move part next room opens content b)
-number_says part (Some next) room opens content b = tt
-number_says part None room opens content b = end_says_byte part room opens content
+number_says : (part : Part) (next : Option Part) (kept : Kept) (b : ℕ)
+    → ByteSays (mode_.Number part) kept (number_move part next kept b)
+number_says part (Some next) kept b = tt
+number_says part None kept b = end_says_byte part kept
 
 -- a byte at any place
-pub byte_says : (mode : Mode) (room : ℕ) (opens : List Bracket) (content : List ℕ) (b : ℕ) → ByteSays mode room opens content (byte_move mode room opens content b)
-byte_says mode_.Value room opens content b = never_says _ _ _ _ _ (by_cond NeverFirst (is_space b) _ _ (λ e. tt) (λ e. start_never (start_of b) room opens content b))
-byte_says mode_.First room opens content b = never_says _ _ _ _ _ (by_cond NeverFirst (is_space b) _ _ (λ e. tt) (λ e. first_never room opens content b))
-byte_says mode_.After room opens content b = never_says _ _ _ _ _ (by_cond NeverFirst (is_space b) _ _ (λ e. tt) (λ e. after_never room opens content b))
-byte_says mode_.Name room opens content b = never_says _ _ _ _ _ (by_cond NeverFirst (is_space b) _ _ (λ e. tt) (λ e. name_never room opens content b))
-byte_says mode_.Colon room opens content b = never_says _ _ _ _ _ (by_cond NeverFirst (is_space b) _ _ (λ e. tt) (λ e. by_cond NeverFirst (eqb b 58) _ _ (λ f. tt) (λ f. tt)))
-byte_says (mode_.Word letters) room opens content b =
-    never_says _ _ _ _ _ (by_cond NeverFirst (eqb b (letter_after letters)) _ _ (λ e. word_never letters (letters_after letters) room opens content) (λ e. tt))
-byte_says (mode_.Number part) room opens content b = number_says part (part_after part (kind_of b)) room opens content b
-byte_says (mode_.Text role place) room opens content b = never_says _ _ _ _ _ (text_never role place room opens content b)
+pub byte_says : (mode : Mode) (kept : Kept) (b : ℕ) → ByteSays mode kept (byte_move mode kept b)
+byte_says mode_.Value kept b = never_says _ _ _ (by_cond NeverFirst (is_space b) _ _ (λ e. tt) (λ e. start_never (start_of b) kept b))
+byte_says mode_.First kept b = never_says _ _ _ (by_cond NeverFirst (is_space b) _ _ (λ e. tt) (λ e. first_never kept.room kept.opens kept.content b))
+byte_says mode_.After kept b = never_says _ _ _ (by_cond NeverFirst (is_space b) _ _ (λ e. tt) (λ e. after_never kept.room kept.opens kept.content b))
+byte_says mode_.Name kept b = never_says _ _ _ (by_cond NeverFirst (is_space b) _ _ (λ e. tt) (λ e. name_never kept b))
+byte_says mode_.Colon kept b = never_says _ _ _ (by_cond NeverFirst (is_space b) _ _ (λ e. tt) (λ e. by_cond NeverFirst (eqb b 58) _ _ (λ f. tt) (λ f. tt)))
+byte_says (mode_.Word letters) kept b =
+    never_says _ _ _ (by_cond NeverFirst (eqb b (letter_after letters)) _ _ (λ e. word_never letters (letters_after letters) kept) (λ e. tt))
+byte_says (mode_.Number part) kept b = number_says part (part_after part (kind_of b)) kept b
+byte_says (mode_.Text role place) kept b = never_says _ _ _ (text_never role place kept b)
+
+-- the end behind a value
+finish_says : (kept : Kept) (opens : List Bracket) → FirstSays mode_.After kept (finish_move opens)
+finish_says kept [] = tt
+finish_says kept (bracket ∷ opens) = tt
 
 -- the end at any place
-last_says : (mode : Mode) (room : ℕ) (opens : List Bracket) (content : List ℕ) → FirstSays mode room opens content (last_move mode room opens content)
-last_says mode_.After room [] content = tt
-last_says mode_.After room (bracket ∷ opens) content = tt
-last_says (mode_.Number part) room opens content = end_says part room opens content
-last_says mode_.Value room opens content = tt
-last_says mode_.First room opens content = tt
-last_says mode_.Name room opens content = tt
-last_says mode_.Colon room opens content = tt
-last_says (mode_.Word letters) room opens content = tt
-last_says (mode_.Text role place) room opens content = tt
+last_says : (mode : Mode) (kept : Kept) → FirstSays mode kept (last_move mode kept)
+last_says mode_.After kept = finish_says kept kept.opens
+last_says (mode_.Number part) kept = end_says part kept
+last_says _ kept = tt
 
 -- what is known by a byte is known by a symbol
-byte_first : (mode : Mode) (room : ℕ) (opens : List Bracket) (content : List ℕ) (move : Move) → ByteSays mode room opens content move → FirstSays mode room opens content move
-byte_first mode room opens content (Reads m r o c) s = tt
-byte_first mode room opens content (Gives x m r o c) s = s
-byte_first mode room opens content (GivesFirst x m r o c) s = s
-byte_first mode room opens content Finishes s = tt
-byte_first mode room opens content Stuck s = tt
+byte_first : (mode : Mode) (kept : Kept) (move : Move) → ByteSays mode kept move → FirstSays mode kept move
+byte_first mode kept (Reads m k) s = tt
+byte_first mode kept (Gives x m k) s = s
+byte_first mode kept (GivesFirst x m k) s = s
+byte_first mode kept Finishes s = tt
+byte_first mode kept Stuck s = tt
 
 -- a symbol at any place
-pub first_says : (mode : Mode) (room : ℕ) (opens : List Bracket) (content : List ℕ) (x : Symbol) → FirstSays mode room opens content (move_by mode room opens content x)
-first_says mode room opens content (Byte b) = byte_first mode room opens content (byte_move mode room opens content b) (byte_says mode room opens content b)
-first_says mode room opens content End = last_says mode room opens content
+pub first_says : (mode : Mode) (kept : Kept) (x : Symbol) → FirstSays mode kept (move_by mode kept x)
+first_says mode kept (Byte b) = byte_first mode kept (byte_move mode kept b) (byte_says mode kept b)
+first_says mode kept End = last_says mode kept

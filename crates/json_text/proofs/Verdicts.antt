@@ -1,12 +1,11 @@
 -- What a front says of a text, and that what is read of it is unique.
 use Rattle.std.proofs.Common.{◌≡◌, ℕ, inl, inr, Bool, true, false, List, [], ◌∷◌, ◌++◌, length, refl, sym, ◌∙◌, ap, subst, append_assoc}
 use mathlib.Core.Bool.{false≢true}
-use Rattle.json_text.specs.declared.mode.Bracket.{Bracket}
 use Rattle.json_text.specs.declared.mode.Mode.{Mode}
 use Rattle.json_text.specs.Marks.{Symbol, End, Step, Mark, Seen, Given, symbols_of, steps_of, symbols, Begins}
 use Rattle.json_text.specs.Grammar.{IsText}
 use Rattle.json_text.specs.Reading.{seen, Verdict, More, Whole, BadAt, IsMore, IsWhole, IsBad, IsFrontFor, Reads, AreFixed}
-use Rattle.json_text.specs.Rest.{IsFrontOf, first_of}
+use Rattle.json_text.specs.Rest.{Kept, IsFrontOf, first_of}
 use Rattle.json_text.specs.Machine.{Finishes, Stuck, move_by}
 use Rattle.json_text.proofs.Lists.{append_nil, symbols_append, head_of, no_cons, cancel, nothing_more, begins, comparable, begins_trans, begins_more, begins_front, begins_antisym, symbols_begin, steps_begin}
 use Rattle.json_text.proofs.Goes.{Goes, finishes, out_stuck, out_finishes}
@@ -15,10 +14,10 @@ use Rattle.json_text.proofs.Back.{back}
 use Rattle.json_text.proofs.Fronts.{on, shown, ReadsFirst, given_free, longer_by, stands}
 
 -- nothing is fixed behind the front
-pub more_at : {front : List Mark} {mode : Mode} {room : ℕ} {opens : List Bracket} {content : List ℕ} (bytes : List ℕ)
-    → IsFrontOf front [] mode room opens content → symbols_of front ≡ symbols bytes → IsMore bytes front
-more_at {front} {mode} {room} {opens} {content} bytes f e =
-    let a = alive mode room opens content in
+pub more_at : {front : List Mark} {mode : Mode} {kept : Kept} (bytes : List ℕ)
+    → IsFrontOf front [] mode kept → symbols_of front ≡ symbols bytes → IsMore bytes front
+more_at {front} {mode} {kept} bytes f e =
+    let a = alive mode kept in
     record {
       same = e;
       goes_on = (a.symbol, a.rest, f.back (Seen a.symbol ∷ a.rest) a.follows);
@@ -26,46 +25,46 @@ more_at {front} {mode} {room} {opens} {content} bytes f e =
     }
 
 -- the front is a whole text once its end is seen
-pub whole_at : {front : List Mark} {next : List Symbol} {mode : Mode} {room : ℕ} {opens : List Bracket} {content : List ℕ} (bytes : List ℕ)
-    → IsFrontOf front next mode room opens content → Begins next (End ∷ []) → symbols_of front ≡ symbols bytes
-    → move_by mode room opens content End ≡ Finishes → IsWhole bytes (front ++ (Seen End ∷ []))
-whole_at {front} {next} {mode} {room} {opens} {content} bytes f n s e = record { same = same_at; is_text = text_at; only = only_at }
+pub whole_at : {front : List Mark} {next : List Symbol} {mode : Mode} {kept : Kept} (bytes : List ℕ)
+    → IsFrontOf front next mode kept → Begins next (End ∷ []) → symbols_of front ≡ symbols bytes
+    → move_by mode kept End ≡ Finishes → IsWhole bytes (front ++ (Seen End ∷ []))
+whole_at {front} {next} {mode} {kept} bytes f n s e = record { same = same_at; is_text = text_at; only = only_at }
   where
     same_at : symbols_of (front ++ (Seen End ∷ [])) ≡ seen bytes true
     same_at = symbols_append front (Seen End ∷ []) ∙ ap (λ y. y ++ (End ∷ [])) s
 
     text_at : IsText (front ++ (Seen End ∷ []))
-    text_at = f.back (Seen End ∷ []) (back mode room opens content (Seen End ∷ []) (subst (λ v. Goes v []) (sym e) finishes))
+    text_at = f.back (Seen End ∷ []) (back mode kept (Seen End ∷ []) (subst (λ v. Goes v []) (sym e) finishes))
 
     only_at : (text : List Mark) → IsText text → symbols_of text ≡ seen bytes true → text ≡ front ++ (Seen End ∷ [])
     only_at text t q =
         let b : Begins (symbols_of front ++ (End ∷ [])) (symbols_of text) = begins [] (q ∙ ap (λ y. y ++ (End ∷ [])) (sym s) ∙ sym (append_nil (symbols_of front ++ (End ∷ [])))) in
         let o = on f End n text t b in
-        let w = shown mode room opens content End b.rest o.rest (subst ReadsFirst (sym e) tt) o.follows o.seen in
+        let w = shown mode kept End b.rest o.rest (subst ReadsFirst (sym e) tt) o.follows o.seen in
         o.same ∙ ap (λ r. front ++ r) (w.1 ∙ ap (λ r. Seen End ∷ r) (out_finishes (subst (λ v. Goes v w.0) e w.2)))
 
--- no text goes on behind the front
-pub bad_at : {front : List Mark} {next : List Symbol} {mode : Mode} {room : ℕ} {opens : List Bracket} {content : List ℕ} (bytes : List ℕ) (ended : Bool) (x : Symbol) (others : List Symbol)
-    → IsFrontOf front next mode room opens content → Begins next (x ∷ []) → seen bytes ended ≡ symbols_of front ++ (x ∷ others)
-    → move_by mode room opens content x ≡ Stuck → IsBad bytes ended front
-bad_at {front} {next} {mode} {room} {opens} {content} bytes ended x others f n s e =
-    let a = alive mode room opens content in
-    record { next = x; others = others; same = s; begins = (Seen a.symbol ∷ a.rest, f.back (Seen a.symbol ∷ a.rest) a.follows); longest = longest_at; all = all_at }
-  where
-    longest_at : (text : List Mark) → IsText text → Begins (symbols_of front ++ (x ∷ [])) (symbols_of text) → ⊥
-    longest_at text t b =
-        let o = on f x n text t b in
-        let w = shown mode room opens content x b.rest o.rest (subst ReadsFirst (sym e) tt) o.follows o.seen in
-        out_stuck (subst (λ v. Goes v w.0) e w.2)
+module _ {front : List Mark} {next : List Symbol} {mode : Mode} {kept : Kept} (f : IsFrontOf front next mode kept) (x : Symbol) (n : Begins next (x ∷ [])) where
+  -- no text goes on behind the front
+  pub bad_at : (bytes : List ℕ) (ended : Bool) (others : List Symbol) → seen bytes ended ≡ symbols_of front ++ (x ∷ others)
+      → move_by mode kept x ≡ Stuck → IsBad bytes ended front
+  bad_at bytes ended others s e =
+      let a = alive mode kept in
+      record { next = x; others = others; same = s; begins = (Seen a.symbol ∷ a.rest, f.back (Seen a.symbol ∷ a.rest) a.follows); longest = longest_at; all = all_at }
+    where
+      longest_at : (text : List Mark) → IsText text → Begins (symbols_of front ++ (x ∷ [])) (symbols_of text) → ⊥
+      longest_at text t b =
+          let o = on f x n text t b in
+          let w = shown mode kept x b.rest o.rest (subst ReadsFirst (sym e) tt) o.follows o.seen in
+          out_stuck (subst (λ v. Goes v w.0) e w.2)
 
-    all_at : (other rest : List Mark) → IsText (other ++ rest) → symbols_of other ≡ symbols_of front → Begins other front
-    all_at other rest t q = elim (f.kin other rest t q) [
-      | inl g ↦ g
-      | inr g ↦ elim (longer_by front other g q) [
-        | inl h ↦ begins [] (sym h ∙ sym (append_nil other))
-        | inr (step, more, h) ↦ absurd (given_free mode room opens content x step (more ++ rest) (stands f x n step more rest (subst (λ r. IsText (r ++ rest)) h t)) e)
+      all_at : (other rest : List Mark) → IsText (other ++ rest) → symbols_of other ≡ symbols_of front → Begins other front
+      all_at other rest t q = elim (f.kin other rest t q) [
+        | inl g ↦ g
+        | inr g ↦ elim (longer_by front other g q) [
+          | inl h ↦ begins [] (sym h ∙ sym (append_nil other))
+          | inr (step, more, h) ↦ absurd (given_free mode kept x step (more ++ rest) (stands f x n step more rest (subst (λ r. IsText (r ++ rest)) h t)) e)
+        ]
       ]
-    ]
 
 -- a front within a text that shows a symbol behind another front, at least as long, lies within that front
 pub within : (front other rest : List Mark) (x : Symbol) → Begins front (other ++ (Seen x ∷ rest)) → Begins (symbols_of front) (symbols_of other) → Begins front other
@@ -186,8 +185,8 @@ first_begins : (pending : List Symbol) → Begins (first_of pending) pending
 first_begins [] = begins [] refl
 first_begins (x ∷ others) = begins others refl
 
-module _ {front : List Mark} {mode : Mode} {room : ℕ} {opens : List Bracket} {content : List ℕ} (pending : List Symbol) (bytes : List ℕ) (ended : Bool)
-    (f : IsFrontOf front (first_of pending) mode room opens content) (s : seen bytes ended ≡ symbols_of front ++ pending) where
+module _ {front : List Mark} {mode : Mode} {kept : Kept} (pending : List Symbol) (bytes : List ℕ) (ended : Bool)
+    (f : IsFrontOf front (first_of pending) mode kept) (s : seen bytes ended ≡ symbols_of front ++ pending) where
   -- the front and its next symbol were seen
   next_seen : Begins (symbols_of front ++ first_of pending) (seen bytes ended)
   next_seen = subst (λ z. Begins (symbols_of front ++ first_of pending) z) (sym s) (begins_more (symbols_of front) (first_begins pending))
@@ -195,7 +194,7 @@ module _ {front : List Mark} {mode : Mode} {room : ℕ} {opens : List Bracket} {
   -- the front begins that of a fault
   before_bad : (other : List Mark) → IsBad bytes ended other → Begins front other
   before_bad other c =
-      let a = alive mode room opens content in
+      let a = alive mode kept in
       bad_behind bytes ended front other pending c s (Seen a.symbol ∷ a.rest) (f.back (Seen a.symbol ∷ a.rest) a.follows) longer
     where
       longer : (y : Symbol) (m : List Symbol) → symbols_of other ≡ symbols_of front ++ (y ∷ m) → Begins front (other ++ c.begins.0)

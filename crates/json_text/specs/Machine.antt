@@ -25,14 +25,14 @@ use Rattle.json_text.specs.Marks.{Symbol, Byte, End, Step}
 use Rattle.json_text.specs.Bytes.{is_space, kind_of, is_hex, lead_of, escape_of, is_in, Any, FromA0, To9F, From90, To8F}
 use Rattle.json_text.specs.Chars.{lone, unit_bytes, unit_of, waits, text_step}
 use Rattle.json_text.specs.Grammar.{closing}
-use Rattle.json_text.specs.Rest.{word_of, part_after, may_end}
+use Rattle.json_text.specs.Rest.{Kept, keeping, holding, word_of, part_after, may_end}
 
 -- where a scanner goes by a symbol: it reads it, reads it and gives a step, gives a step without reading it,
 -- finishes by reading the end, or is stuck
 pub data Move : Type 0 where
-  Reads : Mode → ℕ → List Bracket → List ℕ → Move
-  Gives : Step → Mode → ℕ → List Bracket → List ℕ → Move
-  GivesFirst : Step → Mode → ℕ → List Bracket → List ℕ → Move
+  Reads : Mode → Kept → Move
+  Gives : Step → Mode → Kept → Move
+  GivesFirst : Step → Mode → Kept → Move
   Finishes : Move
   Stuck : Move
 
@@ -103,24 +103,25 @@ start_of b =
 -- a bracket opens where there is room
 abbrev pub open_move : Bracket → ℕ → List Bracket → List ℕ → Move
 open_move bracket zero opens content = Stuck
-open_move bracket (suc room) opens content = Gives (Step.Opens bracket) mode_.First room (bracket ∷ opens) content
+open_move bracket (suc room) opens content =
+    Gives (Step.Opens bracket) mode_.First (keeping room (bracket ∷ opens) content)
 
 -- in a value's place
-abbrev pub start_move : Start → ℕ → List Bracket → List ℕ → ℕ → Move
-start_move start_.Quote room opens content b = Reads (mode_.Text role_.Value (place_.Chars None)) room opens []
-start_move (start_.Open bracket) room opens content b = open_move bracket room opens content
-start_move (start_.Word letters) room opens content b = Reads (mode_.Word letters) room opens content
-start_move (start_.Number part) room opens content b = Reads (mode_.Number part) room opens (b ∷ [])
-start_move start_.Nothing room opens content b = Stuck
+abbrev pub start_move : Start → Kept → ℕ → Move
+start_move start_.Quote kept b = Reads (mode_.Text role_.Value (place_.Chars None)) (holding kept [])
+start_move (start_.Open bracket) kept b = open_move bracket kept.room kept.opens kept.content
+start_move (start_.Word letters) kept b = Reads (mode_.Word letters) kept
+start_move (start_.Number part) kept b = Reads (mode_.Number part) (holding kept (b ∷ []))
+start_move start_.Nothing kept b = Stuck
 
 -- in the place of a name
-abbrev pub name_move : ℕ → List Bracket → List ℕ → ℕ → Move
-name_move room opens content b = cond (b == 34) (Reads (mode_.Text role_.Name (place_.Chars None)) room opens []) Stuck
+abbrev pub name_move : Kept → ℕ → Move
+name_move kept b = cond (b == 34) (Reads (mode_.Text role_.Name (place_.Chars None)) (holding kept [])) Stuck
 
 -- in the place of the first entry, and before any other
-abbrev pub entry_move : Bracket → ℕ → List Bracket → List ℕ → ℕ → Move
-entry_move bracket_.Square room opens content b = start_move (start_of b) room opens content b
-entry_move bracket_.Curly room opens content b = name_move room opens content b
+abbrev pub entry_move : Bracket → Kept → ℕ → Move
+entry_move bracket_.Square kept b = start_move (start_of b) kept b
+entry_move bracket_.Curly kept b = name_move kept b
 
 -- where the next entry stands, behind a comma
 abbrev pub entry_mode : Bracket → Mode
@@ -129,49 +130,55 @@ entry_mode bracket_.Curly = mode_.Name
 
 -- behind a bracket that opened
 abbrev pub first_move : ℕ → List Bracket → List ℕ → ℕ → Move
-first_move room [] content b = start_move (start_of b) room [] content b
+first_move room [] content b = start_move (start_of b) (keeping room [] content) b
 first_move room (bracket ∷ opens) content b =
-    cond (b == closing bracket) (Gives (Step.Closes bracket) mode_.After (suc room) opens content) (entry_move bracket room (bracket ∷ opens) content b)
+    cond (b == closing bracket) (Gives (Step.Closes bracket) mode_.After (keeping (suc room) opens content))
+    (entry_move bracket (keeping room (bracket ∷ opens) content) b)
 
 -- behind a value
 abbrev pub after_move : ℕ → List Bracket → List ℕ → ℕ → Move
 after_move room [] content b = Stuck
 after_move room (bracket ∷ opens) content b =
-    cond (b == closing bracket) (Gives (Step.Closes bracket) mode_.After (suc room) opens content)
-    (cond (b == 44) (Reads (entry_mode bracket) room (bracket ∷ opens) content) Stuck)
+    cond (b == closing bracket) (Gives (Step.Closes bracket) mode_.After (keeping (suc room) opens content))
+    (cond (b == 44) (Reads (entry_mode bracket) (keeping room (bracket ∷ opens) content)) Stuck)
 
 -- in a word
-abbrev pub word_move : Letters → Option Letters → ℕ → List Bracket → List ℕ → Move
-word_move letters (Some more) room opens content = Reads (mode_.Word more) room opens content
-word_move letters None room opens content = Gives (Step.Word (word_of letters)) mode_.After room opens content
+abbrev pub word_move : Letters → Option Letters → Kept → Move
+word_move letters (Some more) kept = Reads (mode_.Word more) kept
+word_move letters None kept = Gives (Step.Word (word_of letters)) mode_.After kept
 
 -- where a number can't go on
-abbrev pub end_move : Part → ℕ → List Bracket → List ℕ → Move
-end_move part room opens content = cond (may_end part) (GivesFirst (Step.Number content) mode_.After room opens []) Stuck
+abbrev pub end_move : Part → Kept → Move
+end_move part kept = cond (may_end part) (GivesFirst (Step.Number kept.content) mode_.After (holding kept [])) Stuck
 
 -- in a number
-abbrev pub number_move : Part → Option Part → ℕ → List Bracket → List ℕ → ℕ → Move
-number_move part (Some next) room opens content b = Reads (mode_.Number next) room opens (content ++ (b ∷ []))
-number_move part None room opens content b = end_move part room opens content
+abbrev pub number_move : Part → Option Part → Kept → ℕ → Move
+number_move part (Some next) kept b = Reads (mode_.Number next) (holding kept (kept.content ++ (b ∷ [])))
+number_move part None kept b = end_move part kept
 
 -- the mode behind a text
 abbrev pub mode_behind : Role → Mode
 mode_behind role_.Name = mode_.Colon
 mode_behind role_.Value = mode_.After
 
+-- a byte goes into the content, behind what a first half that waited stands for
+abbrev pub with_byte : Kept → Option ℕ → ℕ → Kept
+with_byte kept waiting b = holding kept ((kept.content ++ lone waiting) ++ (b ∷ []))
+
 -- between quotation marks, where a character may begin
-abbrev pub lead_move : Role → Option ℕ → Lead → ℕ → List Bracket → List ℕ → ℕ → Move
-lead_move role w lead_.Quote room opens content b = Gives (text_step role (content ++ lone w)) (mode_behind role) room opens []
-lead_move role w lead_.Backslash room opens content b = Reads (mode_.Text role (place_.Escape w)) room opens content
-lead_move role w lead_.Whole room opens content b = Reads (mode_.Text role (place_.Chars None)) room opens ((content ++ lone w) ++ (b ∷ []))
-lead_move role w (lead_.Longer tail) room opens content b = Reads (mode_.Text role (place_.Tail tail)) room opens ((content ++ lone w) ++ (b ∷ []))
-lead_move role w lead_.Nothing room opens content b = Stuck
+abbrev pub lead_move : (role : Role) (waiting : Option ℕ) (lead : Lead) (kept : Kept) (b : ℕ) → Move
+lead_move role w lead_.Quote kept b =
+    Gives (text_step role (kept.content ++ lone w)) (mode_behind role) (holding kept [])
+lead_move role w lead_.Backslash kept b = Reads (mode_.Text role (place_.Escape w)) kept
+lead_move role w lead_.Whole kept b = Reads (mode_.Text role (place_.Chars None)) (with_byte kept w b)
+lead_move role w (lead_.Longer tail) kept b = Reads (mode_.Text role (place_.Tail tail)) (with_byte kept w b)
+lead_move role w lead_.Nothing kept b = Stuck
 
 -- behind a backslash
-abbrev pub escape_move : Role → Option ℕ → Escape → ℕ → List Bracket → List ℕ → Move
-escape_move role w (escape_.Short b) room opens content = Reads (mode_.Text role (place_.Chars None)) room opens ((content ++ lone w) ++ (b ∷ []))
-escape_move role w escape_.Coded room opens content = Reads (mode_.Text role (place_.Hex1 w)) room opens content
-escape_move role w escape_.Nothing room opens content = Stuck
+abbrev pub escape_move : Role → Option ℕ → Escape → Kept → Move
+escape_move role w (escape_.Short b) kept = Reads (mode_.Text role (place_.Chars None)) (with_byte kept w b)
+escape_move role w escape_.Coded kept = Reads (mode_.Text role (place_.Hex1 w)) kept
+escape_move role w escape_.Nothing kept = Stuck
 
 -- behind a byte of a character
 abbrev pub place_after : Option Tail → Place
@@ -179,36 +186,37 @@ place_after None = place_.Chars None
 place_after (Some tail) = place_.Tail tail
 
 -- behind a byte of a character, by what is still to come
-abbrev pub tail_move : Role → Option Tail → ℕ → List Bracket → List ℕ → Move
-tail_move role next room opens content = Reads (mode_.Text role (place_after next)) room opens content
+abbrev pub tail_move : Role → Option Tail → Kept → Move
+tail_move role next kept = Reads (mode_.Text role (place_after next)) kept
 
 -- between quotation marks
-abbrev pub text_move : Role → Place → ℕ → List Bracket → List ℕ → ℕ → Move
-text_move role (place_.Chars w) room opens content b = lead_move role w (lead_of b) room opens content b
-text_move role (place_.Escape w) room opens content b = escape_move role w (escape_of b) room opens content
-text_move role (place_.Hex1 w) room opens content b = cond (is_hex b) (Reads (mode_.Text role (place_.Hex2 w b)) room opens content) Stuck
-text_move role (place_.Hex2 w x) room opens content b = cond (is_hex b) (Reads (mode_.Text role (place_.Hex3 w x b)) room opens content) Stuck
-text_move role (place_.Hex3 w x y) room opens content b = cond (is_hex b) (Reads (mode_.Text role (place_.Hex4 w x y b)) room opens content) Stuck
-text_move role (place_.Hex4 w x y z) room opens content b =
-    cond (is_hex b) (Reads (mode_.Text role (place_.Chars (waits (unit_of x y z b)))) room opens (content ++ unit_bytes w (unit_of x y z b))) Stuck
-text_move role (place_.Tail tail) room opens content b = cond (fits_tail tail b) (tail_move role (tail_after tail) room opens (content ++ (b ∷ []))) Stuck
+abbrev pub text_move : Role → Place → Kept → ℕ → Move
+text_move role (place_.Chars w) kept b = lead_move role w (lead_of b) kept b
+text_move role (place_.Escape w) kept b = escape_move role w (escape_of b) kept
+text_move role (place_.Hex1 w) kept b = cond (is_hex b) (Reads (mode_.Text role (place_.Hex2 w b)) kept) Stuck
+text_move role (place_.Hex2 w x) kept b = cond (is_hex b) (Reads (mode_.Text role (place_.Hex3 w x b)) kept) Stuck
+text_move role (place_.Hex3 w x y) kept b = cond (is_hex b) (Reads (mode_.Text role (place_.Hex4 w x y b)) kept) Stuck
+text_move role (place_.Hex4 w x y z) kept b =
+    cond (is_hex b)
+    (Reads (mode_.Text role (place_.Chars (waits (unit_of x y z b)))) (holding kept (kept.content ++ unit_bytes w (unit_of x y z b))))
+    Stuck
+text_move role (place_.Tail tail) kept b =
+    cond (fits_tail tail b) (tail_move role (tail_after tail) (holding kept (kept.content ++ (b ∷ [])))) Stuck
 
 -- by a byte
-abbrev pub byte_move : Mode → ℕ → List Bracket → List ℕ → ℕ → Move
-byte_move mode_.Value room opens content b =
-    cond (is_space b) (Reads mode_.Value room opens content) (start_move (start_of b) room opens content b)
-byte_move mode_.First room opens content b =
-    cond (is_space b) (Reads mode_.First room opens content) (first_move room opens content b)
-byte_move mode_.After room opens content b =
-    cond (is_space b) (Reads mode_.After room opens content) (after_move room opens content b)
-byte_move mode_.Name room opens content b =
-    cond (is_space b) (Reads mode_.Name room opens content) (name_move room opens content b)
-byte_move mode_.Colon room opens content b =
-    cond (is_space b) (Reads mode_.Colon room opens content) (cond (b == 58) (Reads mode_.Value room opens content) Stuck)
-byte_move (mode_.Word letters) room opens content b =
-    cond (b == letter_after letters) (word_move letters (letters_after letters) room opens content) Stuck
-byte_move (mode_.Number part) room opens content b = number_move part (part_after part (kind_of b)) room opens content b
-byte_move (mode_.Text role place) room opens content b = text_move role place room opens content b
+abbrev pub byte_move : Mode → Kept → ℕ → Move
+byte_move mode_.Value kept b = cond (is_space b) (Reads mode_.Value kept) (start_move (start_of b) kept b)
+byte_move mode_.First kept b =
+    cond (is_space b) (Reads mode_.First kept) (first_move kept.room kept.opens kept.content b)
+byte_move mode_.After kept b =
+    cond (is_space b) (Reads mode_.After kept) (after_move kept.room kept.opens kept.content b)
+byte_move mode_.Name kept b = cond (is_space b) (Reads mode_.Name kept) (name_move kept b)
+byte_move mode_.Colon kept b =
+    cond (is_space b) (Reads mode_.Colon kept) (cond (b == 58) (Reads mode_.Value kept) Stuck)
+byte_move (mode_.Word letters) kept b =
+    cond (b == letter_after letters) (word_move letters (letters_after letters) kept) Stuck
+byte_move (mode_.Number part) kept b = number_move part (part_after part (kind_of b)) kept b
+byte_move (mode_.Text role place) kept b = text_move role place kept b
 
 -- by the end of the text
 abbrev pub finish_move : List Bracket → Move
@@ -216,12 +224,12 @@ finish_move [] = Finishes
 finish_move (bracket ∷ opens) = Stuck
 
 -- by the end of the text, at any place
-abbrev pub last_move : Mode → ℕ → List Bracket → List ℕ → Move
-last_move mode_.After room opens content = finish_move opens
-last_move (mode_.Number part) room opens content = end_move part room opens content
-last_move _ room opens content = Stuck
+abbrev pub last_move : Mode → Kept → Move
+last_move mode_.After kept = finish_move kept.opens
+last_move (mode_.Number part) kept = end_move part kept
+last_move _ kept = Stuck
 
 -- by a symbol
-abbrev pub move_by : Mode → ℕ → List Bracket → List ℕ → Symbol → Move
-move_by mode room opens content (Byte b) = byte_move mode room opens content b
-move_by mode room opens content End = last_move mode room opens content
+abbrev pub move_by : Mode → Kept → Symbol → Move
+move_by mode kept (Byte b) = byte_move mode kept b
+move_by mode kept End = last_move mode kept

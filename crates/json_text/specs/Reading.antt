@@ -14,20 +14,20 @@ pub data Verdict : Type 0 where
   Whole : Verdict
   BadAt : ℕ → Verdict
 
--- The bytes begin some text. The front ends with the last byte, or with steps that each such text gives there.
+-- the bytes begin some text. The front ends with the last byte, or with steps that each such text gives there
 pub record IsMore (bytes : List ℕ) (front : List Mark) : Type 0 where
   pub same : symbols_of front ≡ symbols bytes
   pub goes_on : (x : Symbol) × (rest : List Mark) × IsText (front ++ (Seen x ∷ rest))
   pub only : (text : List Mark) → IsText text → Begins (symbols bytes) (symbols_of text) → Begins front text
 
--- The front is the text of these bytes, and no other is.
+-- the front is the text of these bytes, and no other is
 pub record IsWhole (bytes : List ℕ) (front : List Mark) : Type 0 where
   pub same : symbols_of front ≡ seen bytes true
   pub is_text : IsText front
   pub only : (text : List Mark) → IsText text → symbols_of text ≡ seen bytes true → text ≡ front
 
--- What was seen begins with the symbols of the front and goes on with a symbol behind which no text goes on.
--- The front begins some text, and has each step that can stand in it.
+-- what was seen begins with the symbols of the front and goes on with a symbol behind which no text goes on.
+-- The front begins some text, and has each step that can stand in it
 pub record IsBad (bytes : List ℕ) (ended : Bool) (front : List Mark) : Type 0 where
   pub next : Symbol
   pub others : List Symbol
@@ -48,6 +48,6 @@ pub record Reads (bytes : List ℕ) (ended : Bool) (steps : List Step) (verdict 
   pub given : steps_of front ≡ steps
   pub fits : IsFrontFor bytes ended front verdict
 
--- The steps are fixed: whatever is read of what was seen begins with them.
+-- the steps are fixed: whatever is read of what was seen begins with them
 abbrev pub AreFixed : List ℕ → Bool → List Step → Type 0
 AreFixed bytes ended steps = (all : List Step) (verdict : Verdict) → Reads bytes ended all verdict → Begins steps all

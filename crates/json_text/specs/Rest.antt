@@ -19,11 +19,27 @@ use Rattle.json_text.specs.Bytes.{AreAll, is_space, kind_of, AreIn, ranges_of, i
 use Rattle.json_text.specs.Chars.{Char, Coded, Short, IsChar, AreChars, print_chars, print_text, close_text, content_of}
 use Rattle.json_text.specs.Grammar.{Value, Entries, Others, print_value, print_entries, print_others, IsValue, AreEntries, AreOthers, IsText}
 
+-- what is known of a place in a text beside its mode: how many brackets may still open, those that are open, the
+-- innermost first, and the content so far of the text or the number
+pub record Kept : Type 0 where
+  pub room : ℕ
+  pub opens : List Bracket
+  pub content : List ℕ
+
+-- the same by its parts
+abbrev pub keeping : ℕ → List Bracket → List ℕ → Kept
+keeping room opens content = record { room = room; opens = opens; content = content }
+
+-- the same with another content
+abbrev pub holding : Kept → List ℕ → Kept
+holding kept content = record kept { content = content }
+
 -- behind a value, inside the brackets that are open, the innermost first, where so many more may open
 abbrev pub After : ℕ → List Bracket → List Mark → Type 0
 After room [] marks = (space : List ℕ) × AreAll is_space space × (marks ≡ see space (Seen End ∷ []))
 After room (bracket ∷ opens) marks =
-    (others : Others) × (rest : List Mark) × AreOthers others bracket room × (marks ≡ print_others others bracket rest) × After (suc room) opens rest
+    (others : Others) × (rest : List Mark) × AreOthers others bracket room × (marks ≡ print_others others bracket rest)
+    × After (suc room) opens rest
 
 -- before a value
 abbrev pub BeforeValue : ℕ → List Bracket → List Mark → Type 0
@@ -34,7 +50,8 @@ BeforeValue room opens marks =
 -- behind the name of a member
 abbrev pub BeforeColon : ℕ → List Bracket → List Mark → Type 0
 BeforeColon room opens marks =
-    (space : List ℕ) × (rest : List Mark) × AreAll is_space space × (marks ≡ see space (Seen (Byte 58) ∷ rest)) × BeforeValue room opens rest
+    (space : List ℕ) × (rest : List Mark) × AreAll is_space space × (marks ≡ see space (Seen (Byte 58) ∷ rest))
+    × BeforeValue room opens rest
 
 -- before the name of a member
 abbrev pub BeforeName : ℕ → List Bracket → List Mark → Type 0
@@ -46,7 +63,8 @@ BeforeName room opens marks =
 abbrev pub BeforeFirst : ℕ → List Bracket → List Mark → Type 0
 BeforeFirst room [] marks = BeforeValue room [] marks
 BeforeFirst room (bracket ∷ opens) marks =
-    (entries : Entries) × (rest : List Mark) × AreEntries entries bracket room × (marks ≡ print_entries entries bracket rest) × After (suc room) opens rest
+    (entries : Entries) × (rest : List Mark) × AreEntries entries bracket room × (marks ≡ print_entries entries bracket rest)
+    × After (suc room) opens rest
 
 -- the word of which these letters were read
 abbrev pub word_of : Letters → Literal
@@ -133,75 +151,79 @@ Behind role_.Name room opens marks = BeforeColon room opens marks
 Behind role_.Value room opens marks = After room opens marks
 
 -- before characters of a text, whose content so far is given, and a first half may wait
-abbrev pub InText : Role → ℕ → List Bracket → List ℕ → Option ℕ → List Mark → Type 0
-InText role room opens content waiting marks =
+abbrev pub InText : Role → Kept → Option ℕ → List Mark → Type 0
+InText role kept waiting marks =
     (chars : List Char) × (rest : List Mark) × AreChars chars
-    × (marks ≡ print_chars chars (close_text role (content ++ content_of waiting chars) rest)) × Behind role room opens rest
+    × (marks ≡ print_chars chars (close_text role (kept.content ++ content_of waiting chars) rest))
+    × Behind role kept.room kept.opens rest
 
 -- the last bytes of a character, and then what follows it
-abbrev pub InChar : Role → ℕ → List Bracket → List ℕ → Option ℕ → Char → List ℕ → List Mark → Type 0
-InChar role room opens content waiting char bytes marks =
+abbrev pub InChar : (role : Role) (kept : Kept) (waiting : Option ℕ) (char : Char) (bytes : List ℕ) (marks : List Mark)
+    → Type 0
+InChar role kept waiting char bytes marks =
     (chars : List Char) × (rest : List Mark) × IsChar char × AreChars chars
-    × (marks ≡ see bytes (print_chars chars (close_text role (content ++ content_of waiting (char ∷ chars)) rest)))
-    × Behind role room opens rest
+    × (marks ≡ see bytes (print_chars chars (close_text role (kept.content ++ content_of waiting (char ∷ chars)) rest)))
+    × Behind role kept.room kept.opens rest
 
 -- behind a backslash
-abbrev pub InEscape : Role → ℕ → List Bracket → List ℕ → Option ℕ → List Mark → Type 0
-InEscape role room opens content waiting marks =
-    ((b : ℕ) × (letter : ℕ) × InChar role room opens content waiting (Short b letter) (letter ∷ []) marks)
-    ⊎ ((a : ℕ) × (b : ℕ) × (c : ℕ) × (d : ℕ) × InChar role room opens content waiting (Coded a b c d) (117 ∷ a ∷ b ∷ c ∷ d ∷ []) marks)
+abbrev pub InEscape : Role → Kept → Option ℕ → List Mark → Type 0
+InEscape role kept waiting marks =
+    ((b : ℕ) × (letter : ℕ) × InChar role kept waiting (Short b letter) (letter ∷ []) marks)
+    ⊎ ((a : ℕ) × (b : ℕ) × (c : ℕ) × (d : ℕ) × InChar role kept waiting (Coded a b c d) (117 ∷ a ∷ b ∷ c ∷ d ∷ []) marks)
 
 -- the last digits of a code unit, and then what follows it
-abbrev pub InDigits : Role → ℕ → List Bracket → List ℕ → Option ℕ → Char → List ℕ → List Mark → Type 0
-InDigits role room opens content waiting char digits marks =
+abbrev pub InDigits : (role : Role) (kept : Kept) (waiting : Option ℕ) (char : Char) (digits : List ℕ) (marks : List Mark)
+    → Type 0
+InDigits role kept waiting char digits marks =
     (chars : List Char) × (rest : List Mark) × AreAll is_hex digits × AreChars chars
-    × (marks ≡ see digits (print_chars chars (close_text role (content ++ content_of waiting (char ∷ chars)) rest)))
-    × Behind role room opens rest
+    × (marks ≡ see digits (print_chars chars (close_text role (kept.content ++ content_of waiting (char ∷ chars)) rest)))
+    × Behind role kept.room kept.opens rest
 
 -- inside a character of several bytes
-abbrev pub InBytes : Role → ℕ → List Bracket → List ℕ → Tail → List Mark → Type 0
-InBytes role room opens content tail marks =
+abbrev pub InBytes : Role → Kept → Tail → List Mark → Type 0
+InBytes role kept tail marks =
     (bytes : List ℕ) × (chars : List Char) × (rest : List Mark) × AreIn (ranges_of tail) bytes × AreChars chars
-    × (marks ≡ see bytes (print_chars chars (close_text role (content ++ (bytes ++ content_of None chars)) rest)))
-    × Behind role room opens rest
+    × (marks ≡ see bytes (print_chars chars (close_text role (kept.content ++ (bytes ++ content_of None chars)) rest)))
+    × Behind role kept.room kept.opens rest
 
 -- between quotation marks
-abbrev pub RestOfText : Role → Place → ℕ → List Bracket → List ℕ → List Mark → Type 0
-RestOfText role (place_.Chars w) room opens content marks = InText role room opens content w marks
-RestOfText role (place_.Escape w) room opens content marks = InEscape role room opens content w marks
-RestOfText role (place_.Hex1 w) room opens content marks =
-    (a : ℕ) × (b : ℕ) × (c : ℕ) × (d : ℕ) × InDigits role room opens content w (Coded a b c d) (a ∷ b ∷ c ∷ d ∷ []) marks
-RestOfText role (place_.Hex2 w a) room opens content marks =
-    (b : ℕ) × (c : ℕ) × (d : ℕ) × InDigits role room opens content w (Coded a b c d) (b ∷ c ∷ d ∷ []) marks
-RestOfText role (place_.Hex3 w a b) room opens content marks =
-    (c : ℕ) × (d : ℕ) × InDigits role room opens content w (Coded a b c d) (c ∷ d ∷ []) marks
-RestOfText role (place_.Hex4 w a b c) room opens content marks =
-    (d : ℕ) × InDigits role room opens content w (Coded a b c d) (d ∷ []) marks
-RestOfText role (place_.Tail tail) room opens content marks = InBytes role room opens content tail marks
+abbrev pub RestOfText : Role → Place → Kept → List Mark → Type 0
+RestOfText role (place_.Chars w) kept marks = InText role kept w marks
+RestOfText role (place_.Escape w) kept marks = InEscape role kept w marks
+RestOfText role (place_.Hex1 w) kept marks =
+    (a : ℕ) × (b : ℕ) × (c : ℕ) × (d : ℕ) × InDigits role kept w (Coded a b c d) (a ∷ b ∷ c ∷ d ∷ []) marks
+RestOfText role (place_.Hex2 w a) kept marks =
+    (b : ℕ) × (c : ℕ) × (d : ℕ) × InDigits role kept w (Coded a b c d) (b ∷ c ∷ d ∷ []) marks
+RestOfText role (place_.Hex3 w a b) kept marks =
+    (c : ℕ) × (d : ℕ) × InDigits role kept w (Coded a b c d) (c ∷ d ∷ []) marks
+RestOfText role (place_.Hex4 w a b c) kept marks =
+    (d : ℕ) × InDigits role kept w (Coded a b c d) (d ∷ []) marks
+RestOfText role (place_.Tail tail) kept marks = InBytes role kept tail marks
 
--- what may follow at a place of a text, where so many brackets may open, these are open, and this is the
--- content so far of the text or the number
-abbrev pub Rest : Mode → ℕ → List Bracket → List ℕ → List Mark → Type 0
-Rest mode_.Value room opens content marks = BeforeValue room opens marks
-Rest mode_.First room opens content marks = BeforeFirst room opens marks
-Rest mode_.After room opens content marks = After room opens marks
-Rest mode_.Name room opens content marks = BeforeName room opens marks
-Rest mode_.Colon room opens content marks = BeforeColon room opens marks
-Rest (mode_.Word letters) room opens content marks =
-    (rest : List Mark) × (marks ≡ see (letters_left letters) (Given (Step.Word (word_of letters)) ∷ rest)) × After room opens rest
-Rest (mode_.Number part) room opens content marks =
+-- what may follow at a place of a text, by what is known of it
+abbrev pub Rest : Mode → Kept → List Mark → Type 0
+Rest mode_.Value kept marks = BeforeValue kept.room kept.opens marks
+Rest mode_.First kept marks = BeforeFirst kept.room kept.opens marks
+Rest mode_.After kept marks = After kept.room kept.opens marks
+Rest mode_.Name kept marks = BeforeName kept.room kept.opens marks
+Rest mode_.Colon kept marks = BeforeColon kept.room kept.opens marks
+Rest (mode_.Word letters) kept marks =
+    (rest : List Mark) × (marks ≡ see (letters_left letters) (Given (Step.Word (word_of letters)) ∷ rest))
+    × After kept.room kept.opens rest
+Rest (mode_.Number part) kept marks =
     (bytes : List ℕ) × (rest : List Mark) × Completes bytes part
-    × (marks ≡ see bytes (Given (Step.Number (content ++ bytes)) ∷ rest)) × After room opens rest
-Rest (mode_.Text role place) room opens content marks = RestOfText role place room opens content marks
+    × (marks ≡ see bytes (Given (Step.Number (kept.content ++ bytes)) ∷ rest)) × After kept.room kept.opens rest
+Rest (mode_.Text role place) kept marks = RestOfText role place kept marks
 
--- The marks were read up to a place: what goes on from them to a whole text is what may follow there. Each text
+-- the marks were read up to a place: what goes on from them to a whole text is what may follow there. Each text
 -- that begins with their symbols and the next one begins with the marks; and of other marks with these symbols
--- that begin some text, one is the beginning of the other.
-pub record IsFrontOf (front : List Mark) (next : List Symbol) (mode : Mode) (room : ℕ) (opens : List Bracket) (content : List ℕ) : Type 0 where
-  pub forth : (rest : List Mark) → IsText (front ++ rest) → Rest mode room opens content rest
-  pub back : (rest : List Mark) → Rest mode room opens content rest → IsText (front ++ rest)
+-- that begin some text, one is the beginning of the other
+pub record IsFrontOf (front : List Mark) (next : List Symbol) (mode : Mode) (kept : Kept) : Type 0 where
+  pub forth : (rest : List Mark) → IsText (front ++ rest) → Rest mode kept rest
+  pub back : (rest : List Mark) → Rest mode kept rest → IsText (front ++ rest)
   pub only : (text : List Mark) → IsText text → Begins (symbols_of front ++ next) (symbols_of text) → Begins front text
-  pub kin : (other rest : List Mark) → IsText (other ++ rest) → symbols_of other ≡ symbols_of front → Begins other front ⊎ Begins front other
+  pub kin : (other rest : List Mark) → IsText (other ++ rest) → symbols_of other ≡ symbols_of front
+      → Begins other front ⊎ Begins front other
 
 -- the first symbol, where there is one
 abbrev pub first_of : List Symbol → List Symbol

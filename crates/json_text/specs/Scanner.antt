@@ -9,7 +9,7 @@ use Rattle.json_text.specs.declared.scanner.Scanner.{Scanner}
 use Rattle.json_text.specs.Marks.{Symbol, End, Yes, No, Null, Step, Mark, symbols_of, steps_of, symbols}
 use Rattle.json_text.specs.Reading.{Verdict, More, Whole, BadAt, Reads, AreFixed}
 use Rattle.json_text.specs.Rest.{IsFrontOf, first_of}
-use Rattle.json_text.specs.Taking.{room_of, opens_of}
+use Rattle.json_text.specs.Taking.{kept_of}
 
 -- how many bytes were fed
 abbrev pub fed : Scanner → ℕ
@@ -44,14 +44,14 @@ is_number _ = 0
 abbrev pub most_steps : Scanner → ℕ
 most_steps scanner = 2 * (vec_len scanner.input - scanner.read) + is_number scanner.machine.mode
 
--- The bytes are those that were scanned and those that are pending. The scanned ones are a front's, whose steps
--- were given, and the scanner's place is behind it.
+-- the bytes are those that were scanned and those that are pending. The scanned ones are a front's, whose steps
+-- were given, and the scanner's place is behind it
 pub record Holds (scanner : Scanner) (bytes : List ℕ) (steps : List Step) : Type 0 where
   pub front : List Mark
   pub given : steps_of front ≡ steps
   pub split : symbols bytes ≡ symbols_of front ++ symbols (pending scanner)
   pub count : length bytes ≡ fed scanner
-  pub is_front : IsFrontOf front (first_of (symbols_left scanner)) scanner.machine.mode (room_of scanner.machine) (opens_of scanner.machine) scanner.machine.content.items
+  pub is_front : IsFrontOf front (first_of (symbols_left scanner)) scanner.machine.mode (kept_of scanner.machine)
 
 -- the scanner works, and stands for these bytes, the end or not, and these steps
 pub record Stands (scanner : Scanner) (bytes : List ℕ) (ended : Bool) (steps : List Step) : Type 0 where
@@ -70,7 +70,7 @@ pub record GaveVerdict (verdict : Verdict) (new : Scanner) (bytes : List ℕ) (e
   pub reads : Reads bytes ended steps verdict
 
 -- what an answer says
-abbrev pub Answers : JsonStep → Scanner → List ℕ → Bool → List Step → Type 0
+abbrev pub Answers : (answer : JsonStep) (new : Scanner) (bytes : List ℕ) (ended : Bool) (steps : List Step) → Type 0
 Answers step_.Open new = GaveStep (Step.Opens bracket_.Curly) new
 Answers step_.Close new = GaveStep (Step.Closes bracket_.Curly) new
 Answers step_.ListOpen new = GaveStep (Step.Opens bracket_.Square) new

@@ -12,6 +12,7 @@ use Rattle.json_text.specs.declared.mode.Ending.{Ending}
 use Rattle.json_text.specs.declared.mode.Ending.TheVariants as ending_
 use Rattle.json_text.specs.declared.machine.Machine.{Machine}
 use Rattle.json_text.specs.Marks.{Step}
+use Rattle.json_text.specs.Rest.{Kept, keeping}
 use Rattle.json_text.specs.Tokens.{step_of, KeepsWith}
 use Rattle.json_text.specs.Machine.{Move, Reads, Gives, GivesFirst, Finishes, Stuck}
 
@@ -22,6 +23,10 @@ room_of machine = 64 - length machine.opens.items
 -- the brackets that are open, the innermost first
 abbrev pub opens_of : Machine → List Bracket
 opens_of machine = reverse machine.opens.items
+
+-- what is known of the machine's place beside its mode
+abbrev pub kept_of : Machine → Kept
+kept_of machine = keeping (room_of machine) (opens_of machine) machine.content.items
 
 -- the innermost bracket
 abbrev pub top_of : List Bracket → Option Bracket
@@ -35,9 +40,9 @@ rest_of (bracket ∷ opens) = opens
 
 -- the move that was made, seen by what became of the symbol and by the machine then
 abbrev pub move_of : Taken → Machine → Move
-move_of taken_.Read new = Reads new.mode (room_of new) (opens_of new) new.content.items
-move_of (taken_.Given token) new = Gives (step_of token new.text.items) new.mode (room_of new) (opens_of new) new.content.items
-move_of taken_.First new = GivesFirst (Step.Number new.text.items) new.mode (room_of new) (opens_of new) new.content.items
+move_of taken_.Read new = Reads new.mode (kept_of new)
+move_of (taken_.Given token) new = Gives (step_of token new.text.items) new.mode (kept_of new)
+move_of taken_.First new = GivesFirst (Step.Number new.text.items) new.mode (kept_of new)
 move_of taken_.Stuck new = Stuck
 
 -- the last content stays where no other is given
@@ -56,6 +61,13 @@ pub record IsSame (old new : Machine) : Type 0 where
 abbrev pub Stays : Taken → Machine → Machine → Type 0
 Stays taken_.Stuck old new = IsSame old new
 Stays _ old new = Unit {0}
+
+-- what became of a symbol is this move; the last content stays where no other is given, and where no text goes on
+-- nothing has changed
+pub record Takes (old new : Machine) (move : Move) (taken : Taken) : Type 0 where
+  pub moves : move_of taken new ≡ move
+  pub kept : KeepsText taken old new
+  pub stays : Stays taken old new
 
 -- white space may stand there
 abbrev pub MaySpace : Mode → Type 0
@@ -76,7 +88,7 @@ MayQuote _ _ opens = ⊥
 
 -- the same for the end
 abbrev pub end_move_of : Ending → Machine → Move
-end_move_of ending_.Number new = GivesFirst (Step.Number new.text.items) new.mode (room_of new) (opens_of new) new.content.items
+end_move_of ending_.Number new = GivesFirst (Step.Number new.text.items) new.mode (kept_of new)
 end_move_of ending_.Whole new = Finishes
 end_move_of ending_.Stuck new = Stuck
 

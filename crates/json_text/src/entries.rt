@@ -6,24 +6,20 @@ use crate::mode::{Bracket, Mode, Part, Place, Role, Start, Taken, Token};
 use std::alloc::AllocError;
 
 impl Machine {
-    ghost use Rattle.std.specs.Prelude.{◌≡◌, ◌∷◌, [], ◌==◌, suc, cond, IfOk, OnErr, Option, Some, None};
+    ghost use Rattle.std.specs.Prelude.{◌≡◌, ◌∷◌, [], ◌==◌, suc, IfOk, OnErr, Option, Some, None};
     ghost use Rattle.json_text.specs.declared.mode.Mode.TheVariants as mode_;
-    ghost use Rattle.json_text.specs.Bytes as bytes_;
-    ghost use Rattle.json_text.specs.Rest as rest;
     ghost use Rattle.json_text.specs.Machine as machine;
     ghost use Rattle.json_text.specs.declared.mode.Place.TheVariants as place_;
-    ghost use Rattle.json_text.specs.Marks.{Step, Byte, End};
-    ghost use Rattle.json_text.specs.Machine.{start_move, open_move, move_by, Reads, Gives, Stuck};
-    ghost use Rattle.json_text.specs.Taking.{room_of, opens_of, top_of, rest_of, move_of, KeepsText, Stays, MaySpace, end_move_of, EndStays};
+    ghost use Rattle.json_text.specs.Marks.{Step};
+    ghost use Rattle.json_text.specs.Machine.{start_move, open_move, Reads, Gives, Stuck};
+    ghost use Rattle.json_text.specs.Rest.{holding, keeping};
+    ghost use Rattle.json_text.specs.Taking.{room_of, opens_of, top_of, rest_of, kept_of, Takes};
 
     /// Opens a bracket where there is room.
     fn open(&mut self, bracket: Bracket) -> Result<Taken, AllocError>
-        ensures moves { IfOk result (λ taken.
-            move_of taken self.new ≡ open_move bracket (room_of self.old)
-            (opens_of self.old) self.old.content.items) }
-        ensures kept { IfOk result (λ taken. KeepsText taken self.old self.new) }
-        ensures stays { IfOk result (λ taken. Stays taken self.old self.new) }
-        ensures err { OnErr result (self.new.text.items ≡ self.old.text.items) }
+        ensures exact { IfOk result (Takes self.old self.new
+            (open_move bracket (room_of self.old) (opens_of self.old) self.old.content.items)) }
+        ensures kept { OnErr result (self.new.text.items ≡ self.old.text.items) }
     {
         if self.opens.len() >= 64 {
             return Ok(Taken::Stuck);
@@ -35,12 +31,9 @@ impl Machine {
 
     /// Begins a text between quotation marks.
     fn quote(&mut self, role: Role) -> Result<Taken, AllocError>
-        ensures moves { IfOk result (λ taken.
-            move_of taken self.new ≡ Reads (mode_.Text role (place_.Chars None)) (room_of self.old)
-            (opens_of self.old) []) }
-        ensures kept { IfOk result (λ taken. KeepsText taken self.old self.new) }
-        ensures stays { IfOk result (λ taken. Stays taken self.old self.new) }
-        ensures err { OnErr result (self.new.text.items ≡ self.old.text.items) }
+        ensures exact { IfOk result (Takes self.old self.new
+            (Reads (mode_.Text role (place_.Chars None)) (holding (kept_of self.old) []))) }
+        ensures kept { OnErr result (self.new.text.items ≡ self.old.text.items) }
     {
         self.content.clear();
         self.mode = Mode::Text(role, Place::Chars(None));
@@ -49,12 +42,9 @@ impl Machine {
 
     /// Begins a number.
     fn digit(&mut self, part: Part, b: u8) -> Result<Taken, AllocError>
-        ensures moves { IfOk result (λ taken.
-            move_of taken self.new ≡ Reads (mode_.Number part) (room_of self.old)
-            (opens_of self.old) (b ∷ [])) }
-        ensures kept { IfOk result (λ taken. KeepsText taken self.old self.new) }
-        ensures stays { IfOk result (λ taken. Stays taken self.old self.new) }
-        ensures err { OnErr result (self.new.text.items ≡ self.old.text.items) }
+        ensures exact { IfOk result (Takes self.old self.new
+            (Reads (mode_.Number part) (holding (kept_of self.old) (b ∷ [])))) }
+        ensures kept { OnErr result (self.new.text.items ≡ self.old.text.items) }
     {
         self.content.clear();
         self.content.push(b)?;
@@ -64,12 +54,9 @@ impl Machine {
 
     /// Begins a value.
     pub fn start(&mut self, b: u8) -> Result<Taken, AllocError>
-        ensures moves { IfOk result (λ taken.
-            move_of taken self.new ≡ start_move (machine.start_of b) (room_of self.old)
-            (opens_of self.old) self.old.content.items b) }
-        ensures kept { IfOk result (λ taken. KeepsText taken self.old self.new) }
-        ensures stays { IfOk result (λ taken. Stays taken self.old self.new) }
-        ensures err { OnErr result (self.new.text.items ≡ self.old.text.items) }
+        ensures exact { IfOk result (Takes self.old self.new
+            (start_move (machine.start_of b) (kept_of self.old) b)) }
+        ensures kept { OnErr result (self.new.text.items ≡ self.old.text.items) }
     {
         match start_of(b) {
             Start::Quote => self.quote(Role::Value),
@@ -85,12 +72,9 @@ impl Machine {
 
     /// Begins the name of a member.
     pub fn name(&mut self, b: u8) -> Result<Taken, AllocError>
-        ensures moves { IfOk result (λ taken.
-            move_of taken self.new ≡ machine.name_move (room_of self.old)
-            (opens_of self.old) self.old.content.items b) }
-        ensures kept { IfOk result (λ taken. KeepsText taken self.old self.new) }
-        ensures stays { IfOk result (λ taken. Stays taken self.old self.new) }
-        ensures err { OnErr result (self.new.text.items ≡ self.old.text.items) }
+        ensures exact { IfOk result (Takes self.old self.new
+            (machine.name_move (kept_of self.old) b)) }
+        ensures kept { OnErr result (self.new.text.items ≡ self.old.text.items) }
     {
         if b == 34 {
             self.quote(Role::Name)
@@ -114,12 +98,10 @@ impl Machine {
     /// Closes the innermost bracket.
     fn close(&mut self, bracket: Bracket) -> Result<Taken, AllocError>
         requires open { top_of (opens_of self.old) ≡ Some bracket }
-        ensures moves { IfOk result (λ taken.
-            move_of taken self.new ≡ Gives (Step.Closes bracket) mode_.After
-            (suc (room_of self.old)) (rest_of (opens_of self.old)) self.old.content.items) }
-        ensures kept { IfOk result (λ taken. KeepsText taken self.old self.new) }
-        ensures stays { IfOk result (λ taken. Stays taken self.old self.new) }
-        ensures err { OnErr result (self.new.text.items ≡ self.old.text.items) }
+        ensures exact { IfOk result (Takes self.old self.new
+            (Gives (Step.Closes bracket) mode_.After (keeping (suc (room_of self.old))
+            (rest_of (opens_of self.old)) self.old.content.items))) }
+        ensures kept { OnErr result (self.new.text.items ≡ self.old.text.items) }
     {
         let _ = self.opens.pop();
         self.mode = Mode::After;
@@ -128,12 +110,9 @@ impl Machine {
 
     /// Begins an entry.
     fn entry(&mut self, bracket: Bracket, b: u8) -> Result<Taken, AllocError>
-        ensures moves { IfOk result (λ taken.
-            move_of taken self.new ≡ machine.entry_move bracket (room_of self.old)
-            (opens_of self.old) self.old.content.items b) }
-        ensures kept { IfOk result (λ taken. KeepsText taken self.old self.new) }
-        ensures stays { IfOk result (λ taken. Stays taken self.old self.new) }
-        ensures err { OnErr result (self.new.text.items ≡ self.old.text.items) }
+        ensures exact { IfOk result (Takes self.old self.new
+            (machine.entry_move bracket (kept_of self.old) b)) }
+        ensures kept { OnErr result (self.new.text.items ≡ self.old.text.items) }
     {
         match bracket {
             Bracket::Square => self.start(b),
@@ -143,12 +122,9 @@ impl Machine {
 
     /// Behind a bracket that opened.
     pub fn first(&mut self, b: u8) -> Result<Taken, AllocError>
-        ensures moves { IfOk result (λ taken.
-            move_of taken self.new ≡ machine.first_move (room_of self.old)
-            (opens_of self.old) self.old.content.items b) }
-        ensures kept { IfOk result (λ taken. KeepsText taken self.old self.new) }
-        ensures stays { IfOk result (λ taken. Stays taken self.old self.new) }
-        ensures err { OnErr result (self.new.text.items ≡ self.old.text.items) }
+        ensures exact { IfOk result (Takes self.old self.new
+            (machine.first_move (room_of self.old) (opens_of self.old) self.old.content.items b)) }
+        ensures kept { OnErr result (self.new.text.items ≡ self.old.text.items) }
     {
         match self.top() {
             Some(bracket) => {
@@ -164,12 +140,9 @@ impl Machine {
 
     /// Behind a value.
     pub fn after(&mut self, b: u8) -> Result<Taken, AllocError>
-        ensures moves { IfOk result (λ taken.
-            move_of taken self.new ≡ machine.after_move (room_of self.old)
-            (opens_of self.old) self.old.content.items b) }
-        ensures kept { IfOk result (λ taken. KeepsText taken self.old self.new) }
-        ensures stays { IfOk result (λ taken. Stays taken self.old self.new) }
-        ensures err { OnErr result (self.new.text.items ≡ self.old.text.items) }
+        ensures exact { IfOk result (Takes self.old self.new
+            (machine.after_move (room_of self.old) (opens_of self.old) self.old.content.items b)) }
+        ensures kept { OnErr result (self.new.text.items ≡ self.old.text.items) }
     {
         match self.top() {
             Some(bracket) => {

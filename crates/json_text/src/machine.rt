@@ -19,15 +19,14 @@ pub struct Machine {
 }
 
 impl Machine {
-    ghost use Rattle.std.specs.Prelude.{◌≡◌, ◌∷◌, [], ◌==◌, suc, cond, IfOk, OnErr, Option, Some, None};
+    ghost use Rattle.std.specs.Prelude.{◌≡◌, [], ◌==◌, cond, IfOk, OnErr, Some, None};
     ghost use Rattle.json_text.specs.declared.mode.Mode.TheVariants as mode_;
     ghost use Rattle.json_text.specs.Bytes as bytes_;
     ghost use Rattle.json_text.specs.Rest as rest;
     ghost use Rattle.json_text.specs.Machine as machine;
-    ghost use Rattle.json_text.specs.declared.mode.Place.TheVariants as place_;
-    ghost use Rattle.json_text.specs.Marks.{Step, Byte, End};
-    ghost use Rattle.json_text.specs.Machine.{start_move, open_move, move_by, Reads, Gives, Stuck};
-    ghost use Rattle.json_text.specs.Taking.{room_of, opens_of, top_of, rest_of, move_of, KeepsText, Stays, MaySpace, end_move_of, EndStays};
+    ghost use Rattle.json_text.specs.Marks.{Byte, End};
+    ghost use Rattle.json_text.specs.Machine.{move_by, Reads, Gives, Stuck};
+    ghost use Rattle.json_text.specs.Taking.{MaySpace, end_move_of, EndStays, kept_of, Takes};
 
     /// Before any symbol.
     pub fn new(alloc: Global) -> Self
@@ -46,13 +45,10 @@ impl Machine {
 
     /// In a word.
     fn word(&mut self, letters: Letters, b: u8) -> Result<Taken, AllocError>
-        ensures moves { IfOk result (λ taken.
-            move_of taken self.new ≡ cond (b == machine.letter_after letters)
-            (machine.word_move letters (machine.letters_after letters) (room_of self.old)
-            (opens_of self.old) self.old.content.items) Stuck) }
-        ensures kept { IfOk result (λ taken. KeepsText taken self.old self.new) }
-        ensures stays { IfOk result (λ taken. Stays taken self.old self.new) }
-        ensures err { OnErr result (self.new.text.items ≡ self.old.text.items) }
+        ensures exact { IfOk result (Takes self.old self.new
+            (cond (b == machine.letter_after letters)
+            (machine.word_move letters (machine.letters_after letters) (kept_of self.old)) Stuck)) }
+        ensures kept { OnErr result (self.new.text.items ≡ self.old.text.items) }
     {
         if b != letter_after(letters) {
             return Ok(Taken::Stuck);
@@ -83,13 +79,10 @@ impl Machine {
 
     /// In a number.
     fn number(&mut self, part: Part, b: u8) -> Result<Taken, AllocError>
-        ensures moves { IfOk result (λ taken.
-            move_of taken self.new ≡ machine.number_move part
-            (rest.part_after part (bytes_.kind_of b)) (room_of self.old)
-            (opens_of self.old) self.old.content.items b) }
-        ensures kept { IfOk result (λ taken. KeepsText taken self.old self.new) }
-        ensures stays { IfOk result (λ taken. Stays taken self.old self.new) }
-        ensures err { OnErr result (self.new.text.items ≡ self.old.text.items) }
+        ensures exact { IfOk result (Takes self.old self.new
+            (machine.number_move part (rest.part_after part (bytes_.kind_of b))
+            (kept_of self.old) b)) }
+        ensures kept { OnErr result (self.new.text.items ≡ self.old.text.items) }
     {
         match part_after(part, kind_of(b)) {
             Some(next) => {
@@ -108,12 +101,9 @@ impl Machine {
     /// In a place where white space may stand.
     fn spaced(&mut self, b: u8) -> Result<Taken, AllocError>
         requires place { MaySpace self.old.mode }
-        ensures moves { IfOk result (λ taken.
-            move_of taken self.new ≡ machine.byte_move self.old.mode (room_of self.old)
-            (opens_of self.old) self.old.content.items b) }
-        ensures kept { IfOk result (λ taken. KeepsText taken self.old self.new) }
-        ensures stays { IfOk result (λ taken. Stays taken self.old self.new) }
-        ensures err { OnErr result (self.new.text.items ≡ self.old.text.items) }
+        ensures exact { IfOk result (Takes self.old self.new
+            (machine.byte_move self.old.mode (kept_of self.old) b)) }
+        ensures kept { OnErr result (self.new.text.items ≡ self.old.text.items) }
     {
         if is_space(b) {
             return Ok(Taken::Read);
@@ -129,13 +119,9 @@ impl Machine {
 
     /// Behind the name of a member.
     fn colon(&mut self, b: u8) -> Result<Taken, AllocError>
-        ensures moves { IfOk result (λ taken.
-            move_of taken self.new ≡ cond (b == 58)
-            (Reads mode_.Value (room_of self.old)
-            (opens_of self.old) self.old.content.items) Stuck) }
-        ensures kept { IfOk result (λ taken. KeepsText taken self.old self.new) }
-        ensures stays { IfOk result (λ taken. Stays taken self.old self.new) }
-        ensures err { OnErr result (self.new.text.items ≡ self.old.text.items) }
+        ensures exact { IfOk result (Takes self.old self.new
+            (cond (b == 58) (Reads mode_.Value (kept_of self.old)) Stuck)) }
+        ensures kept { OnErr result (self.new.text.items ≡ self.old.text.items) }
     {
         if b != 58 {
             return Ok(Taken::Stuck);
@@ -146,12 +132,9 @@ impl Machine {
 
     /// Takes the next byte.
     pub fn take(&mut self, b: u8) -> Result<Taken, AllocError>
-        ensures moves { IfOk result (λ taken.
-            move_of taken self.new ≡ move_by self.old.mode (room_of self.old)
-            (opens_of self.old) self.old.content.items (Byte b)) }
-        ensures kept { IfOk result (λ taken. KeepsText taken self.old self.new) }
-        ensures stays { IfOk result (λ taken. Stays taken self.old self.new) }
-        ensures err { OnErr result (self.new.text.items ≡ self.old.text.items) }
+        ensures exact { IfOk result (Takes self.old self.new
+            (move_by self.old.mode (kept_of self.old) (Byte b))) }
+        ensures kept { OnErr result (self.new.text.items ≡ self.old.text.items) }
     {
         match self.mode {
             Mode::Text(role, place) => self.place(role, place, b),
@@ -163,9 +146,7 @@ impl Machine {
 
     /// Takes the end of the text.
     pub fn take_end(&mut self) -> Ending
-        ensures moves { end_move_of result self.new ≡
-            move_by self.old.mode (room_of self.old)
-            (opens_of self.old) self.old.content.items End }
+        ensures moves { end_move_of result self.new ≡ move_by self.old.mode (kept_of self.old) End }
         ensures stays { EndStays result self.old self.new }
     {
         match self.mode {

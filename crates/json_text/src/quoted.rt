@@ -8,7 +8,7 @@ use std::alloc::AllocError;
 use std::mem;
 
 impl Machine {
-    ghost use Rattle.std.specs.Prelude.{◌≡◌, ◌∷◌, [], ◌++◌, cond, IfOk, OnErr, Option, None};
+    ghost use Rattle.std.specs.Prelude.{◌≡◌, [], ◌++◌, cond, IfOk, OnErr, Option, None};
     ghost use Rattle.json_text.specs.declared.mode.Mode.TheVariants as mode_;
     ghost use Rattle.json_text.specs.declared.mode.Lead.TheVariants as lead_;
     ghost use Rattle.json_text.specs.Bytes as bytes_;
@@ -16,16 +16,14 @@ impl Machine {
     ghost use Rattle.json_text.specs.Machine as machine;
     ghost use Rattle.json_text.specs.declared.mode.Place.TheVariants as place_;
     ghost use Rattle.json_text.specs.Machine.{Reads, Stuck};
-    ghost use Rattle.json_text.specs.Taking.{room_of, opens_of, move_of, KeepsText, Stays};
+    ghost use Rattle.json_text.specs.Rest.{holding};
+    ghost use Rattle.json_text.specs.Taking.{kept_of, Takes};
 
     /// Ends a text between quotation marks.
     fn unquote(&mut self, role: Role, waiting: Option<u16>) -> Result<Taken, AllocError>
-        ensures moves { IfOk result (λ taken.
-            move_of taken self.new ≡ machine.lead_move role waiting lead_.Quote (room_of self.old)
-            (opens_of self.old) self.old.content.items 34) }
-        ensures kept { IfOk result (λ taken. KeepsText taken self.old self.new) }
-        ensures stays { IfOk result (λ taken. Stays taken self.old self.new) }
-        ensures err { OnErr result (self.new.text.items ≡ self.old.text.items) }
+        ensures exact { IfOk result (Takes self.old self.new
+            (machine.lead_move role waiting lead_.Quote (kept_of self.old) 34)) }
+        ensures kept { OnErr result (self.new.text.items ≡ self.old.text.items) }
     {
         push_lone(&mut self.content, waiting)?;
         mem::swap(&mut self.content, &mut self.text);
@@ -42,12 +40,9 @@ impl Machine {
         place: Place,
         b: u8,
     ) -> Result<Taken, AllocError>
-        ensures moves { IfOk result (λ taken.
-            move_of taken self.new ≡ Reads (mode_.Text role place) (room_of self.old)
-            (opens_of self.old) ((self.old.content.items ++ chars.lone waiting) ++ (b ∷ []))) }
-        ensures kept { IfOk result (λ taken. KeepsText taken self.old self.new) }
-        ensures stays { IfOk result (λ taken. Stays taken self.old self.new) }
-        ensures err { OnErr result (self.new.text.items ≡ self.old.text.items) }
+        ensures exact { IfOk result (Takes self.old self.new
+            (Reads (mode_.Text role place) (machine.with_byte (kept_of self.old) waiting b))) }
+        ensures kept { OnErr result (self.new.text.items ≡ self.old.text.items) }
     {
         push_lone(&mut self.content, waiting)?;
         self.content.push(b)?;
@@ -57,12 +52,9 @@ impl Machine {
 
     /// Where a character may begin.
     fn lead(&mut self, role: Role, waiting: Option<u16>, b: u8) -> Result<Taken, AllocError>
-        ensures moves { IfOk result (λ taken.
-            move_of taken self.new ≡ machine.lead_move role waiting (bytes_.lead_of b)
-            (room_of self.old) (opens_of self.old) self.old.content.items b) }
-        ensures kept { IfOk result (λ taken. KeepsText taken self.old self.new) }
-        ensures stays { IfOk result (λ taken. Stays taken self.old self.new) }
-        ensures err { OnErr result (self.new.text.items ≡ self.old.text.items) }
+        ensures exact { IfOk result (Takes self.old self.new
+            (machine.lead_move role waiting (bytes_.lead_of b) (kept_of self.old) b)) }
+        ensures kept { OnErr result (self.new.text.items ≡ self.old.text.items) }
     {
         match lead_of(b) {
             Lead::Quote => self.unquote(role, waiting),
@@ -78,12 +70,9 @@ impl Machine {
 
     /// Behind a backslash.
     fn escape(&mut self, role: Role, waiting: Option<u16>, b: u8) -> Result<Taken, AllocError>
-        ensures moves { IfOk result (λ taken.
-            move_of taken self.new ≡ machine.escape_move role waiting (bytes_.escape_of b)
-            (room_of self.old) (opens_of self.old) self.old.content.items) }
-        ensures kept { IfOk result (λ taken. KeepsText taken self.old self.new) }
-        ensures stays { IfOk result (λ taken. Stays taken self.old self.new) }
-        ensures err { OnErr result (self.new.text.items ≡ self.old.text.items) }
+        ensures exact { IfOk result (Takes self.old self.new
+            (machine.escape_move role waiting (bytes_.escape_of b) (kept_of self.old))) }
+        ensures kept { OnErr result (self.new.text.items ≡ self.old.text.items) }
     {
         match escape_of(b) {
             Escape::Short(byte) => self.byte(role, waiting, Place::Chars(None), byte),
@@ -97,13 +86,10 @@ impl Machine {
 
     /// Behind three digits of a code unit.
     fn last_hex(&mut self, role: Role, waiting: Option<u16>, unit: u16) -> Result<Taken, AllocError>
-        ensures moves { IfOk result (λ taken.
-            move_of taken self.new ≡ Reads (mode_.Text role (place_.Chars (chars.waits unit)))
-            (room_of self.old) (opens_of self.old)
-            (self.old.content.items ++ chars.unit_bytes waiting unit)) }
-        ensures kept { IfOk result (λ taken. KeepsText taken self.old self.new) }
-        ensures stays { IfOk result (λ taken. Stays taken self.old self.new) }
-        ensures err { OnErr result (self.new.text.items ≡ self.old.text.items) }
+        ensures exact { IfOk result (Takes self.old self.new
+            (Reads (mode_.Text role (place_.Chars (chars.waits unit))) (holding (kept_of self.old)
+            (self.old.content.items ++ chars.unit_bytes waiting unit)))) }
+        ensures kept { OnErr result (self.new.text.items ≡ self.old.text.items) }
     {
         push_unit(&mut self.content, waiting, unit)?;
         self.mode = Mode::Text(role, Place::Chars(waits(unit)));
@@ -112,13 +98,9 @@ impl Machine {
 
     /// At a digit of a code unit.
     fn hex(&mut self, role: Role, place: Place, b: u8) -> Result<Taken, AllocError>
-        ensures moves { IfOk result (λ taken.
-            move_of taken self.new ≡ cond (bytes_.is_hex b)
-            (Reads (mode_.Text role place) (room_of self.old)
-            (opens_of self.old) self.old.content.items) Stuck) }
-        ensures kept { IfOk result (λ taken. KeepsText taken self.old self.new) }
-        ensures stays { IfOk result (λ taken. Stays taken self.old self.new) }
-        ensures err { OnErr result (self.new.text.items ≡ self.old.text.items) }
+        ensures exact { IfOk result (Takes self.old self.new
+            (cond (bytes_.is_hex b) (Reads (mode_.Text role place) (kept_of self.old)) Stuck)) }
+        ensures kept { OnErr result (self.new.text.items ≡ self.old.text.items) }
     {
         if !is_hex(b) {
             return Ok(Taken::Stuck);
@@ -129,12 +111,9 @@ impl Machine {
 
     /// Inside a character of several bytes.
     fn tail(&mut self, role: Role, tail: Tail, b: u8) -> Result<Taken, AllocError>
-        ensures moves { IfOk result (λ taken.
-            move_of taken self.new ≡ machine.text_move role (place_.Tail tail) (room_of self.old)
-            (opens_of self.old) self.old.content.items b) }
-        ensures kept { IfOk result (λ taken. KeepsText taken self.old self.new) }
-        ensures stays { IfOk result (λ taken. Stays taken self.old self.new) }
-        ensures err { OnErr result (self.new.text.items ≡ self.old.text.items) }
+        ensures exact { IfOk result (Takes self.old self.new
+            (machine.text_move role (place_.Tail tail) (kept_of self.old) b)) }
+        ensures kept { OnErr result (self.new.text.items ≡ self.old.text.items) }
     {
         if !fits_tail(tail, b) {
             return Ok(Taken::Stuck);
@@ -146,12 +125,9 @@ impl Machine {
 
     /// Between quotation marks.
     pub fn place(&mut self, role: Role, place: Place, b: u8) -> Result<Taken, AllocError>
-        ensures moves { IfOk result (λ taken.
-            move_of taken self.new ≡ machine.text_move role place (room_of self.old)
-            (opens_of self.old) self.old.content.items b) }
-        ensures kept { IfOk result (λ taken. KeepsText taken self.old self.new) }
-        ensures stays { IfOk result (λ taken. Stays taken self.old self.new) }
-        ensures err { OnErr result (self.new.text.items ≡ self.old.text.items) }
+        ensures exact { IfOk result (Takes self.old self.new
+            (machine.text_move role place (kept_of self.old) b)) }
+        ensures kept { OnErr result (self.new.text.items ≡ self.old.text.items) }
     {
         match place {
             Place::Chars(w) => self.lead(role, w, b),

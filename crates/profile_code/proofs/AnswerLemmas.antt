@@ -1,32 +1,20 @@
 -- From the end of a run to the answer of a call.
-use Rattle.std.proofs.Common.{◌≡◌, ◌≢◌, ◌∙◌, List, length, ℤ, sym}
-use Rattle.profile_code.specs.Flat.{IsSafe, global_run, own_run, own_section, tags_of}
+use Rattle.std.proofs.Common.{◌≡◌, ◌≢◌, ◌∙◌, ℕ, List, length, ℤ, sym}
+use Rattle.lookup_table.specs.declared.part.Part.{Part}
+use Rattle.profile_code.specs.Flat.{Flat, IsSafe, own_run, own_section, tags_of}
 use Rattle.profile_code.specs.Held.{Held}
-use Rattle.profile_code.specs.Machine.{Finished, Stuck, run_of}
-use Rattle.profile_code.specs.Runs.{PartRun}
+use Rattle.profile_code.specs.Machine.{Stuck, run_of}
+use Rattle.profile_code.specs.Scratch.{HoldsGlobals, held_values}
 use Rattle.profile_code.specs.Step.{given_of}
 use Rattle.profile_code.specs.declared.instr.Instr.{Instr}
+use Rattle.profile_code.specs.declared.scratch.Scratch.{Scratch}
 
--- what carries a part's run out: operations, the values of the global section, a stack and room for its own values
-pub record Carrier : Type 0 where
-  pub instrs : List Instr
-  pub global : List ℤ
-  pub stack : Held
-  pub own : Held
-
--- it is the run's: its operations and values, and room for them; the values are those of the global section's run
-pub record Carries (run : PartRun) (c : Carrier) : Type 0 where
-  pub instrs : c.instrs ≡ (own_section run.flat run.part).instrs
-  pub global : c.global ≡ run.global
-  pub room : c.stack.room ≡ run.flat.room
-  pub most : c.own.room ≡ length (own_section run.flat run.part).names
-  pub ran : global_run run.flat ≡ Finished run.global
-  pub fits : length run.numbers ≡ tags_of run.flat run.part
-
--- so it lacks nothing
-pub own_ready : (run : PartRun) (c : Carrier) → IsSafe run.flat → Carries run c →
-    run_of (given_of run.numbers c.global c.stack c.own) c.instrs ≢ Stuck
-own_ready run c safe is stuck =
-    let same : run_of (given_of run.numbers c.global c.stack c.own) c.instrs ≡ own_run run.flat run.part run.numbers run.global =
-    λ i. run_of (record { room = is.room i; most = is.most i; numbers = run.numbers; global = is.global i }) (is.instrs i) in
-    safe.own run.part run.numbers run.global is.fits is.ran (sym same ∙ stuck)
+module _ (flat : Flat) (part : Part) (numbers : List ℕ) (scratch : Scratch) (held : HoldsGlobals flat scratch) (fits : length numbers ≡ tags_of flat part) where
+  -- a part's run in a scratch of its code lacks nothing, with the part's operations, the values that the scratch holds, and room for its own
+  pub own_ready : (instrs : List Instr) (global : List ℤ) (own : Held) → IsSafe flat → instrs ≡ (own_section flat part).instrs
+      → global ≡ held_values scratch → own.room ≡ length (own_section flat part).names
+      → run_of (given_of numbers global scratch.stack own) instrs ≢ Stuck
+  own_ready instrs global own safe instrs_are global_is most stuck =
+      let same : run_of (given_of numbers global scratch.stack own) instrs ≡ own_run flat part numbers (held_values scratch) =
+      λ i. run_of (record { room = held.made.stack i; most = most i; numbers = numbers; global = global_is i }) (instrs_are i) in
+      safe.own part numbers (held_values scratch) fits held.values (sym same ∙ stuck)

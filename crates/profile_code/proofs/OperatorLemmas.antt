@@ -11,7 +11,7 @@ use Rattle.profile_code.specs.Emit.{operation_code, choice_code}
 use Rattle.profile_code.specs.Machine.{Given, Ended, Stuck, Next, pushed, computed, act, exec}
 use Rattle.profile_text.specs.Meaning.{Fault, and_then, arithmetic, truth, is_true, decided_by, result_of, operation}
 use Rattle.profile_text.specs.declared.expr.Op.{Op}
-use Rattle.profile_text.specs.declared.expr.Op.TheVariants.{Or, And, Xor, Multiply, Divide, Add, Sub, Max, Min, Equal, Greater, Lesser}
+use Rattle.profile_text.specs.declared.expr.Op.TheVariants.{Or, And}
 
 -- what follows the code of an expression: a run with its value on the stack, or the end with its fault
 abbrev pub after : Given → List Instr → List ℤ → List ℤ → Result ℤ Fault → Ended
@@ -202,16 +202,7 @@ pub gives_operation : (given : Given) (own : List ℤ) (first second : ℕ) (op 
     Gives given own (max first (suc second)) (operation_code op a b) (and_then ra (λ n. operation op n (decided_by op n) rb))
 gives_operation given own first second And a b ra rb ga gb some = gives_and given own first second a b ra rb ga gb some
 gives_operation given own first second Or a b ra rb ga gb some = gives_or given own first second a b ra rb ga gb some
-gives_operation given own first second Xor a b ra rb ga gb some = gives_two given own first second Xor a b ra rb ga gb
-gives_operation given own first second Multiply a b ra rb ga gb some = gives_two given own first second Multiply a b ra rb ga gb
-gives_operation given own first second Divide a b ra rb ga gb some = gives_two given own first second Divide a b ra rb ga gb
-gives_operation given own first second Add a b ra rb ga gb some = gives_two given own first second Add a b ra rb ga gb
-gives_operation given own first second Sub a b ra rb ga gb some = gives_two given own first second Sub a b ra rb ga gb
-gives_operation given own first second Max a b ra rb ga gb some = gives_two given own first second Max a b ra rb ga gb
-gives_operation given own first second Min a b ra rb ga gb some = gives_two given own first second Min a b ra rb ga gb
-gives_operation given own first second Equal a b ra rb ga gb some = gives_two given own first second Equal a b ra rb ga gb
-gives_operation given own first second Greater a b ra rb ga gb some = gives_two given own first second Greater a b ra rb ga gb
-gives_operation given own first second Lesser a b ra rb ga gb some = gives_two given own first second Lesser a b ra rb ga gb
+gives_operation given own first second op a b ra rb ga gb some = gives_two given own first second op a b ra rb ga gb
 
 -- ---- Choices
 

@@ -12,13 +12,13 @@ impl Scanner {
     ghost use Rattle.json_text.specs.declared.mode.Place.TheVariants as place_;
     ghost use Rattle.json_text.specs.Scanner.{is_number};
     ghost use Rattle.json_text.specs.Machine.{byte_move, Reads};
-    ghost use Rattle.json_text.specs.Taking.{MaySpace, MayQuote, room_of, opens_of};
+    ghost use Rattle.json_text.specs.Taking.{MaySpace, MayQuote, opens_of, kept_of};
     ghost use Rattle.json_text.specs.Told.{Leaves, ReadsOn};
 
     /// Reads the white space that comes.
     fn spaces(&mut self)
         requires place { MaySpace self.old.machine.mode }
-        ensures on { ReadsOn self.old self.new }
+        ensures value { ReadsOn self.old self.new }
         ensures machine { self.new.machine ≡ self.old.machine }
     {
         self.read = spaces_end(&self.input, self.read);
@@ -27,8 +27,8 @@ impl Scanner {
     /// Reads the plain bytes that come in a text.
     fn plain(&mut self, role: Role) -> Result<(), AllocError>
         requires place { self.old.machine.mode ≡ mode_.Text role (place_.Chars None) }
-        ensures on { OnOk result (ReadsOn self.old self.new) }
-        ensures leaves { Leaves self.old self.new }
+        ensures value { OnOk result (ReadsOn self.old self.new) }
+        ensures kept { Leaves self.old self.new }
     {
         let end = plain_end(&self.input, self.read);
         self.machine
@@ -41,8 +41,8 @@ impl Scanner {
     /// Reads on in a number.
     fn number(&mut self, part: Part) -> Result<(), AllocError>
         requires place { self.old.machine.mode ≡ mode_.Number part }
-        ensures on { OnOk result (ReadsOn self.old self.new) }
-        ensures leaves { Leaves self.old self.new }
+        ensures value { OnOk result (ReadsOn self.old self.new) }
+        ensures kept { Leaves self.old self.new }
     {
         let (end, last) = number_end(&self.input, self.read, part);
         self.machine
@@ -58,8 +58,8 @@ impl Scanner {
         requires place { MayQuote role self.old.machine.mode (opens_of self.old.machine) }
         requires left { self.old.read < vec_len self.old.input }
         requires next { get_or self.old.input.items self.old.read 0 ≡ 34 }
-        ensures on { OnOk result (ReadsOn self.old self.new) }
-        ensures leaves { Leaves self.old self.new }
+        ensures value { OnOk result (ReadsOn self.old self.new) }
+        ensures kept { Leaves self.old self.new }
     {
         let from = self.read + 1;
         let end = plain_end(&self.input, from);
@@ -75,8 +75,8 @@ impl Scanner {
     /// Reads a number from its first byte on, if one comes.
     fn digits(&mut self) -> Result<(), AllocError>
         requires place { MayQuote role_.Value self.old.machine.mode (opens_of self.old.machine) }
-        ensures on { OnOk result (ReadsOn self.old self.new) }
-        ensures leaves { Leaves self.old self.new }
+        ensures value { OnOk result (ReadsOn self.old self.new) }
+        ensures kept { Leaves self.old self.new }
     {
         let (end, last) = number_end(&self.input, self.read, Part::Nothing);
         if end == self.read {
@@ -94,12 +94,10 @@ impl Scanner {
     /// Reads the byte that comes, and goes to a place.
     fn pass(&mut self, mode: Mode)
         requires left { self.old.read < vec_len self.old.input }
-        requires place { byte_move self.old.machine.mode (room_of self.old.machine)
-            (opens_of self.old.machine) self.old.machine.content.items
-            (get_or self.old.input.items self.old.read 0) ≡ Reads mode (room_of self.old.machine)
-            (opens_of self.old.machine) self.old.machine.content.items }
+        requires place { byte_move self.old.machine.mode (kept_of self.old.machine)
+            (get_or self.old.input.items self.old.read 0) ≡ Reads mode (kept_of self.old.machine) }
         requires plain { is_number mode ≡ 0 }
-        ensures on { ReadsOn self.old self.new }
+        ensures value { ReadsOn self.old self.new }
         ensures mode { self.new.machine.mode ≡ mode }
         ensures opens { self.new.machine.opens ≡ self.old.machine.opens }
     {
@@ -123,8 +121,8 @@ impl Scanner {
     fn begin(&mut self, role: Role) -> Result<(), AllocError>
         requires place { MayQuote role self.old.machine.mode (opens_of self.old.machine) }
         requires space { MaySpace self.old.machine.mode }
-        ensures on { OnOk result (ReadsOn self.old self.new) }
-        ensures leaves { Leaves self.old self.new }
+        ensures value { OnOk result (ReadsOn self.old self.new) }
+        ensures kept { Leaves self.old self.new }
     {
         self.spaces();
         if self.comes() == 34 {
@@ -139,8 +137,8 @@ impl Scanner {
     /// Reads on behind a bracket that opened.
     fn first(&mut self) -> Result<(), AllocError>
         requires place { self.old.machine.mode ≡ mode_.First }
-        ensures on { OnOk result (ReadsOn self.old self.new) }
-        ensures leaves { Leaves self.old self.new }
+        ensures value { OnOk result (ReadsOn self.old self.new) }
+        ensures kept { Leaves self.old self.new }
     {
         match self.machine.top() {
             Some(Bracket::Square) => self.begin(Role::Value),
@@ -152,8 +150,8 @@ impl Scanner {
     /// Reads on behind a value.
     fn after(&mut self) -> Result<(), AllocError>
         requires place { self.old.machine.mode ≡ mode_.After }
-        ensures on { OnOk result (ReadsOn self.old self.new) }
-        ensures leaves { Leaves self.old self.new }
+        ensures value { OnOk result (ReadsOn self.old self.new) }
+        ensures kept { Leaves self.old self.new }
     {
         self.spaces();
         if self.comes() != 44 {
@@ -175,8 +173,8 @@ impl Scanner {
     /// Reads on behind the name of a member.
     fn colon(&mut self) -> Result<(), AllocError>
         requires place { self.old.machine.mode ≡ mode_.Colon }
-        ensures on { OnOk result (ReadsOn self.old self.new) }
-        ensures leaves { Leaves self.old self.new }
+        ensures value { OnOk result (ReadsOn self.old self.new) }
+        ensures kept { Leaves self.old self.new }
     {
         self.spaces();
         if self.comes() != 58 {
@@ -188,8 +186,8 @@ impl Scanner {
 
     /// Reads on as far as no step is given, but for escapes and other characters of several bytes.
     pub fn advance(&mut self) -> Result<(), AllocError>
-        ensures on { OnOk result (ReadsOn self.old self.new) }
-        ensures leaves { Leaves self.old self.new }
+        ensures value { OnOk result (ReadsOn self.old self.new) }
+        ensures kept { Leaves self.old self.new }
     {
         match self.machine.mode {
             Mode::Text(role, Place::Chars(None)) => self.plain(role),

@@ -5,21 +5,11 @@ use Rattle.json_text.specs.Told.{PartsGo}
 use Rattle.json_text.proofs.BeginLemmas.{digits_on}
 use Rattle.json_text.proofs.scanner.Scanner.digits.Goals as goal
 
-pub returns-clause-on : goal.returns-clause-on
-returns-clause-on c =
+pub returns-clause-value : goal.returns-clause-value
+returns-clause-value c =
     let grew : c.args.self.now.read < c.number_end-end.result.0 = omega (arith, c.number_end-end.ensures.onward, c.if-end-self.false) in
     digits_on c.args.self.now _
-    (record {
-      input = refl;
-      before = refl;
-      ended = refl;
-      failed = refl;
-      opens = refl;
-      text = refl;
-      onward = c.number_end-end.ensures.onward;
-      within = omega (arith, c.number_end-end.ensures.within, c.deref.ensures.len);
-      fewer = omega (arith, grew);
-    })
+    (record { same = refl; onward = c.number_end-end.ensures.onward; within = omega (arith, c.number_end-end.ensures.within, c.deref.ensures.len); fewer = omega (arith, grew) })
     grew c.number_end-end.result.1 c.requires.place refl
     (c.in_ok-extend_from_slice.ensures.items
     ∙ ap (λ zs. zs ++ take (c.number_end-end.result.0 - c.args.self.now.read) (drop c.args.self.now.read c.deref-2.result.now)) c.clear.ensures.items

@@ -4,20 +4,10 @@ use Rattle.json_text.specs.Bytes.{AreAll, is_plain}
 use Rattle.json_text.proofs.BeginLemmas.{quote_on}
 use Rattle.json_text.proofs.scanner.Scanner.quote.Goals as goal
 
-pub returns-clause-on : goal.returns-clause-on
-returns-clause-on c =
+pub returns-clause-value : goal.returns-clause-value
+returns-clause-value c =
     quote_on c.args.self.now _
-    (record {
-      input = refl;
-      before = refl;
-      ended = refl;
-      failed = refl;
-      opens = refl;
-      text = refl;
-      onward = omega (arith, c.plain_end-end.ensures.onward);
-      within = omega (arith, c.plain_end-end.ensures.within, c.deref.ensures.len);
-      fewer = omega (arith, c.plain_end-end.ensures.onward);
-    })
+    (record { same = refl; onward = omega (arith, c.plain_end-end.ensures.onward); within = omega (arith, c.plain_end-end.ensures.within, c.deref.ensures.len); fewer = omega (arith, c.plain_end-end.ensures.onward) })
     (omega (arith, c.plain_end-end.ensures.onward)) c.args.role c.requires.place c.requires.next refl
     (c.in_ok-extend_from_slice.ensures.items
     ∙ ap (λ zs. zs ++ take (c.plain_end-end.result - (c.args.self.now.read + 1)) (drop (c.args.self.now.read + 1) c.deref-2.result.now)) c.clear.ensures.items
