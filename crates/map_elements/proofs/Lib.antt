@@ -1,0 +1,14 @@
+mod CountLemmas
+mod CutLemmas
+mod EntryLemmas
+mod InsideLemmas
+mod ListLemmas
+mod NotedLemmas
+mod PlaceLemmas
+mod ProgressLemmas
+mod ReadingLemmas
+mod StepLemmas
+mod TagLemmas
+mod TakingLemmas
+mod TreeLemmas
+mod WholeLemmas

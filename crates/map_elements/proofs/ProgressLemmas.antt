@@ -1,0 +1,117 @@
+-- What has been read behind one more step.
+use Rattle.std.proofs.Common.{◌≡◌, ◌⊎◌, ℕ, zero, suc, true, List, [], ◌∷◌, ◌++◌, Result, Ok, Err, refl, ap, sym, subst, inl, inr, ◌∙◌}
+use Rattle.std.specs.Prelude.{MatchResult, OnOk}
+use Rattle.json_text.specs.Marks.{Step}
+use Rattle.map_tables.specs.declared.limits.Limits.{Limits}
+use Rattle.map_tables.specs.declared.error.MapError.{MapError}
+use Rattle.map_tables.specs.declared.error.MapError.TheVariants.{NoMemory}
+use mathlib.Core.Bool.{false≢true}
+use Rattle.map_elements.specs.declared.place.Kind.{Kind}
+use Rattle.map_elements.specs.declared.place.Kind.TheVariants as kind_
+use Rattle.map_elements.specs.declared.place.Place.TheVariants.{Elements, Past}
+use Rattle.map_elements.specs.declared.progress.Progress.{Progress}
+use Rattle.map_elements.specs.Entries.{depth_after}
+use Rattle.map_elements.specs.Reader.{goes_on, is_plain, IsKind, IsAt, IsInList, IsPast, IsTaken, IsRefused, IsFault, Holds}
+use Rattle.map_elements.proofs.InsideLemmas.{element_goes_on, element_ends, element_refused, list_ends, list_names}
+
+-- the element that ends with this step is taken, or refused
+pub ended_holds : {A : Type 0} (limits : Limits) (steps : List Step) (depth : ℕ) (value pushed : List Step) (values : List (List Step)) (s : Step)
+    (new : Progress) (result : Result A MapError)
+    → IsInList steps depth value values → goes_on depth s ≡ true → depth_after depth s ≡ zero → pushed ≡ value ++ s ∷ []
+    → MatchResult result (λ _. IsTaken limits new (values ++ pushed ∷ [])) (λ e. (e ≡ NoMemory) ⊎ IsRefused limits values pushed e)
+    → OnOk result (new.place ≡ Elements 0) → OnOk result (new.steps ≡ [])
+    → MatchResult result (λ _. Holds limits new (steps ++ s ∷ [])) (λ e. (e ≡ NoMemory) ⊎ IsFault limits (steps ++ s ∷ []) e)
+ended_holds limits steps depth value pushed values s new (Ok a) inside goes ends same taken place empty =
+    record {
+      values = values ++ (value ++ s ∷ []) ∷ [];
+      at = subst (λ p. IsAt p new.steps (steps ++ s ∷ []) (values ++ (value ++ s ∷ []) ∷ [])) (sym place)
+          (subst (λ xs. IsInList (steps ++ s ∷ []) 0 xs (values ++ (value ++ s ∷ []) ∷ [])) (sym empty)
+          (element_ends steps depth value values inside s goes ends));
+      taken = subst (λ xs. IsTaken limits new (values ++ xs ∷ [])) same taken;
+    }
+ended_holds limits steps depth value pushed values s new (Err e) inside goes ends same taken place empty =
+    elim taken [
+      | inl h ↦ inl h
+      | inr h ↦ inr (element_refused steps depth value values inside limits s e goes ends (subst (λ xs. IsRefused limits values xs e) same h))
+    ]
+
+-- what was taken before stays taken where the tables and the count do
+pub taken_kept : (limits : Limits) (old new : Progress) (values : List (List Step)) → new.tables ≡ old.tables → new.count ≡ old.count
+    → IsTaken limits old values → IsTaken limits new values
+taken_kept limits old new values tables count taken = record {
+  count = count ∙ taken.count;
+  draft = taken.draft ∙ ap (λ t. Ok t.draft) (sym tables);
+  limits_are = ap (λ t. t.limits) tables ∙ taken.limits_are;
+}
+
+-- a step that neither names nor ends anything
+pub goes_on_kind : (kind : Kind) (text : List ℕ) (depth : ℕ) (s : Step) → IsKind kind text s → (kind ≡ kind_.Closes → ⊥) → (kind ≡ kind_.Names → ⊥)
+    → goes_on depth s ≡ true
+goes_on_kind kind_.Opens text zero s is close name = subst (λ x. goes_on 0 x ≡ true) (sym is) refl
+goes_on_kind kind_.OpensList text zero s is close name = subst (λ x. goes_on 0 x ≡ true) (sym is) refl
+goes_on_kind kind_.Closes text zero s is close name = absurd (close refl)
+goes_on_kind kind_.Names text zero s is close name = absurd (name refl)
+goes_on_kind kind_.Plain text zero s is close name = by_step s is
+  where
+    by_step : (s : Step) → is_plain s ≡ true → goes_on 0 s ≡ true
+    by_step (Step.Text t) h = refl
+    by_step (Step.Number t) h = refl
+    by_step (Step.Word w) h = refl
+    by_step (Step.Opens b) h = absurd (false≢true h)
+    by_step (Step.Closes b) h = absurd (false≢true h)
+    by_step (Step.Key t) h = absurd (false≢true h)
+goes_on_kind kind text (suc depth) s is close name = refl
+
+-- any step does within an element
+pub goes_on_within : (depth : ℕ) (s : Step) → (depth ≡ 0 → ⊥) → goes_on depth s ≡ true
+goes_on_within zero s inner = absurd (inner refl)
+goes_on_within (suc depth) s inner = refl
+
+-- the element goes on with this step
+pub inner_holds : (limits : Limits) (steps : List Step) (depth after : ℕ) (value : List Step) (values : List (List Step)) (s : Step) (old new : Progress)
+    → IsInList steps depth value values → IsTaken limits old values → goes_on depth s ≡ true → after ≡ depth_after depth s → (after ≡ 0 → ⊥)
+    → new.place ≡ Elements after → new.steps ≡ value ++ s ∷ [] → new.tables ≡ old.tables → new.count ≡ old.count
+    → Holds limits new (steps ++ s ∷ [])
+inner_holds limits steps depth zero value values s old new inside taken goes is open_ place held tables count = absurd (open_ refl)
+inner_holds limits steps depth (suc after) value values s old new inside taken goes is open_ place held tables count = record {
+  values = values;
+  at = subst (λ p. IsAt p new.steps (steps ++ s ∷ []) values) (sym place)
+      (subst (λ xs. IsInList (steps ++ s ∷ []) (suc after) xs values) (sym held) (element_goes_on steps depth value values inside s after goes (sym is)));
+  taken = taken_kept limits old new values tables count taken;
+}
+
+-- the list of elements ends with this step
+pub past_holds : (limits : Limits) (steps : List Step) (value : List Step) (values : List (List Step)) (text : List ℕ) (s : Step) (old new : Progress)
+    → IsInList steps 0 value values → IsTaken limits old values → IsKind kind_.Closes text s
+    → new.place ≡ Past → new.tables ≡ old.tables → new.count ≡ old.count
+    → Holds limits new (steps ++ s ∷ [])
+past_holds limits steps value values text s old new inside taken (bracket, is) place tables count = record {
+  values = values;
+  at = subst (λ p. IsAt p new.steps (steps ++ s ∷ []) values) (sym place)
+      (subst (λ x. IsPast (steps ++ x ∷ []) values) (sym is) (list_ends steps value values bracket inside));
+  taken = taken_kept limits old new values tables count taken;
+}
+
+-- a name stands between elements
+pub named_holds : (limits : Limits) (steps : List Step) (value : List Step) (values : List (List Step)) (text : List ℕ) (s : Step) (old new : Progress)
+    → IsInList steps 0 value values → IsTaken limits old values → s ≡ Step.Key text
+    → new.place ≡ Elements 0 → new.steps ≡ [] → new.tables ≡ old.tables → new.count ≡ old.count
+    → Holds limits new (steps ++ s ∷ [])
+named_holds limits steps value values text s old new inside taken is place empty tables count = record {
+  values = values;
+  at = subst (λ p. IsAt p new.steps (steps ++ s ∷ []) values) (sym place)
+      (subst (λ xs. IsInList (steps ++ s ∷ []) 0 xs values) (sym empty)
+      (subst (λ x. IsInList (steps ++ x ∷ []) 0 [] values) (sym is) (list_names steps value values text inside)));
+  taken = taken_kept limits old new values tables count taken;
+}
+
+-- a step leads from one place to another outside of the list of elements
+pub outside_holds : (limits : Limits) (steps later : List Step) (values : List (List Step)) (old new : Progress)
+    → values ≡ [] → old.steps ≡ [] → IsTaken limits old values → IsAt new.place [] later []
+    → new.steps ≡ old.steps → new.tables ≡ old.tables → new.count ≡ old.count
+    → Holds limits new later
+outside_holds limits steps later values old new none empty taken at kept tables count = record {
+  values = [];
+  at = subst (λ xs. IsAt new.place xs later []) (sym (kept ∙ empty)) at;
+  taken = taken_kept limits old new [] tables count (subst (λ vs. IsTaken limits old vs) none taken);
+}

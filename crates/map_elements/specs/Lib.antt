@@ -1,0 +1,12 @@
+pub mod Steps
+pub mod Entries
+pub mod Cut
+pub mod Fields
+pub mod Whole
+pub mod Names
+pub mod Noted
+pub mod Elements
+pub mod Seen
+pub mod Outcome
+pub mod Reader
+pub mod Trees

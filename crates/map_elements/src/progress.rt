@@ -1,0 +1,174 @@
+//! What has been read of a map's text, step by step.
+
+ghost use Rattle.std.specs.Prelude.{◌≡◌, ◌⊎◌, true, List, [], ◌∷◌, ◌++◌, length, Option, None, Some, Ok, Err, OnOk, MatchResult};
+ghost use Rattle.json_text.specs.Marks.{Step};
+ghost use Rattle.json_text.specs.Tokens.{step_for, verdict_for};
+ghost use Rattle.map_tables.specs.Draft.{empty};
+ghost use Rattle.map_tables.specs.Held.{Takes};
+ghost use Rattle.map_tables.specs.declared.error.MapError.TheVariants.{NoMemory};
+ghost use Rattle.map_elements.specs.declared.place.Place.TheVariants.{Elements};
+ghost use Rattle.map_elements.specs.Outcome.{take_element};
+ghost use Rattle.map_elements.specs.Seen.{seen};
+ghost use Rattle.map_elements.specs.Reader.{Holds, goes_on, IsFault, IsInList, IsKind, IsRefused, IsTaken};
+
+use crate::elements::{Element, read_element};
+use crate::place::{Kind, Place, depth_behind, first_place, kind_of, top_place};
+use crate::steps::StepList;
+use json_text::JsonStep;
+use map_tables::{Limits, MapError, Tables};
+use std::alloc::Global;
+
+/// What has been read of a map's text: the elements that are whole, and the beginning of one more.
+#[derive(Drop)]
+pub(crate) struct Progress {
+    pub(crate) alloc: Global,
+    pub(crate) place: Place,
+    pub(crate) count: u64,
+    pub(crate) steps: StepList,
+    pub(crate) tables: Tables,
+}
+
+/// Adds an element to the tables. Where it is refused, nothing changes.
+fn add(tables: &mut Tables, element: Element) -> Result<(), MapError>
+    ensures exact { Takes result tables.old tables.new
+        (take_element tables.old.limits (seen element) tables.old.draft) }
+{
+    match element {
+        Element::Node { id, spot, tags } => tables.add_node(id, spot, tags),
+        Element::Way { id, nodes, tags } => tables.add_way(id, nodes.as_slice(), tags),
+        Element::Relation { id, members, tags } => {
+            tables.add_relation(id, members.as_slice(), tags)
+        }
+        Element::Other => Ok(()),
+    }
+}
+
+impl Progress {
+    /// Nothing has been read.
+    pub(crate) fn new(alloc: Global, limits: Limits) -> Progress
+        ensures value { Holds limits result [] }
+    {
+        Progress {
+            alloc,
+            place: Place::Start,
+            count: 0,
+            steps: StepList::new(alloc),
+            tables: Tables::new(alloc, limits),
+        }
+    }
+
+    /// Takes the element whose value is whole.
+    fn take_whole(&mut self) -> Result<(), MapError>
+        ensures value { (limits : Limits) (values : List (List Step)) → IsTaken limits self.old values →
+            MatchResult result (λ _. IsTaken limits self.new (values ++ self.old.steps ∷ []))
+            (λ e. (e ≡ NoMemory) ⊎ IsRefused limits values self.old.steps e) }
+        ensures place { OnOk result (self.new.place ≡ Elements 0) }
+        ensures steps { OnOk result (self.new.steps ≡ []) }
+    {
+        let Some(at) = self.count.checked_add(1) else {
+            return Err(MapError::NoMemory);
+        };
+        let element = match read_element(self.alloc, at, &self.steps) {
+            Ok(element) => element,
+            Err(e) => return Err(e),
+        };
+        match add(&mut self.tables, element) {
+            Ok(()) => {}
+            Err(e) => return Err(e),
+        }
+        self.count = at;
+        self.steps.clear();
+        self.place = Place::Elements { depth: 0 };
+        Ok(())
+    }
+
+    /// Takes a step of an element.
+    fn take_inner(
+        &mut self,
+        depth: u32,
+        kind: Kind,
+        step: JsonStep,
+        text: &[u8],
+    ) -> Result<(), MapError>
+        requires no_verdict { verdict_for step ≡ None }
+        ensures value { (limits : Limits) (steps : List Step) (values : List (List Step)) (s : Step) →
+            IsInList steps depth self.old.steps values → IsTaken limits self.old values →
+            step_for step text.now ≡ Some s → IsKind kind text.now s → goes_on depth s ≡ true →
+            MatchResult result (λ _. Holds limits self.new (steps ++ s ∷ []))
+            (λ e. (e ≡ NoMemory) ⊎ IsFault limits (steps ++ s ∷ []) e) }
+    {
+        match self.steps.push(step, text) {
+            Ok(()) => {}
+            Err(_) => return Err(MapError::NoMemory),
+        }
+        let Some(after) = depth_behind(depth, kind) else {
+            return Err(MapError::NoMemory);
+        };
+        if after == 0 {
+            return self.take_whole();
+        }
+        self.place = Place::Elements { depth: after };
+        Ok(())
+    }
+
+    /// Takes a step in the list of elements.
+    fn take_listed(
+        &mut self,
+        depth: u32,
+        kind: Kind,
+        step: JsonStep,
+        text: &[u8],
+    ) -> Result<(), MapError>
+        requires no_verdict { verdict_for step ≡ None }
+        ensures value { (limits : Limits) (steps : List Step) (values : List (List Step)) (s : Step) →
+            IsInList steps depth self.old.steps values → IsTaken limits self.old values →
+            step_for step text.now ≡ Some s → IsKind kind text.now s →
+            MatchResult result (λ _. Holds limits self.new (steps ++ s ∷ []))
+            (λ e. (e ≡ NoMemory) ⊎ IsFault limits (steps ++ s ∷ []) e) }
+    {
+        if depth == 0 {
+            match kind {
+                Kind::Closes => {
+                    self.place = Place::Past;
+                    return Ok(());
+                }
+                Kind::Names => {
+                    self.place = Place::Elements { depth: 0 };
+                    self.steps.clear();
+                    return Ok(());
+                }
+                Kind::Opens => return self.take_inner(depth, kind, step, text),
+                Kind::OpensList => return self.take_inner(depth, kind, step, text),
+                Kind::Plain => return self.take_inner(depth, kind, step, text),
+            }
+        }
+        self.take_inner(depth, kind, step, text)
+    }
+
+    /// Takes one more step of the text.
+    pub(crate) fn take(&mut self, step: JsonStep, text: &[u8]) -> Result<(), MapError>
+        requires no_verdict { verdict_for step ≡ None }
+        ensures value { (limits : Limits) (steps : List Step) (s : Step) → Holds limits self.old steps →
+            step_for step text.now ≡ Some s →
+            MatchResult result (λ _. Holds limits self.new (steps ++ s ∷ []))
+            (λ e. (e ≡ NoMemory) ⊎ IsFault limits (steps ++ s ∷ []) e) }
+    {
+        let kind = kind_of(step);
+        match self.place {
+            Place::Start => {
+                self.place = first_place(kind);
+                Ok(())
+            }
+            Place::Top { depth, is_named } => {
+                let Some(place) = top_place(depth, is_named, kind, text) else {
+                    return Err(MapError::NoMemory);
+                };
+                self.place = place;
+                Ok(())
+            }
+            Place::Elements { depth } => self.take_listed(depth, kind, step, text),
+            Place::Past => Ok(()),
+            Place::Never => Ok(()),
+        }
+    }
+}

@@ -1,0 +1,157 @@
+//! A part of a list of steps, read from its front.
+ghost use Rattle.std.specs.Prelude.{ℕ, ◌≡◌, ◌≤◌, ◌<◌, ◌+◌, List, [], ◌∷◌, length, take, drop, MatchOption};
+ghost use Rattle.json_text.specs.Marks.{Key};
+ghost use Rattle.map_elements.specs.Steps.{step_of, steps_in, AreWithin};
+ghost use Rattle.map_elements.specs.Entries.{depth_after};
+ghost use Rattle.map_elements.specs.Cut.{size_of, ends_in, has_none, is_close, IsNoKey};
+
+use crate::steps::{Row, StepKind};
+use std::marker::Model;
+
+/// Some steps that follow each other in a list.
+#[derive(Drop)]
+pub(crate) struct Part<'a> {
+    rows: &'a [Row],
+    bytes: &'a [u8],
+}
+
+impl<'a> Model for Part<'a> {
+    ghost use Rattle.std.specs.Prelude.{List};
+    ghost use Rattle.json_text.specs.Marks.{Step};
+    ghost use Rattle.map_elements.specs.Steps.{steps_in, AreWithin};
+
+    ghost Value = { List Step };
+
+    ghost view = { λ p. steps_in p.bytes.now p.rows.now };
+
+    ghost invariant = { λ p. AreWithin p.bytes.now p.rows.now };
+}
+
+impl<'a> Part<'a> {
+    /// The steps of rows whose contents stand among these bytes.
+    pub(crate) fn new(rows: &'a [Row], bytes: &'a [u8]) -> Part<'a>
+        requires within { AreWithin bytes.now rows.now }
+        ensures value { result ≡ steps_in bytes.now rows.now }
+    {
+        Part { rows, bytes }
+    }
+
+    /// The same steps again.
+    pub(crate) fn again(&self) -> Part<'a>
+        ensures value { result ≡ self.now }
+    {
+        Part {
+            rows: self.rows,
+            bytes: self.bytes,
+        }
+    }
+
+    /// How many steps there are.
+    pub(crate) fn len(&self) -> usize
+        ensures value { result ≡ length self.now }
+    {
+        self.rows.len()
+    }
+
+    /// Whether there are none.
+    pub(crate) fn is_empty(&self) -> bool
+        ensures value { result ≡ has_none self.now }
+    {
+        self.rows.is_empty()
+    }
+
+    /// Takes the first step away.
+    pub(crate) fn take_first(&mut self) -> Option<(StepKind, &'a [u8])>
+        ensures value { MatchOption result
+            ((self.old ≡ []) × (self.new ≡ []))
+            (λ t. self.old ≡ step_of t.0 t.1.now ∷ self.new) }
+    {
+        let all = self.rows;
+        match all.split_first() {
+            None => None,
+            Some((row, rows)) => {
+                let bytes = self.bytes;
+                let text = &bytes[row.start..row.start + row.length as usize];
+                self.rows = rows;
+                Some((row.kind, text))
+            }
+        }
+    }
+
+    /// Takes the first step away if it is the name of a member.
+    pub(crate) fn take_key(&mut self) -> Option<&'a [u8]>
+        ensures value { MatchOption result
+            (IsNoKey self.old × (self.new ≡ self.old))
+            (λ text. self.old ≡ Key text.now ∷ self.new) }
+    {
+        let mut behind = self.again();
+        match behind.take_first() {
+            Some((StepKind::Key, text)) => {
+                *self = behind;
+                Some(text)
+            }
+            _ => None,
+        }
+    }
+
+    /// The first steps, so many, and those behind them.
+    pub(crate) fn split(&self, count: usize) -> (Part<'a>, Part<'a>)
+        requires fits { count ≤ length self.now }
+        ensures front { result.0 ≡ take count self.now }
+        ensures back { result.1 ≡ drop count self.now }
+    {
+        let all = self.rows;
+        let (front, back) = all.split_at(count);
+        (
+            Part {
+                rows: front,
+                bytes: self.bytes,
+            },
+            Part {
+                rows: back,
+                bytes: self.bytes,
+            },
+        )
+    }
+
+    /// How many steps the first value has, and whether the last of them has come.
+    pub(crate) fn value_size(&self) -> (usize, bool)
+        ensures size { result.0 ≡ size_of 0 self.now }
+        ensures ends { result.1 ≡ ends_in 0 self.now }
+        ensures fits { result.0 ≤ length self.now }
+    {
+        let total = self.len();
+        let mut left = self.again();
+        let mut depth: usize = 0;
+        'steps: while let Some((kind, _)) = left.take_first() {
+            depth = depth_behind(depth, kind);
+            if depth == 0 {
+                return (total - left.len(), true);
+            }
+        }
+        (total, false)
+    }
+}
+
+/// How many brackets are open behind a step of a kind, where so many are before it.
+fn depth_behind(depth: usize, kind: StepKind) -> usize
+    requires few { depth < 18446744073709551615 }
+    ensures value { (text : List ℕ) → result ≡ depth_after depth (step_of kind text) }
+    ensures fits { result ≤ depth + 1 }
+{
+    match kind {
+        StepKind::Open | StepKind::ListOpen => depth + 1,
+        StepKind::Close | StepKind::ListClose => { if depth == 0 { 0 } else { depth - 1 } }
+        _ => depth,
+    }
+}
+
+/// Whether a step of a kind closes a bracket.
+pub(crate) fn closes(kind: StepKind) -> bool
+    ensures value { (text : List ℕ) → result ≡ is_close (step_of kind text) }
+{
+    match kind {
+        StepKind::Close | StepKind::ListClose => true,
+        _ => false,
+    }
+}

@@ -1,0 +1,9 @@
+pub mod CallerLemmas
+pub mod IdLemmas
+pub mod KeptLemmas
+pub mod ListLemmas
+pub mod NodeLemmas
+pub mod RelationLemmas
+pub mod RowLemmas
+pub mod WayLemmas
+pub mod WithinLemmas

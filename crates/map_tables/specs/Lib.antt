@@ -1,0 +1,4 @@
+pub mod Draft
+pub mod Held
+pub mod Kept
+pub mod Rows
