@@ -7,3 +7,5 @@ pub mod AnswerLemmas
 pub mod LengthLemmas
 pub mod WalkLemmas
 pub mod ListLemmas
+pub mod PartLemmas
+pub mod CallerLemmas

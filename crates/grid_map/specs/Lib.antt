@@ -4,5 +4,7 @@ pub mod Lengths
 pub mod Costs
 pub mod Walks
 pub mod Space
+pub mod MapText
+pub mod Tile
 pub mod View
 pub mod Rules

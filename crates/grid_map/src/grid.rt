@@ -1,6 +1,6 @@
 //! A grid that a number makes.
 
-ghost use Rattle.std.specs.Prelude.{ℕ, ◌≡◌, ◌+◌, ◌*◌, ◌<◌, [], ◌∷◌, ◌++◌, Some, IfOk, OnOk, length};
+ghost use Rattle.std.specs.Prelude.{ℕ, ◌≡◌, ◌+◌, ◌*◌, ◌<◌, ◌≤◌, [], ◌∷◌, ◌++◌, Some, IfOk, OnOk, length};
 ghost use Rattle.std.specs.Prelude.{slice_get};
 ghost use Rattle.grid_map.specs.declared.plan.Plan.{Plan};
 ghost use Rattle.grid_map.specs.Plan.{IsPlan, plan_of, cells_of, end_of};
@@ -107,6 +107,7 @@ impl Grid {
     /// How many cells the grid has.
     pub(crate) fn cells(&self) -> u32
         ensures exact { result ≡ cells_of self.now }
+        ensures within { result ≤ 1000000 }
         ensures lawful { IsPlan self.now }
     {
         self.plan.cells()

@@ -80,14 +80,24 @@ impl Plan {
     }
 
     /// The number that the seed draws for the segment of this number.
-    #[tactic(auto, unfolding(crate::specs::Plan::draw_of))]
     fn draw(self, k: u32) -> u32
         requires lawful { IsPlan self }
         requires within { k < 2 * cells_of self }
         ensures exact { result ≡ draw_of self.seed k }
     {
-        let number = k as u64;
-        let mixed = (self.seed as u64 + 1) * (number + 1) * 40503 + number * number;
-        (mixed % 65536 / 16) as u32
+        draw(self.seed, k)
     }
+}
+
+/// The number that a seed draws for a number.
+#[tactic(auto, unfolding(crate::specs::Plan::draw_of))]
+pub(crate) fn draw(seed: u32, k: u32) -> u32
+    requires seed { seed ≤ 65535 }
+    requires within { k < 2000000 }
+    ensures exact { result ≡ draw_of seed k }
+    ensures fits { result ≤ 4095 }
+{
+    let number = k as u64;
+    let mixed = (seed as u64 + 1) * (number + 1) * 40503 + number * number;
+    (mixed % 65536 / 16) as u32
 }

@@ -4,20 +4,22 @@ use Rattle.std.proofs.lemmas.Bool.Decides.{nat_tests}
 use Rattle.std.specs.List.{find}
 use Rattle.route_run.specs.Words.Given.{Given}
 use Rattle.route_run.specs.Words.Rows.{keys_of}
-use Rattle.route_run.specs.Words.Value.{number_of, within, number_value, value_of, cut_word, number_in, place_in}
+use Rattle.route_run.specs.Words.Value.{number_of, within, number_value, value_of, cut_word, number_in, place_in, product_in}
 use Rattle.route_run.specs.Words.Reader.{key_of, row_for, given_by, given_for, given_in, given_cut, entry_of, entry_with, same_key, count_of, most_of, has_all, entries_after, whole_by, entries_of}
-use Rattle.route_run.specs.Words.Command.{lies_in, grid_by, grid_with, complete, command_with, command_by, command_named, command_of, code_with}
+use Rattle.route_run.specs.Words.Command.{lies_in, grid_by, grid_with, complete, command_with, command_by, command_named, command_of, code_with, make_with}
+use Rattle.route_run.proofs.KeyLemmas.{key-is}
 use Rattle.route_run.specs.Outcome.{IsCommandFit}
 use Rattle.route_run.specs.declared.words.command.Command.{Command}
 use Rattle.route_run.specs.declared.words.command.Command as Form
 use Rattle.route_run.specs.declared.words.command.GridCommand.{GridCommand}
+use Rattle.route_run.specs.declared.words.command.MakeCommand.{MakeCommand}
 use Rattle.route_run.specs.declared.words.rows.CommandName.{CommandName}
 use Rattle.route_run.specs.declared.words.rows.CommandName.TheVariants as Name
 use Rattle.route_run.specs.declared.words.rows.Form.{Form as Wanted}
 use Rattle.route_run.specs.declared.words.rows.Form.TheVariants as Want
 use Rattle.route_run.specs.declared.words.rows.KeyRow.{KeyRow}
 use Rattle.route_run.specs.declared.words.rows.Key.{Key}
-use Rattle.route_run.specs.declared.words.rows.Key.TheVariants.{Seed, Width, Height, From, To, Lookups, Profile}
+use Rattle.route_run.specs.declared.words.rows.Key.TheVariants.{Seed, Width, Height, From, To, What, Lookups, Profile}
 use Rattle.route_run.specs.declared.words.value.Place.{Place}
 use Rattle.route_run.specs.declared.words.value.Value.{Value}
 
@@ -25,6 +27,7 @@ use Rattle.route_run.specs.declared.words.value.Value.{Value}
 abbrev FitForm : Wanted → ℕ → Type 0
 FitForm (Want.Number low high) x = (low ≤ x) × (x ≤ high)
 FitForm Want.Place x = Unit {0}
+FitForm Want.Product x = Unit {0}
 FitForm Want.File x = Unit {0}
 FitForm Want.ProfileFile x = Unit {0}
 
@@ -61,6 +64,7 @@ value-fit : (form : Wanted) (text : List ℕ) (value : Value) → value_of form 
 unfolding value_of
 value-fit (Want.Number low high) text value e = number-fit low high (number_of text) value e
 value-fit Want.Place text value e = tt
+value-fit Want.Product text value e = tt
 value-fit Want.File text value e = tt
 value-fit Want.ProfileFile text value e = tt
 
@@ -137,58 +141,6 @@ whole-fit keys after (Ok all) entries fit e =
       | inr (gone, h) ↦ absurd (err-not_ok after entries h)
     ]
 
--- two keys that the test calls one are one
-key-is : (key wanted : Key) → same_key key wanted ≡ true → key ≡ wanted
-key-is Seed Seed e = refl
-key-is Seed Width e = cc
-key-is Seed Height e = cc
-key-is Seed From e = cc
-key-is Seed To e = cc
-key-is Seed Lookups e = cc
-key-is Seed Profile e = cc
-key-is Width Seed e = cc
-key-is Width Width e = refl
-key-is Width Height e = cc
-key-is Width From e = cc
-key-is Width To e = cc
-key-is Width Lookups e = cc
-key-is Width Profile e = cc
-key-is Height Seed e = cc
-key-is Height Width e = cc
-key-is Height Height e = refl
-key-is Height From e = cc
-key-is Height To e = cc
-key-is Height Lookups e = cc
-key-is Height Profile e = cc
-key-is From Seed e = cc
-key-is From Width e = cc
-key-is From Height e = cc
-key-is From From e = refl
-key-is From To e = cc
-key-is From Lookups e = cc
-key-is From Profile e = cc
-key-is To Seed e = cc
-key-is To Width e = cc
-key-is To Height e = cc
-key-is To From e = cc
-key-is To To e = refl
-key-is To Lookups e = cc
-key-is To Profile e = cc
-key-is Lookups Seed e = cc
-key-is Lookups Width e = cc
-key-is Lookups Height e = cc
-key-is Lookups From e = cc
-key-is Lookups To e = cc
-key-is Lookups Lookups e = refl
-key-is Lookups Profile e = cc
-key-is Profile Seed e = cc
-key-is Profile Width e = cc
-key-is Profile Height e = cc
-key-is Profile From e = cc
-key-is Profile To e = cc
-key-is Profile Lookups e = cc
-key-is Profile Profile e = refl
-
 -- the entry that is found fits the row of its key
 with-fit : (keys : List KeyRow) (key : Key) (entries : List Given) (entry : Given) → AllFit keys entries → entry_with key entries ≡ Some entry → FitRow (row_for keys key) (number_in entry.value)
 with-fit keys key [] entry all e = cc
@@ -251,11 +203,29 @@ grid_with-fit after (Some seed) (Some w) None from to command a b c e = cc
 grid_with-fit after (Some seed) (Some w) (Some h) None to command a b c e = cc
 grid_with-fit after (Some seed) (Some w) (Some h) (Some from) None command a b c e = cc
 
+-- what is made is made of a grid within its limits
+make_with-fit : (after : ℕ) (seed w h what : Option Given) (command : Command) →
+    ((e : Given) → seed ≡ Some e → number_in e.value ≤ 65535) →
+    ((e : Given) → w ≡ Some e → (1 ≤ number_in e.value) × (number_in e.value ≤ 1000)) →
+    ((e : Given) → h ≡ Some e → (1 ≤ number_in e.value) × (number_in e.value ≤ 1000)) →
+    make_with after seed w h what ≡ Ok command → IsCommandFit command
+make_with-fit after (Some seed) (Some w) (Some h) (Some what) command a b c e =
+    let made : MakeCommand = record { seed = number_in seed.value; w = number_in w.value; h = number_in h.value; what = product_in what.value } in
+    let same : Form.TheVariants.Make made ≡ command = cc in
+    let wide = b w refl in
+    let high = c h refl in
+    subst IsCommandFit same (record { seed = a seed refl; some_width = wide.0; width = wide.1; some_height = high.0; height = high.1 })
+make_with-fit after None w h what command a b c e = absurd (err-not_ok after command e)
+make_with-fit after (Some seed) None h what command a b c e = absurd (err-not_ok after command e)
+make_with-fit after (Some seed) (Some w) None what command a b c e = absurd (err-not_ok after command e)
+make_with-fit after (Some seed) (Some w) (Some h) None command a b c e = absurd (err-not_ok after command e)
+
 code_with-fit : (after : ℕ) (lookups profile : Option Given) (command : Command) → code_with after lookups profile ≡ Ok command → IsCommandFit command
 code_with-fit after (Some lookups) (Some profile) command e = cases command e
   where
     cases : (command : Command) → code_with after (Some lookups) (Some profile) ≡ Ok command → IsCommandFit command
     cases (Form.TheVariants.Grid made) e = cc
+    cases (Form.TheVariants.Make made) e = cc
     cases (Form.TheVariants.Code made) e = tt
 code_with-fit after None profile command e = absurd (err-not_ok after command e)
 code_with-fit after (Some lookups) None command e = absurd (err-not_ok after command e)
@@ -267,6 +237,10 @@ complete-fit Name.Grid entries after command all e =
     (entry_with From entries) (entry_with To entries) command
     (λ x is. (with-fit (keys_of Name.Grid) Seed entries x all is).1) (λ x is. with-fit (keys_of Name.Grid) Width entries x all is)
     (λ x is. with-fit (keys_of Name.Grid) Height entries x all is) e
+complete-fit Name.Make entries after command all e =
+    make_with-fit after (entry_with Seed entries) (entry_with Width entries) (entry_with Height entries) (entry_with What entries) command
+    (λ x is. (with-fit (keys_of Name.Make) Seed entries x all is).1) (λ x is. with-fit (keys_of Name.Make) Width entries x all is)
+    (λ x is. with-fit (keys_of Name.Make) Height entries x all is) e
 complete-fit Name.Code entries after command all e = code_with-fit after (entry_with Lookups entries) (entry_with Profile entries) command e
 
 with_words-fit : (name : CommandName) (texts : List (List ℕ)) (command : Command) → command_with name texts ≡ Ok command → IsCommandFit command

@@ -1,5 +1,7 @@
 pub mod CauseLemmas
 pub mod FitLemmas
+pub mod KeyLemmas
+pub mod SendLemmas
 pub mod PathLemmas
 pub mod StageLemmas
 pub mod TextLemmas

@@ -10,6 +10,7 @@ use Rattle.context_check.specs.Refusal.{refusal_of}
 use Rattle.item_list.specs.Answer.{answer_map}
 use Rattle.route_run.specs.Answer.Code.{IsCodeAnswer, listing_in, listing_by}
 use Rattle.route_run.specs.Answer.Grid.{IsGridAnswer}
+use Rattle.route_run.specs.Answer.Make.{made_by}
 use Rattle.route_run.specs.Ends.{Ends}
 use Rattle.route_run.specs.Outcome.{IsAnswer, IsCommandAnswer, HasReadCause, HasOpened, HasOpenedAll, file_words}
 use Rattle.route_run.specs.Stage.Profile.{TakesProfile, profile_in}
@@ -76,6 +77,7 @@ grid-cause command old new (Err WriteFault) is same = absurd is
 -- each command
 command-cause : (command : Command) (old new : FilesSeen) (r : Result (List ℕ) Status) → IsCommandAnswer command old new r → Cause (file_words (Ok command)) old new r
 command-cause (Form.TheVariants.Grid command) old new r is = grid-cause command old new r is.0 is.1
+command-cause (Form.TheVariants.Make command) old new r is = settles-cause (Ok (made_by command)) old new r (λ status none. cc) is
 command-cause (Form.TheVariants.Code command) old new r is = code-cause command old new r is
 
 -- ---- The program

@@ -2,3 +2,4 @@
 pub mod Code
 pub mod Grid
 pub mod Lines
+pub mod Make

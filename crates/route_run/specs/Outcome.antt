@@ -5,7 +5,9 @@ use Rattle.edge_io.specs.Files.{FilesSeen}
 use Rattle.edge_io.specs.Sink.{SinkSeen}
 use Rattle.route_run.specs.Answer.Code.{IsCodeAnswer}
 use Rattle.route_run.specs.Answer.Grid.{IsGridAnswer, IsFit}
+use Rattle.route_run.specs.Answer.Make.{made_by, make_plan}
 use Rattle.route_run.specs.Ends.{Ends}
+use Rattle.grid_map.specs.Plan.{IsPlan}
 use Rattle.item_list.specs.Answer.{answer_map}
 use Rattle.route_run.specs.Stage.Chain.{Settles, Then}
 use Rattle.route_run.specs.Words.Command.{command_of}
@@ -18,9 +20,10 @@ use Rattle.route_run.specs.declared.status.Status.TheVariants.{Done, Usage, Read
 abbrev pub command_in : List (List ℕ) → Result Command Status
 command_in words = answer_map (λ (c : Command). c) Usage (command_of words)
 
--- what is answered of a command; `grid` leaves the files untouched
+-- what is answered of a command; `grid` and `make` leave the files untouched
 abbrev pub IsCommandAnswer : Command → FilesSeen → FilesSeen → Result (List ℕ) Status → Type 0
 IsCommandAnswer (Form.TheVariants.Grid command) old new answer = IsGridAnswer command answer × (new ≡ old)
+IsCommandAnswer (Form.TheVariants.Make command) old new answer = Settles (Ok (made_by command)) old new answer
 IsCommandAnswer (Form.TheVariants.Code command) old new answer = IsCodeAnswer command old new answer
 
 -- what is answered to words over files: the words are read, and then their command is answered
@@ -50,6 +53,7 @@ HasCause status old new = new ≡ old
 -- the words of a command's files, in the order in which they are opened
 abbrev pub file_words : Result Command ℕ → List ℕ
 file_words (Ok (Form.TheVariants.Grid command)) = []
+file_words (Ok (Form.TheVariants.Make command)) = []
 file_words (Ok (Form.TheVariants.Code command)) = command.lookups.word ∷ command.profile.word ∷ []
 file_words (Err fault) = []
 
@@ -90,4 +94,5 @@ IsComplete status = Unit {0}
 -- the numbers of a command that was read are within their limits, and its places in its grid
 abbrev pub IsCommandFit : Command → Type 0
 IsCommandFit (Form.TheVariants.Grid command) = IsFit command
+IsCommandFit (Form.TheVariants.Make command) = IsPlan (make_plan command)
 IsCommandFit (Form.TheVariants.Code command) = Unit {0}

@@ -3,3 +3,4 @@
 pub(crate) mod code;
 pub(crate) mod grid;
 pub(crate) mod lines;
+pub(crate) mod make;

@@ -2,6 +2,7 @@
 #![tactic(auto)]
 
 mod answer;
+mod output;
 mod reply;
 mod sending;
 mod stage;

@@ -7,6 +7,7 @@ ghost use Rattle.route_run.specs.Status.{number_of_status};
 ghost use Rattle.route_run.specs.Words.Help.{told_of};
 ghost use Rattle.route_run.specs.Words.Refusals.{texts_of};
 
+use crate::output::Output;
 use crate::sending::send;
 use crate::status::Status;
 use crate::top::run;
@@ -40,7 +41,7 @@ fn reply<F: Files, O: Sink>(alloc: Global, words: &[String], files: &mut F, out:
         (reach (F.seen files.new) (O.seen out.new)) result }
 {
     match told_text(alloc, words) {
-        Ok(Some(text)) => send(out, Ok(text)),
+        Ok(Some(text)) => send(out, Ok(Output::Bytes(text))),
         Ok(None) => run(alloc, words, files, out),
         Err(_) => Status::NoMemory,
     }

@@ -1,6 +1,6 @@
 //! How a command ended.
 
-ghost use Rattle.std.specs.Prelude.{◌≡◌, ◌++◌, IfOk, OnOk};
+ghost use Rattle.std.specs.Prelude.{◌≡◌, ◌++◌, IfOk};
 ghost use Rattle.route_run.specs.Status.{number_of_status, line_of, word_front};
 
 use context_check::CheckError;

@@ -3,7 +3,7 @@
 ghost use Rattle.std.specs.Prelude.{◌≡◌, Ok, IfOk};
 ghost use Rattle.edge_io.specs.Faults.{CountRose};
 ghost use Rattle.item_list.specs.Answer.{Answers};
-ghost use Rattle.route_run.specs.Ends.{bytes_in};
+ghost use Rattle.route_run.specs.Ends.{output_in};
 ghost use Rattle.route_run.specs.Outcome.{IsOutcome, reach, IsAnswer, IsCommandAnswer, IsCommandFit, command_in, HasCause, HasReadCause, IsComplete, file_words};
 ghost use Rattle.route_run.specs.Words.Command.{command_of};
 ghost use Rattle.route_run.specs.Words.Refusals.{texts_of};
@@ -11,7 +11,9 @@ ghost use Rattle.route_run.specs.declared.words.command.Command.{Command as TheC
 
 use crate::answer::code::code_answer;
 use crate::answer::grid::grid_answer;
-use crate::sending::send;
+use crate::answer::make::make_answer;
+use crate::output::Output;
+use crate::sending::{at_hand, send};
 use crate::status::Status;
 use crate::words::command::{Command, command_of};
 use crate::words::reader::Refusal;
@@ -33,9 +35,9 @@ pub fn run<F: Files, O: Sink>(alloc: Global, words: &[String], files: &mut F, ou
     send(out, answer)
 }
 
-/// What is answered to the words: bytes, or a status.
-fn answer<F: Files>(alloc: Global, words: &[String], files: &mut F) -> Result<Vec<u8>, Status>
-    ensures exact { IsAnswer (texts_of words.now) (F.seen files.old) (F.seen files.new) (bytes_in result) }
+/// What is answered to the words: something to write, or a status.
+fn answer<F: Files>(alloc: Global, words: &[String], files: &mut F) -> Result<Output, Status>
+    ensures exact { IsAnswer (texts_of words.now) (F.seen files.old) (F.seen files.new) (output_in result) }
 {
     let command = command_in(alloc, words)?;
     command_answer(alloc, &command, files)
@@ -53,17 +55,18 @@ fn command_in(alloc: Global, words: &[String]) -> Result<Command<'_>, Status>
     }
 }
 
-/// What is answered of a command: bytes, or a status.
+/// What is answered of a command: something to write, or a status.
 fn command_answer<F: Files>(
     alloc: Global,
     command: &Command,
     files: &mut F,
-) -> Result<Vec<u8>, Status>
+) -> Result<Output, Status>
     requires fit { IsCommandFit command.now }
-    ensures exact { IsCommandAnswer command.now (F.seen files.old) (F.seen files.new) (bytes_in result) }
+    ensures exact { IsCommandAnswer command.now (F.seen files.old) (F.seen files.new) (output_in result) }
 {
     match command {
-        Command::Grid(command) => grid_answer(alloc, command),
-        Command::Code(command) => code_answer(alloc, command, files),
+        Command::Grid(command) => at_hand(grid_answer(alloc, command)),
+        Command::Make(command) => make_answer(alloc, command),
+        Command::Code(command) => at_hand(code_answer(alloc, command, files)),
     }
 }

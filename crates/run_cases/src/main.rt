@@ -47,6 +47,7 @@ fn answer(alloc: Global, case: &Case, world: &mut World) -> Result<String, Alloc
             String::from_str(alloc, "set")
         }
         b"run" => world.run(case),
+        b"size" => world.size(case),
         b"edge" => world.edge(case),
         b"out_of_memory" => world::no_memory(alloc),
         _ => String::from_str(alloc, "no such call"),

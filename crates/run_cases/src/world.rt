@@ -11,6 +11,9 @@ use std::alloc::{AllocError, Global};
 /// The number of a call that no row makes.
 const NEVER: u64 = 1_000_000;
 
+/// The most bytes that an output holds.
+const MOST_ROOM: usize = 3_000_000;
+
 /// The files, the most bytes of a read and the reading call that fails; the room of the output, the most bytes of a
 /// write and the writing call that fails.
 #[derive(Drop)]
@@ -34,7 +37,7 @@ impl World {
             alloc,
             reads: 4096,
             failing_read: NEVER,
-            room: 100_000,
+            room: MOST_ROOM,
             writes: 4096,
             failing_write: NEVER,
         }
@@ -55,7 +58,7 @@ impl World {
 
     /// Sets the room of the output, the most bytes of a write, and the call that fails.
     pub(crate) fn write_by(&mut self, room: u64, piece: u64, failing: u64) {
-        self.room = room.min(100_000) as usize;
+        self.room = room.min(MOST_ROOM as u64) as usize;
         self.writes = piece.clamp(1, 65_536) as usize;
         self.failing_write = failing;
     }
@@ -102,6 +105,34 @@ impl World {
         )
     }
 
+    /// What the top call comes to where it writes much: number and line of the status, how many bytes are written, their first
+    /// four and their sum.
+    pub(crate) fn size(&self, case: &Case) -> Result<String, AllocError> {
+        let mut files = self.mem_files()?;
+        let mut out = self.mem_sink()?;
+        let words = self.words(case)?;
+        let status = run(self.alloc, words.as_slice(), &mut files, &mut out);
+        let line = status.line(self.alloc)?;
+        let line = str::from_utf8(line.as_slice()).unwrap_or("(no text)");
+        let bytes = out.bytes();
+        let first = [
+            byte_at(bytes, 0),
+            byte_at(bytes, 1),
+            byte_at(bytes, 2),
+            byte_at(bytes, 3),
+        ];
+        format!(in self.alloc;
+            "{} [{line}] {} {} {} {} {} {}",
+            status.number(),
+            bytes.len(),
+            first[0],
+            first[1],
+            first[2],
+            first[3],
+            sum_of(bytes)
+        )
+    }
+
     /// What a command line comes to: the exit status, what is told beside the output, and the output.
     pub(crate) fn edge(&self, case: &Case) -> Result<String, AllocError> {
         let mut files = self.mem_files()?;
@@ -120,4 +151,21 @@ pub(crate) fn no_memory(alloc: Global) -> Result<String, AllocError> {
     let line = Status::NoMemory.line(alloc)?;
     let line = str::from_utf8(line.as_slice()).unwrap_or("(no text)");
     format!(in alloc; "{} [{line}]", Status::NoMemory.number())
+}
+
+/// The byte at a place, 0 where there is none.
+fn byte_at(bytes: &[u8], place: usize) -> u8 {
+    match bytes.get(place) {
+        Some(byte) => *byte,
+        None => 0,
+    }
+}
+
+/// The sum of bytes.
+fn sum_of(bytes: &[u8]) -> u64 {
+    let mut sum: u64 = 0;
+    for byte in bytes {
+        sum = sum.saturating_add(u64::from(*byte));
+    }
+    sum
 }

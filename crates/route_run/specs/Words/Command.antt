@@ -4,10 +4,10 @@ use Rattle.std.specs.Prelude.{ℕ, ◌+◌, Bool, cond, ◌&&◌, nat_lt, Option
 use Rattle.route_run.specs.Words.Given.{Given, Named}
 use Rattle.route_run.specs.Words.Reader.{entries_of, entry_with}
 use Rattle.route_run.specs.Words.Rows.{command_name, commands, keys_of}
-use Rattle.route_run.specs.Words.Value.{same_text, number_in, place_in}
+use Rattle.route_run.specs.Words.Value.{same_text, number_in, place_in, product_in}
 use Rattle.route_run.specs.declared.words.rows.CommandName.{CommandName}
-use Rattle.route_run.specs.declared.words.rows.CommandName.TheVariants.{Grid, Code}
-use Rattle.route_run.specs.declared.words.rows.Key.TheVariants.{Seed, Width, Height, From, To, Lookups, Profile}
+use Rattle.route_run.specs.declared.words.rows.CommandName.TheVariants.{Grid, Make, Code}
+use Rattle.route_run.specs.declared.words.rows.Key.TheVariants.{Seed, Width, Height, From, To, What, Lookups, Profile}
 use Rattle.route_run.specs.declared.words.command.Command.{Command}
 use Rattle.route_run.specs.declared.words.command.Command as Form
 use Rattle.route_run.specs.declared.words.value.Place.{Place}
@@ -31,6 +31,17 @@ grid_with after (Some seed) (Some w) (Some h) (Some from) (Some to) =
     grid_by (number_in seed.value) (number_in w.value) (number_in h.value) from to
 grid_with after seed w h from to = Err after
 
+-- the command of what is to be made of a grid, or the place after the last word where one is missing
+abbrev pub make_with : ℕ → Option Given → Option Given → Option Given → Option Given → Result Command ℕ
+make_with after (Some seed) (Some w) (Some h) (Some what) =
+    Ok (Form.TheVariants.Make (record {
+      seed = number_in seed.value;
+      w = number_in w.value;
+      h = number_in h.value;
+      what = product_in what.value;
+    }))
+make_with after seed w h what = Err after
+
 -- the file that an entry names
 abbrev pub file_in : Given → Named
 file_in entry = record { name = entry.text; word = entry.word }
@@ -46,6 +57,8 @@ unfoldable pub complete : CommandName → List Given → ℕ → Result Command 
 complete Grid entries after =
     grid_with after (entry_with Seed entries) (entry_with Width entries) (entry_with Height entries)
     (entry_with From entries) (entry_with To entries)
+complete Make entries after =
+    make_with after (entry_with Seed entries) (entry_with Width entries) (entry_with Height entries) (entry_with What entries)
 complete Code entries after = code_with after (entry_with Lookups entries) (entry_with Profile entries)
 
 -- the command of this name and the words after it

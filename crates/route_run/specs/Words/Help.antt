@@ -3,7 +3,7 @@ use Rattle.std.specs.Prelude.{ℕ, ◌==◌, cond, nat_eq, List, [], ◌∷◌, 
 use lib.Pointwise.{pointwise}
 use Rattle.route_run.specs.Words.Rows.{key_name, command_name, keys_of, about_of, commands}
 use Rattle.route_run.specs.declared.words.rows.Form.{Form}
-use Rattle.route_run.specs.declared.words.rows.Form.TheVariants.{Number, Place, File, ProfileFile}
+use Rattle.route_run.specs.declared.words.rows.Form.TheVariants.{Number, Place, Product, File, ProfileFile}
 use Rattle.route_run.specs.declared.words.rows.KeyRow.{KeyRow}
 use Rattle.route_run.specs.declared.words.rows.CommandName.{CommandName}
 
@@ -11,6 +11,7 @@ use Rattle.route_run.specs.declared.words.rows.CommandName.{CommandName}
 abbrev pub form_text : Form → List ℕ
 form_text (Number low high) = decimal low ++ (codes ".." ++ decimal high)
 form_text Place = codes "X,Y"
+form_text Product = codes "map|hgt"
 form_text File = codes "FILE"
 form_text ProfileFile = codes "FILE"
 

@@ -5,7 +5,7 @@ use Rattle.route_run.specs.Words.Given.{Given}
 use Rattle.route_run.specs.Words.Rows.{key_name}
 use Rattle.route_run.specs.Words.Value.{same_text, value_of, cut_word}
 use Rattle.route_run.specs.declared.words.rows.Key.{Key}
-use Rattle.route_run.specs.declared.words.rows.Key.TheVariants.{Seed, Width, Height, From, To, Lookups, Profile}
+use Rattle.route_run.specs.declared.words.rows.Key.TheVariants.{Seed, Width, Height, From, To, What, Lookups, Profile}
 use Rattle.route_run.specs.declared.words.rows.KeyRow.{KeyRow}
 use Rattle.route_run.specs.declared.words.value.Value.{Value}
 
@@ -16,13 +16,14 @@ same_key Width Width = true
 same_key Height Height = true
 same_key From From = true
 same_key To To = true
+same_key What What = true
 same_key Lookups Lookups = true
 same_key Profile Profile = true
 same_key a b = false
 
 -- all keys
 abbrev pub all_keys : List Key
-all_keys = Seed ∷ Width ∷ Height ∷ From ∷ To ∷ Lookups ∷ Profile ∷ []
+all_keys = Seed ∷ Width ∷ Height ∷ From ∷ To ∷ What ∷ Lookups ∷ Profile ∷ []
 
 -- the key that a text names
 unfoldable pub key_of : List ℕ → Option Key

@@ -1,14 +1,16 @@
--- The values of keys: numbers, places and names of files. This project's own rule.
+-- The values of keys: numbers, places, what is made, and names of files. This project's own rule.
 use Rattle.std.specs.List.{before_first, after_first, position_or_len}
-use Rattle.std.specs.Prelude.{ℕ, ◌+◌, ◌-◌, ◌*◌, ◌==◌, Bool, true, false, cond, ◌&&◌, nat_lt, nat_le, nat_eq, Option, Some, None, List, [], ◌∷◌, length, take, drop, position}
+use Rattle.std.specs.Prelude.{ℕ, ◌+◌, ◌-◌, ◌*◌, ◌==◌, Bool, true, false, cond, ◌&&◌, nat_lt, nat_le, nat_eq, Option, Some, None, List, [], ◌∷◌, length, take, drop, position, codes}
 use lib.Pointwise.{pointwise}
 use Rattle.item_list.specs.Bytes.{is_digit}
 use Rattle.route_run.specs.Words.FileNames.{is_file_name, is_profile_file}
 use Rattle.route_run.specs.declared.words.rows.Form.{Form}
 use Rattle.route_run.specs.declared.words.rows.Form.TheVariants as Wanted
 use Rattle.route_run.specs.declared.words.value.Value.{Value}
-use Rattle.route_run.specs.declared.words.value.Value.TheVariants.{Number, At, Named}
+use Rattle.route_run.specs.declared.words.value.Value.TheVariants.{Number, At, Made, Named}
 use Rattle.route_run.specs.declared.words.value.Place.{Place}
+use Rattle.route_run.specs.declared.words.value.Product.{Product}
+use Rattle.route_run.specs.declared.words.value.Product.TheVariants.{Map, Hgt}
 
 -- two texts have the same bytes
 abbrev pub same_text : List ℕ → List ℕ → Bool
@@ -63,6 +65,15 @@ abbrev pub place_value : Option Place → Option Value
 place_value None = None
 place_value (Some place) = Some (At place)
 
+-- what a text names to be made
+unfoldable pub product_of : List ℕ → Option Product
+product_of text = cond (same_text text (codes "map")) (Some Map) (cond (same_text text (codes "hgt")) (Some Hgt) None)
+
+-- what is made as a value
+abbrev pub product_value : Option Product → Option Value
+product_value None = None
+product_value (Some product) = Some (Made product)
+
 -- a name of a file as a value
 abbrev pub file_value : Bool → Option Value
 file_value false = None
@@ -72,6 +83,7 @@ file_value true = Some Named
 unfoldable pub value_of : Form → List ℕ → Option Value
 value_of (Wanted.Number low high) text = number_value (within low high (number_of text))
 value_of Wanted.Place text = place_value (place_of text)
+value_of Wanted.Product text = product_value (product_of text)
 value_of Wanted.File text = file_value (is_file_name text)
 value_of Wanted.ProfileFile text = file_value (is_profile_file text)
 
@@ -94,3 +106,8 @@ number_in value = 0
 abbrev pub place_in : Value → Place
 place_in (At place) = place
 place_in value = record { x = 0; y = 0 }
+
+-- what is made by a value
+abbrev pub product_in : Value → Product
+product_in (Made product) = product
+product_in value = Map

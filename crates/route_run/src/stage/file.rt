@@ -1,6 +1,6 @@
 //! A file that a word names, taken in as a whole.
 
-ghost use Rattle.std.specs.Prelude.{◌≤◌, Vec, ℕ, IfOk, length};
+ghost use Rattle.std.specs.Prelude.{◌≤◌, IfOk, length};
 ghost use Rattle.route_run.specs.Ends.{bytes_in};
 ghost use Rattle.route_run.specs.Stage.File.{TakesFile};
 

@@ -8,7 +8,7 @@ ghost use Rattle.route_run.specs.declared.words.rows.CommandName.{CommandName};
 use crate::words::entry::{Entry, FileWord};
 use crate::words::reader::{Refusal, entries_of, entry_with};
 use crate::words::rows::{COMMANDS, CommandName, Key};
-use crate::words::value::Place;
+use crate::words::value::{Place, Product};
 use std::alloc::Global;
 
 /// The command `grid`: the grid of a seed with `w` cells in a row and `h` rows, and two places in it.
@@ -19,6 +19,15 @@ pub struct GridCommand {
     pub seed: u64,
     pub w: u64,
     pub h: u64,
+}
+
+/// The command `make`: the grid of a seed with `w` cells in a row and `h` rows, and what is made of it.
+#[derive(Clone, Copy)]
+pub struct MakeCommand {
+    pub seed: u64,
+    pub w: u64,
+    pub h: u64,
+    pub what: Product,
 }
 
 /// The command `code`: the files of the tag table and of the profile.
@@ -32,6 +41,7 @@ pub struct CodeCommand<'a> {
 #[derive(Drop)]
 pub enum Command<'a> {
     Grid(GridCommand),
+    Make(MakeCommand),
     Code(CodeCommand<'a>),
 }
 
@@ -85,6 +95,7 @@ fn complete<'a>(command: CommandName, entries: &[Entry<'a>], after: u64) -> Resu
 {
     match command {
         CommandName::Grid => complete_grid(entries, after),
+        CommandName::Make => complete_make(entries, after),
         CommandName::Code => complete_code(entries, after),
     }
 }
@@ -118,6 +129,23 @@ fn grid_by<'a>(seed: u64, w: u64, h: u64, from: &Entry, to: &Entry) -> Result<Co
         seed,
         w,
         h,
+    }))
+}
+
+/// The command `make` of these entries, before the word at the place `after`.
+#[tactic(auto, unfolding(crate::specs::Words::Command::complete))]
+fn complete_make<'a>(entries: &[Entry<'a>], after: u64) -> Result<Command<'a>, u64>
+    ensures exact { result ≡ complete CommandName.Make entries.now after }
+{
+    let seed = entry_with(entries, Key::Seed).ok_or(after)?;
+    let w = entry_with(entries, Key::Width).ok_or(after)?;
+    let h = entry_with(entries, Key::Height).ok_or(after)?;
+    let what = entry_with(entries, Key::What).ok_or(after)?;
+    Ok(Command::Make(MakeCommand {
+        seed: seed.number(),
+        w: w.number(),
+        h: h.number(),
+        what: what.product(),
     }))
 }
 

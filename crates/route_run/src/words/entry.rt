@@ -1,12 +1,12 @@
 //! What one word of the command line after the first gives.
 
-ghost use Rattle.std.specs.Prelude.{◌≡◌, option_map};
+ghost use Rattle.std.specs.Prelude.{◌≡◌};
 ghost use Rattle.route_run.specs.Words.Command.{file_in};
 ghost use Rattle.route_run.specs.Words.Reader.{entry_of, key_of, row_for, same_key};
-ghost use Rattle.route_run.specs.Words.Value.{number_in, place_in};
+ghost use Rattle.route_run.specs.Words.Value.{number_in, place_in, product_in};
 
 use crate::words::rows::{Key, KeyRow};
-use crate::words::value::{Place, Value, cut_word, value_of};
+use crate::words::value::{Place, Product, Value, cut_word, value_of};
 use std::marker::Model;
 
 /// A key with its value and the text of that, and the place of the word.
@@ -99,6 +99,16 @@ impl<'a> Entry<'a> {
         }
     }
 
+    /// What a value that says so asks to be made.
+    pub fn product(&self) -> Product
+        ensures exact { result ≡ product_in self.now.value }
+    {
+        match self.value {
+            Value::Made(product) => product,
+            _ => Product::Map,
+        }
+    }
+
     /// The file that its text names.
     pub fn file(&self) -> FileWord<'a>
         ensures exact { result ≡ file_in self.now }
@@ -111,12 +121,13 @@ impl<'a> Entry<'a> {
 }
 
 /// All keys.
-const ALL_KEYS: [Key; 7] = [
+const ALL_KEYS: [Key; 8] = [
     Key::Seed,
     Key::Width,
     Key::Height,
     Key::From,
     Key::To,
+    Key::What,
     Key::Lookups,
     Key::Profile,
 ];

@@ -1,6 +1,6 @@
 //! What the program tells of itself, from the same rows that are read.
 
-ghost use Rattle.std.specs.Prelude.{◌≡◌, ◌++◌, IfOk, OnOk, option_map, Vec, ℕ};
+ghost use Rattle.std.specs.Prelude.{◌≡◌, ◌++◌, IfOk, OnOk, Vec, ℕ};
 ghost use Rattle.std.specs.declared.alloc.Global.{Global as TheGlobal};
 ghost use Rattle.item_list.specs.Answer.{GivesAny};
 ghost use Rattle.route_run.specs.Words.Help.{about_text, call_text, command_text, commands_text, form_text, help_text, key_text, keys_text, told_by, told_of};
@@ -118,6 +118,7 @@ fn append_form(text: &mut Vec<u8>, form: Form) -> Result<(), AllocError>
             append_number(text, high)
         }
         Form::Place => append_bytes(text, b"X,Y"),
+        Form::Product => append_bytes(text, b"map|hgt"),
         Form::File | Form::ProfileFile => append_bytes(text, b"FILE"),
     }
 }

@@ -11,6 +11,7 @@ pub enum Key {
     Height,
     From,
     To,
+    What,
     Lookups,
     Profile,
 }
@@ -22,6 +23,8 @@ pub enum Form {
     Number { low: u64, high: u64 },
     /// Two such numbers, parted by a comma.
     Place,
+    /// What is made, by its name.
+    Product,
     /// The name of a file.
     File,
     /// The name of a profile's file.
@@ -41,11 +44,12 @@ pub struct KeyRow {
 #[derive(Clone, Copy)]
 pub enum CommandName {
     Grid,
+    Make,
     Code,
 }
 
 /// The commands that are built.
-pub const COMMANDS: [CommandName; 2] = [CommandName::Grid, CommandName::Code];
+pub const COMMANDS: [CommandName; 3] = [CommandName::Grid, CommandName::Make, CommandName::Code];
 
 /// The keys of the command `grid`.
 const GRID_KEYS: [KeyRow; 5] = [
@@ -84,6 +88,37 @@ const GRID_KEYS: [KeyRow; 5] = [
     },
 ];
 
+/// The keys of the command `make`.
+const MAKE_KEYS: [KeyRow; 4] = [
+    KeyRow {
+        form: Form::Number {
+            low: 0,
+            high: 65535,
+        },
+        least: 1,
+        most: 1,
+        key: Key::Seed,
+    },
+    KeyRow {
+        form: Form::Number { low: 1, high: 1000 },
+        least: 1,
+        most: 1,
+        key: Key::Width,
+    },
+    KeyRow {
+        form: Form::Number { low: 1, high: 1000 },
+        least: 1,
+        most: 1,
+        key: Key::Height,
+    },
+    KeyRow {
+        form: Form::Product,
+        least: 1,
+        most: 1,
+        key: Key::What,
+    },
+];
+
 /// The keys of the command `code`.
 const CODE_KEYS: [KeyRow; 2] = [
     KeyRow {
@@ -112,6 +147,7 @@ impl Key {
             Key::Height => "h",
             Key::From => "from",
             Key::To => "to",
+            Key::What => "what",
             Key::Lookups => "lookups",
             Key::Profile => "profile",
         }
@@ -126,6 +162,7 @@ impl CommandName {
     {
         match self {
             CommandName::Grid => "grid",
+            CommandName::Make => "make",
             CommandName::Code => "code",
         }
     }
@@ -137,6 +174,7 @@ impl CommandName {
     {
         match self {
             CommandName::Grid => &GRID_KEYS,
+            CommandName::Make => &MAKE_KEYS,
             CommandName::Code => &CODE_KEYS,
         }
     }
@@ -148,6 +186,8 @@ impl CommandName {
     {
         match self {
             CommandName::Grid => "prints a shortest walk across the grid of w by h cells of a seed",
+            CommandName::Make =>
+                "writes the map of the grid of w by h cells of a seed, or the tile of heights of the seed",
             CommandName::Code => "prints the flat code of a profile under a tag table",
         }
     }

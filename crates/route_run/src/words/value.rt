@@ -1,8 +1,8 @@
-//! The values of keys: numbers, places and names of files.
+//! The values of keys: numbers, places, what is made, and names of files.
 
 ghost use Rattle.std.specs.Prelude.{◌≡◌, option_map};
 ghost use Rattle.route_run.specs.Words.Refusals.{texts_in};
-ghost use Rattle.route_run.specs.Words.Value.{cut_word, first_place, number_of, number_value, place_of, place_value, value_of, within};
+ghost use Rattle.route_run.specs.Words.Value.{cut_word, first_place, number_of, number_value, place_of, place_value, product_of, product_value, value_of, within};
 
 use crate::words::file_names::is_profile_file;
 use crate::words::rows::Form;
@@ -15,11 +15,19 @@ pub struct Place {
     pub y: u64,
 }
 
+/// What the command `make` makes.
+#[derive(Clone, Copy)]
+pub enum Product {
+    Map,
+    Hgt,
+}
+
 /// The value of a key; a file's name is its text.
 #[derive(Clone, Copy)]
 pub enum Value {
     Number(u64),
     At(Place),
+    Made(Product),
     Named,
 }
 
@@ -31,6 +39,7 @@ pub fn value_of(form: Form, text: &[u8]) -> Option<Value>
     match form {
         Form::Number { low, high } => number_value(text, low, high),
         Form::Place => place_value(text),
+        Form::Product => product_value(text),
         Form::File if !text.is_empty() => Some(Value::Named),
         Form::ProfileFile if is_profile_file(text) => Some(Value::Named),
         Form::File | Form::ProfileFile => None,
@@ -98,4 +107,26 @@ fn place_value(text: &[u8]) -> Option<Value>
 {
     let place = place_of(text)?;
     Some(Value::At(place))
+}
+
+/// What a text names to be made.
+#[tactic(auto, unfolding(crate::specs::Words::Value::product_of))]
+fn product_of(text: &[u8]) -> Option<Product>
+    ensures exact { result ≡ product_of text.now }
+{
+    if text == b"map".as_slice() {
+        Some(Product::Map)
+    } else if text == b"hgt".as_slice() {
+        Some(Product::Hgt)
+    } else {
+        None
+    }
+}
+
+/// What a text names to be made, as a value.
+fn product_value(text: &[u8]) -> Option<Value>
+    ensures exact { result ≡ product_value (product_of text.now) }
+{
+    let product = product_of(text)?;
+    Some(Value::Made(product))
 }

@@ -1,9 +1,9 @@
 use Rattle.route_run.proofs.RunLemmas.{ends-cause}
-use Rattle.route_run.specs.Ends.{bytes_in}
+use Rattle.route_run.specs.Ends.{output_in}
 use Rattle.route_run.specs.Words.Refusals.{texts_of}
 use Rattle.route_run.proofs.top.run.Goals as goal
 
 pub returns-clause-read_cause : goal.returns-clause-read_cause
 returns-clause-read_cause g c =
     ends-cause (texts_of c.args.words.now) (g.F.Files.seen c.args.files.now) (g.F.Files.seen c.answer-answer.new.files) (g.O.Sink.seen c.args.out.now) (g.O.Sink.seen c.send.new.out)
-    (bytes_in c.answer-answer.result) c.send.result c.answer-answer.ensures.exact c.send.ensures.ends
+    (output_in c.answer-answer.result) c.send.result c.answer-answer.ensures.exact c.send.ensures.ends

@@ -1,0 +1,48 @@
+//! What the command `make` answers.
+
+ghost use Rattle.std.specs.Prelude.{◌≡◌, ℕ, List, Ok, IfOk};
+ghost use Rattle.grid_map.specs.Plan.{IsPlan};
+ghost use Rattle.item_list.specs.Answer.{Answers};
+ghost use Rattle.route_run.specs.Answer.Make.{made_by, make_plan};
+ghost use Rattle.route_run.specs.Ends.{output_bytes, output_in};
+
+use crate::output::{MapOutput, Output};
+use crate::status::Status;
+use crate::words::command::MakeCommand;
+use crate::words::value::Product;
+use grid_map::{Grid, hgt_bytes};
+use std::alloc::{AllocError, Global};
+
+/// The map or the tile that the command asks for; all memory is taken before anything is written.
+pub fn make_answer(alloc: Global, command: &MakeCommand) -> Result<Output, Status>
+    requires fit { IsPlan (make_plan command.now) }
+    ensures exact { Answers (λ (b : List ℕ). b) (Ok (made_by command.now)) Status.NoMemory (output_in result) }
+{
+    match made_by(alloc, command) {
+        Ok(output) => Ok(output),
+        Err(_) => Err(Status::NoMemory),
+    }
+}
+
+/// The map or the tile.
+fn made_by(alloc: Global, command: &MakeCommand) -> Result<Output, AllocError>
+    requires fit { IsPlan (make_plan command.now) }
+    ensures exact { IfOk result (λ output. output_bytes output ≡ made_by command.now) }
+{
+    match command.what {
+        Product::Map => {
+            let grid = Grid::made(
+                alloc,
+                command.seed as u32,
+                command.w as u32,
+                command.h as u32,
+            )?;
+            let piece = Vec::with_capacity(alloc, 65_536)?;
+            Ok(Output::Map(MapOutput { grid, piece }))
+        }
+        Product::Hgt => {
+            let bytes = hgt_bytes(alloc, command.seed as u32)?;
+            Ok(Output::Bytes(bytes))
+        }
+    }
+}
