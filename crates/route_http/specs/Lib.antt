@@ -1,0 +1,9 @@
+pub mod Asked
+pub mod Bars
+pub mod Key
+pub mod Lines
+pub mod List
+pub mod Parts
+pub mod Request
+pub mod Seen
+pub mod Value

@@ -1,0 +1,28 @@
+//! What a query asks for.
+
+use crate::form::Form;
+use context_check::Overrides;
+use geo_int::Spot;
+use item_list::{Items, Name};
+use nogo_areas::Circle;
+
+/// What a query asks for.
+#[derive(Drop)]
+pub struct Request {
+    /// The waypoints, two or more.
+    pub waypoints: Items<Spot>,
+    /// The circles that the track may not touch.
+    pub circles: Items<Circle>,
+    /// The name of the profile.
+    pub profile: Name,
+    /// Which alternative, from 0.
+    pub alternative: u8,
+    /// The form of the reply.
+    pub form: Form,
+    /// The most labels.
+    pub labels: u64,
+    /// The overrides of global names.
+    pub overrides: Overrides,
+    /// Whether the search steps from junction to junction.
+    pub runs: bool,
+}

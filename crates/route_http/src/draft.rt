@@ -1,0 +1,267 @@
+//! What the pairs of a query so far say.
+ghost use Rattle.std.specs.Prelude.{◌≡◌};
+ghost use Rattle.route_http.specs.Parts.{override_more};
+ghost use Rattle.item_list.specs.Answer.{Answers};
+ghost use Rattle.route_http.specs.declared.error.RequestError.TheVariants.{NoMemory};
+ghost use Rattle.route_http.specs.declared.key.Key.TheVariants as key;
+
+use crate::circles::circles_of;
+use crate::error::RequestError;
+use crate::form::Form;
+use crate::key::Key;
+use crate::spots::waypoints_of;
+use crate::value::{digit_of, form_of, labels_of, runs_of};
+use crate::variable::{is_variable, variable_of};
+use context_check::Overrides;
+use fixed_num::Num;
+use geo_int::Spot;
+use item_list::{Items, Name, bytes_of};
+use nogo_areas::Circle;
+use std::alloc::Global;
+
+/// The values of the keys that came, and the overrides that came.
+#[derive(Drop)]
+pub(crate) struct Draft {
+    pub(crate) waypoints: Option<Items<Spot>>,
+    pub(crate) circles: Option<Items<Circle>>,
+    pub(crate) profile: Option<Name>,
+    pub(crate) alternative: Option<u8>,
+    pub(crate) form: Option<Form>,
+    pub(crate) labels: Option<u64>,
+    pub(crate) overrides: Overrides,
+    pub(crate) runs: Option<bool>,
+}
+
+impl Draft {
+    ghost use Rattle.route_http.specs.Parts.{no_parts, take_pair, take_keyed};
+    ghost use Rattle.route_http.specs.Seen.{parts_seen};
+
+    /// No pair came.
+    pub(crate) fn new(alloc: Global) -> Draft
+        ensures value { parts_seen result ≡ no_parts }
+    {
+        Draft {
+            waypoints: None,
+            circles: None,
+            profile: None,
+            alternative: None,
+            form: None,
+            labels: None,
+            overrides: Overrides::new(alloc),
+            runs: None,
+        }
+    }
+
+    /// Takes the pair at a place.
+    #[tactic(auto, unfolding(crate::specs::Parts::take_pair))]
+    pub(crate) fn take(
+        &mut self,
+        alloc: Global,
+        place: u64,
+        name: &[u8],
+        value: &[u8],
+    ) -> Result<(), RequestError>
+        ensures exact { let taken = take_pair place (name.now, value.now) (parts_seen self.old) in
+            Answers (λ _. parts_seen self.new) taken NoMemory result }
+    {
+        match Key::of(name) {
+            None => Err(RequestError::UnknownKey { place }),
+            Some(key) => self.take_keyed(alloc, key, name, value),
+        }
+    }
+
+    /// Takes a pair of a key.
+    fn take_keyed(
+        &mut self,
+        alloc: Global,
+        key: Key,
+        name: &[u8],
+        value: &[u8],
+    ) -> Result<(), RequestError>
+        ensures exact { let taken = take_keyed key name.now value.now (parts_seen self.old) in
+            Answers (λ _. parts_seen self.new) taken NoMemory result }
+    {
+        match key {
+            Key::Lonlats => self.take_lonlats(alloc, name, value),
+            Key::Nogos => self.take_nogos(alloc, name, value),
+            Key::Profile => self.take_profile(alloc, name, value),
+            Key::Alternativeidx => self.take_alternative(name, value),
+            Key::Format => self.take_format(name, value),
+            Key::Labels => self.take_labels(name, value),
+            Key::Override => self.take_override(alloc, name, value),
+            Key::Runs => self.take_runs(name, value),
+        }
+    }
+
+    /// Takes the waypoints.
+    #[tactic(auto, unfolding(crate::specs::Parts::take_keyed))]
+    fn take_lonlats(
+        &mut self,
+        alloc: Global,
+        _name: &[u8],
+        value: &[u8],
+    ) -> Result<(), RequestError>
+        ensures exact { let taken = take_keyed key.Lonlats _name.now value.now (parts_seen self.old) in
+            Answers (λ _. parts_seen self.new) taken NoMemory result }
+    {
+        if self.waypoints.is_some() {
+            return Err(RequestError::Repeated { key: Key::Lonlats });
+        }
+        let waypoints = waypoints_of(alloc, value)?;
+        self.waypoints = Some(waypoints);
+        Ok(())
+    }
+
+    /// Takes the circles.
+    #[tactic(auto, unfolding(crate::specs::Parts::take_keyed))]
+    fn take_nogos(&mut self, alloc: Global, _name: &[u8], value: &[u8]) -> Result<(), RequestError>
+        ensures exact { let taken = take_keyed key.Nogos _name.now value.now (parts_seen self.old) in
+            Answers (λ _. parts_seen self.new) taken NoMemory result }
+    {
+        if self.circles.is_some() {
+            return Err(RequestError::Repeated { key: Key::Nogos });
+        }
+        let circles = circles_of(alloc, value)?;
+        self.circles = Some(circles);
+        Ok(())
+    }
+
+    /// Takes the profile's name.
+    #[tactic(auto, unfolding(crate::specs::Parts::take_keyed))]
+    fn take_profile(
+        &mut self,
+        alloc: Global,
+        _name: &[u8],
+        value: &[u8],
+    ) -> Result<(), RequestError>
+        ensures exact { let taken = take_keyed key.Profile _name.now value.now (parts_seen self.old) in
+            Answers (λ _. parts_seen self.new) taken NoMemory result }
+    {
+        if self.profile.is_some() {
+            return Err(RequestError::Repeated { key: Key::Profile });
+        }
+        if value.is_empty() {
+            return Err(RequestError::BadValue { key: Key::Profile });
+        }
+        let bytes = bytes_of(alloc, value)?;
+        self.profile = Some(Items::from_vec(bytes));
+        Ok(())
+    }
+
+    /// Takes the number of the alternative.
+    #[tactic(auto, unfolding(crate::specs::Parts::take_keyed))]
+    fn take_alternative(&mut self, _name: &[u8], value: &[u8]) -> Result<(), RequestError>
+        ensures exact { let taken = take_keyed key.Alternativeidx _name.now value.now (parts_seen self.old) in
+            Answers (λ _. parts_seen self.new) taken NoMemory result }
+    {
+        if self.alternative.is_some() {
+            return Err(RequestError::Repeated {
+                key: Key::Alternativeidx,
+            });
+        }
+        match digit_of(3, value) {
+            None => Err(RequestError::BadValue {
+                key: Key::Alternativeidx,
+            }),
+            Some(alternative) => {
+                self.alternative = Some(alternative);
+                Ok(())
+            }
+        }
+    }
+
+    /// Takes the form of the reply.
+    #[tactic(auto, unfolding(crate::specs::Parts::take_keyed))]
+    fn take_format(&mut self, _name: &[u8], value: &[u8]) -> Result<(), RequestError>
+        ensures exact { let taken = take_keyed key.Format _name.now value.now (parts_seen self.old) in
+            Answers (λ _. parts_seen self.new) taken NoMemory result }
+    {
+        if self.form.is_some() {
+            return Err(RequestError::Repeated { key: Key::Format });
+        }
+        match form_of(value) {
+            Err(error) => Err(error),
+            Ok(form) => {
+                self.form = Some(form);
+                Ok(())
+            }
+        }
+    }
+
+    /// Takes the most labels.
+    #[tactic(auto, unfolding(crate::specs::Parts::take_keyed))]
+    fn take_labels(&mut self, _name: &[u8], value: &[u8]) -> Result<(), RequestError>
+        ensures exact { let taken = take_keyed key.Labels _name.now value.now (parts_seen self.old) in
+            Answers (λ _. parts_seen self.new) taken NoMemory result }
+    {
+        if self.labels.is_some() {
+            return Err(RequestError::Repeated { key: Key::Labels });
+        }
+        match labels_of(value) {
+            None => Err(RequestError::BadValue { key: Key::Labels }),
+            Some(labels) => {
+                self.labels = Some(labels);
+                Ok(())
+            }
+        }
+    }
+
+    /// Takes whether runs are searched.
+    #[tactic(auto, unfolding(crate::specs::Parts::take_keyed))]
+    fn take_runs(&mut self, _name: &[u8], value: &[u8]) -> Result<(), RequestError>
+        ensures exact { let taken = take_keyed key.Runs _name.now value.now (parts_seen self.old) in
+            Answers (λ _. parts_seen self.new) taken NoMemory result }
+    {
+        if self.runs.is_some() {
+            return Err(RequestError::Repeated { key: Key::Runs });
+        }
+        match runs_of(value) {
+            None => Err(RequestError::BadValue { key: Key::Runs }),
+            Some(runs) => {
+                self.runs = Some(runs);
+                Ok(())
+            }
+        }
+    }
+
+    /// Takes an override.
+    #[tactic(auto, unfolding(crate::specs::Parts::take_keyed))]
+    fn take_override(
+        &mut self,
+        alloc: Global,
+        name: &[u8],
+        value: &[u8],
+    ) -> Result<(), RequestError>
+        ensures exact { let taken = take_keyed key.Override name.now value.now (parts_seen self.old) in
+            Answers (λ _. parts_seen self.new) taken NoMemory result }
+    {
+        override_more(alloc, &mut self.overrides, variable_of(name), value)
+    }
+}
+
+/// Puts an override at the end.
+fn override_more(
+    alloc: Global,
+    overrides: &mut Overrides,
+    variable: &[u8],
+    value: &[u8],
+) -> Result<(), RequestError>
+    ensures exact { let more = override_more variable.now value.now overrides.old in
+        Answers (λ _. overrides.new) more NoMemory result }
+{
+    if !is_variable(variable) {
+        return Err(RequestError::BadValue { key: Key::Override });
+    }
+    if overrides.find(variable).is_some() {
+        return Err(RequestError::Repeated { key: Key::Override });
+    }
+    let Ok(number) = Num::read(value) else {
+        return Err(RequestError::BadValue { key: Key::Override });
+    };
+    if overrides.len() >= 64 {
+        return Err(RequestError::TooMany { key: Key::Override });
+    }
+    let bytes = bytes_of(alloc, variable)?;
+    overrides.push((Items::from_vec(bytes), number))?;
+    Ok(())
+}

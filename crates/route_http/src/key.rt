@@ -1,0 +1,62 @@
+//! The keys of a query.
+ghost use Rattle.std.specs.Prelude.{◌≡◌};
+ghost use Rattle.route_http.specs.Key.{key_of};
+ghost use Rattle.route_http.specs.Lines.{key_name};
+
+/// A key of a query.
+#[derive(Clone, Copy, Debug, PartialEq, Eq)]
+pub enum Key {
+    Lonlats,
+    Nogos,
+    Profile,
+    Alternativeidx,
+    Format,
+    Labels,
+    /// Each key that begins with `profile:`.
+    Override,
+    Runs,
+}
+
+impl Key {
+    /// The key of a name, if there is one.
+    #[tactic(auto, unfolding(crate::specs::Key::key_of))]
+    pub(crate) fn of(name: &[u8]) -> Option<Key>
+        ensures exact { result ≡ key_of name.now }
+    {
+        if name == b"lonlats".as_slice() {
+            Some(Key::Lonlats)
+        } else if name == b"nogos".as_slice() {
+            Some(Key::Nogos)
+        } else if name == b"profile".as_slice() {
+            Some(Key::Profile)
+        } else if name == b"alternativeidx".as_slice() {
+            Some(Key::Alternativeidx)
+        } else if name == b"format".as_slice() {
+            Some(Key::Format)
+        } else if name == b"labels".as_slice() {
+            Some(Key::Labels)
+        } else if name == b"runs".as_slice() {
+            Some(Key::Runs)
+        } else if name.starts_with(b"profile:") {
+            Some(Key::Override)
+        } else {
+            None
+        }
+    }
+
+    /// The key as it is written.
+    pub(crate) fn name(self) -> &'static str
+        ensures exact { result.now ≡ key_name self }
+    {
+        match self {
+            Key::Lonlats => "lonlats",
+            Key::Nogos => "nogos",
+            Key::Profile => "profile",
+            Key::Alternativeidx => "alternativeidx",
+            Key::Format => "format",
+            Key::Labels => "labels",
+            Key::Override => "profile:",
+            Key::Runs => "runs",
+        }
+    }
+}

@@ -1,0 +1,38 @@
+//! Texts that are parted at commas and bars.
+ghost use Rattle.std.specs.Prelude.{◌≡◌, ◌∷◌, ◌≤◌, length};
+ghost use Rattle.std.specs.List.{prefix_len};
+ghost use Rattle.route_http.specs.Value.{before_comma, after_comma};
+ghost use Rattle.route_http.specs.List.{parts_of};
+ghost use Rattle.route_http.specs.Bars.{is_in_part, parts_after};
+
+/// The bytes before the first comma, and those after it.
+pub(crate) fn at_comma(text: &[u8]) -> (&[u8], &[u8])
+    ensures before { result.0.now ≡ before_comma text.now }
+    ensures after { result.1.now ≡ after_comma text.now }
+{
+    match text.iter().position(|byte| *byte == b',') {
+        Some(at) => (&text[..at], &text[at + 1..]),
+        None => (text, &[]),
+    }
+}
+
+/// What stands before the first bar, and what follows from that bar on.
+pub(crate) fn at_bar(text: &[u8]) -> (&[u8], &[u8])
+    ensures value { parts_of text.now ≡ result.0.now ∷ parts_after result.1.now }
+    ensures fits { length result.1.now ≤ length text.now }
+{
+    text.split_at(part_len(text))
+}
+
+/// How many bytes stand before the first bar.
+fn part_len(text: &[u8]) -> usize
+    ensures value { result ≡ prefix_len is_in_part text.now }
+    ensures fits { result ≤ length text.now }
+{
+    for (i, byte) in text.iter().enumerate() {
+        if *byte == b'|' {
+            return i;
+        }
+    }
+    text.len()
+}
