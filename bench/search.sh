@@ -1,15 +1,18 @@
 #!/bin/sh
 # A search to its end over a strip of a million cells with ten labels a cell, of one step a cell, of two and of
-# four: labels per second of the processor and of the clock, and bytes per label, which are the peak of the memory
-# less that of a strip of one cell, by the labels. The strip itself is four numbers. Where a cell has one step,
-# each label is made once; else most are made twice, and one of the two is dropped when it is taken.
+# four, and of ten thousand cells with a hundred labels a cell; with more than one step once more where superseded
+# labels leave the covering test (a last word 1): labels per second of the processor and of the clock, and bytes
+# per label, which are the peak of the memory less that of a strip of one cell, by the labels. The strip itself is
+# four numbers. Where a cell has one step, each label is made once; else most are made twice, and one of the two is
+# dropped when it is taken.
 cd "$(dirname "$0")/../crates/search_bench" || exit 1
 rt run >/dev/null 2>&1
 [ -x out/search_bench ] || exit 1
 empty=$(/usr/bin/time -f '%M' ./out/search_bench 1 1 1 0 2>&1 >/dev/null)
 
 # One search with these words: labels, seconds of the clock and of the processor, KB.
-for words in '1000 1000 10 1' '1000 1000 10 2' '1000 1000 10 4'; do
+for words in '1000 1000 10 1' '1000 1000 10 2' '1000 1000 10 2 1' '1000 1000 10 4' '1000 1000 10 4 1' \
+  '100 100 100 4' '100 100 100 4 1'; do
   for _ in 1 2 3; do
     /usr/bin/time -f '%e %U %S %M' ./out/search_bench $words 2>&1 | tr '\n' ' '
     echo

@@ -3,7 +3,7 @@ use Rattle.std.proofs.Common.{◌≡◌, ℕ, zero, suc, ◌<◌, ◌≤◌, ◌
 use Rattle.std.proofs.lemmas.Bool.Decides.{nat_tests}
 use Rattle.std.specs.Bool.{IsTrue}
 use Rattle.std.specs.Option.{is_some}
-use Rattle.space_search.specs.Laws.{IsMove, IsSpace}
+use Rattle.space_search.specs.Laws.{IsMove, IsSpace, HasRank, Supersedes}
 use Rattle.space_search.specs.Rules.{Rules}
 use Rattle.search_bench.specs.Strip.{ahead, back, neighbour, step_to, strip_covers, strip_rules}
 
@@ -165,3 +165,15 @@ module _ (cells width starts steps : ℕ) (some : 0 < cells) (starts_small : sta
               step = λ from number state cost before after valid within is low low'. grind (arith, nat_tests);
             };
       }
+
+  -- a label with no more due in the same cell makes an older one needless, whatever that cost
+  pub strip-supersedes :
+      (a b : ℕ × ℕ) (ca cb : ℕ) → a.0 ≡ b.0 → a.1 ≤ b.1 → Supersedes rules a ca b cb
+  strip-supersedes a b ca cb place less state cost low high valid ra rs order covers =
+      let first : Some 0 ≡ Some ra.low = ra.is in
+      let second : Some 0 ≡ Some rs.low = rs.is in
+      let none : 0 ≡ ra.low = cc in
+      let none' : 0 ≡ rs.low = cc in
+      covers-these a state ca cost (place ∙ same-place b state cb cost covers)
+      (omega (arith, less, no-more_due b state cb cost covers))
+      (omega (arith, ra.sum, rs.sum, order, none, none'))

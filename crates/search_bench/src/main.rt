@@ -50,7 +50,8 @@ fn main(rt: HostRuntime) -> io::Result<()> {
     let width = number_of(args.next(), 20).clamp(1, 65535);
     let starts = number_of(args.next(), 10);
     let steps = number_of(args.next(), 4);
-    let strip = Strip::new(rows * width, width, starts, steps);
+    let superseding = number_of(args.next(), 0) > 0;
+    let strip = Strip::new(rows * width, width, starts, steps, superseding);
     let (last, labels) = settle(rt.alloc(), &strip)?;
     println!(rt; "{labels} labels, {last:?}")
 }

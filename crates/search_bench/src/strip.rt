@@ -8,12 +8,15 @@ use space_search::Space;
 /// Cells in rows of one width, one row behind the other. So many starts lie in the first cell, each
 /// with more due and at less cost than the one before, and each cell has so many steps: 0 goes a
 /// cell ahead, 1 a row ahead, 2 a cell back, and any other a row back.
+/// Where it is `superseding`, it says of each label which older ones it makes needless in the covering
+/// test; else it never says so.
 #[derive(Drop)]
 pub struct Strip {
     cells: u32,
     width: u32,
     starts: u32,
     steps: u32,
+    superseding: bool,
     ghost some: { 0 < cells },
     ghost starts_small: { starts < 2 ^ 32 },
     ghost steps_small: { steps < 2 ^ 32 },
@@ -21,7 +24,7 @@ pub struct Strip {
 
 impl Strip {
     /// The strip of so many cells.
-    pub fn new(cells: u32, width: u32, starts: u32, steps: u32) -> Strip
+    pub fn new(cells: u32, width: u32, starts: u32, steps: u32, superseding: bool) -> Strip
         requires some { 0 < cells }
         ensures cells { result.cells ≡ cells }
         ensures width { result.width ≡ width }
@@ -33,6 +36,7 @@ impl Strip {
             width,
             starts,
             steps,
+            superseding,
         }
     }
 
@@ -111,6 +115,10 @@ impl Space for Strip {
 
     fn covers(&self, a: &(u32, u32), ca: u128, b: &(u32, u32), cb: u128) -> bool {
         a.0 == b.0 && a.1 <= b.1 && ca <= cb
+    }
+
+    fn supersedes(&self, a: &(u32, u32), _ca: u128, b: &(u32, u32), _cb: u128) -> bool {
+        self.superseding && a.0 == b.0 && a.1 <= b.1
     }
 
     fn low(&self, _state: &(u32, u32)) -> Option<u128> {

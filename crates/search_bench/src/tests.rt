@@ -4,6 +4,8 @@ ghost use Rattle.std.specs.Prelude.{◌<◌, ◌≤◌, ◌^◌};
 ghost use Rattle.space_search.specs.Searches.{IsSearchOf, IsReadable};
 ghost use Rattle.search_bench.specs.TestLine.{line_rules};
 
+use crate::settle;
+use crate::strip::Strip;
 use crate::tests_line::Line;
 use crate::tests_toll::Toll;
 use space_search::{Outcome, Search, Turn, least};
@@ -123,5 +125,16 @@ fn each_turn_works_for_its_quota_alone_and_labels_always_read(rt: HostRuntime) -
         }
         None => assert!(rt; last.is_err()),
     }
+    Ok(())
+}
+
+#[test]
+fn what_is_settled_is_the_same_with_superseded_labels(rt: HostRuntime) -> Result<(), Fail> {
+    let alloc = rt.alloc();
+    // 100 cells, each with 8 labels, of which each has less due than those before it.
+    let kept = Strip::new(100, 10, 8, 4, false);
+    assert_eq!(rt; settle(alloc, &kept)?, (Turn::NoWay, 800));
+    let superseding = Strip::new(100, 10, 8, 4, true);
+    assert_eq!(rt; settle(alloc, &superseding)?, (Turn::NoWay, 800));
     Ok(())
 }

@@ -1,9 +1,9 @@
 -- The covering test goes along the chain of a cell's settled labels.
-use Rattle.std.proofs.Common.{◌≡◌, ◌≢◌, ℕ, zero, suc, ◌<◌, ◌≤◌, ◌-◌, ◌⊎◌, inl, inr, length, get_or, Some, Bool, true, false, refl, ap, arith, sym, ◌∙◌, subst}
+use Rattle.std.proofs.Common.{◌≡◌, ◌≢◌, ℕ, zero, suc, ◌<◌, ◌≤◌, ◌+◌, ◌-◌, ◌⊎◌, inl, inr, length, get_or, Some, Bool, true, false, refl, ap, arith, sym, ◌∙◌, subst}
 use Rattle.std.proofs.lemmas.Option.{slice_get_read, slice_get_within}
 use Rattle.std.specs.Bool.{IsTrue}
 use Rattle.std.specs.List.{slice_get}
-use Rattle.space_search.specs.Books.{Books, IsLabel, IsSettled, IsUncovered, IsSearch, IsLatest}
+use Rattle.space_search.specs.Books.{Books, IsLabel, IsSettled, IsUncovered, IsLater, IsCoveredAfter, IsNeedless, IsSearch, IsLatest}
 use Rattle.space_search.specs.Chains.{IsTested}
 use Rattle.space_search.specs.Laws.{IsSpace}
 use Rattle.space_search.specs.Rules.{Rules, LOW_BOUND}
@@ -27,44 +27,68 @@ module _ {S : Type 0} (rules : Rules S) (laws : IsSpace rules) (kept : Books S) 
   pub settled-valid : (place : ℕ) (label : Label S) → IsSettled kept place label → IsTrue (rules.is_valid label.state)
   settled-valid place label s = (search.stands.reads.settled_follows place label s).valid
 
-  module _ (state : S) (cost : ℕ) (valid : IsTrue (rules.is_valid state)) where
+  module _ (state : S) (cost : ℕ) (later : IsLater rules kept state cost) where
     -- the chain begins at the cell's newest label
     pub tested-first :
         (cell cursor : ℕ) → cell ≡ rules.cell state → cursor ≡ get_or kept.newest cell cursor →
         IsTested rules kept state cost cursor
     tested-first cell cursor at read =
-        let below : rules.cell state < rules.cells = laws.moves.cell state valid in
+        let below : rules.cell state < rules.cells = laws.moves.cell state later.valid in
         let there : slice_get kept.newest cell ≡ Some cursor =
         slice_get_read kept.newest (length kept.newest) cell cursor refl (omega (arith, search.index.cells)) read in
         let latest : IsLatest rules kept (rules.cell state) (length kept.settled) cursor =
         subst (λ n. IsLatest rules kept n (length kept.settled) cursor) at (search.index.newest cell cursor there) in
         record {
-          tested = λ place label s same later.
-              absurd (omega (arith, latest.last place label s same (settled-within kept place label s)));
+          tested = λ place label s same behind.
+              elim (latest.last place label s same (settled-within kept place label s)) [
+                | inl early ↦ absurd (omega arith)
+                | inr needless ↦ inr needless
+              ];
           here = λ place is. let h = latest.inside place is in (h.1.0, h.1.1, h.1.2);
         }
 
-    -- where no label covers at the end of the chain, none does
-    pub uncovered-last : IsTested rules kept state cost 0 → IsUncovered rules kept state cost
-    uncovered-last t place label s =
-        false-from_not (rules.covers label.state label.cost state cost)
-        (λ covers.
+    -- at the end of the chain no label covers, since behind a needless one that did another would
+    none-covers :
+        (fuel place : ℕ) (label : Label S) → IsTested rules kept state cost 0 → length kept.settled ≤ place + fuel →
+        IsSettled kept place label → IsTrue (rules.covers label.state label.cost state cost) → ⊥
+    none-covers zero place label t enough s covers = omega (arith, settled-within kept place label s)
+    none-covers (suc fuel) place label t enough s covers =
         let same : rules.cell label.state ≡ rules.cell state =
-        laws.covering.one_cell label.state state label.cost cost (settled-valid place label s) valid covers in
-        let no_cover : rules.covers label.state label.cost state cost ≡ false = t.tested place label s same (omega arith) in
-        let covered : rules.covers label.state label.cost state cost ≡ true = covers in
-        cc)
+        laws.covering.one_cell label.state state label.cost cost (settled-valid place label s) later.valid covers in
+        elim (t.tested place label s same (omega arith)) [
+          | inl no_cover ↦
+              let covered : rules.covers label.state label.cost state cost ≡ true = covers in
+              cc
+          | inr needless ↦
+              let c : IsCoveredAfter rules kept place state cost = needless state cost later covers in
+              none-covers fuel c.place c.label t (omega (arith, c.after)) c.settled c.covers
+        ]
 
--- The covering test stands at the label before the cursor.
-pub record Tests {S : Type 0} (rules : Rules S) (kept : Books S) (state : S) (cost cursor : ℕ) : Type 0 where
+    -- where no label covers at the end of the chain, none does
+    pub uncovered-last :
+        (cursor : ℕ) → cursor ≡ 0 → IsTested rules kept state cost cursor → IsUncovered rules kept state cost
+    uncovered-last cursor last t place label s =
+        let over : IsTested rules kept state cost 0 = subst (λ n. IsTested rules kept state cost n) last t in
+        false-from_not (rules.covers label.state label.cost state cost)
+        (none-covers (length kept.settled) place label over (omega arith) s)
+
+-- Before the cursor stands a settled label of the cell.
+pub record Names {S : Type 0} (rules : Rules S) (kept : Books S) (cell cursor : ℕ) : Type 0 where
   pub search : IsSearch rules kept
   pub some : 0 < cursor
-  pub tested : IsTested rules kept state cost cursor
+  pub here : (label : Label S) × IsSettled kept (cursor - 1) label × (rules.cell label.state ≡ cell)
 
-module _ {S : Type 0} (rules : Rules S) (kept : Books S) (state : S) (cost cursor : ℕ) (t : Tests rules kept state cost cursor) where
+-- The covering test stands at the label before the cursor.
+pub names-tested :
+    {S : Type 0} (rules : Rules S) (kept : Books S) (state : S) (cost cursor : ℕ) → IsSearch rules kept →
+    0 < cursor → IsTested rules kept state cost cursor → Names rules kept (rules.cell state) cursor
+names-tested rules kept state cost cursor search some t =
+    record { search = search; some = some; here = t.here (cursor - 1) (omega arith) }
+
+module _ {S : Type 0} (rules : Rules S) (kept : Books S) (cell cursor : ℕ) (t : Names rules kept cell cursor) where
   -- before the cursor stands a label of the cell
-  found : (label : Label S) × IsSettled kept (cursor - 1) label × (rules.cell label.state ≡ rules.cell state)
-  found = t.tested.here (cursor - 1) (omega (arith, t.some))
+  found : (label : Label S) × IsSettled kept (cursor - 1) label × (rules.cell label.state ≡ cell)
+  found = t.here
 
   -- its place is one of a settled label
   pub within-settled : cursor - 1 < length kept.settled
@@ -101,15 +125,15 @@ module _ {S : Type 0} (rules : Rules S) (kept : Books S) (state : S) (cost curso
             there = slice_get_read kept.labels (length kept.labels) number label refl within-labels reads;
           }
 
-      -- it lies in the state's cell
-      same-cell : rules.cell label.state ≡ rules.cell state
+      -- it lies in the cell
+      pub same-cell : rules.cell label.state ≡ cell
       same-cell =
           let same : found.0 ≡ label = settled-unique kept (cursor - 1) found.0 label found.1 settled-here in
           ap (λ (l : Label S). rules.cell l.state) (sym same) ∙ found.2
 
       module _ (next : ℕ) (reads_next : next ≡ get_or kept.older (cursor - 1) next) where
         -- the label before it in its cell
-        latest : IsLatest rules kept (rules.cell label.state) (cursor - 1) next
+        pub latest : IsLatest rules kept (rules.cell label.state) (cursor - 1) next
         latest =
             t.search.index.older (cursor - 1) next label
             (slice_get_read kept.older (length kept.older) (cursor - 1) next refl within-older reads_next) settled-here
@@ -121,25 +145,38 @@ module _ {S : Type 0} (rules : Rules S) (kept : Books S) (state : S) (cost curso
           below zero e = omega arith
           below (suc m) e = let h = latest.inside m (omega arith) in omega (arith, h.0)
 
-        -- and where this label doesn't cover, the test has gone one label further
-        pub tested-next : rules.covers label.state label.cost state cost ≡ false → IsTested rules kept state cost next
-        tested-next uncovers =
-            record {
-              tested = λ place other s same later. go place other s same later (equal-or_not place (cursor - 1));
-              here = λ place is. let h = latest.inside place is in (h.1.0, h.1.1, h.1.2 ∙ same-cell);
-            } where
-              go :
-                  (place : ℕ) (other : Label S) → IsSettled kept place other → rules.cell other.state ≡ rules.cell state →
-                  next ≤ place → (place ≡ cursor - 1) ⊎ (place ≢ cursor - 1) →
-                  rules.covers other.state other.cost state cost ≡ false
-              go place other s same later (inl is) =
-                  let one : label ≡ other =
-                  settled-unique kept place label other (subst (λ n. IsSettled kept n label) (sym is) settled-here) s in
-                  subst (λ (l : Label S). rules.covers l.state l.cost state cost ≡ false) one uncovers
-              go place other s same later (inr elsewhere) =
-                  elim (most-or_below cursor place) [
-                    | inl h ↦ t.tested.tested place other s same h
-                    | inr h ↦
-                        let early : place < cursor - 1 = omega arith in
-                        absurd (omega (arith, latest.last place other s (same ∙ sym same-cell) early))
-                  ]
+-- where the label before the cursor doesn't cover, the test has gone one label further
+module _ {S : Type 0} (rules : Rules S) (kept : Books S) (state : S) (cost cursor : ℕ)
+    (t : IsTested rules kept state cost cursor) (label : Label S) (settled : IsSettled kept (cursor - 1) label)
+    (cell_is : rules.cell label.state ≡ rules.cell state) (next : ℕ)
+    (behind : IsLatest rules kept (rules.cell label.state) (cursor - 1) next)
+    (uncovers : rules.covers label.state label.cost state cost ≡ false) where
+  -- what the test says of a label of the cell
+  abbrev Tested : ℕ → Label S → Type 0
+  Tested place other = (rules.covers other.state other.cost state cost ≡ false) ⊎ IsNeedless rules kept place other
+
+  -- a label at or after the next cursor is this one, or was tested before, or is needless
+  tested-one :
+      (place : ℕ) (other : Label S) → IsSettled kept place other → rules.cell other.state ≡ rules.cell state →
+      next ≤ place → (place ≡ cursor - 1) ⊎ (place ≢ cursor - 1) → Tested place other
+  tested-one place other s same later (inl is) =
+      let one : label ≡ other =
+      settled-unique kept place label other (subst (λ n. IsSettled kept n label) (sym is) settled) s in
+      inl (subst (λ (l : Label S). rules.covers l.state l.cost state cost ≡ false) one uncovers)
+  tested-one place other s same later (inr elsewhere) =
+      elim (most-or_below cursor place) [
+        | inl h ↦ t.tested place other s same h
+        | inr h ↦
+            elim (behind.last place other s (same ∙ sym cell_is) (omega arith)) [
+              | inl early ↦ absurd (omega arith)
+              | inr needless ↦ inr needless
+            ]
+      ]
+
+  -- so the test goes on
+  pub tested-next : IsTested rules kept state cost next
+  tested-next =
+      record {
+        tested = λ place other s same later. tested-one place other s same later (equal-or_not place (cursor - 1));
+        here = λ place is. let h = behind.inside place is in (h.1.0, h.1.1, h.1.2 ∙ cell_is);
+      }

@@ -2,12 +2,12 @@
 use Rattle.std.proofs.Common.{◌≡◌, ℕ, ◌<◌, ◌≤◌, ◌+◌, ◌^◌, ◌⊎◌, inl, inr, List, [], ◌∷◌, ◌++◌, length, set, get_or, Some, false, refl, ap, arith, sym, ◌∙◌, subst, length-set, length-append}
 use Rattle.std.proofs.lemmas.Option.{slice_get_read, slice_get_within}
 use Rattle.std.specs.List.{slice_get}
-use Rattle.space_search.specs.Books.{Books, Entry, IsLabel, IsSettled, IsUncovered, IsLatest, IsIndex, KeepsLabels}
+use Rattle.space_search.specs.Books.{Books, Entry, IsLabel, IsSettled, IsUncovered, IsNeedless, IsLatest, IsIndex, KeepsLabels}
 use Rattle.space_search.specs.Rules.{Rules}
 use Rattle.space_search.specs.declared.label.Label.{Label}
 use Rattle.space_search.proofs.DropLemmas.{Leaving}
 use Rattle.space_search.proofs.ListLemmas.{slice_get-append, slice_get-pushed, slice_get-push_cases, slice_get-set_cases, slice_get-same}
-use Rattle.space_search.proofs.SameLemmas.{settled-within}
+use Rattle.space_search.proofs.SameLemmas.{settled-within, needless-moved}
 
 -- the lists once the front entry's label was settled
 abbrev pub settled_books : {S : Type 0} → Books S → List Entry → List ℕ → List ℕ → List ℕ → Books S
@@ -67,6 +67,13 @@ module _ {S : Type 0} (rules : Rules S) (kept : Books S) (number : ℕ) (label :
             inr (last, slice_get-same kept.labels s.number l label s.there (subst (λ n. IsLabel kept n label) same w.leaving.next.there))
       ]
 
+  -- a label that was named or needless still is
+  still :
+      (place : ℕ) (l : Label S) {cursor : ℕ} → (place < cursor) ⊎ IsNeedless rules kept place l →
+      (place < cursor) ⊎ IsNeedless rules after place l
+  still place l (inl early) = inl early
+  still place l (inr needless) = inr (needless-moved rules kept after place l grows needless)
+
   -- what was the newest label of a cell below a place still is
   latest-grown :
       (c below cursor : ℕ) → below ≤ length kept.settled → IsLatest rules kept c below cursor →
@@ -76,7 +83,7 @@ module _ {S : Type 0} (rules : Rules S) (kept : Books S) (number : ℕ) (label :
         inside = λ place is. let h = l.inside place is in (h.0, (h.1.0, grows place h.1.0 h.1.1, h.1.2));
         last = λ place k s same inside.
             elim (old-or_new place k s) [
-              | inl old ↦ l.last place k old same inside
+              | inl old ↦ still place k (l.last place k old same inside)
               | inr (last, one) ↦ absurd (omega arith)
             ];
       }
@@ -99,7 +106,7 @@ module _ {S : Type 0} (rules : Rules S) (kept : Books S) (number : ℕ) (label :
                       sym w.at ∙ sym here,
                     ),
                   );
-              last = λ place k s same inside. omega (arith, is_cursor);
+              last = λ place k s same inside. inl (omega (arith, is_cursor));
             }
             )
         | inl (other, old) ↦
@@ -110,7 +117,8 @@ module _ {S : Type 0} (rules : Rules S) (kept : Books S) (number : ℕ) (label :
                   let h = l.inside place names in (omega (arith, h.0), (h.1.0, grows place h.1.0 h.1.1, h.1.2));
               last = λ place k s same inside.
                   elim (old-or_new place k s) [
-                    | inl settled_before ↦ l.last place k settled_before same (settled-within kept place k settled_before)
+                    | inl settled_before ↦
+                        still place k (l.last place k settled_before same (settled-within kept place k settled_before))
                     | inr (last, one) ↦
                         absurd (other (sym same ∙ ap (λ (m : Label S). rules.cell m.state) one ∙ sym w.at))
                   ];

@@ -71,14 +71,14 @@ module _ {S : Type 0} (rules : Rules S) (laws : IsSpace rules) where
     pub cheaper : sum ≤ total
 
   -- the step of a covering state that goes along with a step of the covered one
-  record CoversStep (a : S) (ca number : ℕ) (next : S) (total : ℕ) : Type 0 where
-    state : S
-    cost : ℕ
-    is : rules.step a number ≡ Some (state, cost)
-    covers : IsTrue (rules.covers state (ca + cost) next total)
+  pub record CoversStep (a : S) (ca number : ℕ) (next : S) (total : ℕ) : Type 0 where
+    pub state : S
+    pub cost : ℕ
+    pub is : rules.step a number ≡ Some (state, cost)
+    pub covers : IsTrue (rules.covers state (ca + cost) next total)
 
   -- each step of the covered state goes along with one of the covering
-  step-along :
+  pub step-along :
       (a b : S) (ca cb : ℕ) → IsTrue (rules.is_valid a) → IsTrue (rules.is_valid b) → IsTrue (rules.covers a ca b cb) →
       (number : ℕ) (next : S) (cost : ℕ) → number < rules.steps b → rules.step b number ≡ Some (next, cost) →
       CoversStep a ca number next (cb + cost)

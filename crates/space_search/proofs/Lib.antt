@@ -1,6 +1,7 @@
 pub mod CallerLemmas
 pub mod ChainLemmas
 pub mod ChoiceLemmas
+pub mod DoneLemmas
 pub mod DropLemmas
 pub mod EndLemmas
 pub mod GrowLemmas
@@ -10,6 +11,7 @@ pub mod ListLemmas
 pub mod NextLemmas
 pub mod OfferLemmas
 pub mod OrderLemmas
+pub mod PruneLemmas
 pub mod ReachLemmas
 pub mod ReadLemmas
 pub mod RunLemmas

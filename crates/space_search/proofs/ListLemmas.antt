@@ -52,6 +52,12 @@ slice_get-set_cases (z ∷ xs) (suc i) y (suc n) x e =
       | inr (p, q) ↦ inr (ap suc p, q)
     ]
 
+-- what was written is read
+pub slice_get-set : {X : Type 0} (xs : List X) (i : ℕ) (y : X) → i < length xs → slice_get (set xs i y) i ≡ Some y
+slice_get-set [] i y below = absurd (omega arith)
+slice_get-set (z ∷ xs) zero y below = refl
+slice_get-set (z ∷ xs) (suc i) y below = slice_get-set xs i y (omega arith)
+
 -- two readings of one place are equal
 pub slice_get-same : {X : Type 0} (xs : List X) (n : ℕ) (x y : X) → slice_get xs n ≡ Some x → slice_get xs n ≡ Some y → x ≡ y
 slice_get-same xs n x y p q = cc

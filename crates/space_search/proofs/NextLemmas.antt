@@ -1,16 +1,17 @@
 -- What the front of the queue says of all that waits.
 use Rattle.std.proofs.Common.{◌≡◌, ℕ, ◌<◌, ◌≤◌, inl, inr, List, [], ◌∷◌, length, get_or, Some, false, refl, arith, sym, subst}
 use Rattle.std.proofs.lemmas.Bool.Decides.{nat_tests}
-use Rattle.std.proofs.lemmas.Option.{slice_get_read, slice_get_within}
+use Rattle.std.proofs.lemmas.Option.{slice_get_read, slice_get_within, get_or_from_slice_get}
 use Rattle.std.specs.BinaryHeap.{IsUpperBound}
 use Rattle.std.specs.List.{slice_get, Contains}
 use Rattle.std.specs.Ordering.{nat_cmp, ordering_then, is_lt}
 use Rattle.std.specs.declared.cmp.Ordering.{Ordering}
 use Rattle.space_search.specs.Rules.{Rules}
-use Rattle.space_search.specs.Books.{Books, Entry, entry_cmp, IsSearch}
+use Rattle.space_search.specs.Books.{Books, Entry, entry_cmp, IsLater, IsSearch}
 use Rattle.space_search.specs.Laws.{HasRank}
 use Rattle.space_search.specs.Moves.{IsNext}
 use Rattle.space_search.specs.declared.label.Label.{Label}
+use Rattle.space_search.proofs.DropLemmas.{rank-unique}
 use Rattle.space_search.proofs.ListLemmas.{Contains-cons_cases, Contains-none, slice_get-same}
 
 -- what isn't less by its first number has a first number that isn't less
@@ -52,3 +53,23 @@ module _ {S : Type 0} (rules : Rules S) (kept : Books S) (search : IsSearch rule
         first = slice_get_read kept.queue (length kept.queue) 0 entry refl some first;
         least = λ e h. least-entry entry kept.queue above e h;
       }
+
+-- the next label ranks no less than any settled one
+pub later-next :
+    {S : Type 0} (rules : Rules S) (kept : Books S) → IsSearch rules kept → (number : ℕ) (label : Label S) →
+    IsNext rules kept number label → IsLater rules kept label.state label.cost
+later-next rules kept search number label next =
+    let entry : Entry = record { 0 = (next.rank, number) } in
+    let front : Contains kept.queue entry = (
+      0,
+      slice_get_within kept.queue 0 entry next.first,
+      get_or_from_slice_get kept.queue 0 entry entry next.first,
+    ) in
+    record {
+      valid = (search.follows number label next.there).valid;
+      rank = next.rank;
+      ranked = next.ranked;
+      above = λ place old low high s r mine.
+          let same : high ≡ next.rank = rank-unique rules label.state label.cost high next.rank mine next.ranked in
+          omega (arith, same, search.above place old low s r entry front);
+    }

@@ -4,9 +4,9 @@ use Rattle.std.specs.BinaryHeap.{IsHeap}
 use Rattle.std.specs.List.{slice_get, Contains}
 use Rattle.std.specs.List.Sorted.{IsPermutation}
 use Rattle.std.proofs.lemmas.List.Sorted.{Contains-permutation, IsPermutation-sym, length_permutation}
-use Rattle.space_search.specs.Books.{Books, Entry, entry_cmp, IsLabel, IsSettled, Follows, IsSearch, IsAccounted, by_queue, Extends, Leaves, KeepsLabels}
+use Rattle.space_search.specs.Books.{Books, Entry, entry_cmp, IsLabel, IsSettled, Follows, IsSearch, IsAccounted, by_queue, RanksAbove, Extends, Leaves, KeepsLabels}
 use Rattle.space_search.specs.Laws.{HasRank}
-use Rattle.space_search.specs.Moves.{Offers, RanksAbove}
+use Rattle.space_search.specs.Moves.{Offers}
 use Rattle.space_search.specs.Rules.{Rules}
 use Rattle.space_search.specs.declared.label.Label.{Label}
 use Rattle.space_search.specs.declared.label.TheConstants.{MOST_LABELS}
@@ -15,7 +15,7 @@ use Rattle.space_search.proofs.SameLemmas.{follows-moved, keeps-same, keeps-back
 
 -- nothing changes in no step
 pub extends-refl : {S : Type 0} (kept : Books S) → Extends kept kept
-extends-refl kept = record { labels = λ n l h. h; queue = λ e h. h; settled = refl; newest = refl; older = refl }
+extends-refl kept = record { labels = λ n l h. h; queue = λ e h. h; settled = refl }
 
 -- nothing changes where the label needn't wait
 pub offers-accounted :
@@ -170,8 +170,6 @@ module _ {S : Type 0} (rules : Rules S) (kept : Books S) (label : Label S) (labe
                 labels = stays;
                 queue = λ e h. into_queue e (Contains-rest q.entry kept.queue e h);
                 settled = refl;
-                newest = refl;
-                older = refl;
               };
           work = omega (arith, longer, length_permutation (q.entry ∷ kept.queue) queue q.queued);
         }

@@ -1,8 +1,7 @@
 -- A new label follows from a start or from a settled label, and ranks no less than what is settled.
 use Rattle.std.proofs.Common.{◌≡◌, ℕ, ◌<◌, ◌≤◌, ◌+◌, ◌^◌, length, Option, Some, refl, arith, sym, subst}
-use Rattle.space_search.specs.Books.{Books, IsSettled, Follows, from_start, from_label, IsSearch}
+use Rattle.space_search.specs.Books.{Books, IsSettled, Follows, from_start, from_label, RanksAbove, IsSearch}
 use Rattle.space_search.specs.Laws.{IsSpace, IsMove}
-use Rattle.space_search.specs.Moves.{RanksAbove}
 use Rattle.space_search.specs.Rules.{Rules}
 use Rattle.space_search.specs.declared.label.Label.{Label}
 use Rattle.space_search.proofs.SameLemmas.{settled-within}

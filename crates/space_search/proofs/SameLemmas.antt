@@ -1,9 +1,9 @@
 -- What a search's lists say stays true where no label is settled.
-use Rattle.std.proofs.Common.{◌≡◌, ℕ, ◌<◌, ◌≤◌, List, length, Some, ap, arith, sym, ◌∙◌, subst}
+use Rattle.std.proofs.Common.{◌≡◌, ℕ, ◌<◌, ◌≤◌, inl, inr, List, length, Some, ap, arith, sym, ◌∙◌, subst}
 use Rattle.std.proofs.lemmas.Option.{slice_get_within}
 use Rattle.std.specs.List.{slice_get}
 use Rattle.space_search.specs.Rules.{Rules}
-use Rattle.space_search.specs.Books.{Books, IsLabel, IsSettled, CameFrom, from_start, from_label, Follows, IsLatest, IsIndex, Reads, IsRising, Stands, KeepsLabels, IsSearch, Leaves}
+use Rattle.space_search.specs.Books.{Books, IsLabel, IsSettled, CameFrom, from_start, from_label, Follows, IsLater, IsNeedless, IsLatest, IsIndex, Reads, IsRising, Stands, KeepsLabels, IsSearch, Leaves}
 use Rattle.space_search.specs.declared.label.Label.{Label}
 use Rattle.space_search.proofs.ListLemmas.{slice_get-same}
 
@@ -35,6 +35,32 @@ follows-moved rules before after low high label keeps up f =
       valid = f.valid;
       bounded = omega (arith, f.bounded);
       came = came-moved rules before after low high label keeps up f.came;
+    }
+
+-- what is later than the settled labels is later than those of before
+later-before :
+    {S : Type 0} (rules : Rules S) (before after : Books S) → KeepsLabels before after → (state : S) (cost : ℕ) →
+    IsLater rules after state cost → IsLater rules before state cost
+later-before rules before after keeps state cost later =
+    record {
+      valid = later.valid;
+      rank = later.rank;
+      ranked = later.ranked;
+      above = λ place label low high s. later.above place label low high (keeps place label s);
+    }
+
+-- a needless label stays needless where settled labels keep their places
+pub needless-moved :
+    {S : Type 0} (rules : Rules S) (before after : Books S) (place : ℕ) (label : Label S) → KeepsLabels before after →
+    IsNeedless rules before place label → IsNeedless rules after place label
+needless-moved rules before after place label keeps needless state cost later covers =
+    let c = needless state cost (later-before rules before after keeps state cost later) covers in
+    record {
+      place = c.place;
+      label = c.label;
+      settled = keeps c.place c.label c.settled;
+      after = c.after;
+      covers = c.covers;
     }
 
 module _ {S : Type 0} (rules : Rules S) (before after : Books S)
@@ -88,11 +114,15 @@ module _ {S : Type 0} (rules : Rules S) (before after : Books S)
       }
 
   -- the newest of a cell below a place is as before
-  latest-same : (cell below cursor : ℕ) → IsLatest rules before cell below cursor → IsLatest rules after cell below cursor
+  pub latest-same : (cell below cursor : ℕ) → IsLatest rules before cell below cursor → IsLatest rules after cell below cursor
   latest-same cell below cursor l =
       record {
         inside = λ place is. let old = l.inside place is in (old.0, (old.1.0, keeps-same place old.1.0 old.1.1, old.1.2));
-        last = λ place label s. l.last place label (keeps-back place label s);
+        last = λ place label s same inside.
+            elim (l.last place label (keeps-back place label s) same inside) [
+              | inl early ↦ inl early
+              | inr needless ↦ inr (needless-moved rules before after place label keeps-same needless)
+            ];
       }
 
   -- and so are the chains

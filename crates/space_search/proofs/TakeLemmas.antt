@@ -17,8 +17,6 @@ extends-trans a b c p q =
       labels = λ n l h. q.labels n l (p.labels n l h);
       queue = λ e h. q.queue e (p.queue e h);
       settled = q.settled ∙ p.settled;
-      newest = q.newest ∙ p.newest;
-      older = q.older ∙ p.older;
     }
 
 -- what was taken care of still is where everything stays

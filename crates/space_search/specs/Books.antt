@@ -4,7 +4,7 @@ use Rattle.std.specs.BinaryHeap.{heap_items, IsHeap}
 use Rattle.std.specs.Bool.{IsTrue}
 use Rattle.std.specs.List.{slice_get, Contains}
 use Rattle.std.specs.Ordering.{nat_cmp, ordering_then}
-use Rattle.std.specs.Prelude.{ℕ, ◌≡◌, ◌<◌, ◌≤◌, ◌+◌, ◌*◌, ◌-◌, ◌^◌, false, Some, None, List, [], length}
+use Rattle.std.specs.Prelude.{ℕ, ◌≡◌, ◌<◌, ◌≤◌, ◌+◌, ◌*◌, ◌-◌, ◌^◌, ◌⊎◌, false, Some, None, List, [], length}
 use Rattle.std.specs.declared.cmp.Ordering.{Ordering}
 use Rattle.std.specs.declared.cmp.Reverse.{Reverse}
 use Rattle.space_search.specs.Laws.{HasRank}
@@ -29,9 +29,9 @@ pub record Books (S : Type 0) : Type 0 where
   pub queue : List Entry
   -- the numbers of the labels that were settled, in that order: a place in this list is a settled label
   pub settled : List ℕ
-  -- for each cell the place of its newest settled label, plus 1; 0 where it has none
+  -- for each cell the place of its newest settled label in the chain, plus 1; 0 where it has none
   pub newest : List ℕ
-  -- for each settled label the place of the one before it in its cell, plus 1; 0 where it is the first
+  -- for each settled label the place of the one before it in its cell's chain, plus 1; 0 where there is none
   pub older : List ℕ
 
 -- the lists of a search, as contracts see them
@@ -91,6 +91,34 @@ IsUncovered {S} rules kept state cost =
     (place : ℕ) (label : Label S) → IsSettled kept place label →
     rules.covers label.state label.cost state cost ≡ false
 
+-- no settled label ranks above this state at this cost
+abbrev pub RanksAbove : {S : Type 0} → Rules S → Books S → S → ℕ → Type 0
+RanksAbove {S} rules kept state cost =
+    (place : ℕ) (label : Label S) (low high : ℕ) → IsSettled kept place label →
+    HasRank rules label.state label.cost low → HasRank rules state cost high → low ≤ high
+
+-- a valid state at a cost that ranks no less than any settled label
+pub record IsLater {S : Type 0} (rules : Rules S) (kept : Books S) (state : S) (cost : ℕ) : Type 0 where
+  pub valid : IsTrue (rules.is_valid state)
+  pub rank : ℕ
+  pub ranked : HasRank rules state cost rank
+  pub above : RanksAbove rules kept state cost
+
+-- some label that was settled after this place covers the state at this cost
+pub record IsCoveredAfter {S : Type 0} (rules : Rules S) (kept : Books S) (before : ℕ) (state : S) (cost : ℕ)
+    : Type 0 where
+  pub place : ℕ
+  pub label : Label S
+  pub settled : IsSettled kept place label
+  pub after : before < place
+  pub covers : IsTrue (rules.covers label.state label.cost state cost)
+
+-- whatever the label of this place covers of what comes later, one that was settled after it covers
+abbrev pub IsNeedless : {S : Type 0} → Rules S → Books S → ℕ → Label S → Type 0
+IsNeedless {S} rules kept place label =
+    (state : S) (cost : ℕ) → IsLater rules kept state cost →
+    IsTrue (rules.covers label.state label.cost state cost) → IsCoveredAfter rules kept place state cost
+
 -- the queue itself has a label of this state at this very cost
 pub record Waits {S : Type 0} (kept : Books S) (state : S) (cost : ℕ) : Type 0 where
   pub label : Label S
@@ -131,8 +159,8 @@ pub record IsClosed {S : Type 0} (rules : Rules S) (kept : Books S) : Type 0 whe
   pub starts : HasStarts rules kept rules.starts
   pub steps : HasStepsBelow rules kept (length kept.settled)
 
--- the cursor names the newest label of a cell that was settled below a place, by its place plus 1; it is
--- 0 where there is none
+-- the cursor names a label of a cell that was settled below a place, by its place plus 1; it is 0 where it names
+-- none. Those of the cell between the two are needless
 pub record IsLatest {S : Type 0} (rules : Rules S) (kept : Books S) (cell below cursor : ℕ) : Type 0 where
   pub inside :
       (place : ℕ) → cursor ≡ place + 1 →
@@ -140,9 +168,9 @@ pub record IsLatest {S : Type 0} (rules : Rules S) (kept : Books S) (cell below 
   pub last :
       (place : ℕ) (label : Label S) → IsSettled kept place label → rules.cell label.state ≡ cell →
       place < below →
-      place < cursor
+      (place < cursor) ⊎ IsNeedless rules kept place label
 
--- the chain of each cell's settled labels
+-- the chain of each cell's settled labels, which may leave out needless ones
 pub record IsIndex {S : Type 0} (rules : Rules S) (kept : Books S) : Type 0 where
   pub cells : length kept.newest ≡ rules.cells
   pub places : length kept.older ≡ length kept.settled
@@ -212,8 +240,6 @@ pub record Extends {S : Type 0} (before after : Books S) : Type 0 where
   pub labels : (number : ℕ) (label : Label S) → IsLabel before number label → IsLabel after number label
   pub queue : (entry : Entry) → Contains before.queue entry → Contains after.queue entry
   pub settled : after.settled ≡ before.settled
-  pub newest : after.newest ≡ before.newest
-  pub older : after.older ≡ before.older
 
 -- a bound on how many entries will still be taken from the queue
 abbrev pub work_left : {S : Type 0} → Books S → ℕ

@@ -88,3 +88,34 @@ pub record HasRank {S : Type 0} (rules : Rules S) (state : S) (cost rank : ℕ) 
   pub low : ℕ
   pub is : rules.low state ≡ Some low
   pub sum : rank ≡ cost + low
+
+-- what the second state covers at its cost, of the valid states that rank no less than the first, the first covers
+-- at its own. So the second is needless in the covering test once all that comes ranks no less than the first
+abbrev pub Supersedes : {S : Type 0} → Rules S → S → ℕ → S → ℕ → Type 0
+Supersedes {S} rules a ca b cb =
+    (state : S) (cost low high : ℕ) → IsTrue (rules.is_valid state) →
+    HasRank rules a ca low → HasRank rules state cost high → low ≤ high →
+    IsTrue (rules.covers b cb state cost) → IsTrue (rules.covers a ca state cost)
+
+-- a lower bound that covered states share, and that is none behind every step of a state where it is none
+pub record HasEvenBound {S : Type 0} (rules : Rules S) : Type 0 where
+  pub alike :
+      (a b : S) (ca cb : ℕ) → IsTrue (rules.is_valid a) → IsTrue (rules.is_valid b) →
+      IsTrue (rules.covers a ca b cb) → rules.low a ≡ rules.low b
+  pub stays :
+      (from : S) (number : ℕ) (state : S) (cost : ℕ) → IsTrue (rules.is_valid from) →
+      number < rules.steps from → rules.step from number ≡ Some (state, cost) →
+      rules.low from ≡ None → rules.low state ≡ None
+
+-- the lower bound says nothing: it is 0 everywhere, so that ranks are costs
+abbrev pub IsBlind : {S : Type 0} → Rules S → Type 0
+IsBlind {S} rules = (state : S) → IsTrue (rules.is_valid state) → rules.low state ≡ Some 0
+
+-- no start or step costs more than this
+pub record IsDearest {S : Type 0} (rules : Rules S) (dearest : ℕ) : Type 0 where
+  pub starts :
+      (number : ℕ) (state : S) (cost : ℕ) → number < rules.starts →
+      rules.start number ≡ Some (state, cost) → cost ≤ dearest
+  pub steps :
+      (from : S) (number : ℕ) (state : S) (cost : ℕ) → IsTrue (rules.is_valid from) →
+      number < rules.steps from → rules.step from number ≡ Some (state, cost) → cost ≤ dearest

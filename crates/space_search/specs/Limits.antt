@@ -39,3 +39,10 @@ abbrev pub IsUnspent : Outcome → Type 0
 IsUnspent (Found choices cost) = Unit {0}
 IsUnspent NoWay = Unit {0}
 IsUnspent Budget = ⊥
+
+-- of two states of one cell with the same key, the one that ranks no higher at its cost covers the other
+abbrev pub CoversByKey : {S : Type 0} → Rules S → (S → ℕ) → Type 0
+CoversByKey {S} rules key =
+    (a b : S) (ca cb low high : ℕ) → IsTrue (rules.is_valid a) → IsTrue (rules.is_valid b) →
+    rules.cell a ≡ rules.cell b → key a ≡ key b →
+    HasRank rules a ca low → HasRank rules b cb high → low ≤ high → IsTrue (rules.covers a ca b cb)

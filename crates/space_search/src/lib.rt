@@ -10,6 +10,7 @@ mod next;
 mod offer;
 mod outcome;
 mod phase;
+mod prune;
 mod search;
 mod settle;
 mod space;

@@ -1,8 +1,8 @@
 //! A new label is queued, unless that is needless.
 
 ghost use Rattle.std.specs.Prelude.{◌≡◌, ◌<◌, IsTrue, OnOk, false, length};
-ghost use Rattle.space_search.specs.Books.{books, IsSearch, Follows, IsCovered, IsUncovered, Leaves};
-ghost use Rattle.space_search.specs.Moves.{Offers, RanksAbove};
+ghost use Rattle.space_search.specs.Books.{books, IsSearch, Follows, IsCovered, IsUncovered, IsLater, RanksAbove, Leaves};
+ghost use Rattle.space_search.specs.Moves.{Offers};
 ghost use Rattle.space_search.specs.Laws.{HasRank};
 ghost use Rattle.space_search.specs.Rules.{LOW_BOUND};
 
@@ -12,14 +12,15 @@ use crate::space::Space;
 use std::alloc::AllocError;
 use std::cmp::Reverse;
 
-/// Whether a settled label covers the state at this cost.
+/// Whether a settled label covers the state at this cost, which ranks no less than any of them.
+/// Those that left their cell's chain needn't be tested.
 pub(crate) fn is_covered<T: Copy + Drop, S: Space<State = T>>(
     space: &S,
     lists: &Lists<T>,
     state: &T,
     cost: u128,
 ) -> bool
-    requires valid { IsTrue ((S.rules space.now).is_valid state.now) }
+    requires later { IsLater (S.rules space.now) (books lists.now) state.now cost }
     requires small { cost < LOW_BOUND }
     requires kept { IsSearch (S.rules space.now) (books lists.now) }
     ensures covered { IsTrue result →

@@ -2,7 +2,7 @@
 
 ghost use Rattle.std.specs.Prelude.{◌≡◌, ◌<◌, IsTrue};
 ghost use Rattle.space_search.specs.Rules.{Rules, LOW_BOUND};
-ghost use Rattle.space_search.specs.Laws.{IsSpace};
+ghost use Rattle.space_search.specs.Laws.{IsSpace, Supersedes};
 
 /// A space of states with starts, steps and goals, all by number. No call takes memory.
 ///
@@ -57,6 +57,19 @@ pub trait Space {
         requires small_a { ca < LOW_BOUND }
         requires small_b { cb < LOW_BOUND }
         ensures value { result ≡ (rules self.now).covers a.now ca b.now cb };
+
+    /// Whether a settled label makes an older one needless in the covering test: for all that comes
+    /// and ranks no less than the first, the first covers what the second covers. A space may always
+    /// say no; one that says no of a label and itself isn't asked of others.
+    fn supersedes(&self, a: &Self::State, ca: u128, b: &Self::State, cb: u128) -> bool
+        requires valid_a { IsTrue ((rules self.now).is_valid a.now) }
+        requires valid_b { IsTrue ((rules self.now).is_valid b.now) }
+        requires small_a { ca < LOW_BOUND }
+        requires small_b { cb < LOW_BOUND }
+        ensures sound { IsTrue result → Supersedes (rules self.now) a.now ca b.now cb }
+    {
+        false
+    }
 
     /// A lower bound of what is still to pay from a state to a goal; `None` where none is reached.
     fn low(&self, state: &Self::State) -> Option<u128>

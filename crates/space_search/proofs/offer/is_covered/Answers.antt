@@ -1,18 +1,18 @@
 use Rattle.std.proofs.Common.{arith, sym, ◌∙◌}
-use Rattle.space_search.proofs.ChainLemmas.{tested-first, within-settled, within-older, within-labels, settled-here, settled-valid, settled-small, next-below, tested-next}
+use Rattle.space_search.proofs.ChainLemmas.{uncovered-last, names-tested, same-cell, latest, tested-first, within-settled, within-older, within-labels, settled-here, settled-valid, settled-small, next-below, tested-next}
 use Rattle.space_search.proofs.offer.is_covered.Goals as goal
 
 pub chain-init : goal.chain-init
 chain-init g c =
     tested-first _ (g.met.S.Space.keeps_laws c.args.space.now) _ c.requires.kept c.args.state.now c.args.cost
-    c.requires.valid c.cell-cell.result c.index-cursor.result.now c.cell-cell.ensures.value c.index-cursor.ensures
+    c.requires.later c.cell-cell.result c.index-cursor.result.now c.cell-cell.ensures.value c.index-cursor.ensures
 
 pub index-requires : goal.index-requires
 index-requires g c =
     omega (
       arith,
-      within-settled _ _ c.args.state.now c.args.cost c.chain.cursor
-          (record { search = c.requires.kept; some = c.chain-test.true; tested = c.chain.invariant }),
+      within-settled _ _ _ c.chain.cursor
+          (names-tested _ _ c.args.state.now c.args.cost c.chain.cursor c.requires.kept c.chain-test.true c.chain.invariant),
       c.args.lists.now.settled.ok.0,
     )
 
@@ -20,23 +20,26 @@ pub index-requires-in-chain : goal.index-requires-in-chain
 index-requires-in-chain g c =
     omega (
       arith,
-      within-labels _ _ c.args.state.now c.args.cost c.chain.cursor
-          (record { search = c.requires.kept; some = c.chain-test.true; tested = c.chain.invariant }) c.index.result.now c.index.ensures,
+      within-labels _ _ _ c.chain.cursor
+          (names-tested _ _ c.args.state.now c.args.cost c.chain.cursor c.requires.kept c.chain-test.true c.chain.invariant)
+          c.index.result.now c.index.ensures,
       c.args.lists.now.labels.ok.0,
     )
 
 pub covers-requires-clause-valid_a : goal.covers-requires-clause-valid_a
 covers-requires-clause-valid_a g c =
     settled-valid _ (g.met.S.Space.keeps_laws c.args.space.now) _ c.requires.kept _ _
-    (settled-here _ _ c.args.state.now c.args.cost c.chain.cursor
-    (record { search = c.requires.kept; some = c.chain-test.true; tested = c.chain.invariant }) c.index.result.now c.index.ensures
+    (settled-here _ _ _ c.chain.cursor
+    (names-tested _ _ c.args.state.now c.args.cost c.chain.cursor c.requires.kept c.chain-test.true c.chain.invariant)
+    c.index.result.now c.index.ensures
     c.index-in-chain.result.now c.index-in-chain.ensures)
 
 pub covers-requires-clause-small_a : goal.covers-requires-clause-small_a
 covers-requires-clause-small_a g c =
     settled-small _ (g.met.S.Space.keeps_laws c.args.space.now) _ c.requires.kept _ _
-    (settled-here _ _ c.args.state.now c.args.cost c.chain.cursor
-    (record { search = c.requires.kept; some = c.chain-test.true; tested = c.chain.invariant }) c.index.result.now c.index.ensures
+    (settled-here _ _ _ c.chain.cursor
+    (names-tested _ _ c.args.state.now c.args.cost c.chain.cursor c.requires.kept c.chain-test.true c.chain.invariant)
+    c.index.result.now c.index.ensures
     c.index-in-chain.result.now c.index-in-chain.ensures)
 
 pub returns-then-covers-clause-covered : goal.returns-then-covers-clause-covered
@@ -45,8 +48,9 @@ returns-then-covers-clause-covered g c h =
       place = _;
       label = c.index-in-chain.result.now;
       settled =
-          settled-here _ _ c.args.state.now c.args.cost c.chain.cursor
-          (record { search = c.requires.kept; some = c.chain-test.true; tested = c.chain.invariant }) c.index.result.now c.index.ensures
+          settled-here _ _ _ c.chain.cursor
+          (names-tested _ _ c.args.state.now c.args.cost c.chain.cursor c.requires.kept c.chain-test.true c.chain.invariant)
+          c.index.result.now c.index.ensures
           c.index-in-chain.result.now c.index-in-chain.ensures;
       covers = sym c.covers.ensures.value ∙ c.if-covers.true;
     }
@@ -55,20 +59,33 @@ pub index-cursor-requires-in-chain : goal.index-cursor-requires-in-chain
 index-cursor-requires-in-chain g c =
     omega (
       arith,
-      within-older _ _ c.args.state.now c.args.cost c.chain.cursor
-          (record { search = c.requires.kept; some = c.chain-test.true; tested = c.chain.invariant }),
+      within-older _ _ _ c.chain.cursor
+          (names-tested _ _ c.args.state.now c.args.cost c.chain.cursor c.requires.kept c.chain-test.true c.chain.invariant),
       c.args.lists.now.older.ok.0,
     )
 
 pub chain-smaller : goal.chain-smaller
 chain-smaller g c =
-    next-below _ _ c.args.state.now c.args.cost c.chain.cursor
-    (record { search = c.requires.kept; some = c.chain-test.true; tested = c.chain.invariant }) c.index.result.now c.index.ensures
+    next-below _ _ _ c.chain.cursor
+    (names-tested _ _ c.args.state.now c.args.cost c.chain.cursor c.requires.kept c.chain-test.true c.chain.invariant)
+    c.index.result.now c.index.ensures
     c.index-in-chain.result.now c.index-in-chain.ensures c.index-cursor-in-chain.result.now c.index-cursor-in-chain.ensures
 
 pub chain-preserved : goal.chain-preserved
 chain-preserved g c =
-    tested-next _ _ c.args.state.now c.args.cost c.chain.cursor
-    (record { search = c.requires.kept; some = c.chain-test.true; tested = c.chain.invariant }) c.index.result.now c.index.ensures
-    c.index-in-chain.result.now c.index-in-chain.ensures c.index-cursor-in-chain.result.now c.index-cursor-in-chain.ensures
+    let names =
+    names-tested _ _ c.args.state.now c.args.cost c.chain.cursor c.requires.kept c.chain-test.true c.chain.invariant in
+    tested-next _ _ c.args.state.now c.args.cost c.chain.cursor c.chain.invariant c.index-in-chain.result.now
+    (settled-here _ _ _ c.chain.cursor names c.index.result.now c.index.ensures c.index-in-chain.result.now
+    c.index-in-chain.ensures)
+    (same-cell _ _ _ c.chain.cursor names c.index.result.now c.index.ensures c.index-in-chain.result.now
+    c.index-in-chain.ensures)
+    c.index-cursor-in-chain.result.now
+    (latest _ _ _ c.chain.cursor names c.index.result.now c.index.ensures c.index-in-chain.result.now
+    c.index-in-chain.ensures c.index-cursor-in-chain.result.now c.index-cursor-in-chain.ensures)
     (sym c.covers.ensures.value ∙ c.if-covers.false)
+
+pub returns-clause-uncovered : goal.returns-clause-uncovered
+returns-clause-uncovered g c same =
+    uncovered-last _ (g.met.S.Space.keeps_laws c.args.space.now) _ c.requires.kept c.args.state.now c.args.cost
+    c.requires.later c.chain.cursor (omega (arith, c.chain-test.false)) c.chain.invariant

@@ -1,5 +1,10 @@
 use Rattle.std.proofs.Common.{refl, arith, sym, ◌∙◌}
+use Rattle.space_search.proofs.NextLemmas.{later-next}
 use Rattle.space_search.proofs.take.take.Goals as goal
+
+pub is_covered-requires-clause-later : goal.is_covered-requires-clause-later
+is_covered-requires-clause-later g c =
+    later-next _ _ c.requires.kept c.in-Some.found.0 c.in-Some.found.1 c.in-Some.ensures.next
 
 pub returns-then-goal-clause-takes : goal.returns-then-goal-clause-takes
 returns-then-goal-clause-takes g c =

@@ -1,0 +1,54 @@
+use Rattle.std.proofs.Common.{arith, ◌≡◌, ◌+◌, length, set, ap}
+use Rattle.space_search.specs.Books.{books}
+use Rattle.space_search.proofs.DropLemmas.{popped-front}
+use Rattle.space_search.proofs.SameLemmas.{leaves-failed}
+use Rattle.space_search.proofs.GrowLemmas.{Writes}
+use Rattle.space_search.proofs.SettleLemmas.{settles, leaves-settled}
+use Rattle.space_search.proofs.settle.settle_last.Goals as goal
+
+pub returns-in-Err-push-clause-leaves : goal.returns-in-Err-push-clause-leaves
+returns-in-Err-push-clause-leaves g c = leaves-failed _ _ _ _ c.requires.kept c.in-Err-push.ensures.items
+
+pub returns : goal.returns
+returns g c =
+    let rules = g.S.Space.rules c.args.space.now in
+    let laws = g.met.S.Space.keeps_laws c.args.space.now in
+    let counted : c.len.result ≡ length c.args.lists.now.settled.items + 1 =
+    omega (arith, c.len.ensures, c.in-Ok-push.ensures.len, c.args.lists.now.settled.ok.0) in
+    let w : Writes rules (books c.args.lists.now) c.args.number c.args.label _ =
+    record {
+      leaving =
+          record {
+            search = c.requires.kept;
+            closed = c.requires.closed;
+            next = c.requires.next;
+            popped =
+                popped-front _ _ c.pop-taken.result _ _ c.pop-taken.ensures.top c.pop-taken.ensures.permutation
+                c.pop-taken.ensures.heap_order c.pop-taken.ensures.variant c.args.lists.now.queue.data.ok.0 c.requires.next.first;
+          };
+      no_goal = c.requires.no_goal;
+      uncovered = c.requires.uncovered;
+      room = c.requires.room;
+      cell = c.cell-cell.result;
+      before = c.index-before.result.now;
+      settled = _;
+      newest = _;
+      older = _;
+      at = c.cell-cell.ensures.value;
+      inside =
+          omega (
+            arith,
+            c.cell-cell.ensures.value,
+            laws.moves.cell c.args.label.state (c.requires.kept.follows _ _ c.requires.next.there).valid,
+            c.requires.kept.index.cells,
+          );
+      reads_before = c.index-before.ensures;
+      is_settled = c.in-Ok-push.ensures.items;
+      is_newest = ap (set c.args.lists.now.newest.items c.cell-cell.result) counted;
+      is_older = c.in-Ok.ensures.items;
+    } in
+    record {
+      settles = settles rules laws _ _ _ _ w;
+      leaves = leaves-settled rules laws _ _ _ _ w;
+      most = omega (arith, c.len.ensures, c.in-Ok-push.ensures.len, c.args.lists.now.settled.ok.0);
+    }
