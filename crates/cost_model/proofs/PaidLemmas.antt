@@ -1,10 +1,9 @@
 -- The bounds of the parts of a link, and of the buffers after it.
-use Rattle.std.proofs.Common.{ℕ, ◌*◌, ◌≤◌, ℤ, pos, negsuc, ◌+ℤ◌, ◌-ℤ◌, ◌*ℤ◌, ◌≤ℤ◌, Bool, true, false, cond, Option, Some, None, ◌==◌, unsigned_abs, arith}
+use Rattle.std.proofs.Common.{ℕ, ◌*◌, ◌≤◌, ℤ, pos, negsuc, ◌+ℤ◌, ◌-ℤ◌, ◌*ℤ◌, ◌≤ℤ◌, Bool, true, false, cond, Option, Some, None, unsigned_abs, arith}
 use Rattle.std.specs.Int.{int_div_euclid}
-use Rattle.std.proofs.lemmas.Int.{ints, clamps, unsigned_abs-mul}
+use Rattle.std.proofs.lemmas.Int.{ints, unsigned_abs-mul}
 use Rattle.std.proofs.lemmas.Nat.{mul-le, div_below}
-use Rattle.geo_int.specs.Turn.{turn_cosine, held, quotient, arrow_dot}
-use Rattle.geo_int.specs.declared.offsets.Arrow.{Arrow}
+use Rattle.geo_int.proofs.CallerLemmas.{turn_cosine-within}
 use Rattle.elev_buffer.specs.Covers.{down_step, up_step}
 use Rattle.elev_buffer.specs.declared.labels.Pair.{Pair}
 use Rattle.cost_model.specs.Facts.{IsCost, AreFacts}
@@ -39,16 +38,6 @@ pub record IsSmall (n : ℤ) : Type 0 where
   pub low : pos 0 ≤ℤ n
   pub high : n ≤ℤ pos 2000000000000000
 
--- a choice of cosines is within a million
-cosine-chosen : (t : Bool) (x : ℤ) → (negsuc 999999 ≤ℤ cond t (pos 1000000) (held x)) × (cond t (pos 1000000) (held x) ≤ℤ pos 1000000)
-cosine-chosen true x = (omega (arith, ints), omega (arith, ints))
-cosine-chosen false x = (omega (arith, ints, clamps), omega (arith, ints, clamps))
-
--- so each cosine is
-cosine-within : (a b : Arrow) → (negsuc 999999 ≤ℤ turn_cosine a b) × (turn_cosine a b ≤ℤ pos 1000000)
-unfolding turn_cosine
-cosine-within a b = cosine-chosen (a.len * b.len == 0) (quotient (arrow_dot a b) (a.len * b.len))
-
 -- a millionth of a product that is not negative is small
 millionth-small : (x : ℤ) → pos 0 ≤ℤ x → unsigned_abs x ≤ 2000000000000000000000 → IsSmall (int_div_euclid x (pos 1000000))
 millionth-small (pos n) low h =
@@ -74,7 +63,7 @@ price-small turncost cosine is low high =
 pub turn-small : (before : Option LinkFacts) (facts : LinkFacts) → AreFacts facts → IsSmall (turn_of before facts)
 turn-small None facts f = record { low = omega (arith, ints); high = omega (arith, ints) }
 turn-small (Some last) facts f =
-    let k = cosine-within last.arrow facts.arrow in
+    let k = turn_cosine-within last.arrow facts.arrow in
     price-small facts.turncost _ f.turncost k.0 k.1
 
 -- a choice between nothing and a cost is small

@@ -1,11 +1,13 @@
--- What crates above may cite: places of spots, and arrows that are there.
-use Rattle.std.proofs.Common.{◌≡◌, ◌≤◌, cond, Some, None, pos, ◌-ℤ◌, ap, Bool, true, false, refl, arith}
+-- What crates above may cite: places of spots, arrows that are there, and how large cosines are.
+use Rattle.std.proofs.Common.{◌≡◌, ◌≤◌, ◌*◌, ◌==◌, cond, Some, None, ℤ, pos, negsuc, ◌-ℤ◌, ◌≤ℤ◌, ap, Bool, true, false, refl, arith}
 use Rattle.std.proofs.lemmas.Bool.{leb-true}
-use Rattle.std.proofs.lemmas.Int.{ints}
+use Rattle.std.proofs.lemmas.Int.{ints, clamps}
 use Rattle.geo_int.specs.Place.{Place, IsOnGlobe}
 use Rattle.geo_int.specs.Spot.{place_of}
 use Rattle.geo_int.specs.Arrow.{arrow_between, arrow_of, length_between, east_between, north_between, IsArrow}
+use Rattle.geo_int.specs.Turn.{turn_cosine, held, quotient, arrow_dot}
 use Rattle.geo_int.proofs.ArrowLemmas.{arrow_of-IsArrow, length_between-is}
+pub use Rattle.geo_int.proofs.TurnLemmas.{east_le, north_le}
 use Rattle.geo_int.specs.declared.offsets.Arrow.{Arrow}
 use Rattle.geo_int.specs.declared.spots.Spot.{Spot}
 
@@ -38,3 +40,13 @@ pub arrow_between-IsArrow : (a b : Place) (found : Arrow) → arrow_between a b 
 arrow_between-IsArrow a b found e =
     let there = arrow_between-found a b found e in
     arrow_of-IsArrow found _ _ there.0 (omega (arith, length_between-is a b found there.0, there.1))
+
+-- a choice of cosines is within a million
+cosine-chosen : (t : Bool) (x : ℤ) → (negsuc 999999 ≤ℤ cond t (pos 1000000) (held x)) × (cond t (pos 1000000) (held x) ≤ℤ pos 1000000)
+cosine-chosen true x = (omega (arith, ints), omega (arith, ints))
+cosine-chosen false x = (omega (arith, ints, clamps), omega (arith, ints, clamps))
+
+-- a cosine is from -1,000,000 to 1,000,000 millionths
+pub turn_cosine-within : (a b : Arrow) → (negsuc 999999 ≤ℤ turn_cosine a b) × (turn_cosine a b ≤ℤ pos 1000000)
+unfolding turn_cosine
+turn_cosine-within a b = cosine-chosen (a.len * b.len == 0) (quotient (arrow_dot a b) (a.len * b.len))
