@@ -5,7 +5,7 @@ ghost use Rattle.elev_buffer.specs.Covers.{IsPair};
 
 use crate::texts::{OUTSIDE, truth};
 use case_rows::Case;
-use elev_buffer::{Limits, Mode, Modes, Pair, covers, step};
+use elev_buffer::{Limits, Mode, Modes, Pair, covers, step, supersedes};
 use std::alloc::{AllocError, Global};
 
 const MOST: i64 = 1_000_000_000_000_000;
@@ -16,7 +16,7 @@ const FAR: i64 = 2_000_000_000_000_000_000;
 pub(crate) fn answer(alloc: Global, case: &Case) -> Result<Option<String>, AllocError> {
     let text = match case.word(0) {
         b"step" => stepped(alloc, case)?,
-        b"covers" => covering(alloc, case)?,
+        b"covers" | b"supersedes" => comparing(alloc, case)?,
         _ => return Ok(None),
     };
     Ok(Some(text))
@@ -55,8 +55,8 @@ fn mode_of(word: &[u8]) -> Mode {
     }
 }
 
-/// Whether a label covers another: the buffers and the cost of both, the two rates, the two modes.
-fn covering(alloc: Global, case: &Case) -> Result<String, AllocError> {
+/// Whether a label covers or supersedes another: the buffers and the cost of both, the two rates, the two modes.
+fn comparing(alloc: Global, case: &Case) -> Result<String, AllocError> {
     let first = pair_of(case.signed(1), case.signed(2));
     let second = pair_of(case.signed(4), case.signed(5));
     let (Some(a), Some(b)) = (first, second) else {
@@ -74,8 +74,9 @@ fn covering(alloc: Global, case: &Case) -> Result<String, AllocError> {
         down: mode_of(case.word(9)),
         up: mode_of(case.word(10)),
     };
-    truth(
-        alloc,
-        covers(&a, first_cost, &b, second_cost, kd, ku, &modes),
-    )
+    let answer = match case.word(0) {
+        b"supersedes" => supersedes(&a, first_cost, &b, second_cost, kd, ku, &modes),
+        _ => covers(&a, first_cost, &b, second_cost, kd, ku, &modes),
+    };
+    truth(alloc, answer)
 }

@@ -5,4 +5,7 @@ pub mod LinkLemmas
 pub mod PaidLemmas
 pub mod WalkLemmas
 pub mod ModeLemmas
+pub mod CostLemmas
+pub mod LeastLemmas
+pub mod CoveringLemmas
 pub mod CallerLemmas

@@ -5,14 +5,18 @@
 mod distance;
 mod elevation;
 mod facts;
+mod least;
 mod links;
 mod map_modes;
+mod open_links;
 mod parts;
 mod rates;
 
 pub use distance::distance_part;
 pub use facts::{FactsOf, LinkFacts};
+pub use least::least_price;
 pub use links::{enter, first};
 pub use map_modes::modes;
+pub use open_links::{OpenLinks, Passages, is_passable};
 pub use parts::{Carry, Parts};
 pub use rates::{RateError, Rates};

@@ -104,6 +104,7 @@ impl Rates {
     /// The price of a micrometre of descent in millionths.
     pub fn down_rate(&self) -> i64
         ensures value { result ≡ self.now.down_rate }
+        ensures lawful { IsPrices self.now }
     {
         self.down_rate
     }

@@ -13,13 +13,13 @@ use Rattle.elev_buffer.proofs.ProductLemmas.{mul-add, mul-sub, mul-grows}
 use Rattle.elev_buffer.proofs.StepLemmas.{step-grows, step-slowly}
 
 -- the order of a mode is one
-order-trans : (mode : Mode) (x y z : ℤ) → IsInOrder mode x y → IsInOrder mode y z → IsInOrder mode x z
+pub order-trans : (mode : Mode) (x y z : ℤ) → IsInOrder mode x y → IsInOrder mode y z → IsInOrder mode x z
 order-trans Compensated x y z h k = tt
 order-trans Ordered x y z h k = omega (arith, ints)
 order-trans Equal x y z h k = h ∙ k
 
 -- and holds of a buffer and itself
-order-refl : (mode : Mode) (x : ℤ) → IsInOrder mode x x
+pub order-refl : (mode : Mode) (x : ℤ) → IsInOrder mode x x
 order-refl Compensated x = tt
 order-refl Ordered x = omega (arith, ints)
 order-refl Equal x = refl
@@ -39,6 +39,22 @@ price-trans Compensated k x y z positive =
     omega (arith, ints, mul-grows k _ _ positive e, mul-add k (excess x y) (excess y z))
 price-trans Ordered k x y z positive = omega (arith, ints)
 price-trans Equal k x y z positive = omega (arith, ints)
+
+-- what a buffer has more costs at least nothing
+price-positive : (mode : Mode) (k x y : ℤ) → pos 0 ≤ℤ k → pos 0 ≤ℤ price mode k x y
+price-positive Compensated k x y positive =
+    let more : pos 0 ≤ℤ excess x y = omega (arith, ints, clamps) in
+    omega (arith, ints, mul-grows k _ _ positive more, *ℤ-zero k)
+price-positive Ordered k x y positive = omega (arith, ints)
+price-positive Equal k x y positive = omega (arith, ints)
+
+-- what covers costs no more
+pub covers-cheaper : (by : Terms) (a b : Label) → pos 0 ≤ℤ by.down_rate → pos 0 ≤ℤ by.up_rate → CoversLabel by a b → a.cost ≤ℤ b.cost
+covers-cheaper by a b d u f =
+    let p = price-positive by.modes.down by.down_rate a.buffers.down b.buffers.down d in
+    let q = price-positive by.modes.up by.up_rate a.buffers.up b.buffers.up u in
+    let cost = f.cost in
+    omega (arith, ints)
 
 -- covering is an order
 pub covers-trans : (by : Terms) (a b c : Label) → pos 0 ≤ℤ by.down_rate → pos 0 ≤ℤ by.up_rate →
@@ -63,6 +79,28 @@ covers-refl by a b same h =
       down = order-refl by.modes.down a.buffers.down;
       up = order-refl by.modes.up a.buffers.up;
     })
+
+-- what a buffer has more costs nothing at no price
+price-free : (mode : Mode) (k x y : ℤ) → k ≡ pos 0 → price mode k x y ≡ pos 0
+price-free Compensated k x y none = rw none (*ℤ_comm (pos 0) (excess x y) ∙ *ℤ-zero (excess x y))
+price-free Ordered k x y none = refl
+price-free Equal k x y none = refl
+
+-- the compensated mode asks for no order
+order-free : (mode : Mode) (x y : ℤ) → mode ≡ Compensated → IsInOrder mode x y
+order-free mode x y is = subst (λ m. IsInOrder m x y) (sym is) tt
+
+-- where no buffer has a price and both are compensated, a label covers every one that costs no less
+pub covers-flat : (by : Terms) (a b : Label) → by.down_rate ≡ pos 0 → by.up_rate ≡ pos 0 → by.modes.down ≡ Compensated →
+    by.modes.up ≡ Compensated → a.cost ≤ℤ b.cost → CoversLabel by a b
+covers-flat by a b d u down up less =
+    let p = price-free by.modes.down by.down_rate a.buffers.down b.buffers.down d in
+    let q = price-free by.modes.up by.up_rate a.buffers.up b.buffers.up u in
+    record {
+      cost = omega (arith, ints);
+      down = order-free by.modes.down _ _ down;
+      up = order-free by.modes.up _ _ up;
+    }
 
 -- what a step pays, and what one buffer then has more than the other, is no more than before
 step-excess : (l : Limits) (added r x y : ℤ) → IsLimits l → pos 0 ≤ℤ r →
@@ -111,6 +149,13 @@ keeps-one Equal l added r k x y is positive price h = record {
   cost = omega (arith, ints, ap (λ b. (step_of l added r b).paid *ℤ k) h);
 }
 
+-- where two buffers have the order of their mode, so have the weights of their steps over one link
+pub weights-kept : (mode : Mode) (l : Limits) (added r x y : ℤ) → IsLimits l → pos 0 ≤ℤ r → IsInOrder mode x y →
+    IsInOrder mode (step_of l added r x).weight (step_of l added r y).weight
+weights-kept Compensated l added r x y is positive h = tt
+weights-kept Ordered l added r x y is positive h = (step-grows l added r x y is positive h).weight
+weights-kept Equal l added r x y is positive h = ap (λ b. (step_of l added r b).weight) h
+
 -- covering lasts over every link
 pub covers-kept : (by : Terms) (a b : Label) → pos 0 ≤ℤ by.down_rate → pos 0 ≤ℤ by.up_rate → CoversLabel by a b → IsKept by a b
 covers-kept by a b d u f climb a_other b_other is positive other =
@@ -123,7 +168,7 @@ covers-kept by a b d u f climb a_other b_other is positive other =
     record { cost = omega (arith, ints); down = down.order; up = up.order }
 
 -- the price of what one buffer has more is the difference of both prices, or nothing
-price-excess : (k x y : ℤ) → pos 0 ≤ℤ k → k *ℤ excess x y ≡ int_max (k *ℤ x -ℤ k *ℤ y) (pos 0)
+pub price-excess : (k x y : ℤ) → pos 0 ≤ℤ k → k *ℤ excess x y ≡ int_max (k *ℤ x -ℤ k *ℤ y) (pos 0)
 price-excess k x y positive =
     by_lt_z y x
     (λ h. let e : excess x y ≡ x -ℤ y = omega (arith, ints, clamps) in
@@ -133,7 +178,7 @@ price-excess k x y positive =
     ap (λ n. k *ℤ n) e ∙ *ℤ-zero k ∙ omega (arith, ints, clamps, mul-grows k x y positive h))
 
 -- two prices are within a difference exactly where each is, and both together are
-two_prices : (u v ca cb : ℤ) → ca ≤ℤ cb → ((ca +ℤ int_max u (pos 0) +ℤ int_max v (pos 0)) ≤ℤ cb) ↔
+pub two_prices : (u v ca cb : ℤ) → ca ≤ℤ cb → ((ca +ℤ int_max u (pos 0) +ℤ int_max v (pos 0)) ≤ℤ cb) ↔
     (((ca +ℤ u) ≤ℤ cb) × ((ca +ℤ v) ≤ℤ cb) × ((ca +ℤ u +ℤ v) ≤ℤ cb))
 two_prices u v ca cb less = (
   λ h. (omega (arith, ints, clamps), omega (arith, ints, clamps), omega (arith, ints, clamps)),

@@ -2,3 +2,6 @@ pub mod CallerLemmas
 pub mod StepLemmas
 pub mod ProductLemmas
 pub mod CoverLemmas
+pub mod TestLemmas
+pub mod NewerLemmas
+pub mod WholeLemmas

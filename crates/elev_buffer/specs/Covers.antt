@@ -1,5 +1,5 @@
 -- When a label makes another of the same link needless (this project's own rule).
-use Rattle.std.specs.Prelude.{◌≡◌, ℤ, pos, ◌+ℤ◌, ◌-ℤ◌, ◌*ℤ◌, ◌≤ℤ◌}
+use Rattle.std.specs.Prelude.{◌≡◌, ℤ, pos, ◌+ℤ◌, ◌-ℤ◌, ◌*ℤ◌, ◌≤ℤ◌, ◌<ℤ◌, int_le, Bool, true, ◌&&◌}
 use Rattle.std.specs.Int.{int_max}
 use Rattle.elev_buffer.specs.Step.{IsLimits, step_of}
 use Rattle.elev_buffer.specs.declared.steps.Limits.{Limits}
@@ -68,6 +68,19 @@ pub record CoversLabel (by : Terms) (a b : Label) : Type 0 where
   pub down : IsInOrder by.modes.down a.buffers.down b.buffers.down
   pub up : IsInOrder by.modes.up a.buffers.up b.buffers.up
 
+-- whether two buffers have the order that they must have where money cannot make up for it
+abbrev pub is_in_order : Mode → ℤ → ℤ → Bool
+is_in_order Compensated first second = true
+is_in_order Ordered first second = int_le first second
+is_in_order Equal first second = int_le first second && int_le second first
+
+-- whether the first label makes the second needless
+unfoldable pub covers_label : Terms → Label → Label → Bool
+covers_label by a b =
+    int_le (a.cost +ℤ down_price by a b +ℤ up_price by a b) b.cost
+    && is_in_order by.modes.down a.buffers.down b.buffers.down
+    && is_in_order by.modes.up a.buffers.up b.buffers.up
+
 -- the steps of both buffers over one link: what is added to each, and how much each is reduced
 pub record Climb : Type 0 where
   pub limits : Limits
@@ -121,3 +134,31 @@ pub record IsBelowInSums (by : Terms) (a b : Label) : Type 0 where
   pub down : with_down by a ≤ℤ with_down by b
   pub up : with_up by a ≤ℤ with_up by b
   pub both : with_both by a ≤ℤ with_both by b
+
+-- the price of a micrometre of a buffer, and nothing where money cannot make up for it
+abbrev pub rate_by : Mode → ℤ → ℤ
+rate_by Compensated rate = rate
+rate_by Ordered rate = pos 0
+rate_by Equal rate = pos 0
+
+-- whatever the second label makes needless of labels that cost no less than the first, the first makes needless too
+abbrev pub SupersedesLabel : Terms → Label → Label → Type 0
+SupersedesLabel by a b = (later : Label) → a.cost ≤ℤ later.cost → CoversLabel by b later → CoversLabel by a later
+
+-- at these prices the first label is no more in each of the three sums of the cost with the price of descent, of climb,
+-- and of both; a sum is asked for only where its prices are above 0
+pub record AreSumsBelow (down_rate up_rate : ℤ) (a b : Label) : Type 0 where
+  pub down : pos 0 <ℤ down_rate →
+      (a.cost +ℤ down_rate *ℤ a.buffers.down) ≤ℤ (b.cost +ℤ down_rate *ℤ b.buffers.down)
+  pub up : pos 0 <ℤ up_rate →
+      (a.cost +ℤ up_rate *ℤ a.buffers.up) ≤ℤ (b.cost +ℤ up_rate *ℤ b.buffers.up)
+  pub both : pos 0 <ℤ down_rate → pos 0 <ℤ up_rate →
+      (a.cost +ℤ down_rate *ℤ a.buffers.down +ℤ up_rate *ℤ a.buffers.up)
+      ≤ℤ (b.cost +ℤ down_rate *ℤ b.buffers.down +ℤ up_rate *ℤ b.buffers.up)
+
+-- both buffers have the order that their modes ask for, and the first label is no more in the three sums at the prices
+-- that money can make up for
+pub record IsBelowWherePriced (by : Terms) (a b : Label) : Type 0 where
+  pub down : IsInOrder by.modes.down a.buffers.down b.buffers.down
+  pub up : IsInOrder by.modes.up a.buffers.up b.buffers.up
+  pub sums : AreSumsBelow (rate_by by.modes.down by.down_rate) (rate_by by.modes.up by.up_rate) a b

@@ -1,10 +1,12 @@
-//! Climbing buffers: what a step pays and keeps, and when one label makes another needless.
+//! Climbing buffers: what a step pays and keeps, and when one label makes another needless or supersedes it.
 #![tactic(auto)]
 
 mod labels;
+mod newer;
 mod orders;
 mod steps;
 
 pub use labels::{Mode, Modes, Pair};
+pub use newer::supersedes;
 pub use orders::covers;
 pub use steps::{Limits, Stepped, step};

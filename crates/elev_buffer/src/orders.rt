@@ -1,7 +1,7 @@
 //! When a label makes another of the same link needless.
 
 ghost use Rattle.std.specs.Prelude.{◌≡◌, ◌<◌, ◌≤◌, ◌^◌, ◌↔◌, ℤ, pos, ◌+ℤ◌, IsTrue};
-ghost use Rattle.elev_buffer.specs.Covers.{CoversLabel, IsBelowInSums, IsBuffer, IsInOrder, IsKept, IsPair, Label, label, price, terms};
+ghost use Rattle.elev_buffer.specs.Covers.{CoversLabel, IsBelowInSums, IsBuffer, IsInOrder, IsKept, IsPair, Label, covers_label, label, price, terms};
 
 use crate::labels::{Mode, Modes, Pair};
 
@@ -14,10 +14,13 @@ pub fn covers(a: &Pair, ca: u128, b: &Pair, cb: u128, kd: i64, ku: i64, modes: &
     requires second_cost { cb < 2 ^ 126 }
     requires down_rate { IsBuffer kd }
     requires up_rate { IsBuffer ku }
+    ensures value { result ≡
+        covers_label (terms modes.now kd ku) (label a.now (pos ca)) (label b.now (pos cb)) }
     ensures exact { IsTrue result ↔
         CoversLabel (terms modes.now kd ku) (label a.now (pos ca)) (label b.now (pos cb)) }
 
-    // Covering is an order, and lasts from link to link.
+    // What covers costs no more. Covering is an order, and lasts from link to link.
+    ensures cheaper { IsTrue result → ca ≤ cb }
     ensures reflexive { a.now ≡ b.now → ca ≤ cb → IsTrue result }
     ensures transitive { (third : Label) → IsTrue result →
         CoversLabel (terms modes.now kd ku) (label b.now (pos cb)) third →
@@ -51,7 +54,7 @@ fn is_covered(a: &Pair, ca: u128, b: &Pair, cb: u128, kd: i64, ku: i64, modes: &
 }
 
 /// Whether both buffers have the order that their modes ask for.
-fn are_in_order(a: &Pair, b: &Pair, modes: &Modes) -> bool
+pub(crate) fn are_in_order(a: &Pair, b: &Pair, modes: &Modes) -> bool
     ensures exact { IsTrue result ↔
         (IsInOrder modes.now.down a.now.down b.now.down
         × IsInOrder modes.now.up a.now.up b.now.up) }

@@ -4,7 +4,7 @@ ghost use Rattle.std.specs.Prelude.{IfSome};
 ghost use Rattle.cost_model.specs.Facts.{AreFacts};
 
 use case_rows::Case;
-use cost_model::{LinkFacts, RateError, Rates, distance_part, enter, first};
+use cost_model::{LinkFacts, RateError, Rates, distance_part, enter, first, least_price};
 use fixed_num::Num;
 use geo_int::{Spot, arrow};
 use std::alloc::{AllocError, Global};
@@ -20,6 +20,7 @@ pub(crate) fn answer(alloc: Global, case: &Case) -> Result<String, AllocError> {
     match case.word(0) {
         b"rates" => rates(alloc, case),
         b"distance" => distance(alloc, case),
+        b"least" => least(alloc, case),
         b"climb" => climb(alloc, case),
         _ => String::from_str(alloc, "no such call"),
     }
@@ -59,8 +60,15 @@ fn rates(alloc: Global, case: &Case) -> Result<String, AllocError> {
     }
 }
 
-/// The facts of a link along the equator of so many microdegrees, up a slope of 24 millimetres for each, with these factors.
-fn facts_of(lon: i64, costfactor: i64, upfactor: i64, downfactor: i64) -> Option<LinkFacts>
+/// The facts of a link along the equator of so many microdegrees, up a slope of 24 millimetres for each, with these factors
+/// and this charge.
+fn facts_of(
+    lon: i64,
+    costfactor: i64,
+    upfactor: i64,
+    downfactor: i64,
+    charge: i64,
+) -> Option<LinkFacts>
     ensures found { IfSome result (λ facts. AreFacts facts) }
 {
     let arrow = arrow(Spot::new(0, 0)?, Spot::new(lon, 0)?)?;
@@ -70,6 +78,9 @@ fn facts_of(lon: i64, costfactor: i64, upfactor: i64, downfactor: i64) -> Option
     if upfactor < 0 || upfactor > MOST || downfactor < 0 || downfactor > MOST {
         return None;
     }
+    if charge < 0 || charge > MOST {
+        return None;
+    }
     Some(LinkFacts {
         arrow,
         rise: 24_000 * lon,
@@ -77,7 +88,7 @@ fn facts_of(lon: i64, costfactor: i64, upfactor: i64, downfactor: i64) -> Option
         turncost: 0,
         initialcost: 0,
         classifier: 0,
-        charge: 0,
+        charge,
         granted: false,
         upfactor,
         downfactor,
@@ -92,12 +103,31 @@ fn distance(alloc: Global, case: &Case) -> Result<String, AllocError> {
         case.signed(2),
         case.signed(3),
         case.signed(4),
+        0,
     );
     match facts {
         Some(facts) if 0 <= down && down <= 1_000_000 && 0 <= up && up <= 1_000_000 => {
             format!(in alloc; "{}", distance_part(&facts, down, up))
         }
         _ => String::from_str(alloc, OUTSIDE),
+    }
+}
+
+/// What a link costs at least: microdegrees, the three factors, the charge, and whether its segment was used.
+fn least(alloc: Global, case: &Case) -> Result<String, AllocError> {
+    let facts = facts_of(
+        case.signed(1),
+        case.signed(2),
+        case.signed(3),
+        case.signed(4),
+        case.signed(5),
+    );
+    match facts {
+        Some(facts) => format!(in alloc;
+            "{}",
+            least_price(&facts, case.word(6) == b"used".as_slice())
+        ),
+        None => String::from_str(alloc, OUTSIDE),
     }
 }
 
@@ -112,9 +142,9 @@ fn climb(alloc: Global, case: &Case) -> Result<String, AllocError> {
     };
     let one = 1_000_000;
     let (Some(a), Some(b), Some(c)) = (
-        facts_of(case.signed(8), one, one, one),
-        facts_of(case.signed(9), one, one, one),
-        facts_of(case.signed(10), one, one, one),
+        facts_of(case.signed(8), one, one, one, 0),
+        facts_of(case.signed(9), one, one, one, 0),
+        facts_of(case.signed(10), one, one, one, 0),
     ) else {
         return String::from_str(alloc, OUTSIDE);
     };

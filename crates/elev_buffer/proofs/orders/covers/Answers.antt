@@ -1,7 +1,18 @@
 use Rattle.std.proofs.Common.{arith}
 use Rattle.std.proofs.lemmas.Int.{ints, to_z-of_z}
-use Rattle.elev_buffer.proofs.CoverLemmas.{covers-trans, covers-kept, covers-sums}
+use Rattle.elev_buffer.proofs.CoverLemmas.{covers-trans, covers-cheaper, covers-kept, covers-sums}
+use Rattle.elev_buffer.proofs.TestLemmas.{one-test, covers-test}
 use Rattle.elev_buffer.proofs.orders.covers.Goals as goal
+
+pub returns-clause-value : goal.returns-clause-value
+returns-clause-value c =
+    let is = simp (to_z-of_z, c.ranges.kd, c.ranges.ku) at c.is_covered.ensures.exact in
+    one-test _ _ _ is (covers-test _ _ _)
+
+pub returns-clause-cheaper : goal.returns-clause-cheaper
+returns-clause-cheaper c =
+    let is = simp (to_z-of_z, c.ranges.kd, c.ranges.ku) at c.is_covered.ensures.exact in
+    λ h. omega (arith, ints, covers-cheaper _ _ _ c.requires.down_rate.low c.requires.up_rate.low (is.0 h))
 
 pub returns-clause-transitive : goal.returns-clause-transitive
 returns-clause-transitive c =

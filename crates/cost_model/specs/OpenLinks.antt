@@ -1,0 +1,24 @@
+-- Which links a rider may take, and which turns (this project's own rule).
+use Rattle.std.specs.Prelude.{ℕ, pos, int_lt, Bool, false, not, ◌&&◌, List, get_or}
+use Rattle.cost_model.specs.declared.facts.LinkFacts.{LinkFacts}
+
+-- whether the facts of a link let a rider take it: its costfactor is below 10000, and the charge at its end below 1000000
+unfoldable pub is_passable : LinkFacts → Bool
+is_passable facts = int_lt facts.costfactor (pos 10000000000) && int_lt facts.charge (pos 1000000000000)
+
+-- whether a link is cut, by one truth value a link
+abbrev pub is_cut : List Bool → ℕ → Bool
+is_cut cut link = get_or cut link false
+
+-- whether a link is open: its facts let a rider take it, and it isn't cut
+abbrev pub open_by : (ℕ → LinkFacts) → List Bool → ℕ → Bool
+open_by facts cut link = is_passable (facts link) && not (is_cut cut link)
+
+-- the second link is forbidden after the first, where turn restrictions count
+abbrev pub forbids_where : Bool → (ℕ → ℕ → Bool) → ℕ → ℕ → Bool
+forbids_where turns forbids first second = turns && forbids first second
+
+-- how many links there are, and which of them are open
+pub record Opens : Type 0 where
+  pub count : ℕ
+  pub is_open : ℕ → Bool
