@@ -1,0 +1,11 @@
+pub mod WalkLemmas
+pub mod StateLemmas
+pub mod LowerLemmas
+pub mod RelaxLemmas
+pub mod LookLemmas
+pub mod SpreadLemmas
+pub mod PopLemmas
+pub mod BeginLemmas
+pub mod EndLemmas
+pub mod BoardLemmas
+pub mod CallerLemmas
