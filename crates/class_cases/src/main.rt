@@ -1,0 +1,27 @@
+//! Runs tables of cases on the public calls of `way_class`: the facts of links, the values of the global
+//! section, and refusals.
+#![tactic(auto)]
+
+mod answers;
+mod inputs;
+
+use case_rows::{Report, Table};
+use sample_texts::NAMED;
+use std::io;
+
+fn main(rt: HostRuntime) -> io::Result<()> {
+    let mut table = Table::new(rt.alloc());
+    for (name, text) in NAMED {
+        table.add_text(name, text)?;
+    }
+    let mut report = Report::new();
+    for line in rt.lines(rt.alloc()) {
+        if let Some(case) = table.take(line?.as_str())? {
+            let answer = answers::answer(rt.alloc(), &case)?;
+            if let Some(told) = report.compare(rt.alloc(), &case, answer.as_bytes())? {
+                println!(rt; "{told}")?;
+            }
+        }
+    }
+    println!(rt; "{} cases, {} differ", report.tried, report.differ)
+}

@@ -1,0 +1,7 @@
+pub mod AnswerLemmas
+pub mod NumberLemmas
+pub mod ClassLemmas
+pub mod SideLemmas
+pub mod RowLemmas
+pub mod PartLemmas
+pub mod BoundLemmas

@@ -1,0 +1,11 @@
+pub mod Numbers
+pub mod Answers
+pub mod Sides
+pub mod Charges
+pub mod Facts
+pub mod Refusals
+pub mod Classes
+pub mod Parts
+pub mod Bound
+pub mod Links
+pub mod Outcome

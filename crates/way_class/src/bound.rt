@@ -1,0 +1,28 @@
+//! A profile that is bound to a map.
+
+ghost use Rattle.std.specs.Prelude.{◌≡◌, ◌<◌, ◌^◌, length};
+
+use crate::charge::NodeClass;
+use crate::row::Row;
+use crate::side::WayClass;
+use fixed_num::Num;
+
+/// The facts of all links by a profile, and the values of its global section.
+#[derive(Drop)]
+pub struct Bound {
+    pub(crate) globals: [Num; 7],
+    pub(crate) rows: Vec<Row>,
+    pub(crate) ways: Vec<WayClass>,
+    pub(crate) nodes: Vec<NodeClass>,
+    ghost few: { length rows.items < 2 ^ 32 },
+}
+
+impl Bound {
+    /// The values of the global section: `uphillcost`, `downhillcost`, `uphillcutoff`, `downhillcutoff`,
+    /// `elevationpenaltybuffer`, `elevationmaxbuffer` and `elevationbufferreduce`.
+    pub fn globals(&self) -> [Num; 7]
+        ensures value { result ≡ self.now.globals }
+    {
+        self.globals
+    }
+}
