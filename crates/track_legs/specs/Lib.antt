@@ -1,0 +1,5 @@
+pub mod Rides
+pub mod Tracks
+pub mod Rows
+pub mod Costs
+pub mod Steps

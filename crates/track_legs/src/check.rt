@@ -1,0 +1,76 @@
+//! Whether a track is one.
+
+ghost use Rattle.std.specs.Prelude.{◌≡◌, ◌↔◌, ◌<◌, ◌^◌, IsTrue, Some, length, suc};
+ghost use Rattle.track_legs.specs.Rides.{ride_of};
+ghost use Rattle.track_legs.specs.Tracks.{IsLegBetween, IsTrack};
+
+use crate::costs::cost_along;
+use crate::track::{Leg, Track};
+use crate::walks::is_walk;
+use cost_model::{FactsOf, Passages, Rates};
+use overpass_graph::Map;
+
+/// Whether there is one leg fewer than nodes, and each leg is a walk between its nodes that a rider may take, with the
+/// cost that is kept: over links that their facts let a rider take and that aren't cut, never back to where the link
+/// before left, and where `turns` count against no turn restriction. It takes no memory.
+pub fn recheck<F: FactsOf>(
+    track: &Track,
+    map: &Map,
+    facts: &F,
+    rates: &Rates,
+    cut: &[bool],
+    turns: bool,
+) -> bool
+    requires counted { (F.links facts.now).count ≡ length map.now.links }
+    ensures exact { IsTrue result ↔
+        IsTrack (ride_of map.now (F.links facts.now) rates.now cut.now turns) track.now }
+{
+    let nodes = track.nodes.as_slice();
+    let legs = track.legs.as_slice();
+    if !is_one_fewer(legs.len(), nodes.len()) {
+        return false;
+    }
+    'legs: for place in 0..legs.len() {
+        let (start, target) = (nodes[place], nodes[place + 1]);
+        if !is_leg(&legs[place], start, target, map, facts, rates, cut, turns) {
+            return false;
+        }
+    }
+    true
+}
+
+/// Whether a count is one below another.
+fn is_one_fewer(count: usize, other: usize) -> bool
+    ensures exact { IsTrue result ↔ (suc count ≡ other) }
+{
+    count < other && other - count == 1
+}
+
+/// Whether a leg is a walk between two nodes that a rider may take, with the cost that is kept.
+fn is_leg<F: FactsOf>(
+    leg: &Leg,
+    start: u32,
+    target: u32,
+    map: &Map,
+    facts: &F,
+    rates: &Rates,
+    cut: &[bool],
+    turns: bool,
+) -> bool
+    requires counted { (F.links facts.now).count ≡ length map.now.links }
+    ensures exact { IsTrue result ↔
+        IsLegBetween (ride_of map.now (F.links facts.now) rates.now cut.now turns) start target leg.now }
+{
+    let passages = Passages { facts, cut };
+    let walk = leg.links.as_slice();
+    is_walk(map, &passages, turns, start, target, walk)
+        && is_kept(cost_along(facts, rates, walk), leg.cost)
+}
+
+/// Whether the cost that was found is the one that is kept.
+fn is_kept(found: Option<u128>, kept: u128) -> bool
+    ensures exact { IsTrue result ↔ (found ≡ Some kept) }
+    ensures fits { kept < 2 ^ 128 }
+{
+    found == Some(kept)
+}

@@ -1,0 +1,13 @@
+//! The tracks of a rider over a map: whether a track is one, what a walk costs, and a row a link.
+#![tactic(auto)]
+
+mod check;
+mod costs;
+mod row;
+mod track;
+mod walks;
+
+pub use check::recheck;
+pub use costs::cost_along;
+pub use row::{Row, rows};
+pub use track::{Leg, Track};
