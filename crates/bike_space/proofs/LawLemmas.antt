@@ -1,0 +1,395 @@
+-- The space of a lawful search on a leg keeps the laws of a space.
+use Rattle.std.proofs.Common.{◌≡◌, ℕ, ℤ, ◌+◌, ◌-◌, ◌<◌, ◌≤◌, ◌≤ℤ◌, ◌^◌, Bool, true, false, ◌&&◌, nat_eq, nat_lt, int_le, cond, List, length, Option, Some, None, IsTrue, refl, sym, ap, ◌∙◌, subst, arith}
+use Rattle.std.specs.Option.{is_some}
+use Rattle.std.proofs.lemmas.Bool.Decides.{nat_tests}
+use Rattle.std.proofs.lemmas.Int.{ints}
+use Rattle.std.proofs.Math.Logic.{∥∥₁_elim}
+use Rattle.std.proofs.Props.{props}
+use Rattle.elev_buffer.specs.Covers.{covers_label}
+use Rattle.elev_buffer.specs.declared.labels.Pair.{Pair}
+use Rattle.cost_model.specs.Labels.{label_of}
+use Rattle.cost_model.specs.Modes.{AllowsFacts, modes_before}
+use Rattle.cost_model.specs.Parts.{IsHeld, least_price}
+use Rattle.cost_model.specs.Prices.{Prices}
+use Rattle.cost_model.specs.Walks.{empty_pair, pair_of}
+use Rattle.cost_model.specs.declared.facts.LinkFacts.{LinkFacts}
+use Rattle.cost_model.specs.declared.parts.Carry.{Carry}
+use Rattle.cost_model.proofs.CallerLemmas.{cost-below, covers-carried, empty-held, held-after, label-cheaper, label-itself, label-through, least_price-least, modes-allow}
+use Rattle.least_sums.proofs.CallerLemmas.{least-one, least-step, least-target, none-step}
+use Rattle.overpass_graph.specs.Roads.{out_links}
+use Rattle.overpass_graph.proofs.CallerLemmas.{out-sound}
+use Rattle.space_search.specs.Laws.{HasBound, HasCovering, HasEvenBound, HasMoves, CoveredAlike, IsDearest, IsSpace, KeepsCovering}
+use Rattle.space_search.specs.Runs.{Walks, rests, steps}
+use Rattle.bike_space.specs.Legs.{Leg}
+use Rattle.bike_space.specs.Spent.{terms_of}
+use Rattle.bike_space.specs.Remaining.{IsRemaining, rest_price}
+use Rattle.bike_space.specs.Tasks.{Task, chosen, covers_carry, entered, is_carried, is_within, may_take, rules_of}
+use Rattle.bike_space.specs.Lawful.{IsTask}
+use Rattle.bike_space.proofs.WalkLemmas.{take-follows}
+
+-- ---- What is carried
+
+-- both of two tests
+both : (a b : Bool) → IsTrue (a && b) → IsTrue a × IsTrue b
+both true true h = (refl, refl)
+both true false h = absurd (cc)
+both false b h = absurd (cc)
+
+-- two tests at once
+at-once : (a b : Bool) → IsTrue a → IsTrue b → IsTrue (a && b)
+at-once a b p q = rw (p, q) refl
+
+-- a number that is at most another by its test
+le-test : (x y : ℤ) → IsTrue (int_le x y) → x ≤ℤ y
+le-test x y h = grind (arith, ints)
+
+-- the test of a number that is at most another
+test-le : (x y : ℤ) → x ≤ℤ y → IsTrue (int_le x y)
+test-le x y h = grind (arith, ints)
+
+-- buffers within their bounds are held
+within-held : (prices : Prices) (pair : Pair) → IsTrue (is_within prices pair) → IsHeld prices pair
+within-held prices pair h =
+    let two = both _ _ h in
+    let down = both _ _ two.0 in
+    let up = both _ _ two.1 in
+    record {
+      down_low = le-test _ _ down.0;
+      down_high = le-test _ _ down.1;
+      up_low = le-test _ _ up.0;
+      up_high = le-test _ _ up.1;
+    }
+
+-- what is carried has a link of the leg, and held buffers
+pub carried-is : (leg : Leg) (carry : Carry) → IsTrue (is_carried leg carry) →
+    (carry.link < leg.roads.links) × IsHeld leg.prices (pair_of carry)
+unfolding is_carried
+carried-is leg carry h =
+    let two = both _ _ h in
+    let below : IsTrue (nat_lt carry.link leg.roads.links) = two.0 in
+    (grind (arith, nat_tests), within-held leg.prices (pair_of carry) two.1)
+
+-- a link of the leg with held buffers is what may be carried
+pub is-carried : (leg : Leg) (carry : Carry) → carry.link < leg.roads.links → IsHeld leg.prices (pair_of carry) →
+    IsTrue (is_carried leg carry)
+unfolding is_carried
+is-carried leg carry below held =
+    let inside : IsTrue (nat_lt carry.link leg.roads.links) = grind (arith, nat_tests) in
+    at-once _ _ inside
+    (at-once _ _ (at-once _ _ (test-le _ _ held.down_low) (test-le _ _ held.down_high))
+    (at-once _ _ (test-le _ _ held.up_low) (test-le _ _ held.up_high)))
+
+-- what covers ends in the same link, and its label covers the other
+pub covers-parts : (leg : Leg) (a b : Carry) (ca cb : ℕ) → IsTrue (covers_carry leg a ca b cb) →
+    (a.link ≡ b.link) × IsTrue (covers_label (terms_of leg) (label_of a ca) (label_of b cb))
+unfolding covers_carry
+covers-parts leg a b ca cb h =
+    let two = both _ _ h in
+    let same : IsTrue (nat_eq a.link b.link) = two.0 in
+    (grind (arith, nat_tests), two.1)
+
+-- a label of the same link that covers another is what covers
+pub parts-cover : (leg : Leg) (a b : Carry) (ca cb : ℕ) → a.link ≡ b.link →
+    IsTrue (covers_label (terms_of leg) (label_of a ca) (label_of b cb)) → IsTrue (covers_carry leg a ca b cb)
+unfolding covers_carry
+parts-cover leg a b ca cb same covers =
+    let one : IsTrue (nat_eq a.link b.link) = grind (arith, nat_tests) in
+    at-once _ _ one covers
+
+-- ---- Starts and steps
+
+-- what is there passed its test
+pub passed : (t : Bool) (x y : Carry × ℕ) → cond t (Some x) None ≡ Some y → (t ≡ true) × (x ≡ y)
+passed true x y h = (refl, cc)
+passed false x y h = absurd (cc)
+
+-- whether it is there is its test
+some-is : (t : Bool) (x : Carry × ℕ) → is_some (cond t (Some x) None) ≡ t
+some-is true x = refl
+some-is false x = refl
+
+-- a step from a state whose link is this
+pub record IsStep (task : Task) (last : ℕ) (pair : Pair) (number : ℕ) (next : Carry) (cost : ℕ) : Type 0 where
+  pub within : chosen task.leg.roads (task.leg.roads.to last) number < task.leg.roads.links
+  pub leaves : task.leg.roads.from (chosen task.leg.roads (task.leg.roads.to last) number) ≡ task.leg.roads.to last
+  pub taken : may_take task.leg last (chosen task.leg.roads (task.leg.roads.to last) number) ≡ true
+  pub is : entered task (Some (task.leg.facts last)) (chosen task.leg.roads (task.leg.roads.to last) number) pair ≡
+      (next, cost)
+
+-- a permitted step is one
+pub step-is : (task : Task) (carry : Carry) (last number : ℕ) (next : Carry) (cost : ℕ) → carry.link ≡ last →
+    number < (rules_of task).steps carry → (rules_of task).step carry number ≡ Some (next, cost) →
+    IsStep task last (pair_of carry) number next cost
+step-is task carry last number next cost same within step =
+    let P : ℕ → Type 0 = λ l. IsStep task l (pair_of carry) number next cost in
+    let out = out-sound task.leg.roads (task.leg.roads.to carry.link) number within in
+    let p = passed _ _ _ step in
+    subst P same (record { within = out.0; leaves = out.1; taken = p.0; is = p.1 })
+
+module _ (task : Task) (lawful : IsTask task) where
+  -- what is carried from a link that is entered is a state, and entering it costs below 2^81
+  entered-move : (before : Option LinkFacts) (link : ℕ) (pair : Pair) → link < task.leg.roads.links →
+      IsHeld task.leg.prices pair →
+      IsTrue (is_carried task.leg (entered task before link pair).0) × ((entered task before link pair).1 < 2 ^ 81)
+  unfolding entered
+  entered-move before link pair within held =
+      let facts = lawful.facts link within in (
+        is-carried task.leg _ within (held-after task.leg.prices link (task.leg.facts link) pair lawful.prices facts
+            held),
+        cost-below task.leg.prices (task.used link) before (task.leg.facts link) pair lawful.prices facts held,
+      )
+
+  -- so is what a start gives
+  pub start-move : (number : ℕ) (state : Carry) (cost : ℕ) → number < (rules_of task).starts →
+      (rules_of task).start number ≡ Some (state, cost) → IsTrue (is_carried task.leg state) × (cost < 2 ^ 81)
+  start-move number state cost within is =
+      let out = out-sound task.leg.roads task.leg.start number within in
+      let p = passed _ _ _ is in
+      let P : Carry × ℕ → Type 0 = λ e. IsTrue (is_carried task.leg e.0) × (e.1 < 2 ^ 81) in
+      subst P p.1 (entered-move None _ empty_pair out.0 (empty-held task.leg.prices lawful.prices))
+
+  -- and what a step gives
+  pub step-move : (from : Carry) (number : ℕ) (state : Carry) (cost : ℕ) → IsTrue (is_carried task.leg from) →
+      number < (rules_of task).steps from → (rules_of task).step from number ≡ Some (state, cost) →
+      IsTrue (is_carried task.leg state) × (cost < 2 ^ 81)
+  step-move from number state cost valid within step =
+      let s = step-is task from from.link number state cost refl within step in
+      let P : Carry × ℕ → Type 0 = λ e. IsTrue (is_carried task.leg e.0) × (e.1 < 2 ^ 81) in
+      subst P s.is (entered-move (Some (task.leg.facts from.link)) _ (pair_of from) s.within
+      (carried-is task.leg from valid).1)
+
+  -- starts and steps lead to states at a bounded cost
+  has-moves : HasMoves (rules_of task)
+  has-moves = record {
+    starts = λ number state cost within is.
+        let m = start-move number state cost within is in record { valid = m.0; cheap = omega (arith, m.1) };
+    steps = λ from number state cost valid within is.
+        let m = step-move from number state cost valid within is in record { valid = m.0; cheap = omega (arith, m.1) };
+    cell = λ state valid. (carried-is task.leg state valid).0;
+  }
+
+  -- no start or step costs 2^81 or more
+  pub is-dearest : IsDearest (rules_of task) (2 ^ 81 - 1)
+  is-dearest = record {
+    starts = λ number state cost within is. let m = start-move number state cost within is in omega (arith, m.1);
+    steps = λ from number state cost valid within is. let m = step-move from number state cost valid within is in
+        omega (arith, m.1);
+  }
+
+  -- ---- Covering
+
+  -- covering is an order within a link
+  has-covering : HasCovering (rules_of task)
+  has-covering = record {
+    one_cell = λ a b ca cb va vb h. (covers-parts task.leg a b ca cb h).0;
+    itself = λ a ca va. parts-cover task.leg a a ca ca refl
+        (label-itself task.leg.prices _ a a ca ca refl (omega arith));
+    through = λ a b c ca cb cost va vb vc p q.
+        let first = covers-parts task.leg a b ca cb p in
+        let second = covers-parts task.leg b c cb cost q in
+        parts-cover task.leg a c ca cost (first.0 ∙ second.0)
+        (label-through task.leg.prices _ a b c ca cb cost lawful.prices first.1 second.1);
+    cheaper = λ a b ca cb va vb h. label-cheaper task.leg.prices _ a b ca cb lawful.prices
+        (covers-parts task.leg a b ca cb h).1;
+  }
+
+  -- the modes of the leg allow the facts of each of its links
+  modes-of-leg : (link : ℕ) → link < task.leg.roads.links →
+      AllowsFacts (modes_before task.leg.facts task.leg.roads.links) (task.leg.facts link)
+  modes-of-leg link within = modes-allow task.leg.facts task.leg.roads.links link within
+
+  -- the covering of two states of one link is kept when both enter the same link
+  entered-covers : (before : Option LinkFacts) (link : ℕ) (a b : Carry) (ca cb : ℕ) → link < task.leg.roads.links →
+      IsHeld task.leg.prices (pair_of a) → IsHeld task.leg.prices (pair_of b) →
+      IsTrue (covers_label (terms_of task.leg) (label_of a ca) (label_of b cb)) →
+      IsTrue (covers_carry task.leg (entered task before link (pair_of a)).0
+      (ca + (entered task before link (pair_of a)).1)
+      (entered task before link (pair_of b)).0 (cb + (entered task before link (pair_of b)).1))
+  unfolding entered
+  entered-covers before link a b ca cb within held holds covers =
+      parts-cover task.leg _ _ _ _ refl
+      (covers-carried task.leg.prices (modes_before task.leg.facts task.leg.roads.links) (task.used link) before
+      (task.leg.facts link)
+      lawful.prices (lawful.facts link within) (modes-of-leg link within) link a b ca cb held holds covers)
+
+  -- covering is kept by every step
+  keeps-covering : KeepsCovering (rules_of task)
+  keeps-covering a b ca cb va vb h number within first second more other p q =
+      let parts = covers-parts task.leg a b ca cb h in
+      let P : ℕ → Type 0 = λ l. number < length (out_links task.leg.roads (task.leg.roads.to l)) in
+      let s = step-is task a b.link number first more parts.0 (subst P (sym parts.0) within) p in
+      let t = step-is task b b.link number second other refl within q in
+      let Q : Carry × ℕ → Type 0 = λ e. IsTrue (covers_carry task.leg e.0 (ca + e.1) second (cb + other)) in
+      let R : Carry × ℕ → Type 0 = λ e. IsTrue (covers_carry task.leg
+      (entered task (Some (task.leg.facts b.link)) (chosen task.leg.roads (task.leg.roads.to b.link) number)
+      (pair_of a)).0
+      (ca + (entered task (Some (task.leg.facts b.link)) (chosen task.leg.roads (task.leg.roads.to b.link) number)
+      (pair_of a)).1)
+      e.0 (cb + e.1)) in
+      subst Q s.is (subst R t.is
+      (entered-covers (Some (task.leg.facts b.link)) _ a b ca cb t.within (carried-is task.leg a va).1
+      (carried-is task.leg b vb).1 parts.1))
+
+  -- states of one link have the same steps and are goals alike
+  covered-alike : CoveredAlike (rules_of task)
+  covered-alike = record {
+    steps = λ a b ca cb va vb h.
+        ap (λ l. length (out_links task.leg.roads (task.leg.roads.to l))) (covers-parts task.leg a b ca cb h).0;
+    permitted = λ a b ca cb va vb h number within.
+        some-is _ _
+        ∙ ap (λ l. may_take task.leg l (chosen task.leg.roads (task.leg.roads.to l) number))
+        (covers-parts task.leg a b ca cb h).0
+        ∙ sym (some-is _ _);
+    goal = λ a b ca cb va vb h. ap (λ l. nat_eq (task.leg.roads.to l) task.leg.target)
+        (covers-parts task.leg a b ca cb h).0;
+  }
+
+  -- ---- The bound
+
+  -- what still has to be paid behind a link
+  low-behind : (link : ℕ) → link < task.leg.roads.links →
+      IsRemaining task.leg task.used (task.leg.roads.to link) (task.low (task.leg.roads.to link))
+  low-behind link within = lawful.low _ (lawful.roads.to_in link within)
+
+  -- an open link has its low price
+  priced : (link : ℕ) → IsTrue (task.leg.is_open link) →
+      rest_price task.leg task.used link ≡ Some (least_price (task.used link) (task.leg.facts link))
+  priced link opens = rw opens refl
+
+  -- at the target nothing has still to be paid
+  rest-target : (low : Option ℕ) → IsRemaining task.leg task.used task.leg.target low → low ≡ Some 0
+  rest-target low is = ∥∥₁_elim is (hlevel props)
+      (λ h. least-target task.leg.roads (rest_price task.leg task.used) task.leg.target low h)
+
+  -- there is one least sum from a node
+  rest-one : (node : ℕ) (a b : Option ℕ) → IsRemaining task.leg task.used node a →
+      IsRemaining task.leg task.used node b → a ≡ b
+  rest-one node a b is other =
+      ∥∥₁_elim is (hlevel props) (λ h. ∥∥₁_elim other (hlevel props)
+      (λ k. least-one task.leg.roads (rest_price task.leg task.used) task.leg.target node a b h k))
+
+  -- what still has to be paid falls along an open link by no more than its low price
+  rest-step : (link before after : ℕ) → link < task.leg.roads.links → IsTrue (task.leg.is_open link) →
+      IsRemaining task.leg task.used (task.leg.roads.from link) (Some before) →
+      IsRemaining task.leg task.used (task.leg.roads.to link) (Some after) →
+      before ≤ least_price (task.used link) (task.leg.facts link) + after
+  rest-step link before after within opens is other =
+      ∥∥₁_elim is (hlevel props) (λ h. ∥∥₁_elim other (hlevel props)
+      (λ k. least-step task.leg.roads (rest_price task.leg task.used) task.leg.target link _ before after within
+      (priced link opens) h k))
+
+  -- where the target isn't reached from before an open link, it isn't from behind it
+  rest-none : (link : ℕ) → link < task.leg.roads.links → IsTrue (task.leg.is_open link) →
+      IsRemaining task.leg task.used (task.leg.roads.from link) None →
+      IsRemaining task.leg task.used (task.leg.roads.to link) None
+  rest-none link within opens is =
+      ∥∥₁_elim is (hlevel props)
+      (λ h. ∣ none-step task.leg.roads (rest_price task.leg task.used) task.leg.target link _ within (priced link opens)
+      h ∣₁)
+
+  -- at a goal nothing has still to be paid
+  goal-low : (state : Carry) → IsTrue ((rules_of task).is_goal state) → (rules_of task).low state ≡ Some 0
+  goal-low state goal =
+      let is : IsTrue (nat_eq (task.leg.roads.to state.link) task.leg.target) = goal in
+      let at : task.leg.roads.to state.link ≡ task.leg.target = grind (arith, nat_tests) in
+      ap task.low at ∙ rest-target _ (lawful.low task.leg.target lawful.target_in)
+
+  -- the link that a step enters leaves where the last one arrives, is open, and costs no less than its low price
+  record IsEntry (last : ℕ) (next : Carry) (cost : ℕ) : Type 0 where
+    within : next.link < task.leg.roads.links
+    leaves : task.leg.roads.from next.link ≡ task.leg.roads.to last
+    opens : IsTrue (task.leg.is_open next.link)
+    dear : least_price (task.used next.link) (task.leg.facts next.link) ≤ cost
+
+  -- what enters a link costs no less than its low price
+  entered-dear : (before : Option LinkFacts) (link : ℕ) (pair : Pair) → link < task.leg.roads.links →
+      IsHeld task.leg.prices pair →
+      (link ≡ (entered task before link pair).0.link) ×
+      (least_price (task.used link) (task.leg.facts link) ≤ (entered task before link pair).1)
+  unfolding entered
+  entered-dear before link pair within held = (
+    refl,
+    least_price-least task.leg.prices (task.used link) before (task.leg.facts link) pair lawful.prices
+        (lawful.facts link within) held,
+  )
+
+  -- so is each step
+  step-entry : (from : Carry) (number : ℕ) (state : Carry) (cost : ℕ) → IsTrue (is_carried task.leg from) →
+      number < (rules_of task).steps from → (rules_of task).step from number ≡ Some (state, cost) →
+      IsEntry from.link state cost
+  step-entry from number state cost valid within step =
+      let s = step-is task from from.link number state cost refl within step in
+      let link = chosen task.leg.roads (task.leg.roads.to from.link) number in
+      let e = entered-dear (Some (task.leg.facts from.link)) link (pair_of from) s.within
+      (carried-is task.leg from valid).1 in
+      let same : link ≡ state.link = e.0 ∙ ap (λ (m : Carry × ℕ). m.0.link) s.is in
+      let f = take-follows task.leg from.link link s.taken s.leaves in
+      let dear : least_price (task.used link) (task.leg.facts link) ≤ cost =
+      omega (arith, e.1, ap (λ (m : Carry × ℕ). m.1) s.is) in
+      record {
+        within = omega (arith, s.within, same);
+        leaves = subst (λ l. task.leg.roads.from l ≡ task.leg.roads.to from.link) same s.leaves;
+        opens = subst (λ l. IsTrue (task.leg.is_open l)) same f.0;
+        dear = subst (λ l. least_price (task.used l) (task.leg.facts l) ≤ cost) same dear;
+      }
+
+  -- where a state has no bound, none has one behind a step
+  low-stays : (from : Carry) (number : ℕ) (state : Carry) (cost : ℕ) → IsTrue (is_carried task.leg from) →
+      number < (rules_of task).steps from → (rules_of task).step from number ≡ Some (state, cost) →
+      (rules_of task).low from ≡ None → (rules_of task).low state ≡ None
+  low-stays from number state cost valid within step none =
+      let e = step-entry from number state cost valid within step in
+      let before : IsRemaining task.leg task.used (task.leg.roads.from state.link) None =
+      subst (λ n. IsRemaining task.leg task.used n None) (sym e.leaves)
+      (subst (IsRemaining task.leg task.used (task.leg.roads.to from.link)) none
+      (low-behind from.link (carried-is task.leg from valid).0)) in
+      rest-one (task.leg.roads.to state.link) _ None (low-behind state.link e.within)
+      (rest-none state.link e.within e.opens before)
+
+  -- from a state without a bound no goal is reached
+  hopeless : {state end : Carry} {cost total : ℕ} {numbers : List ℕ} → IsTrue (is_carried task.leg state) →
+      (rules_of task).low state ≡ None → Walks (rules_of task) state cost numbers end total →
+      IsTrue ((rules_of task).is_goal end) → ⊥
+  hopeless {state = state} valid none rests goal =
+      let some = goal-low state goal in
+      let never : ⊥ = cc in
+      never
+  hopeless {state = state} valid none (steps {next = next} {more = more} {number = number} within is rest) goal =
+      hopeless (step-move state number next more valid within is).0
+      (low-stays state number next more valid within is none) rest goal
+
+  -- the bound is bounded, 0 at a goal, and falls along a step by no more than that costs
+  has-bound : HasBound (rules_of task)
+  has-bound = record {
+    small = λ state low valid is. lawful.low_small _ low
+        (lawful.roads.to_in state.link (carried-is task.leg state valid).0) is;
+    goal = λ state valid goal. goal-low state goal;
+    hopeless = λ state end cost total numbers valid none walk goal. hopeless valid none walk goal;
+    step = λ from number state cost before after valid within is first second.
+        let e = step-entry from number state cost valid within is in
+        let here : IsRemaining task.leg task.used (task.leg.roads.from state.link) (Some before) =
+        subst (λ n. IsRemaining task.leg task.used n (Some before)) (sym e.leaves)
+        (subst (IsRemaining task.leg task.used (task.leg.roads.to from.link)) first
+        (low-behind from.link (carried-is task.leg from valid).0)) in
+        let there : IsRemaining task.leg task.used (task.leg.roads.to state.link) (Some after) =
+        subst (IsRemaining task.leg task.used (task.leg.roads.to state.link)) second (low-behind state.link e.within) in
+        let falls = rest-step state.link before after e.within e.opens here there in
+        omega (arith, falls, e.dear);
+  }
+
+  -- the space keeps the laws
+  pub keeps-laws : IsSpace (rules_of task)
+  keeps-laws = record {
+    moves = has-moves;
+    covering = has-covering;
+    kept = keeps-covering;
+    alike = covered-alike;
+    bound = has-bound;
+  }
+
+  -- states that cover one another have one bound, and where it is none it is none behind every step
+  pub even-bound : HasEvenBound (rules_of task)
+  even-bound = record {
+    alike = λ a b ca cb va vb h. ap (λ l. task.low (task.leg.roads.to l)) (covers-parts task.leg a b ca cb h).0;
+    stays = λ from number state cost valid within is none. low-stays from number state cost valid within is none;
+  }

@@ -1,0 +1,18 @@
+-- A search on a leg that is lawful: its numbers keep their bounds, and what still has to be paid is the least (this
+-- project's own rule).
+use Rattle.std.specs.Prelude.{◌≡◌, ℕ, ◌<◌, ◌^◌, Some}
+use Rattle.cost_model.specs.Facts.{AreFacts}
+use Rattle.cost_model.specs.Prices.{IsPrices}
+use Rattle.overpass_graph.specs.Roads.{IsRoads}
+use Rattle.bike_space.specs.Remaining.{IsRemaining}
+use Rattle.bike_space.specs.Tasks.{Task}
+
+-- a lawful search on a leg
+pub record IsTask (task : Task) : Type 0 where
+  pub roads : IsRoads task.leg.roads
+  pub facts : (link : ℕ) → link < task.leg.roads.links → AreFacts (task.leg.facts link)
+  pub prices : IsPrices task.leg.prices
+  pub start_in : task.leg.start < task.leg.roads.nodes
+  pub target_in : task.leg.target < task.leg.roads.nodes
+  pub low : (node : ℕ) → node < task.leg.roads.nodes → IsRemaining task.leg task.used node (task.low node)
+  pub low_small : (node low : ℕ) → node < task.leg.roads.nodes → task.low node ≡ Some low → low < 2 ^ 126
