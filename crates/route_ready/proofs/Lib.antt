@@ -1,0 +1,4 @@
+pub mod AnswerLemmas
+pub mod RefusalLemmas
+pub mod ReadyLemmas
+pub mod TextLemmas
