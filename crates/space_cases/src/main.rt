@@ -4,6 +4,7 @@
 mod ground;
 mod walks;
 mod ways;
+mod woken;
 
 use case_rows::{Report, Table};
 use std::io;

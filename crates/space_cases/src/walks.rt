@@ -1,6 +1,10 @@
 //! Cases on walks of least rank.
 
+ghost use Rattle.std.specs.Prelude.{◌≡◌, ◌≢◌, ◌<◌, ◌^◌};
+
+use crate::ground::Ground;
 use crate::ways::ground;
+use crate::woken::least_walk_woken;
 use bike_space::{BikeSpace, Walked, least_walk};
 use case_rows::Case;
 use cost_model::{FactsOf, Rates, modes};
@@ -15,7 +19,7 @@ const OUTSIDE: &str = "(outside)";
 /// The answer to a case.
 pub(crate) fn answer(alloc: Global, case: &Case) -> Result<String, AllocError> {
     match case.word(0) {
-        b"walk" | b"runs" => match read(alloc, case.word(1)) {
+        b"walk" | b"runs" | b"woken" => match read(alloc, case.word(1)) {
             Ok(map) => walk(alloc, case, &map),
             Err(_) => String::from_str(alloc, "no map"),
         },
@@ -56,7 +60,7 @@ fn marks(alloc: Global, word: &[u8], links: u32) -> Result<Vec<bool>, AllocError
 
 /// The links of a walk of least rank and its rank: by the facts that the words say, whether turn
 /// restrictions count, the two nodes, the limit of labels, and the links that are cut and used. With
-/// `runs` the search goes from junction to junction.
+/// `runs` the search goes from junction to junction, with `woken` its space rests between its turns.
 fn walk(alloc: Global, case: &Case, map: &Map) -> Result<String, AllocError> {
     let Some(globals) = globals(case) else {
         return String::from_str(alloc, OUTSIDE);
@@ -85,10 +89,33 @@ fn walk(alloc: Global, case: &Case, map: &Map) -> Result<String, AllocError> {
     let space = BikeSpace::new(
         alloc, map, &ground, &rates, modes, cut, used, from, to, turns,
     )?;
-    if case.word(0) == b"runs".as_slice() {
-        told(alloc, least_walk_by_runs(alloc, &space, limit)?)
-    } else {
-        told(alloc, least_walk(alloc, &space, limit)?)
+    told(
+        alloc,
+        walked(alloc, case, space, map, &ground, &rates, limit)?,
+    )
+}
+
+/// What a search over this space answers, which stands on the map, the facts and the rates, by the
+/// case's first word.
+fn walked<'a>(
+    alloc: Global,
+    case: &Case,
+    space: BikeSpace<'a, Ground>,
+    map: &'a Map,
+    ground: &'a Ground,
+    rates: &'a Rates,
+    limit: u64,
+) -> Result<Walked, AllocError>
+    requires small { limit < 2 ^ 32 }
+    requires differ { space.kept.start ≢ space.kept.target }
+    requires map { space.map.now ≡ map.now }
+    requires facts { space.facts.now ≡ ground.now }
+    requires rates { space.rates.now ≡ rates.now }
+{
+    match case.word(0) {
+        b"runs" => least_walk_by_runs(alloc, &space, limit),
+        b"woken" => least_walk_woken(alloc, space, map, ground, rates, limit),
+        _ => least_walk(alloc, &space, limit),
     }
 }
 

@@ -1,4 +1,4 @@
-use Rattle.std.proofs.Common.{ℕ, List, length, ◌<◌, ◌^◌, sym, subst, arith}
+use Rattle.std.proofs.Common.{List, length, ◌<◌, ◌^◌, sym, subst, arith}
 use Rattle.cost_model.specs.declared.facts.LinkFacts.{LinkFacts}
 use Rattle.space_cases.specs.Ground.{AreListed}
 use Rattle.space_cases.proofs.GroundLemmas.{few-push, listed-push}
