@@ -1,0 +1,7 @@
+pub mod JoinLemmas
+pub mod FieldLemmas
+pub mod ShowLemmas
+pub mod ArrayLemmas
+pub mod SumLemmas
+pub mod BelowLemmas
+pub mod CallerLemmas

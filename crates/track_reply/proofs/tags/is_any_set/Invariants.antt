@@ -1,0 +1,9 @@
+use Rattle.std.proofs.Common.{◌≡◌, ◌-◌, length, drop}
+use Rattle.track_reply.specs.Tags.{has_set, some_set}
+use Rattle.track_reply.proofs.tags.is_any_set.Given as goal
+
+abbrev pub invariant-places : goal.invariant-places
+invariant-places l = has_set l.numbers ≡ some_set (drop l.place l.numbers)
+
+abbrev pub decreases-places : goal.decreases-places
+decreases-places l = length l.numbers - l.place

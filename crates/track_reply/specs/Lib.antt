@@ -1,0 +1,10 @@
+pub mod Source
+pub mod Joined
+pub mod Escapes
+pub mod Tags
+pub mod Rows
+pub mod Steps
+pub mod Sums
+pub mod Showable
+pub mod Csv
+pub mod GeoJson

@@ -1,0 +1,19 @@
+//! The bytes of a reply to a request: a track as GeoJSON, or as lines of fields.
+#![tactic(auto)]
+
+mod arrays;
+mod collection;
+mod escapes;
+mod lines;
+mod numbers;
+mod positions;
+mod rows;
+mod shown;
+mod steps;
+mod style;
+mod sums;
+mod tags;
+
+pub use collection::geojson;
+pub use lines::csv;
+pub use shown::Shown;
