@@ -1,0 +1,12 @@
+//! A search for a walk of a leg in turns, over its links or from junction to junction, put to rest between them.
+#![tactic(auto)]
+
+mod ask;
+mod opening;
+mod raw;
+mod search;
+mod turn;
+
+pub use ask::LegAsk;
+pub use search::LegSearch;
+pub use turn::{LegAnswer, LegTurn};
