@@ -1,0 +1,12 @@
+pub mod MarkLemmas
+pub mod TransposeLemmas
+pub mod SumLemmas
+pub mod NextLemmas
+pub mod WalkedLemmas
+pub mod StageLemmas
+pub mod SettingLemmas
+pub mod JobLemmas
+pub mod RouteLemmas
+pub mod TrackLemmas
+pub mod CostLemmas
+pub mod AdvanceLemmas

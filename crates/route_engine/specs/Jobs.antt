@@ -1,0 +1,126 @@
+-- What a job stands for, and what its turns answer (this project's own rule).
+use Rattle.std.specs.Prelude.{◌≡◌, ◌⊎◌, ℕ, ◌+◌, ◌<◌, ◌≤◌, ◌^◌, ◌*◌, Bool, List, length, get_or, Option, Some, None}
+use Rattle.cost_model.specs.Modes.{modes_of}
+use Rattle.geo_int.specs.Place.{Place}
+use Rattle.route_http.specs.Asked.{Asked}
+use Rattle.route_ready.specs.Worlds.{WorldValue}
+use Rattle.route_ready.specs.declared.error.RouteError.TheVariants.{NoMemory}
+use Rattle.route_ready.specs.declared.ready.Ready.{Ready}
+use Rattle.track_legs.specs.declared.track.Track.{Track}
+use Rattle.way_class.specs.Links.{links_of}
+use Rattle.waypoint_nodes.specs.Waypoints.{AreNodes}
+use Rattle.route_engine.specs.Plans.{IsRefusal, IsTrackFor, Plan}
+use Rattle.route_engine.specs.Progress.{IsStage, allowed, walk_count}
+use Rattle.route_engine.specs.Settings.{Setting, cut_links, open_map_of}
+use Rattle.route_engine.specs.declared.job.Job.{Job}
+use Rattle.route_engine.specs.declared.job.JobTurn.{JobTurn}
+use Rattle.route_engine.specs.declared.job.JobTurn.TheVariants.{More, Found, Refused}
+use Rattle.route_engine.specs.declared.plan.JobPlan.{JobPlan}
+use Rattle.route_engine.specs.declared.stage.Stage.{Stage}
+use Rattle.route_engine.specs.declared.stage.Stage.TheVariants as stages
+
+-- ---- Plans
+
+-- what legs go over on a world, by a profile that is ready and the links that are cut
+abbrev pub setting_by : WorldValue → Ready → List Bool → Setting
+setting_by world ready cut = record {
+  map = world.map;
+  links = links_of ready.bound;
+  prices = ready.rates;
+  cut = cut;
+  turns = ready.turns;
+}
+
+-- what legs go over on a world, by a profile that is ready and the circles of a request
+abbrev pub setting_of : WorldValue → Ready → List (Place × ℕ) → Setting
+setting_of world ready circles = setting_by world ready (cut_links world.map circles)
+
+-- the plan that a job keeps
+abbrev pub plan_of : WorldValue → JobPlan → Plan
+plan_of world plan = record {
+  setting = setting_by world plan.ready.value plan.cut.items;
+  nodes = plan.nodes;
+  alternative = plan.alternative;
+  limit = plan.limit;
+  runs = plan.runs;
+}
+
+-- the plan fits the world: it has facts for each link and two nodes or more of its map, and is within the limits of a request
+pub record IsPlanOn (world : WorldValue) (plan : JobPlan) : Type 0 where
+  pub counted : (links_of plan.ready.value.bound).count ≡ length world.map.links
+  pub cut : length plan.cut.items ≡ length world.map.links
+  pub modes : plan.modes ≡ modes_of (links_of plan.ready.value.bound)
+  pub nodes_in : (k : ℕ) → k < length plan.nodes → get_or plan.nodes k 0 < length world.map.nodes
+  pub some : 2 ≤ length plan.nodes
+  pub few : length plan.nodes ≤ 100
+  pub asked : plan.alternative ≤ 3
+  pub small : plan.limit < 2 ^ 32
+
+-- ---- Jobs
+
+-- the plan of a job
+abbrev pub plan_in : WorldValue → Job → Plan
+plan_in world job = plan_of world job.plan
+
+-- a request is within its limits: two to 100 waypoints, alternatives 0 to 3, fewer than 2^32 labels
+pub record IsWithin (asked : Asked) : Type 0 where
+  pub some : 2 ≤ length asked.waypoints
+  pub few : length asked.waypoints ≤ 100
+  pub alternative : asked.alternative ≤ 3
+  pub labels : asked.labels < 2 ^ 32
+
+-- this is the plan of a request over a setting: its waypoints are moved to these nodes
+pub record IsPlanFor (setting : Setting) (asked : Asked) (plan : Plan) : Type 0 where
+  pub over : plan.setting ≡ setting
+  pub nodes : AreNodes (open_map_of setting) asked.waypoints plan.nodes
+  pub alternative : plan.alternative ≡ asked.alternative
+  pub limit : plan.limit ≡ asked.labels
+  pub runs : plan.runs ≡ asked.runs
+
+-- it is a job over a world
+pub record IsJobOn (world : WorldValue) (job : Job) : Type 0 where
+  pub plan : IsPlanOn world job.plan
+  pub stage : IsStage (plan_in world job) job.stage
+  pub within : job.settled ≤ allowed (plan_in world job) job.stage
+
+-- how many labels its searches have settled
+abbrev pub settled_by : Job → ℕ
+settled_by job = job.settled
+
+-- the most that they may settle: the limit for each walk that is asked for
+abbrev pub most_settled : Plan → ℕ
+most_settled plan = walk_count plan * plan.limit
+
+-- the track of a stage, where it is found
+abbrev pub track_at : Stage → Option Track
+track_at (stages.Searching walked search) = None
+track_at (stages.Found track) = Some track
+track_at (stages.Refused e) = None
+
+-- the track of a job, once it is found
+abbrev pub track_of : Job → Option Track
+track_of job = track_at job.stage
+
+-- the last answer of a stage, where it is one after which nothing is left to do
+abbrev pub last_answer : Stage → Option JobTurn
+last_answer (stages.Searching walked search) = None
+last_answer (stages.Found track) = Some Found
+last_answer (stages.Refused e) = Some (Refused e)
+
+-- the last answer of a job that is at its end
+abbrev pub ended_with : Job → Option JobTurn
+ended_with job = last_answer job.stage
+
+-- ---- Turns
+
+-- it goes on; or the track is found that the plan asks for; or there is none for this reason, or memory ran out
+abbrev pub AnswersJob : Plan → Option Track → JobTurn → Type 0
+AnswersJob plan track More = track ≡ None
+AnswersJob plan track Found = (found : Track) × (track ≡ Some found) × IsTrackFor plan found
+AnswersJob plan track (Refused e) = (track ≡ None) × ((e ≡ NoMemory) ⊎ IsRefusal plan e)
+
+-- the labels that are settled after a turn, by those before it: the whole quota more where the job goes on, and else fewer
+abbrev pub CountsJob : ℕ → ℕ → ℕ → JobTurn → Type 0
+CountsJob quota before after More = after ≡ before + quota
+CountsJob quota before after Found = (before ≤ after) × (after < before + quota)
+CountsJob quota before after (Refused e) = (before ≤ after) × (after < before + quota)

@@ -1,0 +1,120 @@
+//! The search for the next walk begins, and takes its turns.
+
+ghost use Rattle.std.specs.Prelude.{◌≡◌, ◌≢◌, ◌<◌, ◌≤◌, IfOk, length};
+ghost use Rattle.bike_space.specs.Legs.{is_marked};
+ghost use Rattle.leg_search.specs.Quests.{CountsLegTurn, IsSearchOn, quest_of, settled_of};
+ghost use Rattle.route_engine.specs.Jobs.{IsPlanOn, plan_of};
+ghost use Rattle.route_engine.specs.Progress.{AnswersNext, IsBegun, IsSoFar, settled_in};
+ghost use Rattle.route_engine.specs.Settings.{leg_between};
+ghost use Rattle.route_engine.specs.declared.walked.Walked.{Walked};
+ghost use Rattle.route_ready.specs.World.{world_of};
+ghost use Rattle.way_class.specs.Links.{links_of};
+
+use crate::marks::marks_of;
+use crate::plan::JobPlan;
+use crate::walked::Walked;
+use item_list::Items;
+use leg_search::{LegAnswer, LegAsk, LegSearch, LegTurn};
+use route_ready::World;
+use std::alloc::{AllocError, Global};
+
+/// The search for the walk that comes next; none where the nodes of its leg are one.
+pub(crate) fn begin(
+    alloc: Global,
+    world: &World,
+    plan: &JobPlan,
+    walked: &Walked,
+) -> Result<Option<LegSearch>, AllocError>
+    requires on { IsPlanOn (world_of world.now) plan.now }
+    requires so_far { IsSoFar (plan_of (world_of world.now) plan.now) walked.now }
+    ensures begun { IfOk result (IsBegun (plan_of (world_of world.now) plan.now) walked.now) }
+    ensures fresh { IfOk result (λ search. settled_in search ≡ 0) }
+{
+    let leg = walked.legs.len();
+    let nodes = plan.nodes.as_slice();
+    let (start, target) = (nodes[leg], nodes[leg + 1]);
+    if start == target {
+        return Ok(None);
+    }
+    let used = marks_of(alloc, world.map(), walked.walks.as_slice())?;
+    let search = search_with(alloc, world, plan, start, target, used.as_slice())?;
+    Ok(Some(search))
+}
+
+/// The search between two nodes over marks of used segments.
+fn search_with(
+    alloc: Global,
+    world: &World,
+    plan: &JobPlan,
+    start: u32,
+    target: u32,
+    used: &[bool],
+) -> Result<LegSearch, AllocError>
+    requires on { IsPlanOn (world_of world.now) plan.now }
+    requires used { length used.now ≡ length (world_of world.now).map.links }
+    requires start { start < length (world_of world.now).map.nodes }
+    requires target { target < length (world_of world.now).map.nodes }
+    requires differ { start ≢ target }
+    ensures on { IfOk result (IsSearchOn (world_of world.now).map (links_of plan.now.ready.value.bound)
+        plan.now.ready.value.rates) }
+    ensures quest { IfOk result (λ search. quest_of (world_of world.now).map (links_of plan.now.ready.value.bound)
+        plan.now.ready.value.rates search ≡ record {
+          leg = leg_between (plan_of (world_of world.now) plan.now).setting start target;
+          used = is_marked used.now;
+          limit = plan.now.limit;
+          runs = plan.now.runs;
+        }) }
+    ensures fresh { IfOk result (λ search. settled_of search ≡ 0) }
+{
+    let ask = LegAsk {
+        limit: plan.limit,
+        cut: plan.cut.as_slice(),
+        used,
+        start,
+        target,
+        turns: plan.ready.turns,
+        runs: plan.runs,
+    };
+    LegSearch::new(
+        alloc,
+        world.map(),
+        &plan.ready.bound,
+        &plan.ready.rates,
+        plan.modes,
+        ask,
+    )
+}
+
+/// A turn of the search for the next walk. On a leg whose nodes are one that is the walk without links, at once.
+pub(crate) fn turn_of(
+    alloc: Global,
+    world: &World,
+    plan: &JobPlan,
+    search: Option<LegSearch>,
+    quota: u32,
+) -> Result<LegTurn, AllocError>
+    requires on { IsPlanOn (world_of world.now) plan.now }
+    requires begun { (walked : Walked) × IsBegun (plan_of (world_of world.now) plan.now) walked search }
+    requires some { 1 ≤ quota }
+    ensures answers { IfOk result (λ turn. (walked : Walked) →
+        IsBegun (plan_of (world_of world.now) plan.now) walked search →
+        AnswersNext (plan_of (world_of world.now) plan.now) walked turn.answer) }
+    ensures counts { IfOk result (CountsLegTurn quota (settled_in search) plan.now.limit) }
+{
+    match search {
+        Some(search) => search.turn(
+            alloc,
+            world.map(),
+            &plan.ready.bound,
+            &plan.ready.rates,
+            quota,
+        ),
+        None => Ok(LegTurn {
+            settled: 0,
+            answer: LegAnswer::Found {
+                walk: Items::new(alloc),
+                rank: 0,
+            },
+        }),
+    }
+}

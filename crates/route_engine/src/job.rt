@@ -1,0 +1,206 @@
+//! A request that is answered in turns.
+
+ghost use Rattle.std.specs.Prelude.{◌≡◌, ◌⊎◌, ◌≤◌, IfErr, IfOk, Some, length, option_map};
+ghost use Rattle.route_engine.specs.Jobs.{AnswersJob, CountsJob, IsJobOn, IsPlanFor, IsPlanOn, IsWithin};
+ghost use Rattle.route_engine.specs.Jobs.{ended_with, most_settled, plan_in, plan_of, setting_of, settled_by, track_of};
+ghost use Rattle.route_engine.specs.Settings.{cut_links, open_map_of};
+ghost use Rattle.route_engine.specs.declared.job.JobTurn.{JobTurn};
+ghost use Rattle.route_http.specs.Seen.{asked};
+ghost use Rattle.route_ready.specs.World.{world_of};
+ghost use Rattle.route_ready.specs.declared.error.RouteError.TheVariants.{NoMemory};
+ghost use Rattle.way_class.specs.Links.{links_of};
+ghost use Rattle.waypoint_nodes.specs.Waypoints.{RefusesWaypoint};
+
+use crate::advance::{advance, next_stage};
+use crate::plan::JobPlan;
+use crate::stage::Stage;
+use crate::walked::Walked;
+use cost_model::{Passages, modes};
+use item_list::Items;
+use nogo_areas::cut;
+use route_http::Request;
+use route_ready::{Ready, RouteError, World};
+use std::alloc::Global;
+use std::mem::replace;
+use std::rc::Rc;
+use track_legs::Track;
+use waypoint_nodes::waypoint_nodes;
+
+/// A request that is answered in turns: its legs are searched one after the other, and of each the alternatives up to the
+/// one that is asked for.
+#[derive(Drop)]
+pub struct Job {
+    pub(crate) alloc: Global,
+    pub(crate) plan: JobPlan,
+    /// How many labels all searches have settled.
+    pub(crate) settled: u64,
+    pub(crate) stage: Stage,
+}
+
+/// What a turn of a job answers.
+#[derive(Clone, Copy, Debug, PartialEq, Eq)]
+pub enum JobTurn {
+    /// As many labels were settled as the turn was given, and the job isn't at its end.
+    More,
+    /// The track is found.
+    Found,
+    /// There is no track.
+    Refused(RouteError),
+}
+
+impl Job {
+    /// A job for a request over a world, with a profile that was made ready for it. It is refused where a waypoint is moved to no
+    /// node.
+    pub fn new(
+        alloc: Global,
+        world: &World,
+        ready: Rc<Ready>,
+        request: Request,
+    ) -> Result<Job, RouteError>
+        requires counted { (links_of ready.value.bound).count ≡ length (world_of world.now).map.links }
+        requires within { IsWithin (asked request) }
+        ensures on { IfOk result (IsJobOn (world_of world.now)) }
+        ensures plan { let setting = setting_of (world_of world.now) ready.value (asked request).circles in
+            IfOk result (λ job. IsPlanFor setting (asked request) (plan_in (world_of world.now) job)) }
+        ensures fresh { IfOk result (λ job. settled_by job ≡ 0) }
+        ensures cause { let setting = setting_of (world_of world.now) ready.value (asked request).circles in
+            IfErr result (λ e. (e ≡ NoMemory) ⊎
+            RefusesWaypoint (open_map_of setting) (asked request).waypoints e) }
+    {
+        let plan = plan_for(alloc, world, ready, &request)?;
+        let stage = next_stage(alloc, world, &plan, Walked::new(alloc))?;
+        Ok(Job {
+            alloc,
+            plan,
+            settled: 0,
+            stage,
+        })
+    }
+
+    /// Settles at most `quota` labels. After its last answer a job gives that answer again.
+    pub fn turn(&mut self, world: &World, quota: u32) -> JobTurn
+        requires on { IsJobOn (world_of world.now) self.old }
+        requires some { 1 ≤ quota }
+
+        // It stays a job over the world, with its plan.
+        ensures on { IsJobOn (world_of world.now) self.new }
+        ensures plan { plan_in (world_of world.now) self.new ≡ plan_in (world_of world.now) self.old }
+
+        ensures answers { AnswersJob (plan_in (world_of world.now) self.old) (track_of self.new) result }
+        ensures counts { CountsJob quota (settled_by self.old) (settled_by self.new) result }
+        ensures bounded { settled_by self.new ≤ most_settled (plan_in (world_of world.now) self.new) }
+
+        ensures again { (answer : JobTurn) → ended_with self.old ≡ Some answer →
+            (result ≡ answer) × (self.new ≡ self.old) }
+    {
+        let mut left = quota;
+        'searches: loop {
+            match replace(&mut self.stage, Stage::Refused(RouteError::NoMemory)) {
+                Stage::Searching { walked, search } => {
+                    let step = advance(self.alloc, world, &self.plan, walked, search, left);
+                    self.settled += step.settled;
+                    self.stage = step.stage;
+                    if step.more {
+                        return JobTurn::More;
+                    }
+                    left -= step.settled as u32;
+                }
+                Stage::Found(track) => {
+                    self.stage = Stage::Found(track);
+                    return JobTurn::Found;
+                }
+                Stage::Refused(error) => {
+                    self.stage = Stage::Refused(error);
+                    return JobTurn::Refused(error);
+                }
+            }
+        }
+    }
+
+    /// The track, once it is found.
+    pub fn track(&self) -> Option<&Track>
+        ensures value { option_map (λ track. track.now) result ≡ track_of self.now }
+    {
+        match &self.stage {
+            Stage::Found(track) => Some(track),
+            _ => None,
+        }
+    }
+
+    /// The track, once it is found, of a job that is done with.
+    pub fn into_track(self) -> Option<Track>
+        ensures value { result ≡ track_of self }
+    {
+        let Job { stage, .. } = self;
+        match stage {
+            Stage::Found(track) => Some(track),
+            _ => None,
+        }
+    }
+
+    /// How many labels its searches have settled so far. Those of a search that ran out of memory in this turn aren't counted.
+    pub fn settled(&self) -> u64
+        ensures value { result ≡ settled_by self.now }
+    {
+        self.settled
+    }
+}
+
+/// What a request is to find.
+fn plan_for(
+    alloc: Global,
+    world: &World,
+    ready: Rc<Ready>,
+    request: &Request,
+) -> Result<JobPlan, RouteError>
+    requires counted { (links_of ready.value.bound).count ≡ length (world_of world.now).map.links }
+    requires within { IsWithin (asked request.now) }
+    ensures on { IfOk result (IsPlanOn (world_of world.now)) }
+    ensures plan { let setting = setting_of (world_of world.now) ready.value (asked request.now).circles in
+        IfOk result (λ plan. IsPlanFor setting (asked request.now) (plan_of (world_of world.now) plan)) }
+    ensures cause { let setting = setting_of (world_of world.now) ready.value (asked request.now).circles in
+        IfErr result (λ e. (e ≡ NoMemory) ⊎
+        RefusesWaypoint (open_map_of setting) (asked request.now).waypoints e) }
+{
+    let cut = cut(alloc, world.map(), request.circles.as_slice())?;
+    with_cut(alloc, world, ready, request, cut)
+}
+
+/// The same where these links are cut.
+fn with_cut(
+    alloc: Global,
+    world: &World,
+    ready: Rc<Ready>,
+    request: &Request,
+    cut: Vec<bool>,
+) -> Result<JobPlan, RouteError>
+    requires counted { (links_of ready.value.bound).count ≡ length (world_of world.now).map.links }
+    requires within { IsWithin (asked request.now) }
+    requires cut { cut.items ≡ cut_links (world_of world.now).map (asked request.now).circles }
+    ensures on { IfOk result (IsPlanOn (world_of world.now)) }
+    ensures plan { let setting = setting_of (world_of world.now) ready.value (asked request.now).circles in
+        IfOk result (λ plan. IsPlanFor setting (asked request.now) (plan_of (world_of world.now) plan)) }
+    ensures cause { let setting = setting_of (world_of world.now) ready.value (asked request.now).circles in
+        IfErr result (λ e. (e ≡ NoMemory) ⊎
+        RefusesWaypoint (open_map_of setting) (asked request.now).waypoints e) }
+{
+    let passages = Passages {
+        facts: &ready.bound,
+        cut: cut.as_slice(),
+    };
+    match waypoint_nodes(alloc, world, &passages, request.waypoints.as_slice()) {
+        Err(error) => Err(error),
+        Ok(nodes) => {
+            let modes = modes(&ready.bound);
+            Ok(JobPlan {
+                limit: request.labels,
+                nodes: Items::from_vec(nodes),
+                cut,
+                modes,
+                alternative: request.alternative,
+                runs: request.runs,
+                ready,
+            })
+        }
+    }
+}

@@ -1,0 +1,15 @@
+//! Answers to requests: the legs of a track searched one after the other, in turns, each in its alternatives.
+#![tactic(auto)]
+
+mod advance;
+mod begin;
+mod job;
+mod marks;
+mod plan;
+mod routing;
+mod stage;
+mod transposing;
+mod walked;
+
+pub use job::{Job, JobTurn};
+pub use routing::route;
