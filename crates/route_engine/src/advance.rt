@@ -110,9 +110,8 @@ fn trackless(walked: &Walked) -> RouteError
     requires few { length walked.now.legs < 2 ^ 32 }
     ensures value { result ≡ route.NoTrack (length walked.now.legs) }
 {
-    RouteError::NoTrack {
-        leg: walked.legs.len() as u32,
-    }
+    let leg = walked.legs.len() as u32;
+    RouteError::NoTrack { leg }
 }
 
 /// The refusal where the limit is spent on the next walk.
