@@ -12,4 +12,4 @@ mod transposing;
 mod walked;
 
 pub use job::{Job, JobTurn};
-pub use routing::route;
+pub use routing::{route, route_by};

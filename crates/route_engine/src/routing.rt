@@ -40,20 +40,27 @@ pub fn route(
         Replies question result }
 {
     match prepare(alloc, world, profile, &request.overrides) {
-        Ok(ready) => routed(alloc, world, ready, request),
+        Ok(ready) => {
+            let ready = Rc::new(alloc, ready)?;
+            route_by(alloc, world, ready, request)
+        }
         Err(error) => Err(error),
     }
 }
 
-/// The same with a profile that was made ready for the world.
-fn routed(alloc: Global, world: &World, ready: Ready, request: Request) -> Result<Track, RouteError>
-    requires counted { (links_of ready.bound).count ≡ length (world_of world.now).map.links }
+/// The same by a profile that was made ready for the world.
+pub fn route_by(
+    alloc: Global,
+    world: &World,
+    ready: Rc<Ready>,
+    request: Request,
+) -> Result<Track, RouteError>
+    requires counted { (links_of ready.value.bound).count ≡ length (world_of world.now).map.links }
     requires within { IsWithin (asked request) }
     ensures exact { (binding : Binding) → (world_of world.now).map ≡ binding.map →
-        IsReadyBy binding (ready_of binding) ready →
+        IsReadyBy binding (ready_of binding) ready.value →
         let question : Question = record { binding = binding; asked = asked request } in Replies question result }
 {
-    let ready = Rc::new(alloc, ready)?;
     match Job::new(alloc, world, ready, request) {
         Ok(job) => finish(job, world),
         Err(error) => Err(error),

@@ -1,3 +1,5 @@
 mod PairLemmas
 mod PartLemmas
 mod SpotLemmas
+pub mod LimitLemmas
+pub mod CallerLemmas
