@@ -1,5 +1,6 @@
 -- A request is answered by a profile that is made ready for its world, and a job.
-use Rattle.std.proofs.Common.{◌≡◌, ◌⊎◌, inl, inr, Result, Ok, Err, MatchResult, ap, sym, ◌∙◌, subst}
+use Rattle.std.proofs.Common.{◌≡◌, ◌⊎◌, inl, inr, Result, Ok, Err, IfOk, MatchResult, ap, sym, ◌∙◌, subst}
+use Rattle.route_http.specs.Asked.{Asked}
 use Rattle.route_ready.specs.Readiness.{IsReadyBy, ready_of}
 use Rattle.route_ready.specs.Worlds.{WorldValue}
 use Rattle.route_ready.specs.declared.error.RouteError.{RouteError}
@@ -8,7 +9,7 @@ use Rattle.route_ready.specs.declared.ready.Ready.{Ready}
 use Rattle.track_legs.specs.declared.track.Track.{Track}
 use Rattle.waypoint_nodes.specs.Waypoints.{RefusesWaypoint}
 use Rattle.route_engine.specs.Answers.{IsAnswer, Replies, found, plan_for, refused, trackless, unmapped}
-use Rattle.route_engine.specs.Jobs.{IsPlanFor, setting_of}
+use Rattle.route_engine.specs.Jobs.{IsPlanFor, IsTrackOver, setting_of}
 use Rattle.route_engine.specs.Plans.{IsRefusal, IsTrackFor, Plan}
 use Rattle.route_engine.specs.Settings.{IsSettingOf, Question, Setting, open_map_of}
 
@@ -67,3 +68,9 @@ module _ (question : Question) (world : WorldValue) (ready : Ready) (map_is : wo
         MatchResult r (IsTrackFor plan) (λ e. (e ≡ NoMemory) ⊎ IsRefusal plan e) → Replies question r
     replies (Ok track) is_track = track-answer track is_track
     replies (Err e) is_refusal = refusal-answer e is_refusal
+
+-- what a job over a plan finds is a track for the request
+pub track-over : (setting : Setting) (asked : Asked) (plan : Plan) → IsPlanFor setting asked plan → (r : Result Track RouteError) →
+    MatchResult r (IsTrackFor plan) (λ e. (e ≡ NoMemory) ⊎ IsRefusal plan e) → IfOk r (IsTrackOver setting asked)
+track-over setting asked plan plan_is (Ok track) is_track = record { plan = plan; for_request = plan_is; is = is_track }
+track-over setting asked plan plan_is (Err e) refused = tt

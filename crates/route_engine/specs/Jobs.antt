@@ -77,6 +77,12 @@ pub record IsPlanFor (setting : Setting) (asked : Asked) (plan : Plan) : Type 0 
   pub limit : plan.limit ≡ asked.labels
   pub runs : plan.runs ≡ asked.runs
 
+-- a track that a request asks for over a setting
+pub record IsTrackOver (setting : Setting) (asked : Asked) (track : Track) : Type 0 where
+  pub plan : Plan
+  pub for_request : IsPlanFor setting asked plan
+  pub is : IsTrackFor plan track
+
 -- it is a job over a world
 pub record IsJobOn (world : WorldValue) (job : Job) : Type 0 where
   pub plan : IsPlanOn world job.plan

@@ -1,9 +1,9 @@
 //! A request answered as a whole.
 
-ghost use Rattle.std.specs.Prelude.{◌≡◌, ◌⊎◌, MatchResult, length};
+ghost use Rattle.std.specs.Prelude.{◌≡◌, ◌⊎◌, IfOk, MatchResult, length};
 ghost use Rattle.profile_text.specs.Expr.{sections_in};
 ghost use Rattle.route_engine.specs.Answers.{Replies};
-ghost use Rattle.route_engine.specs.Jobs.{IsJobOn, IsWithin, plan_in};
+ghost use Rattle.route_engine.specs.Jobs.{IsJobOn, IsTrackOver, IsWithin, plan_in, setting_of};
 ghost use Rattle.route_engine.specs.Plans.{IsRefusal, IsTrackFor};
 ghost use Rattle.route_engine.specs.Settings.{Question};
 ghost use Rattle.route_http.specs.Seen.{asked};
@@ -60,6 +60,8 @@ pub fn route_by(
     ensures exact { (binding : Binding) → (world_of world.now).map ≡ binding.map →
         IsReadyBy binding (ready_of binding) ready.value →
         let question : Question = record { binding = binding; asked = asked request } in Replies question result }
+    ensures found { let setting = setting_of (world_of world.now) ready.value (asked request).circles in
+        IfOk result (IsTrackOver setting (asked request)) }
 {
     match Job::new(alloc, world, ready, request) {
         Ok(job) => finish(job, world),

@@ -5,9 +5,11 @@ use Rattle.edge_io.specs.Faults.{CountRose, count_after, next_count}
 use Rattle.edge_io.specs.Files.{FilesSeen}
 use Rattle.route_run.specs.Outcome.{HasOpened, IsReadFault}
 use Rattle.route_run.specs.Stage.Chain.{Settles, Then}
+use Rattle.overpass_graph.specs.Maps.{MapValue}
 use Rattle.route_run.specs.Stage.File.{TakesFile}
+use Rattle.route_run.specs.Stage.Map.{TakesMap}
 use Rattle.route_run.specs.declared.status.Status.{Status}
-use Rattle.route_run.specs.declared.status.Status.TheVariants.{Done, Usage, TooLong, Lookup, Text, Check, Grid, NotFound, ReadFault, WriteFault, NoMemory}
+use Rattle.route_run.specs.declared.status.Status.TheVariants.{Done, Usage, Query, TooLong, Lookup, Text, Check, Map, Tile, Route, NotFound, ReadFault, WriteFault, NoMemory}
 
 -- ---- Counts
 
@@ -45,7 +47,10 @@ RefusalCause words old new (TooLong word) = HasOpened (length words) old new
 RefusalCause words old new (Lookup word error) = HasOpened (length words) old new
 RefusalCause words old new (Text word error) = HasOpened (length words) old new
 RefusalCause words old new (Check word error) = HasOpened (length words) old new
-RefusalCause words old new (Grid error) = HasOpened (length words) old new
+RefusalCause words old new (Query error) = HasOpened (length words) old new
+RefusalCause words old new (Map word error) = HasOpened (length words) old new
+RefusalCause words old new (Tile word error) = HasOpened (length words) old new
+RefusalCause words old new (Route error line) = HasOpened (length words) old new
 RefusalCause words old new (NotFound word) = HasOpened (length words) old new
 RefusalCause words old new WriteFault = ⊥
 RefusalCause words old new NoMemory = HasOpened (length words) old new
@@ -71,8 +76,29 @@ file-cause word name limit old new (Err (Usage at)) takes = absurd takes.answer
 file-cause word name limit old new (Err (Lookup at error)) takes = absurd takes.answer
 file-cause word name limit old new (Err (Text at error)) takes = absurd takes.answer
 file-cause word name limit old new (Err (Check at error)) takes = absurd takes.answer
-file-cause word name limit old new (Err (Grid error)) takes = absurd takes.answer
+file-cause word name limit old new (Err (Query error)) takes = absurd takes.answer
+file-cause word name limit old new (Err (Map at error)) takes = absurd takes.answer
+file-cause word name limit old new (Err (Tile at error)) takes = absurd takes.answer
+file-cause word name limit old new (Err (Route error line)) takes = absurd takes.answer
 file-cause word name limit old new (Err WriteFault) takes = absurd takes.answer
+
+-- the stage over a map's file
+pub map-cause : (word : ℕ) (name : List ℕ) (old new : FilesSeen) (result : Result MapValue Status) → TakesMap word name old new result → Cause (word ∷ []) old new result
+map-cause word name old new (Ok map) takes = record { faults = takes.answer.1; opened = takes.opens }
+map-cause word name old new (Err (NotFound at)) takes = opened-one word old new takes.answer.2 takes.opens
+map-cause word name old new (Err (TooLong at)) takes = opened-one word old new takes.answer.2 takes.opens
+map-cause word name old new (Err (Map at error)) takes = opened-one word old new takes.answer.2 takes.opens
+map-cause word name old new (Err (ReadFault at)) takes = record { rose = takes.answer.1; before = 0; opened = takes.opens; named = ap Some (sym takes.answer.0) }
+map-cause word name old new (Err NoMemory) takes = opened-one word old new takes.answer takes.opens
+map-cause word name old new (Err Done) takes = absurd takes.answer
+map-cause word name old new (Err (Usage at)) takes = absurd takes.answer
+map-cause word name old new (Err (Query error)) takes = absurd takes.answer
+map-cause word name old new (Err (Lookup at error)) takes = absurd takes.answer
+map-cause word name old new (Err (Text at error)) takes = absurd takes.answer
+map-cause word name old new (Err (Check at error)) takes = absurd takes.answer
+map-cause word name old new (Err (Tile at error)) takes = absurd takes.answer
+map-cause word name old new (Err (Route error line)) takes = absurd takes.answer
+map-cause word name old new (Err WriteFault) takes = absurd takes.answer
 
 -- nothing was opened where the files are what they were
 pub opened-none : (old new : FilesSeen) → new ≡ old → HasOpened 0 old new
@@ -96,7 +122,10 @@ inner-cause old new (TooLong word) inner same = opened-none old new same
 inner-cause old new (Lookup word error) inner same = opened-none old new same
 inner-cause old new (Text word error) inner same = opened-none old new same
 inner-cause old new (Check word error) inner same = opened-none old new same
-inner-cause old new (Grid error) inner same = opened-none old new same
+inner-cause old new (Query error) inner same = opened-none old new same
+inner-cause old new (Map word error) inner same = opened-none old new same
+inner-cause old new (Tile word error) inner same = opened-none old new same
+inner-cause old new (Route error line) inner same = opened-none old new same
 inner-cause old new (NotFound word) inner same = opened-none old new same
 inner-cause old new NoMemory inner same = opened-none old new same
 
@@ -128,7 +157,10 @@ refusal-front first more old new status cause = go status cause
     go (Lookup word error) c = longer c
     go (Text word error) c = longer c
     go (Check word error) c = longer c
-    go (Grid error) c = longer c
+    go (Query error) c = longer c
+    go (Map word error) c = longer c
+    go (Tile word error) c = longer c
+    go (Route error line) c = longer c
     go (NotFound word) c = longer c
     go NoMemory c = longer c
 
@@ -161,7 +193,10 @@ refusal-after first more old mid new status before cause = go status cause
     go (Lookup word error) c = longer c
     go (Text word error) c = longer c
     go (Check word error) c = longer c
-    go (Grid error) c = longer c
+    go (Query error) c = longer c
+    go (Map word error) c = longer c
+    go (Tile word error) c = longer c
+    go (Route error line) c = longer c
     go (NotFound word) c = longer c
     go NoMemory c = longer c
 

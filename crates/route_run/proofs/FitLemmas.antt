@@ -2,11 +2,11 @@
 use Rattle.std.proofs.Common.{◌≡◌, ℕ, ◌<◌, ◌≤◌, ◌+◌, ◌⊎◌, inl, inr, Bool, true, false, cond, ◌&&◌, nat_le, nat_lt, Option, Some, None, Result, Ok, Err, List, [], ◌∷◌, ◌++◌, length, refl, sym, ap, arith, subst}
 use Rattle.std.proofs.lemmas.Bool.Decides.{nat_tests}
 use Rattle.std.specs.List.{find}
-use Rattle.route_run.specs.Words.Given.{Given}
+use Rattle.route_run.specs.Words.Given.{Given, Named}
 use Rattle.route_run.specs.Words.Rows.{keys_of}
 use Rattle.route_run.specs.Words.Value.{number_of, within, number_value, value_of, cut_word, number_in, place_in, product_in}
 use Rattle.route_run.specs.Words.Reader.{key_of, row_for, given_by, given_for, given_in, given_cut, entry_of, entry_with, same_key, count_of, most_of, has_all, entries_after, whole_by, entries_of}
-use Rattle.route_run.specs.Words.Command.{lies_in, grid_by, grid_with, complete, command_with, command_by, command_named, command_of, code_with, make_with}
+use Rattle.route_run.specs.Words.Command.{lies_in, grid_by, grid_with, complete, command_with, command_by, command_named, command_of, code_with, make_with, route_with, tiles_in}
 use Rattle.route_run.proofs.KeyLemmas.{key-is}
 use Rattle.route_run.specs.Outcome.{IsCommandFit}
 use Rattle.route_run.specs.declared.words.command.Command.{Command}
@@ -19,7 +19,7 @@ use Rattle.route_run.specs.declared.words.rows.Form.{Form as Wanted}
 use Rattle.route_run.specs.declared.words.rows.Form.TheVariants as Want
 use Rattle.route_run.specs.declared.words.rows.KeyRow.{KeyRow}
 use Rattle.route_run.specs.declared.words.rows.Key.{Key}
-use Rattle.route_run.specs.declared.words.rows.Key.TheVariants.{Seed, Width, Height, From, To, What, Lookups, Profile}
+use Rattle.route_run.specs.declared.words.rows.Key.TheVariants.{Seed, Width, Height, From, To, What, Lookups, Profile, Map, Query, Tile}
 use Rattle.route_run.specs.declared.words.value.Place.{Place}
 use Rattle.route_run.specs.declared.words.value.Value.{Value}
 
@@ -30,6 +30,7 @@ FitForm Want.Place x = Unit {0}
 FitForm Want.Product x = Unit {0}
 FitForm Want.File x = Unit {0}
 FitForm Want.ProfileFile x = Unit {0}
+FitForm Want.Query x = Unit {0}
 
 -- a number is within the limits of a row, if there is one
 abbrev FitRow : Option KeyRow → ℕ → Type 0
@@ -67,6 +68,7 @@ value-fit Want.Place text value e = tt
 value-fit Want.Product text value e = tt
 value-fit Want.File text value e = tt
 value-fit Want.ProfileFile text value e = tt
+value-fit Want.Query text value e = tt
 
 -- an entry whose number is within the limits of its key's row
 abbrev FitEntry : List KeyRow → Given → Type 0
@@ -227,8 +229,23 @@ code_with-fit after (Some lookups) (Some profile) command e = cases command e
     cases (Form.TheVariants.Grid made) e = cc
     cases (Form.TheVariants.Make made) e = cc
     cases (Form.TheVariants.Code made) e = tt
+    cases (Form.TheVariants.Route made) e = cc
 code_with-fit after None profile command e = absurd (err-not_ok after command e)
 code_with-fit after (Some lookups) None command e = absurd (err-not_ok after command e)
+
+route_with-fit : (after : ℕ) (lookups profile roads query : Option Given) (tiles : List Named) (command : Command) →
+    route_with after lookups profile roads query tiles ≡ Ok command → IsCommandFit command
+route_with-fit after (Some lookups) (Some profile) (Some roads) (Some query) tiles command e = cases command e
+  where
+    cases : (command : Command) → route_with after (Some lookups) (Some profile) (Some roads) (Some query) tiles ≡ Ok command → IsCommandFit command
+    cases (Form.TheVariants.Grid made) e = cc
+    cases (Form.TheVariants.Make made) e = cc
+    cases (Form.TheVariants.Code made) e = cc
+    cases (Form.TheVariants.Route made) e = tt
+route_with-fit after None profile roads query tiles command e = absurd (err-not_ok after command e)
+route_with-fit after (Some lookups) None roads query tiles command e = absurd (err-not_ok after command e)
+route_with-fit after (Some lookups) (Some profile) None query tiles command e = absurd (err-not_ok after command e)
+route_with-fit after (Some lookups) (Some profile) (Some roads) None tiles command e = absurd (err-not_ok after command e)
 
 complete-fit : (name : CommandName) (entries : List Given) (after : ℕ) (command : Command) → AllFit (keys_of name) entries → complete name entries after ≡ Ok command → IsCommandFit command
 unfolding complete keys_of
@@ -242,6 +259,9 @@ complete-fit Name.Make entries after command all e =
     (λ x is. (with-fit (keys_of Name.Make) Seed entries x all is).1) (λ x is. with-fit (keys_of Name.Make) Width entries x all is)
     (λ x is. with-fit (keys_of Name.Make) Height entries x all is) e
 complete-fit Name.Code entries after command all e = code_with-fit after (entry_with Lookups entries) (entry_with Profile entries) command e
+complete-fit Name.Route entries after command all e =
+    route_with-fit after (entry_with Lookups entries) (entry_with Profile entries) (entry_with Map entries) (entry_with Query entries)
+    (tiles_in entries) command e
 
 with_words-fit : (name : CommandName) (texts : List (List ℕ)) (command : Command) → command_with name texts ≡ Ok command → IsCommandFit command
 with_words-fit name texts command e =

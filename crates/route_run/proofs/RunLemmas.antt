@@ -1,29 +1,42 @@
 -- How often the files of each command are opened, and when a status says that a fault of theirs came.
-use Rattle.std.proofs.Common.{◌≡◌, ℕ, inl, inr, List, [], ◌∷◌, length, Some, None, Result, Ok, Err, sym, ap, subst, arith}
+use Rattle.std.proofs.Common.{◌≡◌, ℕ, inl, inr, List, [], ◌∷◌, ◌++◌, length, map, Option, Some, None, Result, Ok, Err, sym, ap, subst, arith, append-nil}
 use Rattle.edge_io.specs.Files.{FilesSeen}
 use Rattle.edge_io.specs.Sink.{SinkSeen}
+use Rattle.hgt_tiles.specs.File.{steps_of}
+use Rattle.hgt_tiles.specs.Name.{corner_of_name}
+use Rattle.hgt_tiles.specs.Relief.{Relief}
+use Rattle.hgt_tiles.specs.declared.names.Corner.{Corner}
+use Rattle.hgt_tiles.specs.declared.tile_file.TileError.TheVariants as tile
 use Rattle.lookup_table.specs.First.{TagTable}
 use Rattle.lookup_table.specs.Table.{table_of}
+use Rattle.overpass_graph.specs.Maps.{MapValue}
 use Rattle.profile_text.specs.Read.{profile_of}
 use Rattle.profile_text.specs.Tree.{Sections}
 use Rattle.context_check.specs.Refusal.{refusal_of}
+use Rattle.route_http.specs.Asked.{Asked}
+use Rattle.route_http.specs.Request.{request_of}
 use Rattle.item_list.specs.Answer.{answer_map}
 use Rattle.route_run.specs.Answer.Code.{IsCodeAnswer, listing_in, listing_by}
 use Rattle.route_run.specs.Answer.Grid.{IsGridAnswer}
 use Rattle.route_run.specs.Answer.Make.{made_by}
+use Rattle.route_run.specs.Answer.Route.{Inputs, IsRouteAnswer, IsRouted, Routes, RoutesByTiles}
 use Rattle.route_run.specs.Ends.{Ends}
 use Rattle.route_run.specs.Outcome.{IsAnswer, IsCommandAnswer, HasReadCause, HasOpened, HasOpenedAll, file_words}
+use Rattle.route_run.specs.Stage.Checked.{TakesChecked, checked_by, checked_in}
 use Rattle.route_run.specs.Stage.Profile.{TakesProfile, profile_in}
+use Rattle.route_run.specs.Stage.Query.{query_in}
 use Rattle.route_run.specs.Stage.TagTable.{TakesTable, table_in}
+use Rattle.route_run.specs.Stage.Tiles.{TakesTile, TakesTiles, TakesTilesAfter, tile_by, tile_in}
 use Rattle.route_run.specs.Words.Command.{command_of}
+use Rattle.route_run.specs.Words.Given.{Named}
 use Rattle.route_run.specs.declared.words.command.CodeCommand.{CodeCommand}
 use Rattle.route_run.specs.declared.words.command.GridCommand.{GridCommand}
+use Rattle.route_run.specs.declared.words.command.RouteCommand.{RouteCommand}
 use Rattle.route_run.specs.declared.words.command.Command.{Command}
 use Rattle.route_run.specs.declared.words.command.Command as Form
-use Rattle.route_run.specs.declared.status.GridError.TheVariants.{NoTrack}
 use Rattle.route_run.specs.declared.status.Status.{Status}
-use Rattle.route_run.specs.declared.status.Status.TheVariants.{Done, Usage, TooLong, Lookup, Text, Check, Grid, NotFound, ReadFault, WriteFault, NoMemory}
-use Rattle.route_run.proofs.CauseLemmas.{OpensAll, RefusalCause, Cause, file-cause, opened-none, IsInner, settles-cause, then-cause}
+use Rattle.route_run.specs.declared.status.Status.TheVariants.{Done, Usage, Query, TooLong, Lookup, Text, Check, Map, Tile, Route, NotFound, ReadFault, WriteFault, NoMemory}
+use Rattle.route_run.proofs.CauseLemmas.{OpensAll, RefusalCause, Cause, file-cause, map-cause, opened-none, IsInner, settles-cause, then-cause}
 
 -- ---- The commands
 
@@ -31,6 +44,20 @@ use Rattle.route_run.proofs.CauseLemmas.{OpensAll, RefusalCause, Cause, file-cau
 mapped-inner : {A E : Type 0} (told : E → Status) (r : Result A E) → ((e : E) → IsInner (told e)) → (status : Status) → answer_map (λ (a : A). a) told r ≡ Err status → IsInner status
 mapped-inner told (Ok a) inner status is = cc
 mapped-inner told (Err e) inner status is = let same : told e ≡ status = cc in subst IsInner same (inner e)
+
+-- so is that of the check
+checked-inner : (word : ℕ) (table : TagTable) (sections : Sections) (status : Status) → checked_in word table sections ≡ Err status → IsInner status
+checked-inner word table sections status is =
+    elim (refusal_of table sections []) as (λ r. checked_by word sections r ≡ Err status → IsInner status) [
+      | Some error ↦ λ e. let same : Check word error ≡ status = cc in subst IsInner same tt
+      | None ↦ λ e. cc
+    ] is
+
+-- and that of a tile
+tile-inner : (word : ℕ) (bytes : List ℕ) (corner : Option Corner) (steps : Option ℕ) (status : Status) → tile_by word bytes corner steps ≡ Err status → IsInner status
+tile-inner word bytes None steps status is = let same : Tile word tile.Name ≡ status = cc in subst IsInner same tt
+tile-inner word bytes (Some corner) None status is = let same : Tile word tile.Size ≡ status = cc in subst IsInner same tt
+tile-inner word bytes (Some corner) (Some steps) status is = cc
 
 -- so is the listing's
 listing-inner : (word : ℕ) (table : TagTable) (sections : Sections) (status : Status) → listing_in word table sections ≡ Err status → IsInner status
@@ -59,13 +86,81 @@ code-cause command =
     (λ table. then-cause _ _ (command.profile.word ∷ []) [] (profile-cause command.profile.word command.profile.name)
     (λ sections old new r. settles-cause (listing_in command.profile.word table sections) old new r (listing-inner command.profile.word table sections)))
 
+-- the stage of the profile with its check
+checked-cause : (word : ℕ) (name : List ℕ) (table : TagTable) (old new : FilesSeen) (r : Result Sections Status) → TakesChecked word name table old new r → Cause (word ∷ []) old new r
+checked-cause word name table =
+    then-cause _ _ (word ∷ []) [] (profile-cause word name)
+    (λ sections old new r. settles-cause (checked_in word table sections) old new r (checked-inner word table sections))
+
+-- the stage of a tile
+tile-cause : (word : ℕ) (name : List ℕ) (old new : FilesSeen) (r : Result Relief Status) → TakesTile word name old new r → Cause (word ∷ []) old new r
+tile-cause word name =
+    then-cause _ _ (word ∷ []) [] (λ old new r. file-cause word name _ old new r)
+    (λ bytes old new r. settles-cause (tile_in word name bytes) old new r (tile-inner word bytes (corner_of_name name) (steps_of (length bytes))))
+
+-- the stages of tiles
+tiles-cause : (before : List Relief) (tiles : List Named) (old new : FilesSeen) (r : Result (List Relief) Status) →
+    TakesTilesAfter before tiles old new r → Cause (map (λ (tile : Named). tile.word) tiles) old new r
+tiles-cause before [] old new r is = settles-cause (Ok before) old new r (λ status none. cc) is
+tiles-cause before (tile ∷ tiles) old new r is =
+    then-cause (TakesTile tile.word tile.name) (λ relief. TakesTilesAfter (before ++ relief ∷ []) tiles) (tile.word ∷ [])
+    (map (λ (tile : Named). tile.word) tiles) (tile-cause tile.word tile.name)
+    (λ relief old new r. tiles-cause (before ++ relief ∷ []) tiles old new r) old new r is
+
+-- a request over what was taken in
+routed-cause : (command : RouteCommand) (asked : Asked) (inputs : Inputs) (old new : FilesSeen) (r : Result (List ℕ) Status) →
+    IsRouted command asked inputs r → new ≡ old → Cause [] old new r
+routed-cause command asked inputs old new (Ok bytes) is same = record { faults = ap (λ (s : FilesSeen). s.faults) same; opened = ap (λ (s : FilesSeen). s.opens) same }
+routed-cause command asked inputs old new (Err (Route error line)) is same = opened-none old new same
+routed-cause command asked inputs old new (Err NoMemory) is same = opened-none old new same
+routed-cause command asked inputs old new (Err Done) is same = absurd is
+routed-cause command asked inputs old new (Err (Usage word)) is same = absurd is
+routed-cause command asked inputs old new (Err (Query error)) is same = absurd is
+routed-cause command asked inputs old new (Err (TooLong word)) is same = absurd is
+routed-cause command asked inputs old new (Err (Lookup word error)) is same = absurd is
+routed-cause command asked inputs old new (Err (Text word error)) is same = absurd is
+routed-cause command asked inputs old new (Err (Check word error)) is same = absurd is
+routed-cause command asked inputs old new (Err (Map word error)) is same = absurd is
+routed-cause command asked inputs old new (Err (Tile word error)) is same = absurd is
+routed-cause command asked inputs old new (Err (NotFound word)) is same = absurd is
+routed-cause command asked inputs old new (Err (ReadFault word)) is same = absurd is
+routed-cause command asked inputs old new (Err WriteFault) is same = absurd is
+
+-- the tiles and the answer
+by_tiles-cause : (command : RouteCommand) (asked : Asked) (table : TagTable) (sections : Sections) (roads : MapValue) (old new : FilesSeen)
+    (r : Result (List ℕ) Status) → RoutesByTiles command asked table sections roads old new r → Cause (map (λ (tile : Named). tile.word) command.tiles) old new r
+by_tiles-cause command asked table sections roads old new r is =
+    subst (λ (words : List ℕ). Cause words old new r) (append-nil (map (λ (tile : Named). tile.word) command.tiles))
+    (then-cause (TakesTiles command.tiles)
+    (λ reliefs. Routes command asked (record { table = table; sections = sections; map = roads; reliefs = reliefs }))
+    (map (λ (tile : Named). tile.word) command.tiles) []
+    (λ old new r. tiles-cause [] command.tiles old new r)
+    (λ reliefs old new r is. routed-cause command asked (record { table = table; sections = sections; map = roads; reliefs = reliefs }) old new r is.0 is.1)
+    old new r is)
+
+-- the command `route`
+pub route-cause : (command : RouteCommand) (old new : FilesSeen) (r : Result (List ℕ) Status) → IsRouteAnswer command old new r → Cause (file_words (Ok (Form.TheVariants.Route command))) old new r
+route-cause command =
+    then-cause _ _ [] (file_words (Ok (Form.TheVariants.Route command)))
+    (λ old new r. settles-cause (query_in command.query.name) old new r (mapped-inner Query (request_of command.query.name) (λ e. tt)))
+    (λ asked. then-cause _ _ (command.lookups.word ∷ []) (command.profile.word ∷ command.map.word ∷ map (λ (tile : Named). tile.word) command.tiles)
+    (table-cause command.lookups.word command.lookups.name)
+    (λ table. then-cause _ _ (command.profile.word ∷ []) (command.map.word ∷ map (λ (tile : Named). tile.word) command.tiles)
+    (checked-cause command.profile.word command.profile.name table)
+    (λ sections. then-cause _ _ (command.map.word ∷ []) (map (λ (tile : Named). tile.word) command.tiles)
+    (map-cause command.map.word command.map.name)
+    (by_tiles-cause command asked table sections))))
+
 -- the command `grid`
 grid-cause : (command : GridCommand) (old new : FilesSeen) (r : Result (List ℕ) Status) → IsGridAnswer command r → new ≡ old → Cause [] old new r
 grid-cause command old new (Ok bytes) is same = record { faults = ap (λ (s : FilesSeen). s.faults) same; opened = ap (λ (s : FilesSeen). s.opens) same }
-grid-cause command old new (Err (Grid NoTrack)) is same = opened-none old new same
+grid-cause command old new (Err (Route error line)) is same = opened-none old new same
 grid-cause command old new (Err NoMemory) is same = opened-none old new same
 grid-cause command old new (Err Done) is same = absurd is
 grid-cause command old new (Err (Usage word)) is same = absurd is
+grid-cause command old new (Err (Query error)) is same = absurd is
+grid-cause command old new (Err (Map word error)) is same = absurd is
+grid-cause command old new (Err (Tile word error)) is same = absurd is
 grid-cause command old new (Err (TooLong word)) is same = absurd is
 grid-cause command old new (Err (Lookup word error)) is same = absurd is
 grid-cause command old new (Err (Text word error)) is same = absurd is
@@ -79,6 +174,7 @@ command-cause : (command : Command) (old new : FilesSeen) (r : Result (List ℕ)
 command-cause (Form.TheVariants.Grid command) old new r is = grid-cause command old new r is.0 is.1
 command-cause (Form.TheVariants.Make command) old new r is = settles-cause (Ok (made_by command)) old new r (λ status none. cc) is
 command-cause (Form.TheVariants.Code command) old new r is = code-cause command old new r is
+command-cause (Form.TheVariants.Route command) old new r is = route-cause command old new r is
 
 -- ---- The program
 
@@ -92,7 +188,10 @@ read-cause words old new (TooLong word) c = c
 read-cause words old new (Lookup word error) c = c
 read-cause words old new (Text word error) c = c
 read-cause words old new (Check word error) c = c
-read-cause words old new (Grid error) c = c
+read-cause words old new (Query error) c = c
+read-cause words old new (Map word error) c = c
+read-cause words old new (Tile word error) c = c
+read-cause words old new (Route error line) c = c
 read-cause words old new (NotFound word) c = c
 read-cause words old new NoMemory c = c
 
@@ -152,7 +251,10 @@ ends-cause words old new out_old out_new answer status is ends = go answer statu
     go (Ok bytes) (Lookup word error) c e = absurd e
     go (Ok bytes) (Text word error) c e = absurd e
     go (Ok bytes) (Check word error) c e = absurd e
-    go (Ok bytes) (Grid error) c e = absurd e
+    go (Ok bytes) (Query error) c e = absurd e
+    go (Ok bytes) (Map word error) c e = absurd e
+    go (Ok bytes) (Tile word error) c e = absurd e
+    go (Ok bytes) (Route error line) c e = absurd e
     go (Ok bytes) (NotFound word) c e = absurd e
     go (Ok bytes) (ReadFault word) c e = absurd e
     go (Ok bytes) NoMemory c e = absurd e

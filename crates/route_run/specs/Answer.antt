@@ -3,3 +3,5 @@ pub mod Code
 pub mod Grid
 pub mod Lines
 pub mod Make
+pub mod Refused
+pub mod Route

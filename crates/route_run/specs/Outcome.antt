@@ -1,16 +1,18 @@
 -- What the program answers to words over files and an output. This project's own rule.
-use Rattle.std.specs.Prelude.{ℕ, suc, ◌≡◌, ◌≤◌, List, [], ◌∷◌, length, slice_get, Some, Result, Ok, Err}
+use Rattle.std.specs.Prelude.{ℕ, suc, ◌≡◌, ◌≤◌, List, [], ◌∷◌, length, map, slice_get, Some, Result, Ok, Err}
 use Rattle.edge_io.specs.Faults.{CountRose, count_after}
 use Rattle.edge_io.specs.Files.{FilesSeen}
 use Rattle.edge_io.specs.Sink.{SinkSeen}
 use Rattle.route_run.specs.Answer.Code.{IsCodeAnswer}
 use Rattle.route_run.specs.Answer.Grid.{IsGridAnswer, IsFit}
 use Rattle.route_run.specs.Answer.Make.{made_by, make_plan}
+use Rattle.route_run.specs.Answer.Route.{IsRouteAnswer}
 use Rattle.route_run.specs.Ends.{Ends}
 use Rattle.grid_map.specs.Plan.{IsPlan}
 use Rattle.item_list.specs.Answer.{answer_map}
 use Rattle.route_run.specs.Stage.Chain.{Settles, Then}
 use Rattle.route_run.specs.Words.Command.{command_of}
+use Rattle.route_run.specs.Words.Given.{Named}
 use Rattle.route_run.specs.declared.words.command.Command.{Command}
 use Rattle.route_run.specs.declared.words.command.Command as Form
 use Rattle.route_run.specs.declared.status.Status.{Status}
@@ -25,6 +27,7 @@ abbrev pub IsCommandAnswer : Command → FilesSeen → FilesSeen → Result (Lis
 IsCommandAnswer (Form.TheVariants.Grid command) old new answer = IsGridAnswer command answer × (new ≡ old)
 IsCommandAnswer (Form.TheVariants.Make command) old new answer = Settles (Ok (made_by command)) old new answer
 IsCommandAnswer (Form.TheVariants.Code command) old new answer = IsCodeAnswer command old new answer
+IsCommandAnswer (Form.TheVariants.Route command) old new answer = IsRouteAnswer command old new answer
 
 -- what is answered to words over files: the words are read, and then their command is answered
 abbrev pub IsAnswer : List (List ℕ) → FilesSeen → FilesSeen → Result (List ℕ) Status → Type 0
@@ -55,6 +58,8 @@ abbrev pub file_words : Result Command ℕ → List ℕ
 file_words (Ok (Form.TheVariants.Grid command)) = []
 file_words (Ok (Form.TheVariants.Make command)) = []
 file_words (Ok (Form.TheVariants.Code command)) = command.lookups.word ∷ command.profile.word ∷ []
+file_words (Ok (Form.TheVariants.Route command)) =
+    command.lookups.word ∷ command.profile.word ∷ command.map.word ∷ map (λ (tile : Named). tile.word) command.tiles
 file_words (Err fault) = []
 
 -- a read fault comes where the count of faults rose, and names the word of the file that was opened last
@@ -96,3 +101,4 @@ abbrev pub IsCommandFit : Command → Type 0
 IsCommandFit (Form.TheVariants.Grid command) = IsFit command
 IsCommandFit (Form.TheVariants.Make command) = IsPlan (make_plan command)
 IsCommandFit (Form.TheVariants.Code command) = Unit {0}
+IsCommandFit (Form.TheVariants.Route command) = Unit {0}

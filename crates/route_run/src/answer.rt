@@ -4,3 +4,5 @@ pub(crate) mod code;
 pub(crate) mod grid;
 pub(crate) mod lines;
 pub(crate) mod make;
+pub(crate) mod refused;
+pub(crate) mod route;

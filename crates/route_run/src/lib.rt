@@ -12,6 +12,6 @@ mod top;
 mod words;
 
 pub use reply::edge;
-pub use status::{GridError, Status};
+pub use status::Status;
 pub use system::program;
 pub use top::run;

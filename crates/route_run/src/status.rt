@@ -1,29 +1,29 @@
 //! How a command ended.
 
 ghost use Rattle.std.specs.Prelude.{◌≡◌, ◌++◌, IfOk};
-ghost use Rattle.route_run.specs.Status.{number_of_status, line_of, word_front};
+ghost use Rattle.route_run.specs.Status.{number_of_route, number_of_status, line_of, word_front};
 
 use context_check::CheckError;
-use item_list::{append_number, bytes_of};
+use hgt_tiles::TileError;
+use item_list::{Name, append_number, bytes_of};
 use lookup_table::LookupError;
+use map_files::{map_line, tile_line};
+use overpass_graph::MapError;
 use profile_text::TextError;
+use route_http::RequestError;
+use route_ready::RouteError;
 use std::alloc::{AllocError, Global};
-
-/// Why the command `grid` gives no walk.
-#[derive(Clone, Copy, Debug, PartialEq, Eq)]
-pub enum GridError {
-    /// There is no walk from the one place to the other.
-    NoTrack,
-}
 
 /// How a command ended. `word` is the place of a word, from 0; of a refused file that of the word that
 /// names it.
-#[derive(Debug, Drop)]
+#[derive(Drop)]
 pub enum Status {
     /// The whole output was written.
     Done,
     /// The word is at fault.
     Usage { word: u64 },
+    /// The query is no request.
+    Query { error: RequestError },
     /// The file has more bytes than are taken.
     TooLong { word: u64 },
     /// The file is no tag table.
@@ -32,8 +32,12 @@ pub enum Status {
     Text { word: u64, error: TextError },
     /// The file's profile may not be used with the tag table.
     Check { word: u64, error: CheckError },
-    /// The grid gives no walk.
-    Grid { error: GridError },
+    /// The file is no map.
+    Map { word: u64, error: MapError },
+    /// The file is no tile.
+    Tile { word: u64, error: TileError },
+    /// There is no track, with the line that says why.
+    Route { error: RouteError, line: Name },
     /// No file has the name.
     NotFound { word: u64 },
     /// The file could not be opened or read.
@@ -51,12 +55,14 @@ impl Status {
     {
         match self {
             Status::Done => 0,
-            Status::Usage { .. } => 1,
+            Status::Usage { .. } | Status::Query { .. } => 1,
             Status::TooLong { .. }
             | Status::Lookup { .. }
             | Status::Text { .. }
-            | Status::Check { .. } => 2,
-            Status::Grid { .. } => 3,
+            | Status::Check { .. }
+            | Status::Map { .. }
+            | Status::Tile { .. } => 2,
+            Status::Route { error, .. } => number_of_route(error),
             Status::NotFound { .. } => 7,
             Status::ReadFault { .. } => 8,
             Status::WriteFault => 9,
@@ -88,12 +94,32 @@ impl Status {
                 let line = error.line(alloc)?;
                 file_line(alloc, *word, line.as_bytes())
             }
-            Status::Grid { .. } => bytes_of(alloc, b"no track: leg 0"),
+            Status::Query { error } => error.line(alloc),
+            Status::Map { word, error } => {
+                let line = map_line(alloc, error)?;
+                file_line(alloc, *word, line.as_bytes())
+            }
+            Status::Tile { word, error } => file_line(alloc, *word, tile_line(error).as_bytes()),
+            Status::Route { line, .. } => bytes_of(alloc, line.as_slice()),
             Status::NotFound { word } => file_line(alloc, *word, b"not found"),
             Status::ReadFault { word } => file_line(alloc, *word, b"read fault"),
             Status::WriteFault => bytes_of(alloc, b"write fault"),
             Status::NoMemory => bytes_of(alloc, b"out of memory"),
         }
+    }
+}
+
+/// The exit status of a request that has no track.
+fn number_of_route(error: &RouteError) -> u8
+    ensures value { result ≡ number_of_route error.now }
+{
+    match error {
+        RouteError::UnknownProfile | RouteError::Check(_) | RouteError::Rate(_) => 2,
+        RouteError::NoTrack { .. } => 3,
+        RouteError::NotMapped { .. } => 4,
+        RouteError::Budget { .. } => 5,
+        RouteError::GlobalFault { .. } | RouteError::Bind(_) => 6,
+        RouteError::NoMemory => 10,
     }
 }
 

@@ -12,6 +12,7 @@ ghost use Rattle.route_run.specs.declared.words.command.Command.{Command as TheC
 use crate::answer::code::code_answer;
 use crate::answer::grid::grid_answer;
 use crate::answer::make::make_answer;
+use crate::answer::route::route_answer;
 use crate::output::Output;
 use crate::sending::{at_hand, send};
 use crate::status::Status;
@@ -68,5 +69,6 @@ fn command_answer<F: Files>(
         Command::Grid(command) => at_hand(grid_answer(alloc, command)),
         Command::Make(command) => make_answer(alloc, command),
         Command::Code(command) => at_hand(code_answer(alloc, command, files)),
+        Command::Route(command) => at_hand(route_answer(alloc, command, files)),
     }
 }

@@ -1,15 +1,16 @@
 -- What the command `grid` answers: a shortest walk across its grid. This project's own rule.
-use Rattle.std.specs.Prelude.{ℕ, ◌≡◌, ◌+◌, ◌*◌, ◌<◌, List, Result, Ok, Err}
+use Rattle.std.specs.Prelude.{ℕ, ◌≡◌, ◌+◌, ◌*◌, ◌<◌, List, None, Result, Ok, Err}
 use Rattle.grid_map.specs.Costs.{length_costs}
 use Rattle.grid_map.specs.declared.plan.Plan.{Plan}
 use Rattle.grid_map.specs.Plan.{IsPlan, plan_of}
 use Rattle.grid_map.specs.Walks.{IsLeastGridWalk, HasNoGridWalk}
+use Rattle.route_ready.specs.Lines.{route_line}
+use Rattle.route_ready.specs.declared.error.RouteError.TheVariants.{NoTrack}
 use Rattle.route_run.specs.Answer.Lines.{grid_lines}
 use Rattle.route_run.specs.declared.words.command.GridCommand.{GridCommand}
 use Rattle.route_run.specs.declared.words.value.Place.{Place}
 use Rattle.route_run.specs.declared.status.Status.{Status}
-use Rattle.route_run.specs.declared.status.Status.TheVariants.{Grid, NoMemory}
-use Rattle.route_run.specs.declared.status.GridError.TheVariants.{NoTrack}
+use Rattle.route_run.specs.declared.status.Status.TheVariants.{Route, NoMemory}
 
 -- the plan of a command's grid
 abbrev pub plan_by : GridCommand → Plan
@@ -37,7 +38,7 @@ HasNoWalk command =
 -- what the command `grid` answers: the lines of a least walk; that there is none; or want of memory
 abbrev pub IsGridAnswer : GridCommand → Result (List ℕ) Status → Type 0
 IsGridAnswer command (Ok lines) = ShowsWalk command lines
-IsGridAnswer command (Err (Grid NoTrack)) = HasNoWalk command
+IsGridAnswer command (Err (Route error line)) = HasNoWalk command × (error ≡ NoTrack 0) × (line ≡ route_line None (NoTrack 0))
 IsGridAnswer command (Err NoMemory) = Unit {0}
 IsGridAnswer command (Err status) = ⊥
 

@@ -8,3 +8,11 @@ most_lookups = 1048576
 -- the most bytes of a profile's file
 abbrev pub most_profile : ℕ
 most_profile = 262144
+
+-- the most bytes of a map's file
+abbrev pub most_map : ℕ
+most_map = 8589934592
+
+-- the most bytes of a tile's file
+abbrev pub most_tile : ℕ
+most_tile = 25934402

@@ -1,13 +1,13 @@
 -- The command that a list of words is, or the place of the word at fault. This project's own rule.
 use Rattle.std.specs.List.{find}
-use Rattle.std.specs.Prelude.{ℕ, ◌+◌, Bool, cond, ◌&&◌, nat_lt, Option, Some, None, Result, Ok, Err, List, [], ◌∷◌, length}
+use Rattle.std.specs.Prelude.{ℕ, ◌+◌, Bool, cond, ◌&&◌, nat_lt, Option, Some, None, Result, Ok, Err, List, [], ◌∷◌, length, map}
 use Rattle.route_run.specs.Words.Given.{Given, Named}
-use Rattle.route_run.specs.Words.Reader.{entries_of, entry_with}
+use Rattle.route_run.specs.Words.Reader.{entries_of, entries_with, entry_with}
 use Rattle.route_run.specs.Words.Rows.{command_name, commands, keys_of}
 use Rattle.route_run.specs.Words.Value.{same_text, number_in, place_in, product_in}
 use Rattle.route_run.specs.declared.words.rows.CommandName.{CommandName}
-use Rattle.route_run.specs.declared.words.rows.CommandName.TheVariants.{Grid, Make, Code}
-use Rattle.route_run.specs.declared.words.rows.Key.TheVariants.{Seed, Width, Height, From, To, What, Lookups, Profile}
+use Rattle.route_run.specs.declared.words.rows.CommandName.TheVariants.{Grid, Make, Code, Route}
+use Rattle.route_run.specs.declared.words.rows.Key.TheVariants.{Seed, Width, Height, From, To, What, Lookups, Profile, Map, Query, Tile}
 use Rattle.route_run.specs.declared.words.command.Command.{Command}
 use Rattle.route_run.specs.declared.words.command.Command as Form
 use Rattle.route_run.specs.declared.words.value.Place.{Place}
@@ -52,6 +52,22 @@ code_with after (Some lookups) (Some profile) =
     Ok (Form.TheVariants.Code (record { lookups = file_in lookups; profile = file_in profile }))
 code_with after lookups profile = Err after
 
+-- the files of tiles that entries name
+abbrev pub tiles_in : List Given → List Named
+tiles_in entries = map file_in (entries_with Tile entries)
+
+-- the command of a query and the files that it is answered over, or the place after the last word where one is missing
+abbrev pub route_with : ℕ → Option Given → Option Given → Option Given → Option Given → List Named → Result Command ℕ
+route_with after (Some lookups) (Some profile) (Some roads) (Some query) tiles =
+    Ok (Form.TheVariants.Route (record {
+      lookups = file_in lookups;
+      profile = file_in profile;
+      map = file_in roads;
+      query = file_in query;
+      tiles = tiles;
+    }))
+route_with after lookups profile roads query tiles = Err after
+
 -- the command of this name and these entries, before the word at this place
 unfoldable pub complete : CommandName → List Given → ℕ → Result Command ℕ
 complete Grid entries after =
@@ -60,6 +76,9 @@ complete Grid entries after =
 complete Make entries after =
     make_with after (entry_with Seed entries) (entry_with Width entries) (entry_with Height entries) (entry_with What entries)
 complete Code entries after = code_with after (entry_with Lookups entries) (entry_with Profile entries)
+complete Route entries after =
+    route_with after (entry_with Lookups entries) (entry_with Profile entries) (entry_with Map entries)
+    (entry_with Query entries) (tiles_in entries)
 
 -- the command of this name and the words after it
 abbrev pub command_with : CommandName → List (List ℕ) → Result Command ℕ

@@ -2,7 +2,7 @@
 use Rattle.std.specs.List.{ends_with, starts_with, list_all, after_last}
 use Rattle.std.specs.Prelude.{ℕ, ◌-◌, ◌==◌, Bool, not, cond, ◌&&◌, ◌||◌, nat_lt, nat_le, nat_eq, List, length, take, codes}
 
--- a text names a file: it isn't empty
+-- a text names a file, or is a query: it isn't empty
 abbrev pub is_file_name : List ℕ → Bool
 is_file_name text = nat_lt 0 (length text)
 
@@ -29,6 +29,10 @@ abbrev pub is_profile_name : List ℕ → Bool
 is_profile_name name =
     nat_lt 0 (length name) && (nat_le (length name) 64 && (list_all is_name_byte name && not (starts_with nat_eq name (codes "custom_"))))
 
+-- the name of the profile of a file: its last part, without a last `.brf`
+abbrev pub profile_name : List ℕ → List ℕ
+profile_name path = stem (base_name path)
+
 -- a path of a profile's file: its last part names a profile
 unfoldable pub is_profile_file : List ℕ → Bool
-is_profile_file path = is_profile_name (stem (base_name path))
+is_profile_file path = is_profile_name (profile_name path)

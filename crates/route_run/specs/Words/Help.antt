@@ -3,7 +3,7 @@ use Rattle.std.specs.Prelude.{ℕ, ◌==◌, cond, nat_eq, List, [], ◌∷◌, 
 use lib.Pointwise.{pointwise}
 use Rattle.route_run.specs.Words.Rows.{key_name, command_name, keys_of, about_of, commands}
 use Rattle.route_run.specs.declared.words.rows.Form.{Form}
-use Rattle.route_run.specs.declared.words.rows.Form.TheVariants.{Number, Place, Product, File, ProfileFile}
+use Rattle.route_run.specs.declared.words.rows.Form.TheVariants.{Number, Place, Product, File, ProfileFile, Query}
 use Rattle.route_run.specs.declared.words.rows.KeyRow.{KeyRow}
 use Rattle.route_run.specs.declared.words.rows.CommandName.{CommandName}
 
@@ -14,6 +14,7 @@ form_text Place = codes "X,Y"
 form_text Product = codes "map|hgt"
 form_text File = codes "FILE"
 form_text ProfileFile = codes "FILE"
+form_text Query = codes "QUERY"
 
 -- a key with the form of its value, in brackets where it isn't wanted
 abbrev pub key_text : KeyRow → List ℕ

@@ -5,7 +5,7 @@ use Rattle.route_run.specs.Words.Given.{Given}
 use Rattle.route_run.specs.Words.Rows.{key_name}
 use Rattle.route_run.specs.Words.Value.{same_text, value_of, cut_word}
 use Rattle.route_run.specs.declared.words.rows.Key.{Key}
-use Rattle.route_run.specs.declared.words.rows.Key.TheVariants.{Seed, Width, Height, From, To, What, Lookups, Profile}
+use Rattle.route_run.specs.declared.words.rows.Key.TheVariants.{Seed, Width, Height, From, To, What, Lookups, Profile, Map, Query, Tile}
 use Rattle.route_run.specs.declared.words.rows.KeyRow.{KeyRow}
 use Rattle.route_run.specs.declared.words.value.Value.{Value}
 
@@ -19,11 +19,14 @@ same_key To To = true
 same_key What What = true
 same_key Lookups Lookups = true
 same_key Profile Profile = true
+same_key Map Map = true
+same_key Query Query = true
+same_key Tile Tile = true
 same_key a b = false
 
 -- all keys
 abbrev pub all_keys : List Key
-all_keys = Seed ∷ Width ∷ Height ∷ From ∷ To ∷ What ∷ Lookups ∷ Profile ∷ []
+all_keys = Seed ∷ Width ∷ Height ∷ From ∷ To ∷ What ∷ Lookups ∷ Profile ∷ Map ∷ Query ∷ Tile ∷ []
 
 -- the key that a text names
 unfoldable pub key_of : List ℕ → Option Key
@@ -61,9 +64,13 @@ entry_of keys word text = given_cut keys word (cut_word text)
 abbrev pub entry_with : Key → List Given → Option Given
 entry_with key entries = find (λ e. same_key e.key key) entries
 
+-- all that give a key
+abbrev pub entries_with : Key → List Given → List Given
+entries_with key entries = filter (λ e. same_key e.key key) entries
+
 -- how many give a key
 abbrev pub count_of : Key → List Given → ℕ
-count_of key entries = length (filter (λ e. same_key e.key key) entries)
+count_of key entries = length (entries_with key entries)
 
 -- how often a row wants its key at most
 abbrev pub most_in : Option KeyRow → ℕ

@@ -1,12 +1,12 @@
 -- The commands as rows. This project's own rule.
 use Rattle.std.specs.Prelude.{ℕ, List, [], ◌∷◌, codes}
 use Rattle.route_run.specs.declared.words.rows.Key.{Key}
-use Rattle.route_run.specs.declared.words.rows.Key.TheVariants.{Seed, Width, Height, From, To, What, Lookups, Profile}
+use Rattle.route_run.specs.declared.words.rows.Key.TheVariants.{Seed, Width, Height, From, To, What, Lookups, Profile, Map, Query, Tile}
 use Rattle.route_run.specs.declared.words.rows.Form.{Form}
-use Rattle.route_run.specs.declared.words.rows.Form.TheVariants.{Number, Place, Product, File, ProfileFile}
+use Rattle.route_run.specs.declared.words.rows.Form.TheVariants as form
 use Rattle.route_run.specs.declared.words.rows.KeyRow.{KeyRow}
 use Rattle.route_run.specs.declared.words.rows.CommandName.{CommandName}
-use Rattle.route_run.specs.declared.words.rows.CommandName.TheVariants.{Grid, Make, Code}
+use Rattle.route_run.specs.declared.words.rows.CommandName.TheVariants.{Grid, Make, Code, Route}
 
 -- what stands before the equals sign
 unfoldable pub key_name : Key → List ℕ
@@ -18,31 +18,42 @@ key_name To = codes "to"
 key_name What = codes "what"
 key_name Lookups = codes "lookups"
 key_name Profile = codes "profile"
+key_name Map = codes "map"
+key_name Query = codes "query"
+key_name Tile = codes "tile"
 
 -- the first word of a command
 unfoldable pub command_name : CommandName → List ℕ
 command_name Grid = codes "grid"
 command_name Make = codes "make"
 command_name Code = codes "code"
+command_name Route = codes "route"
 
 -- a key that is wanted once
 abbrev pub once : Key → Form → KeyRow
-once key form = record { form = form; least = 1; most = 1; key = key }
+once key wanted = record { form = wanted; least = 1; most = 1; key = key }
+
+-- a key that may come so often
+abbrev pub up_to : ℕ → Key → Form → KeyRow
+up_to most key wanted = record { form = wanted; least = 0; most = most; key = key }
 
 -- the keys of a command
 unfoldable pub keys_of : CommandName → List KeyRow
 keys_of Grid =
-    once Seed (Number 0 65535) ∷ once Width (Number 1 1000) ∷ once Height (Number 1 1000) ∷ once From Place ∷ once To Place ∷ []
+    once Seed (form.Number 0 65535) ∷ once Width (form.Number 1 1000) ∷ once Height (form.Number 1 1000) ∷ once From form.Place ∷ once To form.Place ∷ []
 keys_of Make =
-    once Seed (Number 0 65535) ∷ once Width (Number 1 1000) ∷ once Height (Number 1 1000) ∷ once What Product ∷ []
-keys_of Code = once Lookups File ∷ once Profile ProfileFile ∷ []
+    once Seed (form.Number 0 65535) ∷ once Width (form.Number 1 1000) ∷ once Height (form.Number 1 1000) ∷ once What form.Product ∷ []
+keys_of Code = once Lookups form.File ∷ once Profile form.ProfileFile ∷ []
+keys_of Route =
+    once Lookups form.File ∷ once Profile form.ProfileFile ∷ once Map form.File ∷ once Query form.Query ∷ up_to 64 Tile form.File ∷ []
 
 -- what a command does
 unfoldable pub about_of : CommandName → List ℕ
 about_of Grid = codes "prints a shortest walk across the grid of w by h cells of a seed"
 about_of Make = codes "writes the map of the grid of w by h cells of a seed, or the tile of heights of the seed"
 about_of Code = codes "prints the flat code of a profile under a tag table"
+about_of Route = codes "answers a query over a map by a profile, with heights from tiles"
 
 -- the commands that are built
 abbrev pub commands : List CommandName
-commands = Grid ∷ Make ∷ Code ∷ []
+commands = Grid ∷ Make ∷ Code ∷ Route ∷ []

@@ -5,10 +5,12 @@ ghost use Rattle.route_run.specs.Answer.Grid.{IsGridAnswer, IsFit, ShowsWalk, Ha
 ghost use Rattle.route_run.specs.Ends.{bytes_in};
 
 use crate::answer::lines::grid_lines;
-use crate::status::{GridError, Status};
+use crate::answer::refused::refused;
+use crate::status::Status;
 use crate::words::command::GridCommand;
 use crate::words::value::Place;
 use grid_map::{Grid, shortest_walk};
+use route_ready::RouteError;
 use std::alloc::{AllocError, Global};
 
 /// The lines of a shortest walk across the command's grid, or why there are none.
@@ -18,9 +20,7 @@ pub fn grid_answer(alloc: Global, command: &GridCommand) -> Result<Vec<u8>, Stat
 {
     match walk_lines(alloc, command) {
         Ok(Some(text)) => Ok(text),
-        Ok(None) => Err(Status::Grid {
-            error: GridError::NoTrack,
-        }),
+        Ok(None) => Err(refused(alloc, RouteError::NoTrack { leg: 0 }, None)),
         Err(_) => Err(Status::NoMemory),
     }
 }

@@ -1,7 +1,7 @@
 //! The command that the words are.
 
-ghost use Rattle.std.specs.Prelude.{◌≡◌, Ok, Err, MatchResult};
-ghost use Rattle.route_run.specs.Words.Command.{command_named, command_of, command_with, complete, grid_by, lies_in};
+ghost use Rattle.std.specs.Prelude.{◌≡◌, Ok, Err, IfOk, MatchResult};
+ghost use Rattle.route_run.specs.Words.Command.{command_named, command_of, command_with, complete, grid_by, lies_in, tiles_in};
 ghost use Rattle.route_run.specs.Words.Refusals.{OnUsage, texts_of};
 ghost use Rattle.route_run.specs.declared.words.rows.CommandName.{CommandName};
 
@@ -9,7 +9,8 @@ use crate::words::entry::{Entry, FileWord};
 use crate::words::reader::{Refusal, entries_of, entry_with};
 use crate::words::rows::{COMMANDS, CommandName, Key};
 use crate::words::value::{Place, Product};
-use std::alloc::Global;
+use item_list::Items;
+use std::alloc::{AllocError, Global};
 
 /// The command `grid`: the grid of a seed with `w` cells in a row and `h` rows, and two places in it.
 #[derive(Clone, Copy)]
@@ -37,12 +38,23 @@ pub struct CodeCommand<'a> {
     pub profile: FileWord<'a>,
 }
 
+/// The command `route`: the files of the tag table, of the profile, of the map and of the tiles, and a query.
+#[derive(Drop)]
+pub struct RouteCommand<'a> {
+    pub lookups: FileWord<'a>,
+    pub profile: FileWord<'a>,
+    pub map: FileWord<'a>,
+    pub query: FileWord<'a>,
+    pub tiles: Items<FileWord<'a>>,
+}
+
 /// What the words ask for.
 #[derive(Drop)]
 pub enum Command<'a> {
     Grid(GridCommand),
     Make(MakeCommand),
     Code(CodeCommand<'a>),
+    Route(RouteCommand<'a>),
 }
 
 /// The command of the words; `Usage` with the place of the first word at fault.
@@ -82,21 +94,44 @@ fn command_with(
         OnUsage refusal (λ word. command_with command (texts_of words.now) ≡ Err word)) }
 {
     let entries = entries_of(alloc, command.keys(), words)?;
-    match complete(command, entries.as_slice(), words.len() as u64 + 1) {
+    let Ok(tiles) = tile_files(alloc, entries.as_slice()) else {
+        return Err(Refusal::NoMemory);
+    };
+    match complete(command, entries.as_slice(), tiles, words.len() as u64 + 1) {
         Ok(command) => Ok(command),
         Err(word) => Err(Refusal::Usage(word)),
     }
 }
 
-/// The command of this name and these entries, before the word at the place `after`.
+/// The files of the tiles that entries name.
+fn tile_files<'a>(alloc: Global, entries: &[Entry<'a>]) -> Result<Items<FileWord<'a>>, AllocError>
+    ensures exact { IfOk result (λ tiles. tiles ≡ tiles_in entries.now) }
+{
+    let mut tiles = Items::new(alloc);
+    'entries: for entry in entries {
+        if entry.is_of(Key::Tile) {
+            tiles.push(entry.file())?;
+        }
+    }
+    Ok(tiles)
+}
+
+/// The command of this name and these entries, of which these are the tiles, before the word at the place `after`.
 #[tactic(auto, unfolding(crate::specs::Words::Command::complete))]
-fn complete<'a>(command: CommandName, entries: &[Entry<'a>], after: u64) -> Result<Command<'a>, u64>
+fn complete<'a>(
+    command: CommandName,
+    entries: &[Entry<'a>],
+    tiles: Items<FileWord<'a>>,
+    after: u64,
+) -> Result<Command<'a>, u64>
+    requires tiles { tiles ≡ tiles_in entries.now }
     ensures exact { result ≡ complete command entries.now after }
 {
     match command {
         CommandName::Grid => complete_grid(entries, after),
         CommandName::Make => complete_make(entries, after),
         CommandName::Code => complete_code(entries, after),
+        CommandName::Route => complete_route(entries, tiles, after),
     }
 }
 
@@ -159,6 +194,29 @@ fn complete_code<'a>(entries: &[Entry<'a>], after: u64) -> Result<Command<'a>, u
     Ok(Command::Code(CodeCommand {
         lookups: lookups.file(),
         profile: profile.file(),
+    }))
+}
+
+/// The command `route` of these entries, of which these are the tiles, before the word at the place `after`.
+#[tactic(auto, unfolding(crate::specs::Words::Command::complete))]
+fn complete_route<'a>(
+    entries: &[Entry<'a>],
+    tiles: Items<FileWord<'a>>,
+    after: u64,
+) -> Result<Command<'a>, u64>
+    requires tiles { tiles ≡ tiles_in entries.now }
+    ensures exact { result ≡ complete CommandName.Route entries.now after }
+{
+    let lookups = entry_with(entries, Key::Lookups).ok_or(after)?;
+    let profile = entry_with(entries, Key::Profile).ok_or(after)?;
+    let map = entry_with(entries, Key::Map).ok_or(after)?;
+    let query = entry_with(entries, Key::Query).ok_or(after)?;
+    Ok(Command::Route(RouteCommand {
+        lookups: lookups.file(),
+        profile: profile.file(),
+        map: map.file(),
+        query: query.file(),
+        tiles,
     }))
 }
 

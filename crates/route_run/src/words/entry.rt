@@ -42,7 +42,7 @@ impl<'a> Model for FileWord<'a> {
 }
 
 impl<'a> FileWord<'a> {
-    /// The name.
+    /// The name, or the query.
     pub fn name(&self) -> &'a str
         ensures exact { result.now ≡ self.now.name }
     {
@@ -121,7 +121,7 @@ impl<'a> Entry<'a> {
 }
 
 /// All keys.
-const ALL_KEYS: [Key; 8] = [
+const ALL_KEYS: [Key; 11] = [
     Key::Seed,
     Key::Width,
     Key::Height,
@@ -130,6 +130,9 @@ const ALL_KEYS: [Key; 8] = [
     Key::What,
     Key::Lookups,
     Key::Profile,
+    Key::Map,
+    Key::Query,
+    Key::Tile,
 ];
 
 /// The key that a text names.

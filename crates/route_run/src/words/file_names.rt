@@ -2,7 +2,7 @@
 
 ghost use Rattle.std.specs.List.{list_all};
 ghost use Rattle.std.specs.Prelude.{◌≡◌};
-ghost use Rattle.route_run.specs.Words.FileNames.{base_name, is_name_byte, is_profile_file, is_profile_name, stem};
+ghost use Rattle.route_run.specs.Words.FileNames.{base_name, is_name_byte, is_profile_file, is_profile_name, profile_name, stem};
 
 /// Whether a text is a path of a profile's file: its last part, without `.brf`, is 1 to 64 letters, digits,
 /// `_` or `-`, and doesn't begin with `custom_`, as the names of uploaded profiles do.
@@ -10,7 +10,14 @@ ghost use Rattle.route_run.specs.Words.FileNames.{base_name, is_name_byte, is_pr
 pub fn is_profile_file(path: &[u8]) -> bool
     ensures exact { result ≡ is_profile_file path.now }
 {
-    is_profile_name(stem(base_name(path)))
+    is_profile_name(profile_name(path))
+}
+
+/// The name of the profile of a file: its last part, without `.brf`.
+pub fn profile_name(path: &[u8]) -> &[u8]
+    ensures exact { result.now ≡ profile_name path.now }
+{
+    stem(base_name(path))
 }
 
 /// What follows the last slash of a path.

@@ -14,6 +14,9 @@ pub enum Key {
     What,
     Lookups,
     Profile,
+    Map,
+    Query,
+    Tile,
 }
 
 /// What the value of a key has to be.
@@ -29,6 +32,8 @@ pub enum Form {
     File,
     /// The name of a profile's file.
     ProfileFile,
+    /// A query.
+    Query,
 }
 
 /// A key of a command, the form of its value, and how often it is wanted at least and at most.
@@ -46,10 +51,16 @@ pub enum CommandName {
     Grid,
     Make,
     Code,
+    Route,
 }
 
 /// The commands that are built.
-pub const COMMANDS: [CommandName; 3] = [CommandName::Grid, CommandName::Make, CommandName::Code];
+pub const COMMANDS: [CommandName; 4] = [
+    CommandName::Grid,
+    CommandName::Make,
+    CommandName::Code,
+    CommandName::Route,
+];
 
 /// The keys of the command `grid`.
 const GRID_KEYS: [KeyRow; 5] = [
@@ -135,6 +146,40 @@ const CODE_KEYS: [KeyRow; 2] = [
     },
 ];
 
+/// The keys of the command `route`.
+const ROUTE_KEYS: [KeyRow; 5] = [
+    KeyRow {
+        form: Form::File,
+        least: 1,
+        most: 1,
+        key: Key::Lookups,
+    },
+    KeyRow {
+        form: Form::ProfileFile,
+        least: 1,
+        most: 1,
+        key: Key::Profile,
+    },
+    KeyRow {
+        form: Form::File,
+        least: 1,
+        most: 1,
+        key: Key::Map,
+    },
+    KeyRow {
+        form: Form::Query,
+        least: 1,
+        most: 1,
+        key: Key::Query,
+    },
+    KeyRow {
+        form: Form::File,
+        least: 0,
+        most: 64,
+        key: Key::Tile,
+    },
+];
+
 impl Key {
     /// What stands before the equals sign.
     #[tactic(auto, unfolding(crate::specs::Words::Rows::key_name))]
@@ -150,6 +195,9 @@ impl Key {
             Key::What => "what",
             Key::Lookups => "lookups",
             Key::Profile => "profile",
+            Key::Map => "map",
+            Key::Query => "query",
+            Key::Tile => "tile",
         }
     }
 }
@@ -164,6 +212,7 @@ impl CommandName {
             CommandName::Grid => "grid",
             CommandName::Make => "make",
             CommandName::Code => "code",
+            CommandName::Route => "route",
         }
     }
 
@@ -176,6 +225,7 @@ impl CommandName {
             CommandName::Grid => &GRID_KEYS,
             CommandName::Make => &MAKE_KEYS,
             CommandName::Code => &CODE_KEYS,
+            CommandName::Route => &ROUTE_KEYS,
         }
     }
 
@@ -189,6 +239,7 @@ impl CommandName {
             CommandName::Make =>
                 "writes the map of the grid of w by h cells of a seed, or the tile of heights of the seed",
             CommandName::Code => "prints the flat code of a profile under a tag table",
+            CommandName::Route => "answers a query over a map by a profile, with heights from tiles",
         }
     }
 }

@@ -1,0 +1,2 @@
+mod ShowLemmas
+mod ReplyLemmas

@@ -1,0 +1,46 @@
+-- The reply to a request by a profile that is made ready for its world.
+use Rattle.std.proofs.Common.{◌≡◌, ℕ, List, Ok, refl, ap, ◌∙◌}
+use Rattle.profile_text.specs.Tree.{Sections}
+use Rattle.request_reply.specs.Replies.{IsReady, IsReply, question_of, reply_of}
+use Rattle.request_reply.specs.Told.{TellsOf, source_by}
+use Rattle.request_reply.specs.declared.told.Told.{Told}
+use Rattle.route_engine.specs.Answers.{IsAnswer}
+use Rattle.route_engine.specs.Jobs.{setting_of}
+use Rattle.route_engine.specs.Settings.{IsSettingOf}
+use Rattle.route_http.specs.Seen.{asked}
+use Rattle.route_http.specs.declared.asked.Request.{Request}
+use Rattle.route_ready.specs.Worlds.{WorldValue}
+use Rattle.route_ready.specs.declared.ready.Ready.{Ready}
+use Rattle.track_legs.specs.declared.track.Track.{Track}
+
+module _ (world : WorldValue) (sections : Sections) (ready : Ready) (request : Request) (is : IsReady world sections (asked request) ready) where
+  -- a profile that is ready gives the setting of the request
+  setting-of : IsSettingOf (question_of world sections (asked request)) (setting_of world ready (asked request).circles)
+  setting-of = record {
+    accepted = is.terms_are;
+    map = refl;
+    count = is.count;
+    facts = is.facts;
+    cut = refl;
+  }
+
+  -- the bytes of a track that answers the request are its reply
+  pub is-reply : (told : Told) (track : Track) (bytes : List ℕ) → TellsOf request told →
+      IsAnswer (question_of world sections (asked request)) (Ok track) →
+      bytes ≡ reply_of told.form (source_by world ready told) track → IsReply (question_of world sections (asked request)) bytes
+  is-reply told track bytes tells answers are = record {
+    setting = setting_of world ready (asked request).circles;
+    over = setting-of;
+    track = track;
+    answers = answers;
+    are = are ∙ ap (λ (t : Told). reply_of t.form (source_by world ready t) track) (told-same told tells);
+  }
+    where
+      given : Told
+      given = record { name = request.profile; alternative = request.alternative; form = request.form }
+
+      told-same : (told : Told) → TellsOf request told → told ≡ given
+      told-same told tells =
+          ap (λ n. record told { name = n }) tells.name
+          ∙ ap (λ n. record told { name = request.profile; alternative = n }) tells.alternative
+          ∙ ap (λ f. record told { name = request.profile; alternative = request.alternative; form = f }) tells.form
