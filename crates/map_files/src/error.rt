@@ -1,5 +1,9 @@
 //! Why the open file holds no map.
 
+ghost use Rattle.std.specs.Prelude.{◌≡◌};
+ghost use Rattle.map_files.specs.declared.error.MapFileError.TheVariants.{Fault};
+
+use edge_io::Failed;
 use overpass_graph::MapError;
 
 /// Why the open file holds no map.
@@ -13,4 +17,12 @@ pub enum MapFileError {
     Map(MapError),
     /// Memory ran out.
     NoMemory,
+}
+
+impl From<Failed> for MapFileError {
+    ghost from_gives = { λ _ e. e ≡ Fault };
+
+    fn from(_error: Failed) -> MapFileError {
+        MapFileError::Fault
+    }
 }

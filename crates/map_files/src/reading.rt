@@ -23,10 +23,7 @@ pub fn read_map<F: Files>(alloc: Global, files: &mut F, limit: u64) -> Result<Ma
     let mut piece = [0u8; 65_536];
     let mut room = limit;
     'reading: loop {
-        let given = match files.read(&mut piece) {
-            Ok(given) => given,
-            Err(_) => return Err(MapFileError::Fault),
-        };
+        let given = files.read(&mut piece)?;
         if given == 0 {
             return finish(builder);
         }

@@ -7,3 +7,4 @@ pub mod StageLemmas
 pub mod TextLemmas
 pub mod EdgeLemmas
 pub mod RunLemmas
+pub mod TileLemmas

@@ -5,8 +5,13 @@ use Rattle.edge_io.specs.Faults.{CountRose}
 use Rattle.edge_io.specs.Files.{FilesSeen, IsFound, IsLeft, Opens, content_of}
 use Rattle.edge_io.specs.Whole.{IsAllLeft, IsTooLong, ReadsOn}
 use Rattle.item_list.specs.Answer.{Answers}
+use Rattle.map_files.specs.Reading.{IsReadFrom}
+use Rattle.map_files.specs.declared.error.MapFileError.{MapFileError}
+use Rattle.overpass_graph.specs.Maps.{MapValue}
 use Rattle.route_run.specs.Stage.Chain.{seen_as, Settles, Then}
 use Rattle.route_run.specs.Stage.File.{Missing, Long, Content, taken_by, IsTaken, IsFileAnswer, TakesFile}
+use Rattle.route_run.specs.Stage.Limits.{most_map}
+use Rattle.route_run.specs.Stage.Map.{IsMapAnswer, IsMapIn, IsMapNamed, TakesMap}
 use Rattle.route_run.specs.declared.status.Status.{Status}
 use Rattle.route_run.specs.declared.status.Status.TheVariants.{NoMemory}
 
@@ -69,3 +74,24 @@ then-goes first second old mid new result value given rest = inr (record { value
 pub settles : {A B : Type 0} (view : A → B) (answer : Result B Status) (seen : FilesSeen) (result : Result A Status) → Answers view answer NoMemory result → Settles answer seen seen (seen_as view result)
 settles view answer seen (Ok a) gives = record { gives = gives; same = refl }
 settles view answer seen (Err status) gives = record { gives = gives; same = refl }
+
+-- ---- Maps
+
+-- what is read of a file that was opened is what its bytes come to
+pub map-named : (files : Option (List (List ℕ × List ℕ))) (left : Option (List ℕ)) (name : List ℕ) (result : Result MapValue MapFileError) →
+    IsFound files name true → IsLeft files name left → IsReadFrom most_map left result → IsMapNamed files name result
+map-named None left name result found is read = tt
+map-named (Some fs) left name result found is read = go (content_of fs name) found (subst (λ l. IsReadFrom most_map l result) is read)
+  where
+    go : (c : Option (List ℕ)) → true ≡ is_some c → IsReadFrom most_map c result → IsMapIn c result
+    go None f r = cc
+    go (Some bytes) f r = r
+
+-- a map's file that was opened and read on was taken in, with this answer
+pub took-map : (word : ℕ) (name : List ℕ) (old mid new : FilesSeen) (result : Result MapValue Status) → Opens old mid name true → ReadsOn most_map mid new →
+    IsMapAnswer word name old new result → TakesMap word name old new result
+took-map word name old mid new result opens on answer = record {
+  answer = answer;
+  files = on.how.files ∙ opens.files;
+  opens = on.how.opens ∙ opens.opens;
+}

@@ -1,5 +1,5 @@
 -- What the command `route` answers: the reply to its query, or why there is none. This project's own rule.
-use Rattle.std.specs.Prelude.{ℕ, ◌≡◌, Bool, true, false, List, [], Option, Some, None, Result, Ok, Err}
+use Rattle.std.specs.Prelude.{ℕ, ◌≡◌, ◌⊎◌, Bool, true, false, List, Some, Result, Ok, Err}
 use Rattle.edge_io.specs.Files.{FilesSeen}
 use Rattle.hgt_tiles.specs.Relief.{Relief}
 use Rattle.hgt_tiles.specs.declared.tile_set.Tiles.{Tiles}
@@ -63,8 +63,8 @@ pub record IsRefusedBy (command : RouteCommand) (asked : Asked) (inputs : Inputs
 
 -- why a request is refused over these inputs: the profile has another name than is asked for; or as is defined
 abbrev pub IsRouteRefusal : RouteCommand → Asked → Inputs → RouteError → Type 0
-IsRouteRefusal command asked inputs UnknownProfile = is_named command asked ≡ false
-IsRouteRefusal command asked inputs error = IsRefusedBy command asked inputs error
+IsRouteRefusal command asked inputs error =
+    ((error ≡ UnknownProfile) × (is_named command asked ≡ false)) ⊎ IsRefusedBy command asked inputs error
 
 -- what is answered to a request over these inputs: its reply; a refusal with its line; or want of memory
 abbrev pub IsRouted : RouteCommand → Asked → Inputs → Result (List ℕ) Status → Type 0

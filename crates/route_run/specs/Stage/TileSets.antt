@@ -15,7 +15,7 @@ pub record HasAdded (file : Named) (old new : FilesSeen) (before after : Tiles) 
   pub added : AddsTile before after relief
 
 -- the tile of a file is taken in and added, or its stage refuses
-abbrev pub AddsFile : Named → FilesSeen → FilesSeen → Tiles → Tiles → Result Unit Status → Type 0
+abbrev pub AddsFile : {T : Type 0} → Named → FilesSeen → FilesSeen → Tiles → Tiles → Result T Status → Type 0
 AddsFile file old new before after (Ok a) = HasAdded file old new before after
 AddsFile file old new before after (Err status) = TakesTile file.word file.name old new (Err status)
 
