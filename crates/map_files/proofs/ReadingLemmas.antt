@@ -4,7 +4,7 @@ use Rattle.std.proofs.Math.Seq.{take-append-add}
 use Rattle.std.proofs.lemmas.List.{take-append-le, take_min, length-take}
 use Rattle.std.specs.Io.KnownBytes.{Consumes}
 use Rattle.edge_io.specs.Whole.{IsAllLeft}
-use Rattle.map_files.specs.Reading.{HasFaultWithin, IsReadAs, IsReadFrom, IsTextOf, OnFault}
+use Rattle.map_files.specs.Reading.{IsReadAs, IsReadFrom, IsTextOf, OnFault}
 use Rattle.map_files.specs.declared.error.MapFileError.{MapFileError}
 use Rattle.map_files.specs.declared.error.MapFileError.TheVariants.{Fault, TooLong, Map, NoMemory}
 use Rattle.overpass_graph.specs.Builder.{IsFaultOfBeginning, MayBecomeMap}

@@ -1,12 +1,11 @@
 -- A track that a request asks for is one that a reply may show.
-use Rattle.std.proofs.Common.{◌≡◌, ℕ, suc, ◌<◌, ◌^◌, List, [], length, get_or, refl, sym, ap, ◌∙◌, arith, subst}
+use Rattle.std.proofs.Common.{◌≡◌, ℕ, ◌<◌, ◌^◌, List, [], length, get_or, refl, sym, ap, ◌∙◌, arith, subst}
 use Rattle.std.proofs.lemmas.List.{get_or-map, length-map}
 use Rattle.overpass_graph.specs.Walks.{link_at}
-use Rattle.route_engine.specs.Jobs.{IsPlanFor, IsTrackOver, setting_of}
+use Rattle.route_engine.specs.Jobs.{IsTrackOver, setting_of}
 use Rattle.route_engine.specs.Plans.{IsTrackFor, Plan}
 use Rattle.route_engine.specs.Settings.{Setting, open_map_of}
 use Rattle.route_engine.specs.Sums.{sum_costs, sum_ranks}
-use Rattle.route_engine.specs.Transposed.{walks_of}
 use Rattle.route_http.specs.Asked.{Asked}
 use Rattle.route_ready.specs.Worlds.{WorldValue}
 use Rattle.route_ready.specs.declared.ready.Ready.{Ready}

@@ -4,7 +4,7 @@ ghost use Rattle.std.specs.Prelude.{◌≡◌, IfOk, length};
 ghost use Rattle.profile_text.specs.Expr.{sections_in};
 ghost use Rattle.profile_text.specs.Tree.{Sections};
 ghost use Rattle.request_reply.specs.Replies.{IsReady, Tells, bytes_in, question_of, reply_of};
-ghost use Rattle.request_reply.specs.Told.{TellsOf, source_by};
+ghost use Rattle.request_reply.specs.Told.{source_by};
 ghost use Rattle.route_engine.specs.Jobs.{IsWithin};
 ghost use Rattle.route_http.specs.Seen.{asked};
 ghost use Rattle.route_ready.specs.World.{world_of};

@@ -19,7 +19,7 @@ use Rattle.route_run.specs.declared.words.rows.Form.{Form as Wanted}
 use Rattle.route_run.specs.declared.words.rows.Form.TheVariants as Want
 use Rattle.route_run.specs.declared.words.rows.KeyRow.{KeyRow}
 use Rattle.route_run.specs.declared.words.rows.Key.{Key}
-use Rattle.route_run.specs.declared.words.rows.Key.TheVariants.{Seed, Width, Height, From, To, What, Lookups, Profile, Map, Query, Tile}
+use Rattle.route_run.specs.declared.words.rows.Key.TheVariants.{Seed, Width, Height, From, To, What, Lookups, Profile, Map, Query}
 use Rattle.route_run.specs.declared.words.value.Place.{Place}
 use Rattle.route_run.specs.declared.words.value.Value.{Value}
 

@@ -6,7 +6,7 @@ use Rattle.hgt_tiles.specs.File.{steps_of}
 use Rattle.hgt_tiles.specs.Name.{corner_of_name}
 use Rattle.hgt_tiles.specs.Relief.{Relief}
 use Rattle.hgt_tiles.specs.declared.names.Corner.{Corner}
-use Rattle.hgt_tiles.specs.declared.tile_file.TileError.TheVariants as tile
+use Rattle.hgt_tiles.specs.declared.tile_file.TileError.TheVariants as tile_fault
 use Rattle.lookup_table.specs.First.{TagTable}
 use Rattle.lookup_table.specs.Table.{table_of}
 use Rattle.overpass_graph.specs.Maps.{MapValue}
@@ -55,8 +55,8 @@ checked-inner word table sections status is =
 
 -- and that of a tile
 tile-inner : (word : ℕ) (bytes : List ℕ) (corner : Option Corner) (steps : Option ℕ) (status : Status) → tile_by word bytes corner steps ≡ Err status → IsInner status
-tile-inner word bytes None steps status is = let same : Tile word tile.Name ≡ status = cc in subst IsInner same tt
-tile-inner word bytes (Some corner) None status is = let same : Tile word tile.Size ≡ status = cc in subst IsInner same tt
+tile-inner word bytes None steps status is = let same : Tile word tile_fault.Name ≡ status = cc in subst IsInner same tt
+tile-inner word bytes (Some corner) None status is = let same : Tile word tile_fault.Size ≡ status = cc in subst IsInner same tt
 tile-inner word bytes (Some corner) (Some steps) status is = cc
 
 -- so is the listing's

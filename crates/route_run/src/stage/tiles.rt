@@ -1,6 +1,5 @@
 //! The stages of tiles.
 
-ghost use Rattle.std.specs.Prelude.{◌≡◌, ℕ};
 ghost use Rattle.hgt_tiles.specs.Relief.{Relief};
 ghost use Rattle.item_list.specs.Answer.{Answers};
 ghost use Rattle.route_run.specs.Stage.TileSets.{AddsFile, AreTaken};
