@@ -6,8 +6,7 @@ use Rattle.route_run.specs.Edge.{IsReplyBy, IsTelling, IsWritten, IsTold, told_l
 use Rattle.route_run.specs.Ends.{Ends}
 use Rattle.route_run.specs.Outcome.{Reach, reach}
 use Rattle.route_run.specs.Status.{number_of_status}
-use Rattle.route_run.specs.Words.Help.{told_of, keys_text}
-use Rattle.route_run.specs.declared.words.rows.KeyRow.{KeyRow}
+use Rattle.command_words.specs.Help.{told_of}
 use Rattle.route_run.specs.declared.status.Status.{Status}
 use Rattle.route_run.specs.declared.status.Status.TheVariants.{NoMemory}
 
@@ -40,10 +39,3 @@ telling result status told bytes old new number is_told is whole front number_is
   line = subst (λ b. IsWritten b old new) is (is_written result bytes old new whole front);
   number_is = number_is;
 }
-
--- how a command is called, put together
-pub call-is : (old front name : List ℕ) (rows : List KeyRow) (one two new name' : List ℕ) (rows' : List KeyRow) → name' ≡ name → rows' ≡ rows → one ≡ old ++ front → two ≡ one ++ name' → new ≡ two ++ keys_text rows' → new ≡ old ++ (front ++ (name ++ keys_text rows))
-call-is old front name rows one two new name' rows' same same' a b c =
-    let begun : two ≡ (old ++ front) ++ name = cc in
-    let all : new ≡ ((old ++ front) ++ name) ++ keys_text rows = cc in
-    all ∙ append_assoc (old ++ front) name (keys_text rows) ∙ append_assoc old front (name ++ keys_text rows)

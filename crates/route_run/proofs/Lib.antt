@@ -1,8 +1,5 @@
 pub mod CauseLemmas
-pub mod FitLemmas
-pub mod KeyLemmas
 pub mod SendLemmas
-pub mod PathLemmas
 pub mod StageLemmas
 pub mod TextLemmas
 pub mod EdgeLemmas

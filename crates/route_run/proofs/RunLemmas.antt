@@ -27,13 +27,13 @@ use Rattle.route_run.specs.Stage.Profile.{TakesProfile, profile_in}
 use Rattle.route_run.specs.Stage.Query.{query_in}
 use Rattle.route_run.specs.Stage.TagTable.{TakesTable, table_in}
 use Rattle.route_run.specs.Stage.Tiles.{TakesTile, TakesTiles, TakesTilesAfter, tile_by, tile_in}
-use Rattle.route_run.specs.Words.Command.{command_of}
-use Rattle.route_run.specs.Words.Given.{Named}
-use Rattle.route_run.specs.declared.words.command.CodeCommand.{CodeCommand}
-use Rattle.route_run.specs.declared.words.command.GridCommand.{GridCommand}
-use Rattle.route_run.specs.declared.words.command.RouteCommand.{RouteCommand}
-use Rattle.route_run.specs.declared.words.command.Command.{Command}
-use Rattle.route_run.specs.declared.words.command.Command as Form
+use Rattle.command_words.specs.Command.{command_of}
+use Rattle.command_words.specs.Given.{Named}
+use Rattle.command_words.specs.declared.command.CodeCommand.{CodeCommand}
+use Rattle.command_words.specs.declared.command.GridCommand.{GridCommand}
+use Rattle.command_words.specs.declared.command.RouteCommand.{RouteCommand}
+use Rattle.command_words.specs.declared.command.Command.{Command}
+use Rattle.command_words.specs.declared.command.Command as Form
 use Rattle.route_run.specs.declared.status.Status.{Status}
 use Rattle.route_run.specs.declared.status.Status.TheVariants.{Done, Usage, Query, TooLong, Lookup, Text, Check, Map, Tile, Route, NotFound, ReadFault, WriteFault, NoMemory}
 use Rattle.route_run.proofs.CauseLemmas.{OpensAll, RefusalCause, Cause, file-cause, map-cause, opened-none, IsInner, settles-cause, then-cause}

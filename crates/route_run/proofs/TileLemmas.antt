@@ -14,7 +14,7 @@ use Rattle.route_run.specs.Stage.Chain.{Settles}
 use Rattle.route_run.specs.Stage.File.{TakesFile}
 use Rattle.route_run.specs.Stage.Limits.{most_tile}
 use Rattle.route_run.specs.Stage.Tiles.{AreTilesOf, TakesTile, TakesTiles, TakesTilesAfter, same_corner, tile_in}
-use Rattle.route_run.specs.Words.Given.{Named}
+use Rattle.command_words.specs.Given.{Named}
 use Rattle.route_run.specs.declared.status.Status.{Status}
 use Rattle.route_run.specs.declared.status.Status.TheVariants.{NoMemory}
 

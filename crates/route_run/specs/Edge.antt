@@ -7,8 +7,8 @@ use Rattle.route_run.specs.Ends.{Ends}
 use Rattle.route_run.specs.Outcome.{Reach, IsOutcome}
 use Rattle.route_run.specs.Stage.Chain.{Settles}
 use Rattle.route_run.specs.Status.{number_of_status, line_of}
-use Rattle.route_run.specs.Words.Help.{told_of}
-use Rattle.route_run.specs.Words.Refusals.{texts_of}
+use Rattle.command_words.specs.Help.{told_of}
+use Rattle.command_words.specs.Refusals.{texts_of}
 use Rattle.route_run.specs.declared.status.Status.{Status}
 use Rattle.route_run.specs.declared.status.Status.TheVariants.{NoMemory}
 

@@ -1,4 +1,3 @@
-pub mod Words
 pub mod Stage
 pub mod Answer
 pub mod Edge

@@ -11,10 +11,10 @@ use Rattle.route_run.specs.Ends.{Ends}
 use Rattle.grid_map.specs.Plan.{IsPlan}
 use Rattle.item_list.specs.Answer.{answer_map}
 use Rattle.route_run.specs.Stage.Chain.{Settles, Then}
-use Rattle.route_run.specs.Words.Command.{command_of}
-use Rattle.route_run.specs.Words.Given.{Named}
-use Rattle.route_run.specs.declared.words.command.Command.{Command}
-use Rattle.route_run.specs.declared.words.command.Command as Form
+use Rattle.command_words.specs.Command.{command_of}
+use Rattle.command_words.specs.Given.{Named}
+use Rattle.command_words.specs.declared.command.Command.{Command}
+use Rattle.command_words.specs.declared.command.Command as Form
 use Rattle.route_run.specs.declared.status.Status.{Status}
 use Rattle.route_run.specs.declared.status.Status.TheVariants.{Done, Usage, ReadFault, WriteFault}
 

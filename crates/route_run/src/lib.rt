@@ -9,7 +9,6 @@ mod stage;
 mod status;
 mod system;
 mod top;
-mod words;
 
 pub use reply::edge;
 pub use status::Status;

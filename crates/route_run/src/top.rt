@@ -5,9 +5,9 @@ ghost use Rattle.edge_io.specs.Faults.{CountRose};
 ghost use Rattle.item_list.specs.Answer.{Answers};
 ghost use Rattle.route_run.specs.Ends.{output_in};
 ghost use Rattle.route_run.specs.Outcome.{IsOutcome, reach, IsAnswer, IsCommandAnswer, IsCommandFit, command_in, HasCause, HasReadCause, IsComplete, file_words};
-ghost use Rattle.route_run.specs.Words.Command.{command_of};
-ghost use Rattle.route_run.specs.Words.Refusals.{texts_of};
-ghost use Rattle.route_run.specs.declared.words.command.Command.{Command as TheCommand};
+ghost use Rattle.command_words.specs.Command.{command_of};
+ghost use Rattle.command_words.specs.Refusals.{texts_of};
+ghost use Rattle.command_words.specs.declared.command.Command.{Command as TheCommand};
 
 use crate::answer::code::code_answer;
 use crate::answer::grid::grid_answer;
@@ -16,8 +16,8 @@ use crate::answer::route::route_answer;
 use crate::output::Output;
 use crate::sending::{at_hand, send};
 use crate::status::Status;
-use crate::words::command::{Command, command_of};
-use crate::words::reader::Refusal;
+use command_words::{Command, command_of};
+use command_words::Refusal;
 use edge_io::{Files, Sink};
 use std::alloc::Global;
 

@@ -10,7 +10,7 @@ use Rattle.profile_text.specs.Tree.{Sections}
 use Rattle.route_run.specs.Stage.Chain.{Then, Settles}
 use Rattle.route_run.specs.Stage.Profile.{TakesProfile}
 use Rattle.route_run.specs.Stage.TagTable.{TakesTable}
-use Rattle.route_run.specs.declared.words.command.CodeCommand.{CodeCommand}
+use Rattle.command_words.specs.declared.command.CodeCommand.{CodeCommand}
 use Rattle.route_run.specs.declared.status.Status.{Status}
 use Rattle.route_run.specs.declared.status.Status.TheVariants.{Check}
 

@@ -7,8 +7,8 @@ use Rattle.grid_map.specs.Walks.{IsLeastGridWalk, HasNoGridWalk}
 use Rattle.route_ready.specs.Lines.{route_line}
 use Rattle.route_ready.specs.declared.error.RouteError.TheVariants.{NoTrack}
 use Rattle.route_run.specs.Answer.Lines.{grid_lines}
-use Rattle.route_run.specs.declared.words.command.GridCommand.{GridCommand}
-use Rattle.route_run.specs.declared.words.value.Place.{Place}
+use Rattle.command_words.specs.declared.command.GridCommand.{GridCommand}
+use Rattle.command_words.specs.declared.value.Place.{Place}
 use Rattle.route_run.specs.declared.status.Status.{Status}
 use Rattle.route_run.specs.declared.status.Status.TheVariants.{Route, NoMemory}
 

@@ -4,9 +4,9 @@ use Rattle.grid_map.specs.MapText.{overpass_text}
 use Rattle.grid_map.specs.Plan.{plan_of}
 use Rattle.grid_map.specs.Tile.{hgt_bytes}
 use Rattle.grid_map.specs.declared.plan.Plan.{Plan}
-use Rattle.route_run.specs.declared.words.command.MakeCommand.{MakeCommand}
-use Rattle.route_run.specs.declared.words.value.Product.{Product}
-use Rattle.route_run.specs.declared.words.value.Product.TheVariants.{Map, Hgt}
+use Rattle.command_words.specs.declared.command.MakeCommand.{MakeCommand}
+use Rattle.command_words.specs.declared.value.Product.{Product}
+use Rattle.command_words.specs.declared.value.Product.TheVariants.{Map, Hgt}
 
 -- the plan of the command's grid
 abbrev pub make_plan : MakeCommand → Plan

@@ -20,9 +20,9 @@ use Rattle.route_run.specs.Stage.Map.{TakesMap}
 use Rattle.route_run.specs.Stage.Query.{query_in}
 use Rattle.route_run.specs.Stage.TagTable.{TakesTable}
 use Rattle.route_run.specs.Stage.Tiles.{AreTilesOf, TakesTiles}
-use Rattle.route_run.specs.Words.FileNames.{profile_name}
-use Rattle.route_run.specs.Words.Value.{same_text}
-use Rattle.route_run.specs.declared.words.command.RouteCommand.{RouteCommand}
+use Rattle.command_words.specs.FileNames.{profile_name}
+use Rattle.command_words.specs.Value.{same_text}
+use Rattle.command_words.specs.declared.command.RouteCommand.{RouteCommand}
 use Rattle.route_run.specs.declared.status.Status.{Status}
 use Rattle.route_run.specs.declared.status.Status.TheVariants.{Route, NoMemory}
 

@@ -5,7 +5,7 @@ use Rattle.hgt_tiles.specs.Relief.{Relief}
 use Rattle.hgt_tiles.specs.Tiles.{AddsTile}
 use Rattle.hgt_tiles.specs.declared.tile_set.Tiles.{Tiles}
 use Rattle.route_run.specs.Stage.Tiles.{AreTilesOf, TakesTile, TakesTiles}
-use Rattle.route_run.specs.Words.Given.{Named}
+use Rattle.command_words.specs.Given.{Named}
 use Rattle.route_run.specs.declared.status.Status.{Status}
 
 -- the tile of a file was taken in and added

@@ -13,7 +13,7 @@ use Rattle.hgt_tiles.specs.declared.tile_set.Tiles.{Tiles}
 use Rattle.route_run.specs.Stage.Chain.{Then, Settles}
 use Rattle.route_run.specs.Stage.File.{TakesFile}
 use Rattle.route_run.specs.Stage.Limits.{most_tile}
-use Rattle.route_run.specs.Words.Given.{Named}
+use Rattle.command_words.specs.Given.{Named}
 use Rattle.route_run.specs.declared.status.Status.{Status}
 use Rattle.route_run.specs.declared.status.Status.TheVariants.{Tile}
 

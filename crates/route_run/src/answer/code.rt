@@ -10,7 +10,7 @@ ghost use Rattle.route_run.specs.Ends.{bytes_in};
 use crate::stage::profile::take_profile;
 use crate::stage::tag_table::take_table;
 use crate::status::Status;
-use crate::words::command::CodeCommand;
+use command_words::CodeCommand;
 use context_check::{CheckError, Overrides, check};
 use edge_io::Files;
 use lookup_table::Table;

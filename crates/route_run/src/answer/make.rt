@@ -8,8 +8,8 @@ ghost use Rattle.route_run.specs.Ends.{output_bytes, output_in};
 
 use crate::output::{MapOutput, Output};
 use crate::status::Status;
-use crate::words::command::MakeCommand;
-use crate::words::value::Product;
+use command_words::MakeCommand;
+use command_words::Product;
 use grid_map::{Grid, hgt_bytes};
 use std::alloc::{AllocError, Global};
 

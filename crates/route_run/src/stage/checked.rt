@@ -7,7 +7,7 @@ ghost use Rattle.route_run.specs.Stage.Checked.{TakesChecked, checked_in};
 
 use crate::stage::profile::take_profile;
 use crate::status::Status;
-use crate::words::entry::FileWord;
+use command_words::FileWord;
 use context_check::{CheckError, Overrides, check};
 use edge_io::Files;
 use lookup_table::Table;

@@ -5,7 +5,7 @@ ghost use Rattle.route_run.specs.Ends.{bytes_in};
 ghost use Rattle.route_run.specs.Stage.File.{TakesFile};
 
 use crate::status::Status;
-use crate::words::entry::FileWord;
+use command_words::FileWord;
 use edge_io::{Files, WholeError, read_whole};
 use std::alloc::Global;
 

@@ -3,7 +3,7 @@
 ghost use Rattle.route_run.specs.Stage.Map.{TakesMap};
 
 use crate::status::Status;
-use crate::words::entry::FileWord;
+use command_words::FileWord;
 use edge_io::Files;
 use map_files::{MapFileError, read_map};
 use overpass_graph::Map;

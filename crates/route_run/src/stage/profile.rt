@@ -8,7 +8,7 @@ ghost use Rattle.route_run.specs.Stage.Profile.{TakesProfile, profile_in};
 
 use crate::stage::file::take_file;
 use crate::status::Status;
-use crate::words::entry::FileWord;
+use command_words::FileWord;
 use edge_io::Files;
 use profile_text::{Profile, TextError};
 use std::alloc::Global;

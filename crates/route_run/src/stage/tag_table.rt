@@ -7,7 +7,7 @@ ghost use Rattle.route_run.specs.Stage.TagTable.{TakesTable, table_in};
 
 use crate::stage::file::take_file;
 use crate::status::Status;
-use crate::words::entry::FileWord;
+use command_words::FileWord;
 use edge_io::Files;
 use lookup_table::{LookupError, Table};
 use std::alloc::Global;

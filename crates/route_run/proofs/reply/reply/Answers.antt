@@ -1,7 +1,7 @@
 use Rattle.route_run.proofs.EdgeLemmas.{reply-told, reply-memory}
 use Rattle.route_run.specs.Outcome.{reach}
-use Rattle.route_run.specs.Words.Help.{told_of}
-use Rattle.route_run.specs.Words.Refusals.{texts_of}
+use Rattle.command_words.specs.Help.{told_of}
+use Rattle.command_words.specs.Refusals.{texts_of}
 use Rattle.route_run.proofs.reply.reply.Goals as goal
 
 pub returns-in-Ok-Some : goal.returns-in-Ok-Some

@@ -1,4 +1,4 @@
-use Rattle.route_run.specs.Words.Refusals.{texts_of}
+use Rattle.command_words.specs.Refusals.{texts_of}
 use Rattle.route_run.proofs.FitLemmas.{command-is_fit}
 use Rattle.route_run.proofs.top.command_in.Goals as goal
 

@@ -1,6 +1,6 @@
 use Rattle.route_run.proofs.RunLemmas.{ends-cause}
 use Rattle.route_run.specs.Ends.{output_in}
-use Rattle.route_run.specs.Words.Refusals.{texts_of}
+use Rattle.command_words.specs.Refusals.{texts_of}
 use Rattle.route_run.proofs.top.run.Goals as goal
 
 pub returns-clause-read_cause : goal.returns-clause-read_cause

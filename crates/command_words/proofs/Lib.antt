@@ -1,0 +1,4 @@
+pub mod FitLemmas
+pub mod HelpLemmas
+pub mod KeyLemmas
+pub mod PathLemmas

@@ -1,0 +1,105 @@
+-- The command that a list of words is, or the place of the word at fault. This project's own rule.
+use Rattle.std.specs.List.{find}
+use Rattle.std.specs.Prelude.{ℕ, ◌+◌, Bool, cond, ◌&&◌, nat_lt, Option, Some, None, Result, Ok, Err, List, [], ◌∷◌, length, map}
+use Rattle.command_words.specs.Given.{Given, Named}
+use Rattle.command_words.specs.Reader.{entries_of, entries_with, entry_with}
+use Rattle.command_words.specs.Rows.{command_name, commands, keys_of}
+use Rattle.command_words.specs.Value.{same_text, number_in, place_in, product_in}
+use Rattle.command_words.specs.declared.rows.CommandName.{CommandName}
+use Rattle.command_words.specs.declared.rows.CommandName.TheVariants.{Grid, Make, Code, Route}
+use Rattle.command_words.specs.declared.rows.Key.TheVariants.{Seed, Width, Height, From, To, What, Lookups, Profile, Map, Query, Tile}
+use Rattle.command_words.specs.declared.command.Command.{Command}
+use Rattle.command_words.specs.declared.command.Command as Form
+use Rattle.command_words.specs.declared.value.Place.{Place}
+
+-- a place lies in a grid of these sizes
+abbrev pub lies_in : ℕ → ℕ → Place → Bool
+lies_in w h place = nat_lt place.x w && nat_lt place.y h
+
+-- the command of a seed, sizes and two places with their words, or the word of the first place outside the grid
+abbrev pub grid_by : ℕ → ℕ → ℕ → Given → Given → Result Command ℕ
+grid_by seed w h from to =
+    cond (lies_in w h (place_in from.value))
+    (cond (lies_in w h (place_in to.value))
+    (Ok (Form.TheVariants.Grid (record { from = place_in from.value; to = place_in to.value; seed = seed; w = w; h = h })))
+    (Err to.word))
+    (Err from.word)
+
+-- the command of the entries that are there, or the place after the last word where one is missing
+abbrev pub grid_with : ℕ → Option Given → Option Given → Option Given → Option Given → Option Given → Result Command ℕ
+grid_with after (Some seed) (Some w) (Some h) (Some from) (Some to) =
+    grid_by (number_in seed.value) (number_in w.value) (number_in h.value) from to
+grid_with after seed w h from to = Err after
+
+-- the command of what is to be made of a grid, or the place after the last word where one is missing
+abbrev pub make_with : ℕ → Option Given → Option Given → Option Given → Option Given → Result Command ℕ
+make_with after (Some seed) (Some w) (Some h) (Some what) =
+    Ok (Form.TheVariants.Make (record {
+      seed = number_in seed.value;
+      w = number_in w.value;
+      h = number_in h.value;
+      what = product_in what.value;
+    }))
+make_with after seed w h what = Err after
+
+-- the file that an entry names
+abbrev pub file_in : Given → Named
+file_in entry = record { name = entry.text; word = entry.word }
+
+-- the command of the two files, or the place after the last word where one is missing
+abbrev pub code_with : ℕ → Option Given → Option Given → Result Command ℕ
+code_with after (Some lookups) (Some profile) =
+    Ok (Form.TheVariants.Code (record { lookups = file_in lookups; profile = file_in profile }))
+code_with after lookups profile = Err after
+
+-- the files of tiles that entries name
+abbrev pub tiles_in : List Given → List Named
+tiles_in entries = map file_in (entries_with Tile entries)
+
+-- the command of a query and the files that it is answered over, or the place after the last word where one is missing
+abbrev pub route_with : ℕ → Option Given → Option Given → Option Given → Option Given → List Named → Result Command ℕ
+route_with after (Some lookups) (Some profile) (Some roads) (Some query) tiles =
+    Ok (Form.TheVariants.Route (record {
+      lookups = file_in lookups;
+      profile = file_in profile;
+      map = file_in roads;
+      query = file_in query;
+      tiles = tiles;
+    }))
+route_with after lookups profile roads query tiles = Err after
+
+-- the command of this name and these entries, before the word at this place
+unfoldable pub complete : CommandName → List Given → ℕ → Result Command ℕ
+complete Grid entries after =
+    grid_with after (entry_with Seed entries) (entry_with Width entries) (entry_with Height entries)
+    (entry_with From entries) (entry_with To entries)
+complete Make entries after =
+    make_with after (entry_with Seed entries) (entry_with Width entries) (entry_with Height entries) (entry_with What entries)
+complete Code entries after = code_with after (entry_with Lookups entries) (entry_with Profile entries)
+complete Route entries after =
+    route_with after (entry_with Lookups entries) (entry_with Profile entries) (entry_with Map entries)
+    (entry_with Query entries) (tiles_in entries)
+
+-- the command of this name and the words after it
+abbrev pub command_with : CommandName → List (List ℕ) → Result Command ℕ
+command_with command texts =
+    elim (entries_of (keys_of command) texts) [
+      | Err word ↦ Err word
+      | Ok entries ↦ complete command entries (length texts + 1)
+    ]
+
+-- the command that a word names
+unfoldable pub command_named : List ℕ → Option CommandName
+command_named text = find (λ c. same_text (command_name c) text) commands
+
+-- the command of words whose first names one, if it does
+abbrev pub command_by : Option CommandName → List (List ℕ) → Result Command ℕ
+command_by None texts = Err 0
+command_by (Some command) texts = command_with command texts
+
+-- the command of words: its name, and then its keys with their values, each as often as its row wants it; else the place
+-- of the first word at fault; where none is, the place after the last, if a key is missing; else the word of a place
+-- outside the grid
+abbrev pub command_of : List (List ℕ) → Result Command ℕ
+command_of [] = Err 0
+command_of (name ∷ texts) = command_by (command_named name) texts

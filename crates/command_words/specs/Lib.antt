@@ -1,0 +1,9 @@
+pub mod Command
+pub mod FileNames
+pub mod Fit
+pub mod Given
+pub mod Help
+pub mod Reader
+pub mod Refusals
+pub mod Rows
+pub mod Value

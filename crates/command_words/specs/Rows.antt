@@ -1,0 +1,59 @@
+-- The commands as rows. This project's own rule.
+use Rattle.std.specs.Prelude.{ℕ, List, [], ◌∷◌, codes}
+use Rattle.command_words.specs.declared.rows.Key.{Key}
+use Rattle.command_words.specs.declared.rows.Key.TheVariants.{Seed, Width, Height, From, To, What, Lookups, Profile, Map, Query, Tile}
+use Rattle.command_words.specs.declared.rows.Form.{Form}
+use Rattle.command_words.specs.declared.rows.Form.TheVariants as form
+use Rattle.command_words.specs.declared.rows.KeyRow.{KeyRow}
+use Rattle.command_words.specs.declared.rows.CommandName.{CommandName}
+use Rattle.command_words.specs.declared.rows.CommandName.TheVariants.{Grid, Make, Code, Route}
+
+-- what stands before the equals sign
+unfoldable pub key_name : Key → List ℕ
+key_name Seed = codes "seed"
+key_name Width = codes "w"
+key_name Height = codes "h"
+key_name From = codes "from"
+key_name To = codes "to"
+key_name What = codes "what"
+key_name Lookups = codes "lookups"
+key_name Profile = codes "profile"
+key_name Map = codes "map"
+key_name Query = codes "query"
+key_name Tile = codes "tile"
+
+-- the first word of a command
+unfoldable pub command_name : CommandName → List ℕ
+command_name Grid = codes "grid"
+command_name Make = codes "make"
+command_name Code = codes "code"
+command_name Route = codes "route"
+
+-- a key that is wanted once
+abbrev pub once : Key → Form → KeyRow
+once key wanted = record { form = wanted; least = 1; most = 1; key = key }
+
+-- a key that may come so often
+abbrev pub up_to : ℕ → Key → Form → KeyRow
+up_to most key wanted = record { form = wanted; least = 0; most = most; key = key }
+
+-- the keys of a command
+unfoldable pub keys_of : CommandName → List KeyRow
+keys_of Grid =
+    once Seed (form.Number 0 65535) ∷ once Width (form.Number 1 1000) ∷ once Height (form.Number 1 1000) ∷ once From form.Place ∷ once To form.Place ∷ []
+keys_of Make =
+    once Seed (form.Number 0 65535) ∷ once Width (form.Number 1 1000) ∷ once Height (form.Number 1 1000) ∷ once What form.Product ∷ []
+keys_of Code = once Lookups form.File ∷ once Profile form.ProfileFile ∷ []
+keys_of Route =
+    once Lookups form.File ∷ once Profile form.ProfileFile ∷ once Map form.File ∷ once Query form.Query ∷ up_to 64 Tile form.File ∷ []
+
+-- what a command does
+unfoldable pub about_of : CommandName → List ℕ
+about_of Grid = codes "prints a shortest walk across the grid of w by h cells of a seed"
+about_of Make = codes "writes the map of the grid of w by h cells of a seed, or the tile of heights of the seed"
+about_of Code = codes "prints the flat code of a profile under a tag table"
+about_of Route = codes "answers a query over a map by a profile, with heights from tiles"
+
+-- the commands that are built
+abbrev pub commands : List CommandName
+commands = Grid ∷ Make ∷ Code ∷ Route ∷ []

@@ -1,0 +1,17 @@
+//! The words of a command line: which command they are, what they give it, and what the program tells of itself.
+#![tactic(auto)]
+
+mod command;
+mod entry;
+mod file_names;
+mod help;
+mod reader;
+mod rows;
+mod value;
+
+pub use command::{CodeCommand, Command, GridCommand, MakeCommand, RouteCommand, command_of};
+pub use entry::FileWord;
+pub use file_names::{is_profile_file, profile_name};
+pub use help::told_text;
+pub use reader::Refusal;
+pub use value::{Place, Product};

@@ -1,0 +1,246 @@
+//! The commands as rows: their names, and their keys with the form of each value and how often it is wanted.
+
+ghost use Rattle.std.specs.Prelude.{◌≡◌};
+ghost use Rattle.command_words.specs.Rows.{about_of, command_name, key_name, keys_of};
+
+/// The keys of the words after a command.
+#[derive(Clone, Copy, PartialEq, Eq)]
+pub enum Key {
+    Seed,
+    Width,
+    Height,
+    From,
+    To,
+    What,
+    Lookups,
+    Profile,
+    Map,
+    Query,
+    Tile,
+}
+
+/// What the value of a key has to be.
+#[derive(Clone, Copy)]
+pub enum Form {
+    /// A number of 1 to 19 digits from `low` to `high`.
+    Number { low: u64, high: u64 },
+    /// Two such numbers, parted by a comma.
+    Place,
+    /// What is made, by its name.
+    Product,
+    /// The name of a file.
+    File,
+    /// The name of a profile's file.
+    ProfileFile,
+    /// A query.
+    Query,
+}
+
+/// A key of a command, the form of its value, and how often it is wanted at least and at most.
+#[derive(Clone, Copy)]
+pub struct KeyRow {
+    pub form: Form,
+    pub least: usize,
+    pub most: usize,
+    pub key: Key,
+}
+
+/// What the first word may name.
+#[derive(Clone, Copy)]
+pub enum CommandName {
+    Grid,
+    Make,
+    Code,
+    Route,
+}
+
+/// The commands that are built.
+pub const COMMANDS: [CommandName; 4] = [
+    CommandName::Grid,
+    CommandName::Make,
+    CommandName::Code,
+    CommandName::Route,
+];
+
+/// The keys of the command `grid`.
+const GRID_KEYS: [KeyRow; 5] = [
+    KeyRow {
+        form: Form::Number {
+            low: 0,
+            high: 65535,
+        },
+        least: 1,
+        most: 1,
+        key: Key::Seed,
+    },
+    KeyRow {
+        form: Form::Number { low: 1, high: 1000 },
+        least: 1,
+        most: 1,
+        key: Key::Width,
+    },
+    KeyRow {
+        form: Form::Number { low: 1, high: 1000 },
+        least: 1,
+        most: 1,
+        key: Key::Height,
+    },
+    KeyRow {
+        form: Form::Place,
+        least: 1,
+        most: 1,
+        key: Key::From,
+    },
+    KeyRow {
+        form: Form::Place,
+        least: 1,
+        most: 1,
+        key: Key::To,
+    },
+];
+
+/// The keys of the command `make`.
+const MAKE_KEYS: [KeyRow; 4] = [
+    KeyRow {
+        form: Form::Number {
+            low: 0,
+            high: 65535,
+        },
+        least: 1,
+        most: 1,
+        key: Key::Seed,
+    },
+    KeyRow {
+        form: Form::Number { low: 1, high: 1000 },
+        least: 1,
+        most: 1,
+        key: Key::Width,
+    },
+    KeyRow {
+        form: Form::Number { low: 1, high: 1000 },
+        least: 1,
+        most: 1,
+        key: Key::Height,
+    },
+    KeyRow {
+        form: Form::Product,
+        least: 1,
+        most: 1,
+        key: Key::What,
+    },
+];
+
+/// The keys of the command `code`.
+const CODE_KEYS: [KeyRow; 2] = [
+    KeyRow {
+        form: Form::File,
+        least: 1,
+        most: 1,
+        key: Key::Lookups,
+    },
+    KeyRow {
+        form: Form::ProfileFile,
+        least: 1,
+        most: 1,
+        key: Key::Profile,
+    },
+];
+
+/// The keys of the command `route`.
+const ROUTE_KEYS: [KeyRow; 5] = [
+    KeyRow {
+        form: Form::File,
+        least: 1,
+        most: 1,
+        key: Key::Lookups,
+    },
+    KeyRow {
+        form: Form::ProfileFile,
+        least: 1,
+        most: 1,
+        key: Key::Profile,
+    },
+    KeyRow {
+        form: Form::File,
+        least: 1,
+        most: 1,
+        key: Key::Map,
+    },
+    KeyRow {
+        form: Form::Query,
+        least: 1,
+        most: 1,
+        key: Key::Query,
+    },
+    KeyRow {
+        form: Form::File,
+        least: 0,
+        most: 64,
+        key: Key::Tile,
+    },
+];
+
+impl Key {
+    /// What stands before the equals sign.
+    #[tactic(auto, unfolding(crate::specs::Rows::key_name))]
+    pub fn name(self) -> &'static str
+        ensures exact { result.now ≡ key_name self }
+    {
+        match self {
+            Key::Seed => "seed",
+            Key::Width => "w",
+            Key::Height => "h",
+            Key::From => "from",
+            Key::To => "to",
+            Key::What => "what",
+            Key::Lookups => "lookups",
+            Key::Profile => "profile",
+            Key::Map => "map",
+            Key::Query => "query",
+            Key::Tile => "tile",
+        }
+    }
+}
+
+impl CommandName {
+    /// The first word.
+    #[tactic(auto, unfolding(crate::specs::Rows::command_name))]
+    pub fn name(self) -> &'static str
+        ensures exact { result.now ≡ command_name self }
+    {
+        match self {
+            CommandName::Grid => "grid",
+            CommandName::Make => "make",
+            CommandName::Code => "code",
+            CommandName::Route => "route",
+        }
+    }
+
+    /// The keys of the further words.
+    #[tactic(auto, unfolding(crate::specs::Rows::keys_of))]
+    pub fn keys(self) -> &'static [KeyRow]
+        ensures exact { result.now ≡ keys_of self }
+    {
+        match self {
+            CommandName::Grid => &GRID_KEYS,
+            CommandName::Make => &MAKE_KEYS,
+            CommandName::Code => &CODE_KEYS,
+            CommandName::Route => &ROUTE_KEYS,
+        }
+    }
+
+    /// What the command does, as the help says it.
+    #[tactic(auto, unfolding(crate::specs::Rows::about_of))]
+    pub fn about(self) -> &'static str
+        ensures exact { result.now ≡ about_of self }
+    {
+        match self {
+            CommandName::Grid => "prints a shortest walk across the grid of w by h cells of a seed",
+            CommandName::Make =>
+                "writes the map of the grid of w by h cells of a seed, or the tile of heights of the seed",
+            CommandName::Code => "prints the flat code of a profile under a tag table",
+            CommandName::Route =>
+                "answers a query over a map by a profile, with heights from tiles",
+        }
+    }
+}
