@@ -3,5 +3,6 @@ pub mod SendLemmas
 pub mod StageLemmas
 pub mod TextLemmas
 pub mod EdgeLemmas
+pub mod PlanLemmas
 pub mod RunLemmas
 pub mod TileLemmas

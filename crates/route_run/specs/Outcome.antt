@@ -4,11 +4,10 @@ use Rattle.edge_io.specs.Faults.{CountRose, count_after}
 use Rattle.edge_io.specs.Files.{FilesSeen}
 use Rattle.edge_io.specs.Sink.{SinkSeen}
 use Rattle.route_run.specs.Answer.Code.{IsCodeAnswer}
-use Rattle.route_run.specs.Answer.Grid.{IsGridAnswer, IsFit}
-use Rattle.route_run.specs.Answer.Make.{made_by, make_plan}
+use Rattle.route_run.specs.Answer.Grid.{IsGridAnswer}
+use Rattle.route_run.specs.Answer.Make.{made_by}
 use Rattle.route_run.specs.Answer.Route.{IsRouteAnswer}
 use Rattle.route_run.specs.Ends.{Ends}
-use Rattle.grid_map.specs.Plan.{IsPlan}
 use Rattle.item_list.specs.Answer.{answer_map}
 use Rattle.route_run.specs.Stage.Chain.{Settles, Then}
 use Rattle.command_words.specs.Command.{command_of}
@@ -95,10 +94,3 @@ IsComplete (Usage word) = ⊥
 IsComplete (ReadFault word) = ⊥
 IsComplete WriteFault = ⊥
 IsComplete status = Unit {0}
-
--- the numbers of a command that was read are within their limits, and its places in its grid
-abbrev pub IsCommandFit : Command → Type 0
-IsCommandFit (Form.TheVariants.Grid command) = IsFit command
-IsCommandFit (Form.TheVariants.Make command) = IsPlan (make_plan command)
-IsCommandFit (Form.TheVariants.Code command) = Unit {0}
-IsCommandFit (Form.TheVariants.Route command) = Unit {0}

@@ -4,8 +4,9 @@ ghost use Rattle.std.specs.Prelude.{◌≡◌, Ok, IfOk};
 ghost use Rattle.edge_io.specs.Faults.{CountRose};
 ghost use Rattle.item_list.specs.Answer.{Answers};
 ghost use Rattle.route_run.specs.Ends.{output_in};
-ghost use Rattle.route_run.specs.Outcome.{IsOutcome, reach, IsAnswer, IsCommandAnswer, IsCommandFit, command_in, HasCause, HasReadCause, IsComplete, file_words};
+ghost use Rattle.route_run.specs.Outcome.{IsOutcome, reach, IsAnswer, IsCommandAnswer, command_in, HasCause, HasReadCause, IsComplete, file_words};
 ghost use Rattle.command_words.specs.Command.{command_of};
+ghost use Rattle.command_words.specs.Fit.{IsFit};
 ghost use Rattle.command_words.specs.Refusals.{texts_of};
 ghost use Rattle.command_words.specs.declared.command.Command.{Command as TheCommand};
 
@@ -16,8 +17,7 @@ use crate::answer::route::route_answer;
 use crate::output::Output;
 use crate::sending::{at_hand, send};
 use crate::status::Status;
-use command_words::{Command, command_of};
-use command_words::Refusal;
+use command_words::{Command, Refusal, command_of};
 use edge_io::{Files, Sink};
 use std::alloc::Global;
 
@@ -47,7 +47,7 @@ fn answer<F: Files>(alloc: Global, words: &[String], files: &mut F) -> Result<Ou
 /// The command of the words, or the status of the word at fault.
 fn command_in(alloc: Global, words: &[String]) -> Result<Command<'_>, Status>
     ensures exact { Answers (λ (c : TheCommand). c) (command_in (texts_of words.now)) Status.NoMemory result }
-    ensures fit { IfOk result IsCommandFit }
+    ensures fit { IfOk result IsFit }
 {
     match command_of(alloc, words) {
         Ok(command) => Ok(command),
@@ -62,7 +62,7 @@ fn command_answer<F: Files>(
     command: &Command,
     files: &mut F,
 ) -> Result<Output, Status>
-    requires fit { IsCommandFit command.now }
+    requires fit { IsFit command.now }
     ensures exact { IsCommandAnswer command.now (F.seen files.old) (F.seen files.new) (output_in result) }
 {
     match command {

@@ -1,8 +1,8 @@
 -- What the command `grid` answers: a shortest walk across its grid. This project's own rule.
-use Rattle.std.specs.Prelude.{ℕ, ◌≡◌, ◌+◌, ◌*◌, ◌<◌, List, None, Result, Ok, Err}
+use Rattle.std.specs.Prelude.{ℕ, ◌≡◌, ◌+◌, ◌*◌, List, None, Result, Ok, Err}
 use Rattle.grid_map.specs.Costs.{length_costs}
 use Rattle.grid_map.specs.declared.plan.Plan.{Plan}
-use Rattle.grid_map.specs.Plan.{IsPlan, plan_of}
+use Rattle.grid_map.specs.Plan.{plan_of}
 use Rattle.grid_map.specs.Walks.{IsLeastGridWalk, HasNoGridWalk}
 use Rattle.route_ready.specs.Lines.{route_line}
 use Rattle.route_ready.specs.declared.error.RouteError.TheVariants.{NoTrack}
@@ -41,11 +41,3 @@ IsGridAnswer command (Ok lines) = ShowsWalk command lines
 IsGridAnswer command (Err (Route error line)) = HasNoWalk command × (error ≡ NoTrack 0) × (line ≡ route_line None (NoTrack 0))
 IsGridAnswer command (Err NoMemory) = Unit {0}
 IsGridAnswer command (Err status) = ⊥
-
--- the numbers of a command are within their limits, and its places in its grid
-pub record IsFit (command : GridCommand) : Type 0 where
-  pub lawful : IsPlan (plan_by command)
-  pub from_x : command.from.x < command.w
-  pub from_y : command.from.y < command.h
-  pub to_x : command.to.x < command.w
-  pub to_y : command.to.y < command.h

@@ -1,21 +1,21 @@
 //! What the command `grid` answers.
 
 ghost use Rattle.std.specs.Prelude.{◌≡◌, ◌<◌, IfOk, MatchOption};
-ghost use Rattle.route_run.specs.Answer.Grid.{IsGridAnswer, IsFit, ShowsWalk, HasNoWalk, cell_at};
+ghost use Rattle.command_words.specs.Fit.{IsGridFit};
+ghost use Rattle.route_run.specs.Answer.Grid.{IsGridAnswer, ShowsWalk, HasNoWalk, cell_at};
 ghost use Rattle.route_run.specs.Ends.{bytes_in};
 
 use crate::answer::lines::grid_lines;
 use crate::answer::refused::refused;
 use crate::status::Status;
-use command_words::GridCommand;
-use command_words::Place;
+use command_words::{GridCommand, Place};
 use grid_map::{Grid, shortest_walk};
 use route_ready::RouteError;
 use std::alloc::{AllocError, Global};
 
 /// The lines of a shortest walk across the command's grid, or why there are none.
 pub fn grid_answer(alloc: Global, command: &GridCommand) -> Result<Vec<u8>, Status>
-    requires fit { IsFit command.now }
+    requires fit { IsGridFit command.now }
     ensures exact { IsGridAnswer command.now (bytes_in result) }
 {
     match walk_lines(alloc, command) {
@@ -26,8 +26,9 @@ pub fn grid_answer(alloc: Global, command: &GridCommand) -> Result<Vec<u8>, Stat
 }
 
 /// The lines of a shortest walk, or `None` where there is no walk.
+#[tactic(auto, using(crate::proofs::PlanLemmas::plan-is_lawful))]
 fn walk_lines(alloc: Global, command: &GridCommand) -> Result<Option<Vec<u8>>, AllocError>
-    requires fit { IsFit command.now }
+    requires fit { IsGridFit command.now }
     ensures exact { IfOk result (λ answer.
         MatchOption answer (HasNoWalk command.now) (λ text. ShowsWalk command.now text.items)) }
 {
@@ -50,7 +51,7 @@ fn walk_lines(alloc: Global, command: &GridCommand) -> Result<Option<Vec<u8>>, A
 
 /// The number of the cell at a place.
 fn cell_at(command: &GridCommand, place: Place) -> u32
-    requires fit { IsFit command.now }
+    requires fit { IsGridFit command.now }
     requires x { place.x < command.now.w }
     requires y { place.y < command.now.h }
     ensures value { result ≡ cell_at command.now place }

@@ -1,21 +1,20 @@
 //! What the command `make` answers.
 
 ghost use Rattle.std.specs.Prelude.{◌≡◌, ℕ, List, Ok, IfOk};
-ghost use Rattle.grid_map.specs.Plan.{IsPlan};
+ghost use Rattle.command_words.specs.Fit.{IsSized};
 ghost use Rattle.item_list.specs.Answer.{Answers};
-ghost use Rattle.route_run.specs.Answer.Make.{made_by, make_plan};
+ghost use Rattle.route_run.specs.Answer.Make.{made_by};
 ghost use Rattle.route_run.specs.Ends.{output_bytes, output_in};
 
 use crate::output::{MapOutput, Output};
 use crate::status::Status;
-use command_words::MakeCommand;
-use command_words::Product;
+use command_words::{MakeCommand, Product};
 use grid_map::{Grid, hgt_bytes};
 use std::alloc::{AllocError, Global};
 
 /// The map or the tile that the command asks for; all memory is taken before anything is written.
 pub fn make_answer(alloc: Global, command: &MakeCommand) -> Result<Output, Status>
-    requires fit { IsPlan (make_plan command.now) }
+    requires fit { IsSized command.now.seed command.now.w command.now.h }
     ensures exact { Answers (λ (b : List ℕ). b) (Ok (made_by command.now)) Status.NoMemory (output_in result) }
 {
     match made_by(alloc, command) {
@@ -25,8 +24,9 @@ pub fn make_answer(alloc: Global, command: &MakeCommand) -> Result<Output, Statu
 }
 
 /// The map or the tile.
+#[tactic(auto, using(crate::proofs::PlanLemmas::plan-is_lawful))]
 fn made_by(alloc: Global, command: &MakeCommand) -> Result<Output, AllocError>
-    requires fit { IsPlan (make_plan command.now) }
+    requires fit { IsSized command.now.seed command.now.w command.now.h }
     ensures exact { IfOk result (λ output. output_bytes output ≡ made_by command.now) }
 {
     match command.what {
