@@ -70,7 +70,8 @@ module _ (question : Question) (world : WorldValue) (ready : Ready) (map_is : wo
     replies (Err e) is_refusal = refusal-answer e is_refusal
 
 -- what a job over a plan finds is a track for the request
-pub track-over : (setting : Setting) (asked : Asked) (plan : Plan) → IsPlanFor setting asked plan → (r : Result Track RouteError) →
-    MatchResult r (IsTrackFor plan) (λ e. (e ≡ NoMemory) ⊎ IsRefusal plan e) → IfOk r (IsTrackOver setting asked)
-track-over setting asked plan plan_is (Ok track) is_track = record { plan = plan; for_request = plan_is; is = is_track }
-track-over setting asked plan plan_is (Err e) refused = tt
+pub track-over :
+    (over : Setting) (asked : Asked) (plan : Plan) → IsPlanFor over asked plan → (r : Result Track RouteError) →
+    MatchResult r (IsTrackFor plan) (λ e. (e ≡ NoMemory) ⊎ IsRefusal plan e) → IfOk r (IsTrackOver over asked)
+track-over over asked plan plan_is (Ok track) is_track = record { plan = plan; for_request = plan_is; is = is_track }
+track-over over asked plan plan_is (Err e) is_refusal = _

@@ -23,5 +23,5 @@ returns-in-Err c =
       exact = λ binding same is.
           let question : Question = record { binding = binding; asked = asked c.args.request } in
           waypoint-answer question world c.args.ready.value same is c.in-Err.error c.in-Err.ensures.cause;
-      found = tt;
+      found = _;
     }
