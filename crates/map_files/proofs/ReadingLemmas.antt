@@ -1,13 +1,15 @@
 -- What the open file comes to, by the bytes that were read of it and fed.
-use Rattle.std.proofs.Common.{◌≡◌, ℕ, ◌+◌, ◌<◌, ◌≤◌, inl, inr, List, ◌++◌, length, take, Option, Some, None, Result, Ok, Err, min, sym, ap, ◌∙◌, subst, arith, append_assoc, length-append}
+use Rattle.std.proofs.Common.{◌≡◌, ◌⊎◌, ℕ, ◌+◌, ◌<◌, ◌≤◌, inl, inr, List, ◌++◌, length, take, Option, Some, None, Result, Ok, Err, min, sym, ap, ◌∙◌, subst, arith, append_assoc, length-append}
 use Rattle.std.proofs.Math.Seq.{take-append-add}
-use Rattle.std.proofs.lemmas.List.{take-append-le, take_min, length-take}
+use Rattle.std.proofs.lemmas.List.{take-append-le, take_all, take_min, length-take}
 use Rattle.std.specs.Io.KnownBytes.{Consumes}
 use Rattle.edge_io.specs.Whole.{IsAllLeft}
-use Rattle.map_files.specs.Reading.{IsReadAs, IsReadFrom, IsTextOf, OnFault}
+use Rattle.map_files.specs.Reading.{CountsMapFault, IsReadAs, IsReadFrom, IsTextOf, IsTold, OnFault}
 use Rattle.map_files.specs.declared.error.MapFileError.{MapFileError}
 use Rattle.map_files.specs.declared.error.MapFileError.TheVariants.{Fault, TooLong, Map, NoMemory}
-use Rattle.overpass_graph.specs.Builder.{IsFaultOfBeginning, MayBecomeMap}
+use Rattle.map_tables.specs.declared.error.MapError.{MapError}
+use Rattle.map_tables.specs.declared.error.MapError.TheVariants as map
+use Rattle.overpass_graph.specs.Builder.{IsFaultOfBeginning, IsFaultOfText, MayBecomeMap}
 use Rattle.overpass_graph.specs.Maps.{MapValue}
 
 -- a fault of reading says nothing of the bytes
@@ -38,11 +40,11 @@ front bytes piece rest k within =
     ∙ ap (λ (l : List ℕ). bytes ++ l) (take-append-le k piece rest within)
 
 -- a piece of which so much as there is room for has a fault
-pub read-fault : {T : Type 0} (limit room : ℕ) (before after : Option (List ℕ)) (bytes piece : List ℕ) (error : MapFileError) → length bytes + room ≡ limit →
-    Consumes before after (bytes ++ piece) → OnFault {T} (Err error) (IsFaultOfBeginning (bytes ++ take room piece)) → IsReadFrom limit before (Err error)
-read-fault limit room None after bytes piece error held took fault = tt
-read-fault limit room (Some xs) None bytes piece error held took fault = absurd took
-read-fault {T} limit room (Some xs) (Some rest) bytes piece error held took fault = go error fault
+pub read-fault : (T : Type 0) (limit room : ℕ) (before after : Option (List ℕ)) (bytes piece : List ℕ) (error : MapFileError) → length bytes + room ≡ limit →
+    Consumes before after (bytes ++ piece) → OnFault {T = T} (Err error) (IsFaultOfBeginning (bytes ++ take room piece)) → IsReadFrom limit before (Err error)
+read-fault T limit room None after bytes piece error held took fault = tt
+read-fault T limit room (Some xs) None bytes piece error held took fault = absurd took
+read-fault T limit room (Some xs) (Some rest) bytes piece error held took fault = go error fault
   where
     -- as much of the piece as there is room for
     count : ℕ
@@ -51,7 +53,7 @@ read-fault {T} limit room (Some xs) (Some rest) bytes piece error held took faul
     within : count ≤ length piece
     within = omega (arith, sym (length-take room piece))
 
-    go : (error : MapFileError) → OnFault {T} (Err error) (IsFaultOfBeginning (bytes ++ take room piece)) → IsReadAs limit xs (Err error)
+    go : (error : MapFileError) → OnFault {T = T} (Err error) (IsFaultOfBeginning (bytes ++ take room piece)) → IsReadAs limit xs (Err error)
     go (Map f) is =
         let fed : take (length bytes + count) xs ≡ bytes ++ take room piece =
         ap (take (length bytes + count)) took ∙ front bytes piece rest count within ∙ ap (λ (l : List ℕ). bytes ++ l) (take_min room piece) in
@@ -75,3 +77,38 @@ read-long limit room (Some xs) (Some rest) bytes piece held more took may =
     let fed : take limit xs ≡ bytes ++ take room piece =
     ap (λ (k : ℕ). take k xs) (sym held) ∙ ap (take (length bytes + room)) took ∙ front bytes piece rest room within in
     (omega (arith, held, more, ap length took, length-append (bytes ++ piece) rest, length-append bytes piece), subst MayBecomeMap (sym fed) may)
+
+-- a piece for which there is room, behind what was fed
+pub fed-whole : (P : List ℕ → Type 0) (room : ℕ) (bytes piece fed : List ℕ) → fed ≡ take room piece → length piece ≤ room → P (bytes ++ fed) → P (bytes ++ piece)
+fed-whole P room bytes piece fed is fits holds =
+    subst (λ (l : List ℕ). P (bytes ++ l)) (is ∙ take_all room piece fits) holds
+
+-- the end of a text leaves the count of faults
+pub text-counts : (old new : ℕ) (bytes : List ℕ) (result : Result MapValue MapFileError) → new ≡ old → IsTextOf bytes result → CountsMapFault old new result
+text-counts old new bytes (Ok map) same text = same
+text-counts old new bytes (Err (Map fault)) same text = same
+text-counts old new bytes (Err NoMemory) same text = same
+text-counts old new bytes (Err Fault) same text = absurd text
+text-counts old new bytes (Err TooLong) same text = absurd text
+
+-- a piece that is refused leaves the count of faults
+pub fault-counts : (T : Type 0) (old new : ℕ) (P : MapError → Type 0) (error : MapFileError) → new ≡ old → OnFault {T = T} (Err error) P → CountsMapFault old new (Err error)
+fault-counts T old new P (Map fault) same is = same
+fault-counts T old new P NoMemory same is = same
+fault-counts T old new P Fault same is = absurd is
+fault-counts T old new P TooLong same is = absurd is
+
+-- what a fault is told as, where it is want of memory or has a property that holds of the map's faults
+apart : (P : MapError → Type 0) (Q : MapFileError → Type 0) (error : MapError) (told : MapFileError) → IsTold error told → Q NoMemory → (P error → Q (Map error)) → (error ≡ map.NoMemory) ⊎ P error → Q told
+apart P Q error told is none fault was = elim is [
+  | inl (_, e) ↦ subst Q (sym e) none
+  | inr (not, e) ↦ subst Q (sym e) (fault (elim was [ inl m ↦ absurd (not m) | inr p ↦ p ]))
+]
+
+-- a fault of the end of a text, told
+pub told-at-end : (bytes : List ℕ) (error : MapError) (told : MapFileError) → IsTold error told → (error ≡ map.NoMemory) ⊎ IsFaultOfText bytes error → IsTextOf bytes (Err told)
+told-at-end bytes error told is was = apart (IsFaultOfText bytes) (λ (e : MapFileError). IsTextOf bytes (Err e)) error told is tt (λ p. p) was
+
+-- a fault of a piece, told
+pub told-of-piece : (T : Type 0) (P : MapError → Type 0) (error : MapError) (told : MapFileError) → IsTold error told → (error ≡ map.NoMemory) ⊎ P error → OnFault {T = T} (Err told) P
+told-of-piece T P error told is was = apart P (λ (e : MapFileError). OnFault {T = T} (Err e) P) error told is tt (λ p. p) was

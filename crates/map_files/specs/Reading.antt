@@ -4,6 +4,7 @@ use Rattle.edge_io.specs.Faults.{CountRose}
 use Rattle.map_files.specs.declared.error.MapFileError.{MapFileError}
 use Rattle.map_files.specs.declared.error.MapFileError.TheVariants.{Fault, TooLong, Map, NoMemory}
 use Rattle.map_tables.specs.declared.error.MapError.{MapError}
+use Rattle.map_tables.specs.declared.error.MapError.TheVariants as map
 use Rattle.overpass_graph.specs.Builder.{IsFaultOfBeginning, IsFaultOfText, IsMapOfText, MayBecomeMap}
 use Rattle.overpass_graph.specs.Maps.{MapValue}
 
@@ -61,3 +62,7 @@ IsTextOf bytes (Err (Map fault)) = IsFaultOfText bytes fault
 IsTextOf bytes (Err NoMemory) = Unit {0}
 IsTextOf bytes (Err Fault) = ⊥
 IsTextOf bytes (Err TooLong) = ⊥
+
+-- what a fault of a map's builder is told as: want of memory as such, every other one as the map's fault
+abbrev pub IsTold : MapError → MapFileError → Type 0
+IsTold error told = ((error ≡ map.NoMemory) × (told ≡ NoMemory)) ⊎ ((error ≡ map.NoMemory → ⊥) × (told ≡ Map error))

@@ -2,7 +2,7 @@
 
 ghost use Rattle.std.specs.Prelude.{◌≡◌, ◌<◌, ◌+◌, ◌++◌, ◌^◌, ℕ, true, List, length, take, OnOk};
 ghost use Rattle.edge_io.specs.Whole.{ReadsOn};
-ghost use Rattle.map_files.specs.Reading.{CountsMapFault, IsReadFrom, IsTextOf, OnFault};
+ghost use Rattle.map_files.specs.Reading.{CountsMapFault, IsReadFrom, IsTextOf, IsTold, OnFault};
 ghost use Rattle.overpass_graph.specs.Builder.{IsFaultOfBeginning, MayBecomeMap, StandsForText, fed};
 
 use crate::error::MapFileError;
@@ -62,8 +62,7 @@ fn feed(builder: &mut MapBuilder, piece: &[u8]) -> Result<(), MapFileError>
 {
     match builder.feed(piece) {
         Ok(()) => Ok(()),
-        Err(MapError::NoMemory) => Err(MapFileError::NoMemory),
-        Err(error) => Err(MapFileError::Map(error)),
+        Err(error) => Err(told(error)),
     }
 }
 
@@ -73,7 +72,17 @@ fn finish(builder: MapBuilder) -> Result<Map, MapFileError>
 {
     match builder.finish() {
         Ok(map) => Ok(map),
-        Err(MapError::NoMemory) => Err(MapFileError::NoMemory),
-        Err(error) => Err(MapFileError::Map(error)),
+        Err(error) => Err(told(error)),
+    }
+}
+
+/// What a fault of a map's builder is told as.
+fn told(error: MapError) -> MapFileError
+    ensures exact { IsTold error result }
+{
+    if error == MapError::NoMemory {
+        MapFileError::NoMemory
+    } else {
+        MapFileError::Map(error)
     }
 }
