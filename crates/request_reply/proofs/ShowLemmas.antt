@@ -1,21 +1,18 @@
 -- A track that a request asks for is one that a reply may show.
-use Rattle.std.proofs.Common.{◌≡◌, ℕ, ◌<◌, ◌^◌, List, [], length, get_or, refl, sym, ap, ◌∙◌, arith, subst}
+use Rattle.std.proofs.Common.{◌≡◌, ℕ, ◌<◌, List, [], length, get_or, sym, ap, ◌∙◌, arith, subst}
 use Rattle.std.proofs.lemmas.List.{get_or-map, length-map}
 use Rattle.overpass_graph.specs.Walks.{link_at}
 use Rattle.route_engine.specs.Jobs.{IsTrackOver, setting_of}
 use Rattle.route_engine.specs.Plans.{IsTrackFor, Plan}
 use Rattle.route_engine.specs.Settings.{Setting, open_map_of}
-use Rattle.route_engine.specs.Sums.{sum_costs, sum_ranks}
 use Rattle.route_http.specs.Asked.{Asked}
 use Rattle.route_ready.specs.Worlds.{WorldValue}
 use Rattle.route_ready.specs.declared.ready.Ready.{Ready}
 use Rattle.track_legs.specs.Rides.{ride_of}
 use Rattle.track_legs.specs.Tracks.{IsTrack, node_at}
-use Rattle.track_legs.specs.declared.track.Leg.{Leg}
 use Rattle.track_legs.specs.declared.track.Track.{Track}
 use Rattle.track_reply.proofs.CallerLemmas.{track-shows}
 use Rattle.track_reply.specs.Showable.{AreAlternativesBelow, IsShowable}
-use Rattle.track_reply.specs.Sums.{total_cost, total_rank}
 use Rattle.request_reply.specs.Told.{source_by}
 use Rattle.request_reply.specs.declared.told.Told.{Told}
 use Rattle.waypoint_nodes.proofs.CallerLemmas.{node-below}
@@ -30,15 +27,6 @@ plan_over setting nodes plan = record {
   limit = plan.limit;
   runs = plan.runs;
 }
-
--- the sums of costs are one, and those of ranks
-costs-same : (legs : List Leg) → total_cost legs ≡ sum_costs legs
-unfolding total_cost sum_costs
-costs-same legs = refl
-
-ranks-same : (legs : List Leg) → total_rank legs ≡ sum_ranks legs
-unfolding total_rank sum_ranks
-ranks-same legs = refl
 
 module _ (world : WorldValue) (ready : Ready) (asked : Asked) (track : Track) (counted : (links_of ready.bound).count ≡ length world.map.links)
     (over : IsTrackOver (setting_of world ready asked.circles) asked track) where
@@ -89,5 +77,4 @@ module _ (world : WorldValue) (ready : Ready) (asked : Asked) (track : Track) (c
   pub shows : (told : Told) → IsShowable (source_by world ready told) track
   shows told =
       track-shows (source_by world ready told) setting.cut ready.turns track counted is_track nodes-below earlier-below
-      (subst (λ (n : ℕ). n < 2 ^ 127) (sym (costs-same track.legs)) is.costs)
-      (subst (λ (n : ℕ). n < 2 ^ 127) (sym (ranks-same track.legs)) is.ranks)
+      is.costs is.ranks
