@@ -1,6 +1,9 @@
 //! Runs tables of cases on the top call, over files and outputs in memory.
 #![tactic(auto)]
 
+mod answers;
+mod faults;
+mod tiles;
 mod world;
 
 use crate::world::World;
@@ -38,6 +41,11 @@ fn answer(alloc: Global, case: &Case, world: &mut World) -> Result<String, Alloc
             world.add(case.word(1), case.word(2))?;
             String::from_str(alloc, "added")
         }
+        b"tile" => {
+            let bytes = tiles::tile(alloc, case.word(2))?;
+            world.add(case.word(1), bytes.as_slice())?;
+            String::from_str(alloc, "added")
+        }
         b"reading" => {
             world.read_by(case.count(1), case.count(2));
             String::from_str(alloc, "set")
@@ -46,10 +54,20 @@ fn answer(alloc: Global, case: &Case, world: &mut World) -> Result<String, Alloc
             world.write_by(case.count(1), case.count(2), case.count(3));
             String::from_str(alloc, "set")
         }
-        b"run" => world.run(case),
-        b"size" => world.size(case),
+        _ => asked(alloc, case, world),
+    }
+}
+
+/// What a command line comes to in the world.
+fn asked(alloc: Global, case: &Case, world: &mut World) -> Result<String, AllocError> {
+    match case.word(0) {
+        b"run" => answers::run(alloc, world, case, 1),
+        b"cost" => answers::cost(alloc, world, case),
+        b"size" => answers::size(alloc, world, case),
         b"edge" => world.edge(case),
-        b"out_of_memory" => world::no_memory(alloc),
+        b"each_read" => faults::each_read(alloc, world, case),
+        b"each_write" => faults::each_write(alloc, world, case),
+        b"out_of_memory" => answers::no_memory(alloc),
         _ => String::from_str(alloc, "no such call"),
     }
 }

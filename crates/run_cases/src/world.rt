@@ -1,11 +1,11 @@
-//! Files and an output in memory, and what command lines come to over them.
+//! Files and an output in memory, and how command lines end over them.
 
 ghost use Rattle.std.specs.Prelude.{◌≤◌};
 
 use case_rows::Case;
 use edge_io::{MemFiles, MemSink};
 use item_list::{Items, Name, bytes_of};
-use route_run::{Status, edge, run};
+use route_run::{edge, run};
 use std::alloc::{AllocError, Global};
 
 /// The number of a call that no row makes.
@@ -27,6 +27,27 @@ pub(crate) struct World {
     failing_write: u64,
     ghost reads_some: { 1 ≤ reads },
     ghost writes_some: { 1 ≤ writes },
+}
+
+/// How the top call ended: number and line of the status, what was written, and how often files were opened.
+#[derive(Drop)]
+pub(crate) struct Ended {
+    pub(crate) number: u8,
+    pub(crate) line: Vec<u8>,
+    pub(crate) written: Vec<u8>,
+    pub(crate) opens: u64,
+}
+
+impl Ended {
+    /// The line of the status.
+    pub(crate) fn line(&self) -> &str {
+        str::from_utf8(self.line.as_slice()).unwrap_or("(no text)")
+    }
+
+    /// What was written.
+    pub(crate) fn written(&self) -> &str {
+        str::from_utf8(self.written.as_slice()).unwrap_or("(no text)")
+    }
 }
 
 impl World {
@@ -63,6 +84,22 @@ impl World {
         self.failing_write = failing;
     }
 
+    /// Sets the reading call that fails.
+    pub(crate) fn fail_read(&mut self, failing: u64) {
+        self.failing_read = failing;
+    }
+
+    /// Sets the writing call that fails.
+    pub(crate) fn fail_write(&mut self, failing: u64) {
+        self.failing_write = failing;
+    }
+
+    /// Lets no call fail.
+    pub(crate) fn fail_never(&mut self) {
+        self.failing_read = NEVER;
+        self.failing_write = NEVER;
+    }
+
     /// The files, of which none was opened.
     fn mem_files(&self) -> Result<MemFiles, AllocError> {
         let mut files: Vec<(Name, Vec<u8>)> = Vec::new(self.alloc);
@@ -80,57 +117,27 @@ impl World {
         MemSink::new(self.alloc, self.room, self.writes, failing)
     }
 
-    /// The words behind the call.
-    fn words(&self, case: &Case) -> Result<Vec<String>, AllocError> {
+    /// The words of a case from a place on.
+    fn words(&self, case: &Case, first: usize) -> Result<Vec<String>, AllocError> {
         let mut words = Vec::new(self.alloc);
-        for place in 1..case.len() {
+        for place in first..case.len() {
             words.push(String::from_str(self.alloc, case.text(place))?)?;
         }
         Ok(words)
     }
 
-    /// What the top call comes to: number and line of the status, the output, and how often files were opened.
-    pub(crate) fn run(&self, case: &Case) -> Result<String, AllocError> {
+    /// How the top call ends on the words of a case from a place on.
+    pub(crate) fn ended(&self, case: &Case, first: usize) -> Result<Ended, AllocError> {
         let mut files = self.mem_files()?;
         let mut out = self.mem_sink()?;
-        let words = self.words(case)?;
+        let words = self.words(case, first)?;
         let status = run(self.alloc, words.as_slice(), &mut files, &mut out);
-        let line = status.line(self.alloc)?;
-        let line = str::from_utf8(line.as_slice()).unwrap_or("(no text)");
-        let written = str::from_utf8(out.bytes()).unwrap_or("(no text)");
-        format!(in self.alloc;
-            "{} [{line}] [{written}] {}",
-            status.number(),
-            files.opens()
-        )
-    }
-
-    /// What the top call comes to where it writes much: number and line of the status, how many bytes are written, their first
-    /// four and their sum.
-    pub(crate) fn size(&self, case: &Case) -> Result<String, AllocError> {
-        let mut files = self.mem_files()?;
-        let mut out = self.mem_sink()?;
-        let words = self.words(case)?;
-        let status = run(self.alloc, words.as_slice(), &mut files, &mut out);
-        let line = status.line(self.alloc)?;
-        let line = str::from_utf8(line.as_slice()).unwrap_or("(no text)");
-        let bytes = out.bytes();
-        let first = [
-            byte_at(bytes, 0),
-            byte_at(bytes, 1),
-            byte_at(bytes, 2),
-            byte_at(bytes, 3),
-        ];
-        format!(in self.alloc;
-            "{} [{line}] {} {} {} {} {} {}",
-            status.number(),
-            bytes.len(),
-            first[0],
-            first[1],
-            first[2],
-            first[3],
-            sum_of(bytes)
-        )
+        Ok(Ended {
+            number: status.number(),
+            line: status.line(self.alloc)?,
+            written: bytes_of(self.alloc, out.bytes())?,
+            opens: files.opens(),
+        })
     }
 
     /// What a command line comes to: the exit status, what is told beside the output, and the output.
@@ -138,34 +145,10 @@ impl World {
         let mut files = self.mem_files()?;
         let mut out = self.mem_sink()?;
         let mut err = MemSink::new(self.alloc, 1000, 1000, Vec::new(self.alloc))?;
-        let words = self.words(case)?;
+        let words = self.words(case, 1)?;
         let exit = edge(self.alloc, Ok(words), &mut files, &mut out, &mut err);
         let told = str::from_utf8(err.bytes()).unwrap_or("(no text)");
         let written = str::from_utf8(out.bytes()).unwrap_or("(no text)");
         format!(in self.alloc; "{exit} [{told}] [{written}]")
     }
-}
-
-/// The number and the line of want of memory, which no command line is sure to meet.
-pub(crate) fn no_memory(alloc: Global) -> Result<String, AllocError> {
-    let line = Status::NoMemory.line(alloc)?;
-    let line = str::from_utf8(line.as_slice()).unwrap_or("(no text)");
-    format!(in alloc; "{} [{line}]", Status::NoMemory.number())
-}
-
-/// The byte at a place, 0 where there is none.
-fn byte_at(bytes: &[u8], place: usize) -> u8 {
-    match bytes.get(place) {
-        Some(byte) => *byte,
-        None => 0,
-    }
-}
-
-/// The sum of bytes.
-fn sum_of(bytes: &[u8]) -> u64 {
-    let mut sum: u64 = 0;
-    for byte in bytes {
-        sum = sum.saturating_add(u64::from(*byte));
-    }
-    sum
 }
