@@ -4,5 +4,6 @@ pub mod StageLemmas
 pub mod TextLemmas
 pub mod EdgeLemmas
 pub mod PlanLemmas
+pub mod RoutedLemmas
 pub mod RunLemmas
 pub mod TileLemmas

@@ -26,7 +26,7 @@ pub fn grid_answer(alloc: Global, command: &GridCommand) -> Result<Vec<u8>, Stat
 }
 
 /// The lines of a shortest walk, or `None` where there is no walk.
-#[tactic(auto, using(crate::proofs::PlanLemmas::plan-is_lawful))]
+#[tactic(auto, using(crate::proofs::PlanLemmas::plan_lawful))]
 fn walk_lines(alloc: Global, command: &GridCommand) -> Result<Option<Vec<u8>>, AllocError>
     requires fit { IsGridFit command.now }
     ensures exact { IfOk result (λ answer.

@@ -24,7 +24,7 @@ pub fn make_answer(alloc: Global, command: &MakeCommand) -> Result<Output, Statu
 }
 
 /// The map or the tile.
-#[tactic(auto, using(crate::proofs::PlanLemmas::plan-is_lawful))]
+#[tactic(auto, using(crate::proofs::PlanLemmas::plan_lawful))]
 fn made_by(alloc: Global, command: &MakeCommand) -> Result<Output, AllocError>
     requires fit { IsSized command.now.seed command.now.w command.now.h }
     ensures exact { IfOk result (λ output. output_bytes output ≡ made_by command.now) }

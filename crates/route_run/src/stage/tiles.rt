@@ -64,7 +64,14 @@ fn tile_in(alloc: Global, file: &FileWord, bytes: &[u8]) -> Result<Tile, Status>
     let word = file.word();
     match Tile::read(alloc, file.name().as_bytes(), bytes) {
         Ok(tile) => Ok(tile),
+        Err(TileError::Name) => Err(Status::Tile {
+            word,
+            error: TileError::Name,
+        }),
+        Err(TileError::Size) => Err(Status::Tile {
+            word,
+            error: TileError::Size,
+        }),
         Err(TileError::NoMemory) => Err(Status::NoMemory),
-        Err(error) => Err(Status::Tile { word, error }),
     }
 }
