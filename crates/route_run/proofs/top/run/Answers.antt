@@ -1,4 +1,4 @@
-use Rattle.route_run.proofs.RunLemmas.{ends-cause}
+use Rattle.route_run.proofs.RunLemmas.{ends-cause, ends-complete, ends-written}
 use Rattle.route_run.specs.Ends.{output_in}
 use Rattle.command_words.specs.Refusals.{texts_of}
 use Rattle.route_run.proofs.top.run.Goals as goal
@@ -7,3 +7,13 @@ pub returns-clause-read_cause : goal.returns-clause-read_cause
 returns-clause-read_cause g c =
     ends-cause (texts_of c.args.words.now) (g.F.Files.seen c.args.files.now) (g.F.Files.seen c.answer-answer.new.files) (g.O.Sink.seen c.args.out.now) (g.O.Sink.seen c.send.new.out)
     (output_in c.answer-answer.result) c.send.result c.answer-answer.ensures.exact c.send.ensures.ends
+
+pub returns-clause-cause : goal.returns-clause-cause
+returns-clause-cause g c =
+    ends-written (texts_of c.args.words.now) (g.F.Files.seen c.args.files.now) (g.F.Files.seen c.answer-answer.new.files) (g.O.Sink.seen c.args.out.now) (g.O.Sink.seen c.send.new.out)
+    (output_in c.answer-answer.result) c.send.result c.answer-answer.ensures.exact c.send.ensures.ends
+
+pub returns-clause-complete : goal.returns-clause-complete
+returns-clause-complete g c = λ command named still calm.
+    ends-complete (texts_of c.args.words.now) (g.F.Files.seen c.args.files.now) (g.F.Files.seen c.answer-answer.new.files) (g.O.Sink.seen c.args.out.now) (g.O.Sink.seen c.send.new.out)
+    (output_in c.answer-answer.result) c.send.result c.answer-answer.ensures.exact c.send.ensures.ends command named still calm
