@@ -20,7 +20,9 @@ returns-in-Err-TooLong g c =
     let counts = subst (λ e. CountsMapFault mid.faults new.faults (Err e)) told c.in-Err-TooLong.ensures.cause in
     record {
       taken = took-map c.args.file.now.word c.args.file.now.name old mid new (Err (TooLong c.word-word.result)) opens
-          c.in-Err-TooLong.ensures.kept
-          (c.word-word.ensures.exact, map-named old.files mid.left c.args.file.now.name (Err file.TooLong) opens.found opens.left read,
-          counts ∙ opens.faults);
+          c.in-Err-TooLong.ensures.kept (
+            c.word-word.ensures.exact,
+            map-named old.files mid.left c.args.file.now.name (Err file.TooLong) opens.found opens.left read,
+            counts ∙ opens.faults,
+          );
     }
