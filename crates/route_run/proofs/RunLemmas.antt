@@ -16,13 +16,17 @@ use Rattle.profile_text.specs.Tree.{Sections}
 use Rattle.context_check.specs.Refusal.{refusal_of}
 use Rattle.route_http.specs.Asked.{Asked}
 use Rattle.route_http.specs.Request.{request_of}
+use Rattle.route_ready.specs.declared.error.RouteError.{RouteError}
 use Rattle.item_list.specs.Answer.{answer_map}
 use Rattle.route_run.specs.Answer.Code.{IsCodeAnswer, listing_in, listing_by}
+use Rattle.grid_map.specs.MapText.{overpass_text}
 use Rattle.grid_map.specs.declared.plan.Plan.{Plan}
+use Rattle.made_routes.specs.Hills.{IsHillsRefusal}
 use Rattle.made_routes.specs.Walks.{WalkQuestion}
-use Rattle.route_run.specs.Answer.Grid.{IsGridAnswerBy, IsPricedAnswer, IsShortestAnswer, PricesByTable, question_by}
+use Rattle.route_run.specs.Answer.Grid.{IsGridAnswerBy, IsPricedAnswer, IsPricedRefusal, IsShortestAnswer, PricesByTable, question_by}
 use Rattle.route_run.specs.Answer.Hills.{IsHillsAnswerOver, hills_plan}
 use Rattle.route_run.specs.Answer.Make.{made_by}
+use Rattle.route_run.specs.Answer.Refused.{IsMadeRefusal}
 use Rattle.route_run.specs.Answer.Route.{Inputs, IsRouteAnswer, IsRouted, Routes, RoutesByTiles}
 use Rattle.route_run.specs.Ends.{Ends}
 use Rattle.route_run.specs.Outcome.{IsAnswer, IsCommandAnswer, HasCause, HasReadCause, HasOpened, HasOpenedAll, IsComplete, file_words, profile_words}
@@ -173,23 +177,29 @@ shortest-cause command old new (Err (NotFound word)) is same = absurd is
 shortest-cause command old new (Err (ReadFault word)) is same = absurd is
 shortest-cause command old new (Err WriteFault) is same = absurd is
 
+-- a refusal over a map that is made
+made-cause : (text : List ℕ) (Refuses : RouteError → Type 0) (profile : Option Sections) (old new : FilesSeen) (status : Status) →
+    IsMadeRefusal text Refuses profile status → new ≡ old → RefusalCause [] old new status
+made-cause text Refuses profile old new Done is same = absurd is
+made-cause text Refuses profile old new (Usage word) is same = absurd is
+made-cause text Refuses profile old new (Query error) is same = absurd is
+made-cause text Refuses profile old new (TooLong word) is same = absurd is
+made-cause text Refuses profile old new (Lookup word error) is same = absurd is
+made-cause text Refuses profile old new (Text word error) is same = absurd is
+made-cause text Refuses profile old new (Check word error) is same = absurd is
+made-cause text Refuses profile old new (Map word error) is same = opened-none old new same
+made-cause text Refuses profile old new (Tile word error) is same = absurd is
+made-cause text Refuses profile old new (Route error line) is same = opened-none old new same
+made-cause text Refuses profile old new (NotFound word) is same = absurd is
+made-cause text Refuses profile old new (ReadFault word) is same = absurd is
+made-cause text Refuses profile old new WriteFault is same = absurd is
+made-cause text Refuses profile old new NoMemory is same = opened-none old new same
+
 -- a cheapest walk by a profile that was taken in
 prices-cause : (question : WalkQuestion) (old new : FilesSeen) (r : Result (List ℕ) Status) → IsPricedAnswer question r → new ≡ old → Cause [] old new r
 prices-cause question old new (Ok bytes) is same = record { faults = ap (λ (s : FilesSeen). s.faults) same; opened = ap (λ (s : FilesSeen). s.opens) same }
-prices-cause question old new (Err (Route error line)) is same = opened-none old new same
-prices-cause question old new (Err (Map word error)) is same = opened-none old new same
-prices-cause question old new (Err NoMemory) is same = opened-none old new same
-prices-cause question old new (Err Done) is same = absurd is
-prices-cause question old new (Err (Usage word)) is same = absurd is
-prices-cause question old new (Err (Query error)) is same = absurd is
-prices-cause question old new (Err (TooLong word)) is same = absurd is
-prices-cause question old new (Err (Lookup word error)) is same = absurd is
-prices-cause question old new (Err (Text word error)) is same = absurd is
-prices-cause question old new (Err (Check word error)) is same = absurd is
-prices-cause question old new (Err (Tile word error)) is same = absurd is
-prices-cause question old new (Err (NotFound word)) is same = absurd is
-prices-cause question old new (Err (ReadFault word)) is same = absurd is
-prices-cause question old new (Err WriteFault) is same = absurd is
+prices-cause question old new (Err status) is same =
+    made-cause (overpass_text question.plan) (IsPricedRefusal question) (Some question.sections) old new status is same
 
 -- a cheapest walk, with the files of its profile
 priced-cause : (command : GridCommand) (words : CodeCommand) (old new : FilesSeen) (r : Result (List ℕ) Status) → PricesByTable command words old new r →
@@ -208,20 +218,7 @@ grid-cause (Some words) command old new r is = priced-cause command words old ne
 -- the command `hills`
 hills-cause : (plan : Plan) (old new : FilesSeen) (r : Result (List ℕ) Status) → IsHillsAnswerOver plan r → new ≡ old → Cause [] old new r
 hills-cause plan old new (Ok bytes) is same = record { faults = ap (λ (s : FilesSeen). s.faults) same; opened = ap (λ (s : FilesSeen). s.opens) same }
-hills-cause plan old new (Err (Route error line)) is same = opened-none old new same
-hills-cause plan old new (Err (Map word error)) is same = opened-none old new same
-hills-cause plan old new (Err NoMemory) is same = opened-none old new same
-hills-cause plan old new (Err Done) is same = absurd is
-hills-cause plan old new (Err (Usage word)) is same = absurd is
-hills-cause plan old new (Err (Query error)) is same = absurd is
-hills-cause plan old new (Err (TooLong word)) is same = absurd is
-hills-cause plan old new (Err (Lookup word error)) is same = absurd is
-hills-cause plan old new (Err (Text word error)) is same = absurd is
-hills-cause plan old new (Err (Check word error)) is same = absurd is
-hills-cause plan old new (Err (Tile word error)) is same = absurd is
-hills-cause plan old new (Err (NotFound word)) is same = absurd is
-hills-cause plan old new (Err (ReadFault word)) is same = absurd is
-hills-cause plan old new (Err WriteFault) is same = absurd is
+hills-cause plan old new (Err status) is same = made-cause (overpass_text plan) (IsHillsRefusal plan) None old new status is same
 
 -- each command
 command-cause : (command : Command) (old new : FilesSeen) (r : Result (List ℕ) Status) → IsCommandAnswer command old new r → Cause (file_words (Ok command)) old new r

@@ -11,7 +11,6 @@ use Rattle.grid_map.specs.declared.plan.Plan.{Plan}
 use Rattle.grid_map.specs.Plan.{plan_of}
 use Rattle.grid_map.specs.Walks.{IsLeastGridWalk, HasNoGridWalk}
 use Rattle.lookup_table.specs.First.{TagTable}
-use Rattle.made_routes.specs.Made.{HasTextFault}
 use Rattle.made_routes.specs.Walks.{HasNoPricedWalk, IsPricedWalk, IsProfileRefused, WalkQuestion}
 use Rattle.made_routes.specs.declared.priced.PricedWalk.{PricedWalk}
 use Rattle.profile_text.specs.Tree.{Sections}
@@ -19,11 +18,12 @@ use Rattle.route_ready.specs.Lines.{route_line}
 use Rattle.route_ready.specs.declared.error.RouteError.{RouteError}
 use Rattle.route_ready.specs.declared.error.RouteError.TheVariants.{NoTrack}
 use Rattle.route_run.specs.Answer.Lines.{grid_lines, priced_lines}
+use Rattle.route_run.specs.Answer.Refused.{IsMadeRefusal}
 use Rattle.route_run.specs.Stage.Chain.{Then}
 use Rattle.route_run.specs.Stage.Checked.{TakesChecked}
 use Rattle.route_run.specs.Stage.TagTable.{TakesTable}
 use Rattle.route_run.specs.declared.status.Status.{Status}
-use Rattle.route_run.specs.declared.status.Status.TheVariants.{Map, Route, NoMemory}
+use Rattle.route_run.specs.declared.status.Status.TheVariants.{Route, NoMemory}
 
 -- the plan of a command's grid
 abbrev pub plan_by : GridCommand → Plan
@@ -79,14 +79,11 @@ pub record ShowsPricedWalk (question : WalkQuestion) (lines : List ℕ) : Type 0
 abbrev pub IsPricedRefusal : WalkQuestion → RouteError → Type 0
 IsPricedRefusal question error = IsProfileRefused question error ⊎ (HasNoPricedWalk question × (error ≡ NoTrack 0))
 
--- what is answered by a profile: the lines of a cheapest walk; why there is none, with its line; a fault that the grid's own
--- text has as that of a map, at the first word; or want of memory
+-- what is answered by a profile: the lines of a cheapest walk, or why there is none
 abbrev pub IsPricedAnswer : WalkQuestion → Result (List ℕ) Status → Type 0
 IsPricedAnswer question (Ok lines) = ShowsPricedWalk question lines
-IsPricedAnswer question (Err (Route error line)) = IsPricedRefusal question error × (line ≡ route_line (Some question.sections) error)
-IsPricedAnswer question (Err (Map word error)) = (word ≡ 0) × HasTextFault (overpass_text question.plan) error
-IsPricedAnswer question (Err NoMemory) = Unit {0}
-IsPricedAnswer question (Err status) = ⊥
+IsPricedAnswer question (Err status) =
+    IsMadeRefusal (overpass_text question.plan) (IsPricedRefusal question) (Some question.sections) status
 
 -- the walk is answered, and the files are left
 abbrev pub Prices : GridCommand → TagTable → Sections → FilesSeen → FilesSeen → Result (List ℕ) Status → Type 0

@@ -5,12 +5,10 @@ use Rattle.grid_map.specs.MapText.{overpass_text}
 use Rattle.grid_map.specs.Plan.{plan_of}
 use Rattle.grid_map.specs.declared.plan.Plan.{Plan}
 use Rattle.made_routes.specs.Hills.{IsHillsFound, IsHillsRefusal}
-use Rattle.made_routes.specs.Made.{HasTextFault}
 use Rattle.made_routes.specs.declared.summary.Hills.{Hills}
-use Rattle.route_ready.specs.Lines.{route_line}
 use Rattle.route_run.specs.Answer.Lines.{hills_lines}
+use Rattle.route_run.specs.Answer.Refused.{IsMadeRefusal}
 use Rattle.route_run.specs.declared.status.Status.{Status}
-use Rattle.route_run.specs.declared.status.Status.TheVariants.{Map, Route, NoMemory}
 
 -- the plan of a command's grid
 abbrev pub hills_plan : HillsCommand → Plan
@@ -22,14 +20,10 @@ pub record ShowsHills (plan : Plan) (lines : List ℕ) : Type 0 where
   pub is : IsHillsFound plan found
   pub are : lines ≡ hills_lines found
 
--- what is answered over a grid: the lines; why there is no track, with its line; a fault that the grid's own text has as that
--- of a map, at the first word; or want of memory
+-- what is answered over a grid: the lines, or why there is no track
 abbrev pub IsHillsAnswerOver : Plan → Result (List ℕ) Status → Type 0
 IsHillsAnswerOver plan (Ok lines) = ShowsHills plan lines
-IsHillsAnswerOver plan (Err (Route error line)) = IsHillsRefusal plan error × (line ≡ route_line None error)
-IsHillsAnswerOver plan (Err (Map word error)) = (word ≡ 0) × HasTextFault (overpass_text plan) error
-IsHillsAnswerOver plan (Err NoMemory) = Unit {0}
-IsHillsAnswerOver plan (Err status) = ⊥
+IsHillsAnswerOver plan (Err status) = IsMadeRefusal (overpass_text plan) (IsHillsRefusal plan) None status
 
 -- what the command `hills` answers
 abbrev pub IsHillsAnswer : HillsCommand → Result (List ℕ) Status → Type 0

@@ -1,5 +1,6 @@
 -- The status of a request that has no track. This project's own rule.
-use Rattle.std.specs.Prelude.{ℕ, ◌≡◌, ◌≢◌, Option}
+use Rattle.std.specs.Prelude.{ℕ, ◌≡◌, ◌≢◌, List, Option}
+use Rattle.made_routes.specs.Made.{HasTextFault}
 use Rattle.made_routes.specs.declared.error.MadeError.{MadeError}
 use Rattle.made_routes.specs.declared.error.MadeError.TheVariants as made
 use Rattle.profile_text.specs.Tree.{Sections}
@@ -15,9 +16,17 @@ IsRefusedAs error profile (Route told line) = (told ≡ error) × (error ≢ rou
 IsRefusedAs error profile NoMemory = Unit {0}
 IsRefusedAs error profile status = ⊥
 
--- the refusal over a map that is made: a fault of its text at the first word, the refusal of a request, or want of memory
+-- the refusal over a map that is made: a fault of its text at the first word, or the refusal of a request; want of memory is one
 abbrev pub IsMadeRefusedAs : MadeError → Option Sections → Status → Type 0
-IsMadeRefusedAs error profile NoMemory = Unit {0}
 IsMadeRefusedAs (made.Map fault) profile (Map word told) = (word ≡ 0) × (told ≡ fault)
-IsMadeRefusedAs (made.Route fault) profile status = IsRefusedAs fault profile status
+IsMadeRefusedAs (made.Route error) profile status = IsRefusedAs error profile status
+IsMadeRefusedAs made.NoMemory profile NoMemory = Unit {0}
 IsMadeRefusedAs error profile status = ⊥
+
+-- why nothing is answered over the map of a text: such a refusal of a request, with its line; a fault that the text has as that of a
+-- map, at the first word; or want of memory
+abbrev pub IsMadeRefusal : List ℕ → (RouteError → Type 0) → Option Sections → Status → Type 0
+IsMadeRefusal text Refuses profile (Route error line) = Refuses error × (line ≡ route_line profile error)
+IsMadeRefusal text Refuses profile (Map word fault) = (word ≡ 0) × HasTextFault text fault
+IsMadeRefusal text Refuses profile NoMemory = Unit {0}
+IsMadeRefusal text Refuses profile status = ⊥

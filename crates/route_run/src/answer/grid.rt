@@ -1,9 +1,12 @@
 //! What the command `grid` answers.
 
-ghost use Rattle.std.specs.Prelude.{◌≡◌, ◌<◌, IfOk, MatchOption};
+ghost use Rattle.std.specs.Prelude.{◌≡◌, ◌<◌, ℕ, List, Ok, IfOk, MatchOption};
 ghost use Rattle.command_words.specs.Fit.{IsGridFit};
+ghost use Rattle.item_list.specs.Answer.{Answers};
+ghost use Rattle.made_routes.specs.Walks.{IsWalkAnswer, WalkQuestion};
 ghost use Rattle.profile_text.specs.Expr.{sections_in};
 ghost use Rattle.route_run.specs.Answer.Grid.{HasNoWalk, IsGridAnswer, IsPricedAnswer, IsShortestAnswer, PricesByProfile, PricesByTable, ShowsWalk, cell_at, plan_by, question_by};
+ghost use Rattle.route_run.specs.Answer.Lines.{priced_lines};
 ghost use Rattle.route_run.specs.Ends.{bytes_in};
 
 use crate::answer::lines::{grid_lines, priced_lines};
@@ -15,7 +18,7 @@ use command_words::{CodeCommand, GridCommand, Place};
 use edge_io::Files;
 use grid_map::{Grid, shortest_walk};
 use lookup_table::Table;
-use made_routes::walk_by_profile;
+use made_routes::{PricedWalk, walk_by_profile};
 use profile_text::Profile;
 use route_ready::RouteError;
 use std::alloc::{AllocError, Global};
@@ -131,14 +134,34 @@ fn priced_over(
     let from = cell_at(command, command.from);
     let to = cell_at(command, command.to);
     match walk_by_profile(alloc, grid, from, to, table, profile) {
-        Ok(found) => match found {
-            Some(walk) => match priced_lines(alloc, grid, &walk) {
-                Ok(text) => Ok(text),
-                Err(_) => Err(Status::NoMemory),
-            },
-            None => Err(refused(alloc, RouteError::NoTrack { leg: 0 }, Some(profile))),
-        },
+        Ok(found) => told(alloc, grid, found, profile),
         Err(error) => Err(made_refused(alloc, error, Some(profile))),
+    }
+}
+
+/// The lines of a walk that was found by a profile, or that there is none.
+fn told(
+    alloc: Global,
+    grid: &Grid,
+    found: Option<PricedWalk>,
+    profile: &Profile,
+) -> Result<Vec<u8>, Status>
+    ensures exact { (question : WalkQuestion) → grid.now ≡ question.plan → sections_in profile.now ≡ question.sections →
+        IsWalkAnswer question found.entry → IsPricedAnswer question (bytes_in result) }
+{
+    match found {
+        Some(walk) => walk_text(alloc, grid, &walk),
+        None => Err(refused(alloc, RouteError::NoTrack { leg: 0 }, Some(profile))),
+    }
+}
+
+/// The lines of a walk by a profile.
+fn walk_text(alloc: Global, grid: &Grid, walk: &PricedWalk) -> Result<Vec<u8>, Status>
+    ensures exact { Answers (λ (b : List ℕ). b) (Ok (priced_lines grid.now walk.now)) Status.NoMemory (bytes_in result) }
+{
+    match priced_lines(alloc, grid, walk) {
+        Ok(text) => Ok(text),
+        Err(_) => Err(Status::NoMemory),
     }
 }
 
