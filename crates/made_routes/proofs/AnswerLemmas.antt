@@ -1,5 +1,5 @@
 -- What is left of a refusal where nothing is refused.
-use Rattle.std.proofs.Common.{◌≡◌, ◌⊎◌, inl, inr, true, Result, Ok, Err, ap, ◌∙◌, sym}
+use Rattle.std.proofs.Common.{◌≡◌, ◌⊎◌, inl, inr, true, Result, Ok, Err}
 use Rattle.std.specs.Prelude.{is_ok}
 
 -- a refusal of what is accepted is want of memory

@@ -1,5 +1,5 @@
 -- How long walks across a grid are: a walk goes in short steps, whose lengths are added one by one.
-use Rattle.std.proofs.Common.{◌≡◌, ℕ, zero, suc, ◌+◌, ◌*◌, ◌-◌, ◌<◌, ◌≤◌, List, [], ◌∷◌, length, take, slice_index_or, true, Some, refl, sym, ap, ◌∙◌, subst, arith}
+use Rattle.std.proofs.Common.{◌≡◌, ℕ, zero, suc, ◌+◌, ◌-◌, ◌<◌, ◌≤◌, List, [], ◌∷◌, length, take, slice_index_or, true, Some, sym, ap, ◌∙◌, subst, arith}
 use Rattle.geo_int.proofs.ArrowLemmas.{length_between-is}
 use Rattle.geo_int.proofs.CallerLemmas.{arrow_between-found}
 use Rattle.geo_int.specs.Arrow.{arrow_between, length_between}
@@ -9,7 +9,7 @@ use Rattle.grid_map.proofs.LengthLemmas.{segment_length-short}
 use Rattle.grid_map.proofs.StepLemmas.{is_there-within}
 use Rattle.grid_map.specs.Costs.{Costs}
 use Rattle.grid_map.specs.Lengths.{cell_place, segment_length}
-use Rattle.grid_map.specs.Plan.{cells_of, end_of, is_there, start_of}
+use Rattle.grid_map.specs.Plan.{end_of, is_there, start_of}
 use Rattle.grid_map.specs.Walks.{IsGridWalk, Joins, forth, back, stays, goes}
 use Rattle.grid_map.specs.declared.plan.Plan.{Plan}
 use Rattle.made_routes.specs.Lengths.{AreShortSteps, IsShortStep, distance_between, walk_length}

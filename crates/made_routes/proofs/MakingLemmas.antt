@@ -2,7 +2,7 @@
 use Rattle.std.proofs.Common.{◌≡◌, ◌⊎◌, inl, inr, ℕ, List, ◌++◌, Err, sym, subst}
 use Rattle.made_routes.specs.Errors.{map_error}
 use Rattle.made_routes.specs.Feeding.{OnFault}
-use Rattle.made_routes.specs.Made.{HasTextFault, Makes, RefusesNothing, at_end, in_front}
+use Rattle.made_routes.specs.Made.{Makes, RefusesNothing, at_end, in_front}
 use Rattle.made_routes.specs.declared.error.MadeError.{MadeError}
 use Rattle.made_routes.specs.declared.error.MadeError.TheVariants.{Map, Route, NoMemory}
 use Rattle.map_tables.specs.declared.error.MapError.{MapError}

@@ -1,5 +1,5 @@
 -- The route across a grid with heights, between its opposite corners (this project's own rule).
-use Rattle.std.specs.Prelude.{◌≡◌, ◌-◌, false, List, [], ◌∷◌, length, Some, Ok, Err}
+use Rattle.std.specs.Prelude.{◌≡◌, ◌-◌, false, [], ◌∷◌, length, Some, Ok, Err}
 use Rattle.grid_map.specs.Lengths.{cell_place}
 use Rattle.grid_map.specs.Plan.{cells_of}
 use Rattle.grid_map.specs.Segments.{segments_of}

@@ -1,5 +1,5 @@
 -- The texts by which hills are crossed: a tag table, a profile and the name of a tile (this project's own).
-use Rattle.std.specs.Prelude.{ℕ, List, ◌++◌, codes}
+use Rattle.std.specs.Prelude.{ℕ, List, codes}
 
 -- a tag table with six tags of ways and three of nodes
 unfoldable pub look_text : List ℕ

@@ -2,8 +2,8 @@ use Rattle.std.proofs.Common.{arith}
 use Rattle.made_routes.proofs.HillLemmas.{hill-world}
 use Rattle.made_routes.proofs.crossing.hill_world.Goals as goal
 
-pub hill_tiles-tiles-requires : goal.hill_tiles-tiles-requires
-hill_tiles-tiles-requires c = record { lawful = omega (arith, c.requires.seed, c.segments-_segments.ensures.lawful.seed) }
+pub hill_tiles-requires : goal.hill_tiles-requires
+hill_tiles-requires c = record { lawful = omega (arith, c.requires.seed, c.segments-segments.ensures.lawful.seed) }
 
 pub returns : goal.returns
 returns c =

@@ -12,8 +12,8 @@ returns-in-Ok c =
           c.in-Ok.ensures.exact c.told.ensures.cost c.told.ensures.nodes c.told.ensures.segments;
     }
 
-pub returns-in-Err : goal.returns-in-Err
-returns-in-Err c =
+pub returns : goal.returns
+returns c =
     record {
       exact = hills-refused (plan_of c.args.seed c.args.w c.args.h) c.in_ok-grid.grid c.in-Err.error c.in_ok-grid.ensures.value c.in-Err.ensures.exact;
     }

@@ -1,4 +1,4 @@
-use Rattle.std.proofs.Common.{◌≡◌, ℕ, List, [], ◌++◌, length, sym, ap, ◌∙◌, subst, arith, append_assoc, length-append}
+use Rattle.std.proofs.Common.{◌≡◌, ℕ, List, [], ◌++◌, length, ap, ◌∙◌, subst, arith, length-append}
 use Rattle.grid_map.proofs.CallerLemmas.{text_from-begin, text_from-piece, text_from-whole}
 use Rattle.grid_map.specs.MapText.{overpass_text, text_from}
 use Rattle.made_routes.proofs.MakingLemmas.{front-told}
