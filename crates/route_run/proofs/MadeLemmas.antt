@@ -10,7 +10,6 @@ use Rattle.made_routes.specs.declared.error.MadeError.{MadeError}
 use Rattle.made_routes.specs.declared.error.MadeError.TheVariants as made
 use Rattle.made_routes.specs.declared.priced.PricedWalk.{PricedWalk}
 use Rattle.made_routes.specs.declared.summary.Hills.{Hills}
-use Rattle.map_tables.specs.declared.error.MapError.{MapError}
 use Rattle.profile_text.specs.Tree.{Sections}
 use Rattle.route_ready.specs.Lines.{route_line}
 use Rattle.route_ready.specs.declared.error.RouteError.{RouteError}
@@ -47,48 +46,39 @@ module _ (text : List ℕ) (Refuses : RouteError → Type 0) (profile : Option S
     request-refused error WriteFault because is = absurd is
     request-refused error NoMemory because is = tt
 
-    -- a fault of the text is told at the first word
-    text-refused : (fault : MapError) (status : Status) → HasTextFault text fault → IsMadeRefusedAs (made.Map fault) profile status →
-        IsMadeRefusal text Refuses profile status
-    text-refused fault Done has is = absurd is
-    text-refused fault (Usage word) has is = absurd is
-    text-refused fault (Query error) has is = absurd is
-    text-refused fault (TooLong word) has is = absurd is
-    text-refused fault (Lookup word error) has is = absurd is
-    text-refused fault (Text word error) has is = absurd is
-    text-refused fault (Check word error) has is = absurd is
-    text-refused fault (Map word told) has is = (is.0, subst (HasTextFault text) (sym is.1) has)
-    text-refused fault (Tile word error) has is = absurd is
-    text-refused fault (Route told line) has is = absurd is
-    text-refused fault (NotFound word) has is = absurd is
-    text-refused fault (ReadFault word) has is = absurd is
-    text-refused fault WriteFault has is = absurd is
-    text-refused fault NoMemory has is = absurd is
-
-    -- want of memory is told as such
-    memory-refused : (status : Status) → IsMadeRefusedAs made.NoMemory profile status → IsMadeRefusal text Refuses profile status
-    memory-refused Done is = absurd is
-    memory-refused (Usage word) is = absurd is
-    memory-refused (Query error) is = absurd is
-    memory-refused (TooLong word) is = absurd is
-    memory-refused (Lookup word error) is = absurd is
-    memory-refused (Text word error) is = absurd is
-    memory-refused (Check word error) is = absurd is
-    memory-refused (Map word error) is = absurd is
-    memory-refused (Tile word error) is = absurd is
-    memory-refused (Route told line) is = absurd is
-    memory-refused (NotFound word) is = absurd is
-    memory-refused (ReadFault word) is = absurd is
-    memory-refused WriteFault is = absurd is
-    memory-refused NoMemory is = tt
-
     -- a refusal over the map of the text is told by its status
     pub made-refused : {T : Type 0} (Is : T → Type 0) (Was : RouteError → Type 0) (error : MadeError) (status : Status) →
         ((error : RouteError) → Was error → Refuses error) → Makes {T = T} text Is Was (Err error) → IsMadeRefusedAs error profile status →
         IsMadeRefusal text Refuses profile status
-    made-refused Is Was (made.Map fault) status becomes cause is = text-refused fault status cause is
     made-refused Is Was (made.Route error) status becomes cause is = request-refused error status (becomes error cause) is
-    made-refused Is Was made.NoMemory status becomes cause is = memory-refused status is
+    made-refused Is Was (made.Map fault) Done becomes cause is = absurd is
+    made-refused Is Was (made.Map fault) (Usage word) becomes cause is = absurd is
+    made-refused Is Was (made.Map fault) (Query error) becomes cause is = absurd is
+    made-refused Is Was (made.Map fault) (TooLong word) becomes cause is = absurd is
+    made-refused Is Was (made.Map fault) (Lookup word error) becomes cause is = absurd is
+    made-refused Is Was (made.Map fault) (Text word error) becomes cause is = absurd is
+    made-refused Is Was (made.Map fault) (Check word error) becomes cause is = absurd is
+    made-refused Is Was (made.Map fault) (Map word told) becomes cause is = (is.0, subst (HasTextFault text) (sym is.1) cause)
+    made-refused Is Was (made.Map fault) (Tile word error) becomes cause is = absurd is
+    made-refused Is Was (made.Map fault) (Route error line) becomes cause is = absurd is
+    made-refused Is Was (made.Map fault) (NotFound word) becomes cause is = absurd is
+    made-refused Is Was (made.Map fault) (ReadFault word) becomes cause is = absurd is
+    made-refused Is Was (made.Map fault) WriteFault becomes cause is = absurd is
+    made-refused Is Was (made.Map fault) NoMemory becomes cause is = absurd is
+    made-refused Is Was made.NoMemory Done becomes cause is = absurd is
+    made-refused Is Was made.NoMemory (Usage word) becomes cause is = absurd is
+    made-refused Is Was made.NoMemory (Query error) becomes cause is = absurd is
+    made-refused Is Was made.NoMemory (TooLong word) becomes cause is = absurd is
+    made-refused Is Was made.NoMemory (Lookup word error) becomes cause is = absurd is
+    made-refused Is Was made.NoMemory (Text word error) becomes cause is = absurd is
+    made-refused Is Was made.NoMemory (Check word error) becomes cause is = absurd is
+    made-refused Is Was made.NoMemory (Map word told) becomes cause is = absurd is
+    made-refused Is Was made.NoMemory (Tile word error) becomes cause is = absurd is
+    made-refused Is Was made.NoMemory (Route error line) becomes cause is = absurd is
+    made-refused Is Was made.NoMemory (NotFound word) becomes cause is = absurd is
+    made-refused Is Was made.NoMemory (ReadFault word) becomes cause is = absurd is
+    made-refused Is Was made.NoMemory WriteFault becomes cause is = absurd is
+    made-refused Is Was made.NoMemory NoMemory becomes cause is = tt
 
 -- ---- Walks
 

@@ -147,7 +147,7 @@ fn told(
     profile: &Profile,
 ) -> Result<Vec<u8>, Status>
     ensures exact { (question : WalkQuestion) → grid.now ≡ question.plan → sections_in profile.now ≡ question.sections →
-        IsWalkAnswer question found.entry → IsPricedAnswer question (bytes_in result) }
+        IsWalkAnswer question found → IsPricedAnswer question (bytes_in result) }
 {
     match found {
         Some(walk) => walk_text(alloc, grid, &walk),

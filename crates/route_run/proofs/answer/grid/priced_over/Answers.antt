@@ -1,4 +1,4 @@
-use Rattle.std.proofs.Common.{◌≡◌, Option, Result, Err, refl, sym, subst}
+use Rattle.std.proofs.Common.{◌≡◌, Option, Result, Ok, Err, refl, sym, subst}
 use Rattle.grid_map.specs.MapText.{overpass_text}
 use Rattle.grid_map.specs.declared.plan.Plan.{Plan}
 use Rattle.made_routes.specs.Made.{Makes}
@@ -15,7 +15,7 @@ returns-in-Ok c =
     let question = question_by c.args.command.now c.args.table (sections_in c.args.profile.now) in
     record {
       exact = c.told.ensures.exact question c.requires.grid refl
-          (walk-over question c.args.grid.now c.cell_at-from.result c.cell_at-to.result c.in-Ok.found c.requires.grid c.cell_at-from.ensures.value
+          (walk-over question c.args.grid.now c.cell_at-from.result c.cell_at-to.result (Ok c.in-Ok.found) c.requires.grid c.cell_at-from.ensures.value
           c.cell_at-to.ensures.value c.in-Ok.ensures.exact);
     }
 
