@@ -6,15 +6,18 @@ use Rattle.command_words.specs.Given.{Given, Named}
 use Rattle.command_words.specs.Rows.{keys_of}
 use Rattle.command_words.specs.Value.{number_of, within, number_value, value_of, cut_word, number_in, place_in, product_in}
 use Rattle.command_words.specs.Reader.{key_of, row_for, given_by, given_for, given_in, given_cut, entry_of, entry_with, same_key, count_of, most_of, has_all, entries_after, whole_by, entries_of}
-use Rattle.command_words.specs.Command.{lies_in, grid_by, grid_with, complete, command_with, code_with, make_with, route_with, tiles_in}
+use Rattle.command_words.specs.Command.{lies_in, files_with, grid_by, grid_over, grid_with, hills_with, complete, command_with, code_with, make_with, file_in, route_with, tiles_in}
 use Rattle.command_words.proofs.KeyLemmas.{key-is}
 use Rattle.command_words.specs.Fit.{IsFit}
 use Rattle.command_words.specs.Refusals.{OnUsage}
 use Rattle.command_words.specs.declared.reader.Refusal.{Refusal}
 use Rattle.command_words.specs.declared.command.Command.{Command}
 use Rattle.command_words.specs.declared.command.Command as Form
+use Rattle.command_words.specs.declared.command.CodeCommand.{CodeCommand}
 use Rattle.command_words.specs.declared.command.GridCommand.{GridCommand}
+use Rattle.command_words.specs.declared.command.HillsCommand.{HillsCommand}
 use Rattle.command_words.specs.declared.command.MakeCommand.{MakeCommand}
+use Rattle.command_words.specs.declared.command.RouteCommand.{RouteCommand}
 use Rattle.command_words.specs.declared.rows.CommandName.{CommandName}
 use Rattle.command_words.specs.declared.rows.CommandName.TheVariants as Name
 use Rattle.command_words.specs.declared.rows.Form.{Form as Wanted}
@@ -160,17 +163,17 @@ with-fit keys key (first ∷ rest) entry all e =
 in_grid : (w h : ℕ) (place : Place) → lies_in w h place ≡ true → (place.x < w) × (place.y < h)
 in_grid w h place e = (grind (arith, nat_tests), grind (arith, nat_tests))
 
-grid_by-fit : (seed w h : ℕ) (from to : Given) (command : Command) →
+grid_by-fit : (seed w h : ℕ) (from to : Given) (files : Option CodeCommand) (command : Command) →
     (seed ≤ 65535) → ((1 ≤ w) × (w ≤ 1000)) → ((1 ≤ h) × (h ≤ 1000)) →
-    grid_by seed w h from to ≡ Ok command → IsFit command
-grid_by-fit seed w h from to command fit_seed fit_w fit_h e =
+    grid_by seed w h from to files ≡ Ok command → IsFit command
+grid_by-fit seed w h from to files command fit_seed fit_w fit_h e =
     elim (split (lies_in w h (place_in from.value)) _ (Err from.word) (Ok command) e) [
       | inr (out, f) ↦ cc
       | inl (inside_from, f) ↦
           elim (split (lies_in w h (place_in to.value)) _ (Err to.word) (Ok command) f) [
             | inr (out, f') ↦ cc
             | inl (inside_to, f') ↦
-                let made : GridCommand = record { from = place_in from.value; to = place_in to.value; seed = seed; w = w; h = h } in
+                let made : GridCommand = record { from = place_in from.value; to = place_in to.value; seed = seed; w = w; h = h; files = files } in
                 let same : Form.TheVariants.Grid made ≡ command = cc in
                 let a = in_grid w h (place_in from.value) inside_from in
                 let b = in_grid w h (place_in to.value) inside_to in
@@ -194,18 +197,25 @@ grid_by-fit seed w h from to command fit_seed fit_w fit_h e =
           ]
     ]
 
-grid_with-fit : (after : ℕ) (seed w h from to : Option Given) (command : Command) →
+-- a command whose files may be wanting
+grid_over-fit : (seed w h : ℕ) (from to : Given) (files : Result (Option CodeCommand) ℕ) (command : Command) →
+    (seed ≤ 65535) → ((1 ≤ w) × (w ≤ 1000)) → ((1 ≤ h) × (h ≤ 1000)) →
+    grid_over seed w h from to files ≡ Ok command → IsFit command
+grid_over-fit seed w h from to (Ok files) command fit_seed fit_w fit_h e = grid_by-fit seed w h from to files command fit_seed fit_w fit_h e
+grid_over-fit seed w h from to (Err word) command fit_seed fit_w fit_h e = absurd (err-not_ok word command e)
+
+grid_with-fit : (after : ℕ) (seed w h from to : Option Given) (files : Result (Option CodeCommand) ℕ) (command : Command) →
     ((e : Given) → seed ≡ Some e → number_in e.value ≤ 65535) →
     ((e : Given) → w ≡ Some e → (1 ≤ number_in e.value) × (number_in e.value ≤ 1000)) →
     ((e : Given) → h ≡ Some e → (1 ≤ number_in e.value) × (number_in e.value ≤ 1000)) →
-    grid_with after seed w h from to ≡ Ok command → IsFit command
-grid_with-fit after (Some seed) (Some w) (Some h) (Some from) (Some to) command a b c e =
-    grid_by-fit (number_in seed.value) (number_in w.value) (number_in h.value) from to command (a seed refl) (b w refl) (c h refl) e
-grid_with-fit after None w h from to command a b c e = cc
-grid_with-fit after (Some seed) None h from to command a b c e = cc
-grid_with-fit after (Some seed) (Some w) None from to command a b c e = cc
-grid_with-fit after (Some seed) (Some w) (Some h) None to command a b c e = cc
-grid_with-fit after (Some seed) (Some w) (Some h) (Some from) None command a b c e = cc
+    grid_with after seed w h from to files ≡ Ok command → IsFit command
+grid_with-fit after (Some seed) (Some w) (Some h) (Some from) (Some to) files command a b c e =
+    grid_over-fit (number_in seed.value) (number_in w.value) (number_in h.value) from to files command (a seed refl) (b w refl) (c h refl) e
+grid_with-fit after None w h from to files command a b c e = cc
+grid_with-fit after (Some seed) None h from to files command a b c e = cc
+grid_with-fit after (Some seed) (Some w) None from to files command a b c e = cc
+grid_with-fit after (Some seed) (Some w) (Some h) None to files command a b c e = cc
+grid_with-fit after (Some seed) (Some w) (Some h) (Some from) None files command a b c e = cc
 
 -- what is made is made of a grid within its limits
 make_with-fit : (after : ℕ) (seed w h what : Option Given) (command : Command) →
@@ -225,41 +235,56 @@ make_with-fit after (Some seed) (Some w) None what command a b c e = absurd (err
 make_with-fit after (Some seed) (Some w) (Some h) None command a b c e = absurd (err-not_ok after command e)
 
 code_with-fit : (after : ℕ) (lookups profile : Option Given) (command : Command) → code_with after lookups profile ≡ Ok command → IsFit command
-code_with-fit after (Some lookups) (Some profile) command e = cases command e
-  where
-    cases : (command : Command) → code_with after (Some lookups) (Some profile) ≡ Ok command → IsFit command
-    cases (Form.TheVariants.Grid made) e = cc
-    cases (Form.TheVariants.Make made) e = cc
-    cases (Form.TheVariants.Code made) e = tt
-    cases (Form.TheVariants.Route made) e = cc
+code_with-fit after (Some lookups) (Some profile) command e =
+    let made : CodeCommand = record { lookups = file_in lookups; profile = file_in profile } in
+    let same : Form.TheVariants.Code made ≡ command = cc in
+    subst IsFit same tt
 code_with-fit after None profile command e = absurd (err-not_ok after command e)
 code_with-fit after (Some lookups) None command e = absurd (err-not_ok after command e)
 
 route_with-fit : (after : ℕ) (lookups profile roads query : Option Given) (tiles : List Named) (command : Command) →
     route_with after lookups profile roads query tiles ≡ Ok command → IsFit command
-route_with-fit after (Some lookups) (Some profile) (Some roads) (Some query) tiles command e = cases command e
-  where
-    cases : (command : Command) → route_with after (Some lookups) (Some profile) (Some roads) (Some query) tiles ≡ Ok command → IsFit command
-    cases (Form.TheVariants.Grid made) e = cc
-    cases (Form.TheVariants.Make made) e = cc
-    cases (Form.TheVariants.Code made) e = cc
-    cases (Form.TheVariants.Route made) e = tt
+route_with-fit after (Some lookups) (Some profile) (Some roads) (Some query) tiles command e =
+    let made : RouteCommand =
+    record { lookups = file_in lookups; profile = file_in profile; map = file_in roads; query = file_in query; tiles = tiles } in
+    let same : Form.TheVariants.Route made ≡ command = cc in
+    subst IsFit same tt
 route_with-fit after None profile roads query tiles command e = absurd (err-not_ok after command e)
 route_with-fit after (Some lookups) None roads query tiles command e = absurd (err-not_ok after command e)
 route_with-fit after (Some lookups) (Some profile) None query tiles command e = absurd (err-not_ok after command e)
 route_with-fit after (Some lookups) (Some profile) (Some roads) None tiles command e = absurd (err-not_ok after command e)
 
+-- a hilly grid is within its limits
+hills_with-fit : (after : ℕ) (seed w h : Option Given) (command : Command) →
+    ((e : Given) → seed ≡ Some e → number_in e.value ≤ 65535) →
+    ((e : Given) → w ≡ Some e → (1 ≤ number_in e.value) × (number_in e.value ≤ 1000)) →
+    ((e : Given) → h ≡ Some e → (1 ≤ number_in e.value) × (number_in e.value ≤ 1000)) →
+    hills_with after seed w h ≡ Ok command → IsFit command
+hills_with-fit after (Some seed) (Some w) (Some h) command a b c e =
+    let made : HillsCommand = record { seed = number_in seed.value; w = number_in w.value; h = number_in h.value } in
+    let same : Form.TheVariants.Hills made ≡ command = cc in
+    let wide = b w refl in
+    let high = c h refl in
+    subst IsFit same (record { seeds = a seed refl; some_width = wide.0; width = wide.1; some_height = high.0; height = high.1 })
+hills_with-fit after None w h command a b c e = absurd (err-not_ok after command e)
+hills_with-fit after (Some seed) None h command a b c e = absurd (err-not_ok after command e)
+hills_with-fit after (Some seed) (Some w) None command a b c e = absurd (err-not_ok after command e)
+
 complete-fit : (name : CommandName) (entries : List Given) (after : ℕ) (command : Command) → AllFit (keys_of name) entries → complete name entries after ≡ Ok command → IsFit command
 unfolding complete keys_of
 complete-fit Name.Grid entries after command all e =
     grid_with-fit after (entry_with Seed entries) (entry_with Width entries) (entry_with Height entries)
-    (entry_with From entries) (entry_with To entries) command
+    (entry_with From entries) (entry_with To entries) (files_with after (entry_with Lookups entries) (entry_with Profile entries)) command
     (λ x is. (with-fit (keys_of Name.Grid) Seed entries x all is).1) (λ x is. with-fit (keys_of Name.Grid) Width entries x all is)
     (λ x is. with-fit (keys_of Name.Grid) Height entries x all is) e
 complete-fit Name.Make entries after command all e =
     make_with-fit after (entry_with Seed entries) (entry_with Width entries) (entry_with Height entries) (entry_with What entries) command
     (λ x is. (with-fit (keys_of Name.Make) Seed entries x all is).1) (λ x is. with-fit (keys_of Name.Make) Width entries x all is)
     (λ x is. with-fit (keys_of Name.Make) Height entries x all is) e
+complete-fit Name.Hills entries after command all e =
+    hills_with-fit after (entry_with Seed entries) (entry_with Width entries) (entry_with Height entries) command
+    (λ x is. (with-fit (keys_of Name.Hills) Seed entries x all is).1) (λ x is. with-fit (keys_of Name.Hills) Width entries x all is)
+    (λ x is. with-fit (keys_of Name.Hills) Height entries x all is) e
 complete-fit Name.Code entries after command all e = code_with-fit after (entry_with Lookups entries) (entry_with Profile entries) command e
 complete-fit Name.Route entries after command all e =
     route_with-fit after (entry_with Lookups entries) (entry_with Profile entries) (entry_with Map entries) (entry_with Query entries)

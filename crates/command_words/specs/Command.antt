@@ -6,30 +6,46 @@ use Rattle.command_words.specs.Reader.{entries_of, entries_with, entry_with}
 use Rattle.command_words.specs.Rows.{command_name, commands, keys_of}
 use Rattle.command_words.specs.Value.{same_text, number_in, place_in, product_in}
 use Rattle.command_words.specs.declared.rows.CommandName.{CommandName}
-use Rattle.command_words.specs.declared.rows.CommandName.TheVariants.{Grid, Make, Code, Route}
+use Rattle.command_words.specs.declared.rows.CommandName.TheVariants.{Grid, Make, Code, Route, Hills}
 use Rattle.command_words.specs.declared.rows.Key.TheVariants.{Seed, Width, Height, From, To, What, Lookups, Profile, Map, Query, Tile}
 use Rattle.command_words.specs.declared.command.Command.{Command}
 use Rattle.command_words.specs.declared.command.Command as Form
+use Rattle.command_words.specs.declared.command.CodeCommand.{CodeCommand}
 use Rattle.command_words.specs.declared.value.Place.{Place}
 
 -- a place lies in a grid of these sizes
 abbrev pub lies_in : ℕ → ℕ → Place → Bool
 lies_in w h place = nat_lt place.x w && nat_lt place.y h
 
--- the command of a seed, sizes and two places with their words, or the word of the first place outside the grid
-abbrev pub grid_by : ℕ → ℕ → ℕ → Given → Given → Result Command ℕ
-grid_by seed w h from to =
+-- the file that an entry names
+abbrev pub file_in : Given → Named
+file_in entry = record { name = entry.text; word = entry.word }
+
+-- the two files of a profile, none where neither is there, or the place after the last word where one is missing
+abbrev pub files_with : ℕ → Option Given → Option Given → Result (Option CodeCommand) ℕ
+files_with after (Some lookups) (Some profile) = Ok (Some (record { lookups = file_in lookups; profile = file_in profile }))
+files_with after None None = Ok None
+files_with after lookups profile = Err after
+
+-- the command of a seed, sizes, two places with their words, and files, or the word of the first place outside the grid
+abbrev pub grid_by : ℕ → ℕ → ℕ → Given → Given → Option CodeCommand → Result Command ℕ
+grid_by seed w h from to files =
     cond (lies_in w h (place_in from.value))
     (cond (lies_in w h (place_in to.value))
-    (Ok (Form.TheVariants.Grid (record { from = place_in from.value; to = place_in to.value; seed = seed; w = w; h = h })))
+    (Ok (Form.TheVariants.Grid (record { from = place_in from.value; to = place_in to.value; seed = seed; w = w; h = h; files = files })))
     (Err to.word))
     (Err from.word)
 
+-- the same where the files may be wanting
+abbrev pub grid_over : ℕ → ℕ → ℕ → Given → Given → Result (Option CodeCommand) ℕ → Result Command ℕ
+grid_over seed w h from to (Ok files) = grid_by seed w h from to files
+grid_over seed w h from to (Err word) = Err word
+
 -- the command of the entries that are there, or the place after the last word where one is missing
-abbrev pub grid_with : ℕ → Option Given → Option Given → Option Given → Option Given → Option Given → Result Command ℕ
-grid_with after (Some seed) (Some w) (Some h) (Some from) (Some to) =
-    grid_by (number_in seed.value) (number_in w.value) (number_in h.value) from to
-grid_with after seed w h from to = Err after
+abbrev pub grid_with : ℕ → Option Given → Option Given → Option Given → Option Given → Option Given → Result (Option CodeCommand) ℕ → Result Command ℕ
+grid_with after (Some seed) (Some w) (Some h) (Some from) (Some to) files =
+    grid_over (number_in seed.value) (number_in w.value) (number_in h.value) from to files
+grid_with after seed w h from to files = Err after
 
 -- the command of what is to be made of a grid, or the place after the last word where one is missing
 abbrev pub make_with : ℕ → Option Given → Option Given → Option Given → Option Given → Result Command ℕ
@@ -41,10 +57,6 @@ make_with after (Some seed) (Some w) (Some h) (Some what) =
       what = product_in what.value;
     }))
 make_with after seed w h what = Err after
-
--- the file that an entry names
-abbrev pub file_in : Given → Named
-file_in entry = record { name = entry.text; word = entry.word }
 
 -- the command of the two files, or the place after the last word where one is missing
 abbrev pub code_with : ℕ → Option Given → Option Given → Result Command ℕ
@@ -68,17 +80,24 @@ route_with after (Some lookups) (Some profile) (Some roads) (Some query) tiles =
     }))
 route_with after lookups profile roads query tiles = Err after
 
+-- the command of a hilly grid, or the place after the last word where an entry is missing
+abbrev pub hills_with : ℕ → Option Given → Option Given → Option Given → Result Command ℕ
+hills_with after (Some seed) (Some w) (Some h) =
+    Ok (Form.TheVariants.Hills (record { seed = number_in seed.value; w = number_in w.value; h = number_in h.value }))
+hills_with after seed w h = Err after
+
 -- the command of this name and these entries, before the word at this place
 unfoldable pub complete : CommandName → List Given → ℕ → Result Command ℕ
 complete Grid entries after =
     grid_with after (entry_with Seed entries) (entry_with Width entries) (entry_with Height entries)
-    (entry_with From entries) (entry_with To entries)
+    (entry_with From entries) (entry_with To entries) (files_with after (entry_with Lookups entries) (entry_with Profile entries))
 complete Make entries after =
     make_with after (entry_with Seed entries) (entry_with Width entries) (entry_with Height entries) (entry_with What entries)
 complete Code entries after = code_with after (entry_with Lookups entries) (entry_with Profile entries)
 complete Route entries after =
     route_with after (entry_with Lookups entries) (entry_with Profile entries) (entry_with Map entries)
     (entry_with Query entries) (tiles_in entries)
+complete Hills entries after = hills_with after (entry_with Seed entries) (entry_with Width entries) (entry_with Height entries)
 
 -- the command of this name and the words after it
 abbrev pub command_with : CommandName → List (List ℕ) → Result Command ℕ

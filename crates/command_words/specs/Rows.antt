@@ -6,7 +6,7 @@ use Rattle.command_words.specs.declared.rows.Form.{Form}
 use Rattle.command_words.specs.declared.rows.Form.TheVariants as form
 use Rattle.command_words.specs.declared.rows.KeyRow.{KeyRow}
 use Rattle.command_words.specs.declared.rows.CommandName.{CommandName}
-use Rattle.command_words.specs.declared.rows.CommandName.TheVariants.{Grid, Make, Code, Route}
+use Rattle.command_words.specs.declared.rows.CommandName.TheVariants.{Grid, Make, Code, Route, Hills}
 
 -- what stands before the equals sign
 unfoldable pub key_name : Key → List ℕ
@@ -28,6 +28,7 @@ command_name Grid = codes "grid"
 command_name Make = codes "make"
 command_name Code = codes "code"
 command_name Route = codes "route"
+command_name Hills = codes "hills"
 
 -- a key that is wanted once
 abbrev pub once : Key → Form → KeyRow
@@ -40,20 +41,23 @@ up_to most key wanted = record { form = wanted; least = 0; most = most; key = ke
 -- the keys of a command
 unfoldable pub keys_of : CommandName → List KeyRow
 keys_of Grid =
-    once Seed (form.Number 0 65535) ∷ once Width (form.Number 1 1000) ∷ once Height (form.Number 1 1000) ∷ once From form.Place ∷ once To form.Place ∷ []
+    once Seed (form.Number 0 65535) ∷ once Width (form.Number 1 1000) ∷ once Height (form.Number 1 1000) ∷ once From form.Place ∷ once To form.Place
+    ∷ up_to 1 Lookups form.File ∷ up_to 1 Profile form.ProfileFile ∷ []
 keys_of Make =
     once Seed (form.Number 0 65535) ∷ once Width (form.Number 1 1000) ∷ once Height (form.Number 1 1000) ∷ once What form.Product ∷ []
 keys_of Code = once Lookups form.File ∷ once Profile form.ProfileFile ∷ []
 keys_of Route =
     once Lookups form.File ∷ once Profile form.ProfileFile ∷ once Map form.File ∷ once Query form.Query ∷ up_to 64 Tile form.File ∷ []
+keys_of Hills = once Seed (form.Number 0 65535) ∷ once Width (form.Number 1 1000) ∷ once Height (form.Number 1 1000) ∷ []
 
 -- what a command does
 unfoldable pub about_of : CommandName → List ℕ
-about_of Grid = codes "prints a shortest walk across the grid of w by h cells of a seed"
+about_of Grid = codes "prints a shortest walk across the grid of w by h cells of a seed, or a cheapest one by a profile"
 about_of Make = codes "writes the map of the grid of w by h cells of a seed, or the tile of heights of the seed"
 about_of Code = codes "prints the flat code of a profile under a tag table"
 about_of Route = codes "answers a query over a map by a profile, with heights from tiles"
+about_of Hills = codes "prints what the cheapest track costs from corner to corner of the hilly grid of w by h cells of a seed"
 
 -- the commands that are built
 abbrev pub commands : List CommandName
-commands = Grid ∷ Make ∷ Code ∷ Route ∷ []
+commands = Grid ∷ Make ∷ Code ∷ Route ∷ Hills ∷ []

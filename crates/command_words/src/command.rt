@@ -1,9 +1,9 @@
 //! The command that the words are.
 
-ghost use Rattle.std.specs.Prelude.{◌≡◌, Ok, Err, IfOk, MatchResult};
-ghost use Rattle.command_words.specs.Command.{command_named, command_of, command_with, complete, grid_by, lies_in, tiles_in};
+ghost use Rattle.std.specs.Prelude.{◌≡◌, Ok, Err, IfOk, MatchResult, option_map};
+ghost use Rattle.command_words.specs.Command.{command_named, command_of, command_with, complete, files_with, grid_by, lies_in, tiles_in};
 ghost use Rattle.command_words.specs.Fit.{IsFit};
-ghost use Rattle.command_words.specs.Refusals.{OnUsage, texts_of};
+ghost use Rattle.command_words.specs.Refusals.{OnUsage, now_of, texts_of};
 ghost use Rattle.command_words.specs.declared.rows.CommandName.{CommandName};
 
 use crate::entry::{Entry, FileWord};
@@ -13,14 +13,16 @@ use crate::value::{Place, Product};
 use item_list::Items;
 use std::alloc::{AllocError, Global};
 
-/// The command `grid`: the grid of a seed with `w` cells in a row and `h` rows, and two places in it.
-#[derive(Clone, Copy)]
-pub struct GridCommand {
+/// The command `grid`: the grid of a seed with `w` cells in a row and `h` rows, two places in it, and the files of a
+/// profile, if it is to go by one.
+#[derive(Drop)]
+pub struct GridCommand<'a> {
     pub from: Place,
     pub to: Place,
     pub seed: u64,
     pub w: u64,
     pub h: u64,
+    pub files: Option<CodeCommand<'a>>,
 }
 
 /// The command `make`: the grid of a seed with `w` cells in a row and `h` rows, and what is made of it.
@@ -49,13 +51,22 @@ pub struct RouteCommand<'a> {
     pub tiles: Items<FileWord<'a>>,
 }
 
+/// The command `hills`: the hilly grid of a seed with `w` cells in a row and `h` rows.
+#[derive(Clone, Copy)]
+pub struct HillsCommand {
+    pub seed: u64,
+    pub w: u64,
+    pub h: u64,
+}
+
 /// What the words ask for.
 #[derive(Drop)]
 pub enum Command<'a> {
-    Grid(GridCommand),
+    Grid(GridCommand<'a>),
     Make(MakeCommand),
     Code(CodeCommand<'a>),
     Route(RouteCommand<'a>),
+    Hills(HillsCommand),
 }
 
 /// The command of the words; `Usage` with the place of the first word at fault.
@@ -134,6 +145,7 @@ fn complete<'a>(
         CommandName::Make => complete_make(entries, after),
         CommandName::Code => complete_code(entries, after),
         CommandName::Route => complete_route(entries, tiles, after),
+        CommandName::Hills => complete_hills(entries, after),
     }
 }
 
@@ -147,12 +159,47 @@ fn complete_grid<'a>(entries: &[Entry<'a>], after: u64) -> Result<Command<'a>, u
     let h = entry_with(entries, Key::Height).ok_or(after)?;
     let from = entry_with(entries, Key::From).ok_or(after)?;
     let to = entry_with(entries, Key::To).ok_or(after)?;
-    grid_by(seed.number(), w.number(), h.number(), from, to)
+    let files = files_with(
+        entry_with(entries, Key::Lookups),
+        entry_with(entries, Key::Profile),
+        after,
+    )?;
+    grid_by(seed.number(), w.number(), h.number(), from, to, files)
+}
+
+/// The files of a profile, where both are there or neither is, before the word at the place `after`.
+fn files_with<'a>(
+    lookups: Option<&Entry<'a>>,
+    profile: Option<&Entry<'a>>,
+    after: u64,
+) -> Result<Option<CodeCommand<'a>>, u64>
+    ensures exact { result ≡ files_with after (option_map now_of lookups.entry) (option_map now_of profile.entry) }
+{
+    match lookups {
+        Some(lookups) => match profile {
+            Some(profile) => Ok(Some(CodeCommand {
+                lookups: lookups.file(),
+                profile: profile.file(),
+            })),
+            None => Err(after),
+        },
+        None => match profile {
+            Some(_) => Err(after),
+            None => Ok(None),
+        },
+    }
 }
 
 /// The grid of a seed and sizes between two places, where they lie in it.
-fn grid_by<'a>(seed: u64, w: u64, h: u64, from: &Entry, to: &Entry) -> Result<Command<'a>, u64>
-    ensures exact { result ≡ grid_by seed w h from.now to.now }
+fn grid_by<'a>(
+    seed: u64,
+    w: u64,
+    h: u64,
+    from: &Entry,
+    to: &Entry,
+    files: Option<CodeCommand<'a>>,
+) -> Result<Command<'a>, u64>
+    ensures exact { result ≡ grid_by seed w h from.now to.now files.entry }
 {
     if !lies_in(w, h, from.place()) {
         return Err(from.word());
@@ -166,6 +213,7 @@ fn grid_by<'a>(seed: u64, w: u64, h: u64, from: &Entry, to: &Entry) -> Result<Co
         seed,
         w,
         h,
+        files,
     }))
 }
 
@@ -219,6 +267,21 @@ fn complete_route<'a>(
         map: map.file(),
         query: query.file(),
         tiles,
+    }))
+}
+
+/// The command `hills` of these entries, before the word at the place `after`.
+#[tactic(auto, unfolding(crate::specs::Command::complete))]
+fn complete_hills<'a>(entries: &[Entry<'a>], after: u64) -> Result<Command<'a>, u64>
+    ensures exact { result ≡ complete CommandName.Hills entries.now after }
+{
+    let seed = entry_with(entries, Key::Seed).ok_or(after)?;
+    let w = entry_with(entries, Key::Width).ok_or(after)?;
+    let h = entry_with(entries, Key::Height).ok_or(after)?;
+    Ok(Command::Hills(HillsCommand {
+        seed: seed.number(),
+        w: w.number(),
+        h: h.number(),
     }))
 }
 

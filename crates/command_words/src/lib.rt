@@ -9,7 +9,9 @@ mod reader;
 mod rows;
 mod value;
 
-pub use command::{CodeCommand, Command, GridCommand, MakeCommand, RouteCommand, command_of};
+pub use command::{
+    CodeCommand, Command, GridCommand, HillsCommand, MakeCommand, RouteCommand, command_of,
+};
 pub use entry::FileWord;
 pub use file_names::{is_profile_file, profile_name};
 pub use help::told_text;

@@ -52,18 +52,20 @@ pub enum CommandName {
     Make,
     Code,
     Route,
+    Hills,
 }
 
 /// The commands that are built.
-pub const COMMANDS: [CommandName; 4] = [
+pub const COMMANDS: [CommandName; 5] = [
     CommandName::Grid,
     CommandName::Make,
     CommandName::Code,
     CommandName::Route,
+    CommandName::Hills,
 ];
 
 /// The keys of the command `grid`.
-const GRID_KEYS: [KeyRow; 5] = [
+const GRID_KEYS: [KeyRow; 7] = [
     KeyRow {
         form: Form::Number {
             low: 0,
@@ -96,6 +98,18 @@ const GRID_KEYS: [KeyRow; 5] = [
         least: 1,
         most: 1,
         key: Key::To,
+    },
+    KeyRow {
+        form: Form::File,
+        least: 0,
+        most: 1,
+        key: Key::Lookups,
+    },
+    KeyRow {
+        form: Form::ProfileFile,
+        least: 0,
+        most: 1,
+        key: Key::Profile,
     },
 ];
 
@@ -180,6 +194,31 @@ const ROUTE_KEYS: [KeyRow; 5] = [
     },
 ];
 
+/// The keys of the command `hills`.
+const HILLS_KEYS: [KeyRow; 3] = [
+    KeyRow {
+        form: Form::Number {
+            low: 0,
+            high: 65535,
+        },
+        least: 1,
+        most: 1,
+        key: Key::Seed,
+    },
+    KeyRow {
+        form: Form::Number { low: 1, high: 1000 },
+        least: 1,
+        most: 1,
+        key: Key::Width,
+    },
+    KeyRow {
+        form: Form::Number { low: 1, high: 1000 },
+        least: 1,
+        most: 1,
+        key: Key::Height,
+    },
+];
+
 impl Key {
     /// What stands before the equals sign.
     #[tactic(auto, unfolding(crate::specs::Rows::key_name))]
@@ -213,6 +252,7 @@ impl CommandName {
             CommandName::Make => "make",
             CommandName::Code => "code",
             CommandName::Route => "route",
+            CommandName::Hills => "hills",
         }
     }
 
@@ -226,6 +266,7 @@ impl CommandName {
             CommandName::Make => &MAKE_KEYS,
             CommandName::Code => &CODE_KEYS,
             CommandName::Route => &ROUTE_KEYS,
+            CommandName::Hills => &HILLS_KEYS,
         }
     }
 
@@ -235,12 +276,15 @@ impl CommandName {
         ensures exact { result.now ≡ about_of self }
     {
         match self {
-            CommandName::Grid => "prints a shortest walk across the grid of w by h cells of a seed",
+            CommandName::Grid =>
+                "prints a shortest walk across the grid of w by h cells of a seed, or a cheapest one by a profile",
             CommandName::Make =>
                 "writes the map of the grid of w by h cells of a seed, or the tile of heights of the seed",
             CommandName::Code => "prints the flat code of a profile under a tag table",
             CommandName::Route =>
                 "answers a query over a map by a profile, with heights from tiles",
+            CommandName::Hills =>
+                "prints what the cheapest track costs from corner to corner of the hilly grid of w by h cells of a seed",
         }
     }
 }

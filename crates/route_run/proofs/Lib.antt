@@ -5,5 +5,6 @@ pub mod TextLemmas
 pub mod EdgeLemmas
 pub mod PlanLemmas
 pub mod RoutedLemmas
+pub mod MadeLemmas
 pub mod RunLemmas
 pub mod TileLemmas

@@ -16,13 +16,20 @@ use Rattle.profile_text.specs.Tree.{Sections}
 use Rattle.context_check.specs.Refusal.{refusal_of}
 use Rattle.route_http.specs.Asked.{Asked}
 use Rattle.route_http.specs.Request.{request_of}
+use Rattle.route_ready.specs.declared.error.RouteError.{RouteError}
 use Rattle.item_list.specs.Answer.{answer_map}
 use Rattle.route_run.specs.Answer.Code.{IsCodeAnswer, listing_in, listing_by}
-use Rattle.route_run.specs.Answer.Grid.{IsGridAnswer}
+use Rattle.grid_map.specs.MapText.{overpass_text}
+use Rattle.grid_map.specs.declared.plan.Plan.{Plan}
+use Rattle.made_routes.specs.Hills.{IsHillsRefusal}
+use Rattle.made_routes.specs.Walks.{WalkQuestion}
+use Rattle.route_run.specs.Answer.Grid.{IsGridAnswerBy, IsPricedAnswer, IsPricedRefusal, IsShortestAnswer, PricesByTable, question_by}
+use Rattle.route_run.specs.Answer.Hills.{IsHillsAnswerOver, hills_plan}
 use Rattle.route_run.specs.Answer.Make.{made_by}
+use Rattle.route_run.specs.Answer.Refused.{IsMadeRefusal}
 use Rattle.route_run.specs.Answer.Route.{Inputs, IsRouteAnswer, IsRouted, Routes, RoutesByTiles}
 use Rattle.route_run.specs.Ends.{Ends}
-use Rattle.route_run.specs.Outcome.{IsAnswer, IsCommandAnswer, HasCause, HasReadCause, HasOpened, HasOpenedAll, IsComplete, file_words}
+use Rattle.route_run.specs.Outcome.{IsAnswer, IsCommandAnswer, HasCause, HasReadCause, HasOpened, HasOpenedAll, IsComplete, file_words, profile_words}
 use Rattle.route_run.specs.Stage.Checked.{TakesChecked, checked_by, checked_in}
 use Rattle.route_run.specs.Stage.Profile.{TakesProfile, profile_in}
 use Rattle.route_run.specs.Stage.Query.{query_in}
@@ -152,30 +159,74 @@ route-cause command =
     (map-cause command.map.word command.map.name)
     (by_tiles-cause command asked table sections))))
 
+-- a shortest walk
+shortest-cause : (command : GridCommand) (old new : FilesSeen) (r : Result (List ℕ) Status) → IsShortestAnswer command r → new ≡ old → Cause [] old new r
+shortest-cause command old new (Ok bytes) is same = record { faults = ap (λ (s : FilesSeen). s.faults) same; opened = ap (λ (s : FilesSeen). s.opens) same }
+shortest-cause command old new (Err (Route error line)) is same = opened-none old new same
+shortest-cause command old new (Err NoMemory) is same = opened-none old new same
+shortest-cause command old new (Err Done) is same = absurd is
+shortest-cause command old new (Err (Usage word)) is same = absurd is
+shortest-cause command old new (Err (Query error)) is same = absurd is
+shortest-cause command old new (Err (Map word error)) is same = absurd is
+shortest-cause command old new (Err (Tile word error)) is same = absurd is
+shortest-cause command old new (Err (TooLong word)) is same = absurd is
+shortest-cause command old new (Err (Lookup word error)) is same = absurd is
+shortest-cause command old new (Err (Text word error)) is same = absurd is
+shortest-cause command old new (Err (Check word error)) is same = absurd is
+shortest-cause command old new (Err (NotFound word)) is same = absurd is
+shortest-cause command old new (Err (ReadFault word)) is same = absurd is
+shortest-cause command old new (Err WriteFault) is same = absurd is
+
+-- a refusal over a map that is made
+made-cause : (text : List ℕ) (Refuses : RouteError → Type 0) (profile : Option Sections) (old new : FilesSeen) (status : Status) →
+    IsMadeRefusal text Refuses profile status → new ≡ old → RefusalCause [] old new status
+made-cause text Refuses profile old new Done is same = absurd is
+made-cause text Refuses profile old new (Usage word) is same = absurd is
+made-cause text Refuses profile old new (Query error) is same = absurd is
+made-cause text Refuses profile old new (TooLong word) is same = absurd is
+made-cause text Refuses profile old new (Lookup word error) is same = absurd is
+made-cause text Refuses profile old new (Text word error) is same = absurd is
+made-cause text Refuses profile old new (Check word error) is same = absurd is
+made-cause text Refuses profile old new (Map word error) is same = opened-none old new same
+made-cause text Refuses profile old new (Tile word error) is same = absurd is
+made-cause text Refuses profile old new (Route error line) is same = opened-none old new same
+made-cause text Refuses profile old new (NotFound word) is same = absurd is
+made-cause text Refuses profile old new (ReadFault word) is same = absurd is
+made-cause text Refuses profile old new WriteFault is same = absurd is
+made-cause text Refuses profile old new NoMemory is same = opened-none old new same
+
+-- a cheapest walk by a profile that was taken in
+prices-cause : (question : WalkQuestion) (old new : FilesSeen) (r : Result (List ℕ) Status) → IsPricedAnswer question r → new ≡ old → Cause [] old new r
+prices-cause question old new (Ok bytes) is same = record { faults = ap (λ (s : FilesSeen). s.faults) same; opened = ap (λ (s : FilesSeen). s.opens) same }
+prices-cause question old new (Err status) is same =
+    made-cause (overpass_text question.plan) (IsPricedRefusal question) (Some question.sections) old new status is same
+
+-- a cheapest walk, with the files of its profile
+priced-cause : (command : GridCommand) (words : CodeCommand) (old new : FilesSeen) (r : Result (List ℕ) Status) → PricesByTable command words old new r →
+    Cause (words.lookups.word ∷ words.profile.word ∷ []) old new r
+priced-cause command words =
+    then-cause _ _ (words.lookups.word ∷ []) (words.profile.word ∷ []) (table-cause words.lookups.word words.lookups.name)
+    (λ table. then-cause _ _ (words.profile.word ∷ []) [] (checked-cause words.profile.word words.profile.name table)
+    (λ sections old new r is. prices-cause (question_by command table sections) old new r is.0 is.1))
+
 -- the command `grid`
-grid-cause : (command : GridCommand) (old new : FilesSeen) (r : Result (List ℕ) Status) → IsGridAnswer command r → new ≡ old → Cause [] old new r
-grid-cause command old new (Ok bytes) is same = record { faults = ap (λ (s : FilesSeen). s.faults) same; opened = ap (λ (s : FilesSeen). s.opens) same }
-grid-cause command old new (Err (Route error line)) is same = opened-none old new same
-grid-cause command old new (Err NoMemory) is same = opened-none old new same
-grid-cause command old new (Err Done) is same = absurd is
-grid-cause command old new (Err (Usage word)) is same = absurd is
-grid-cause command old new (Err (Query error)) is same = absurd is
-grid-cause command old new (Err (Map word error)) is same = absurd is
-grid-cause command old new (Err (Tile word error)) is same = absurd is
-grid-cause command old new (Err (TooLong word)) is same = absurd is
-grid-cause command old new (Err (Lookup word error)) is same = absurd is
-grid-cause command old new (Err (Text word error)) is same = absurd is
-grid-cause command old new (Err (Check word error)) is same = absurd is
-grid-cause command old new (Err (NotFound word)) is same = absurd is
-grid-cause command old new (Err (ReadFault word)) is same = absurd is
-grid-cause command old new (Err WriteFault) is same = absurd is
+grid-cause : (files : Option CodeCommand) (command : GridCommand) (old new : FilesSeen) (r : Result (List ℕ) Status) → IsGridAnswerBy files command old new r →
+    Cause (profile_words files) old new r
+grid-cause None command old new r is = shortest-cause command old new r is.0 is.1
+grid-cause (Some words) command old new r is = priced-cause command words old new r is
+
+-- the command `hills`
+hills-cause : (plan : Plan) (old new : FilesSeen) (r : Result (List ℕ) Status) → IsHillsAnswerOver plan r → new ≡ old → Cause [] old new r
+hills-cause plan old new (Ok bytes) is same = record { faults = ap (λ (s : FilesSeen). s.faults) same; opened = ap (λ (s : FilesSeen). s.opens) same }
+hills-cause plan old new (Err status) is same = made-cause (overpass_text plan) (IsHillsRefusal plan) None old new status is same
 
 -- each command
 command-cause : (command : Command) (old new : FilesSeen) (r : Result (List ℕ) Status) → IsCommandAnswer command old new r → Cause (file_words (Ok command)) old new r
-command-cause (Form.TheVariants.Grid command) old new r is = grid-cause command old new r is.0 is.1
+command-cause (Form.TheVariants.Grid command) old new r is = grid-cause command.files command old new r is
 command-cause (Form.TheVariants.Make command) old new r is = settles-cause (Ok (made_by command)) old new r (λ status none. cc) is
 command-cause (Form.TheVariants.Code command) old new r is = code-cause command old new r is
 command-cause (Form.TheVariants.Route command) old new r is = route-cause command old new r is
+command-cause (Form.TheVariants.Hills command) old new r is = hills-cause (hills_plan command) old new r is.0 is.1
 
 -- ---- The program
 

@@ -1,10 +1,11 @@
 -- What the program answers to words over files and an output. This project's own rule.
-use Rattle.std.specs.Prelude.{ℕ, suc, ◌≡◌, ◌≤◌, List, [], ◌∷◌, length, map, slice_get, Some, Result, Ok, Err}
+use Rattle.std.specs.Prelude.{ℕ, suc, ◌≡◌, ◌≤◌, List, [], ◌∷◌, length, map, slice_get, Option, Some, None, Result, Ok, Err}
 use Rattle.edge_io.specs.Faults.{CountRose, count_after}
 use Rattle.edge_io.specs.Files.{FilesSeen}
 use Rattle.edge_io.specs.Sink.{SinkSeen}
 use Rattle.route_run.specs.Answer.Code.{IsCodeAnswer}
 use Rattle.route_run.specs.Answer.Grid.{IsGridAnswer}
+use Rattle.route_run.specs.Answer.Hills.{IsHillsAnswer}
 use Rattle.route_run.specs.Answer.Make.{made_by}
 use Rattle.route_run.specs.Answer.Route.{IsRouteAnswer}
 use Rattle.route_run.specs.Ends.{Ends}
@@ -12,6 +13,7 @@ use Rattle.item_list.specs.Answer.{answer_map}
 use Rattle.route_run.specs.Stage.Chain.{Settles, Then}
 use Rattle.command_words.specs.Command.{command_of}
 use Rattle.command_words.specs.Given.{Named}
+use Rattle.command_words.specs.declared.command.CodeCommand.{CodeCommand}
 use Rattle.command_words.specs.declared.command.Command.{Command}
 use Rattle.command_words.specs.declared.command.Command as Form
 use Rattle.route_run.specs.declared.status.Status.{Status}
@@ -21,12 +23,13 @@ use Rattle.route_run.specs.declared.status.Status.TheVariants.{Done, Usage, Read
 abbrev pub command_in : List (List ℕ) → Result Command Status
 command_in words = answer_map (λ (c : Command). c) Usage (command_of words)
 
--- what is answered of a command; `grid` and `make` leave the files untouched
+-- what is answered of a command; `make` and `hills` leave the files untouched
 abbrev pub IsCommandAnswer : Command → FilesSeen → FilesSeen → Result (List ℕ) Status → Type 0
-IsCommandAnswer (Form.TheVariants.Grid command) old new answer = IsGridAnswer command answer × (new ≡ old)
+IsCommandAnswer (Form.TheVariants.Grid command) old new answer = IsGridAnswer command old new answer
 IsCommandAnswer (Form.TheVariants.Make command) old new answer = Settles (Ok (made_by command)) old new answer
 IsCommandAnswer (Form.TheVariants.Code command) old new answer = IsCodeAnswer command old new answer
 IsCommandAnswer (Form.TheVariants.Route command) old new answer = IsRouteAnswer command old new answer
+IsCommandAnswer (Form.TheVariants.Hills command) old new answer = IsHillsAnswer command answer × (new ≡ old)
 
 -- what is answered to words over files: the words are read, and then their command is answered
 abbrev pub IsAnswer : List (List ℕ) → FilesSeen → FilesSeen → Result (List ℕ) Status → Type 0
@@ -52,13 +55,19 @@ abbrev pub HasCause : Status → ℕ → ℕ → Type 0
 HasCause WriteFault old new = CountRose old new
 HasCause status old new = new ≡ old
 
+-- the words of the files of a profile, if there are any
+abbrev pub profile_words : Option CodeCommand → List ℕ
+profile_words None = []
+profile_words (Some files) = files.lookups.word ∷ files.profile.word ∷ []
+
 -- the words of a command's files, in the order in which they are opened
 abbrev pub file_words : Result Command ℕ → List ℕ
-file_words (Ok (Form.TheVariants.Grid command)) = []
+file_words (Ok (Form.TheVariants.Grid command)) = profile_words command.files
 file_words (Ok (Form.TheVariants.Make command)) = []
 file_words (Ok (Form.TheVariants.Code command)) = command.lookups.word ∷ command.profile.word ∷ []
 file_words (Ok (Form.TheVariants.Route command)) =
     command.lookups.word ∷ command.profile.word ∷ command.map.word ∷ map (λ (tile : Named). tile.word) command.tiles
+file_words (Ok (Form.TheVariants.Hills command)) = []
 file_words (Err fault) = []
 
 -- a read fault comes where the count of faults rose, and names the word of the file that was opened last

@@ -2,6 +2,7 @@
 
 pub(crate) mod code;
 pub(crate) mod grid;
+pub(crate) mod hills;
 pub(crate) mod lines;
 pub(crate) mod make;
 pub(crate) mod refused;

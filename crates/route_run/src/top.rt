@@ -12,6 +12,7 @@ ghost use Rattle.command_words.specs.declared.command.Command.{Command as TheCom
 
 use crate::answer::code::code_answer;
 use crate::answer::grid::grid_answer;
+use crate::answer::hills::hills_answer;
 use crate::answer::make::make_answer;
 use crate::answer::route::route_answer;
 use crate::output::Output;
@@ -66,9 +67,10 @@ fn command_answer<F: Files>(
     ensures exact { IsCommandAnswer command.now (F.seen files.old) (F.seen files.new) (output_in result) }
 {
     match command {
-        Command::Grid(command) => at_hand(grid_answer(alloc, command)),
+        Command::Grid(command) => at_hand(grid_answer(alloc, command, files)),
         Command::Make(command) => make_answer(alloc, command),
         Command::Code(command) => at_hand(code_answer(alloc, command, files)),
         Command::Route(command) => at_hand(route_answer(alloc, command, files)),
+        Command::Hills(command) => at_hand(hills_answer(alloc, command)),
     }
 }

@@ -1,11 +1,13 @@
-//! What the command `grid` prints.
+//! What the commands `grid` and `hills` print.
 
 ghost use Rattle.std.specs.Prelude.{◌≡◌, ◌++◌, ◌<◌, IfOk, OnOk};
-ghost use Rattle.route_run.specs.Answer.Lines.{grid_lines, cells_text};
+ghost use Rattle.route_run.specs.Answer.Lines.{cells_text, cost_text, grid_lines, hills_lines, priced_lines};
 
+use fixed_num::SixDecimals;
 use geo_int::mm3;
 use grid_map::{Grid, GridWalk};
-use item_list::{append_named, append_number, bytes_of};
+use item_list::{append_named, append_number, append_wide, bytes_of};
+use made_routes::{Hills, PricedWalk};
 use std::alloc::{AllocError, Global};
 
 /// The four lines of a walk across a grid.
@@ -24,6 +26,48 @@ pub fn grid_lines(alloc: Global, grid: &Grid, walk: &GridWalk) -> Result<Vec<u8>
     append_cells(&mut text, w, walk.cells.as_slice())?;
     text.extend_from_slice(b"\n")?;
     Ok(text)
+}
+
+/// The five lines of a walk across a grid that goes by a profile.
+#[tactic(auto, unfolding(crate::specs::Answer::Lines::priced_lines))]
+pub fn priced_lines(alloc: Global, grid: &Grid, walk: &PricedWalk) -> Result<Vec<u8>, AllocError>
+    ensures value { IfOk result (λ text. text.items ≡ priced_lines grid.now walk.now) }
+{
+    let w = grid.width();
+    let mut text = bytes_of(alloc, b"nodes ")?;
+    append_number(&mut text, w as u64 * grid.height() as u64)?;
+    append_named(&mut text, b"\nsegments ", grid.segments() as u64)?;
+    text.extend_from_slice(b"\nlength ")?;
+    mm3(&mut text, walk.length)?;
+    text.extend_from_slice(b"\ncost ")?;
+    append_cost(&mut text, walk.cost)?;
+    text.extend_from_slice(b"\nwalk")?;
+    append_cells(&mut text, w, walk.cells.as_slice())?;
+    text.extend_from_slice(b"\n")?;
+    Ok(text)
+}
+
+/// The three lines of a route across hills.
+#[tactic(auto, unfolding(crate::specs::Answer::Lines::hills_lines))]
+pub fn hills_lines(alloc: Global, found: &Hills) -> Result<Vec<u8>, AllocError>
+    ensures value { IfOk result (λ text. text.items ≡ hills_lines found.now) }
+{
+    let mut text = bytes_of(alloc, b"nodes ")?;
+    append_number(&mut text, found.nodes as u64)?;
+    append_named(&mut text, b"\nsegments ", found.segments as u64)?;
+    text.extend_from_slice(b"\ncost ")?;
+    append_cost(&mut text, found.cost)?;
+    text.extend_from_slice(b"\n")?;
+    Ok(text)
+}
+
+/// Appends a sum of millionths with six decimals.
+fn append_cost(text: &mut Vec<u8>, millionths: u128) -> Result<(), AllocError>
+    ensures value { OnOk result (text.new.items ≡ text.old.items ++ cost_text millionths) }
+{
+    append_wide(text, millionths / 1_000_000)?;
+    let decimals = SixDecimals::of((millionths % 1_000_000) as i128);
+    text.extend_from_slice(&decimals.as_slice()[1..])
 }
 
 /// Appends cells by their columns and rows, each behind a space.

@@ -2,10 +2,11 @@
 
 ghost use Rattle.std.specs.Prelude.{option_map};
 ghost use Rattle.profile_text.specs.Expr.{sections_in};
-ghost use Rattle.route_run.specs.Answer.Refused.{IsRefusedAs};
+ghost use Rattle.route_run.specs.Answer.Refused.{IsMadeRefusedAs, IsRefusedAs};
 
 use crate::status::Status;
 use item_list::Items;
+use made_routes::MadeError;
 use profile_text::Profile;
 use route_ready::{RouteError, line};
 use std::alloc::Global;
@@ -23,5 +24,16 @@ pub fn refused(alloc: Global, error: RouteError, profile: Option<&Profile>) -> S
             line: Items::from_vec(text),
         },
         Err(_) => Status::NoMemory,
+    }
+}
+
+/// The status of a refusal over a map that is made; a fault of its text stands at the first word.
+pub fn made_refused(alloc: Global, error: MadeError, profile: Option<&Profile>) -> Status
+    ensures exact { IsMadeRefusedAs error (option_map (λ p. sections_in p.now) profile.entry) result }
+{
+    match error {
+        MadeError::Map(error) => Status::Map { word: 0, error },
+        MadeError::Route(error) => refused(alloc, error, profile),
+        MadeError::NoMemory => Status::NoMemory,
     }
 }

@@ -1,0 +1,11 @@
+mod LengthLemmas
+mod PriceLemmas
+mod HillTextLemmas
+mod LookTextLemmas
+mod TextLemmas
+mod MakingLemmas
+mod WalkLemmas
+mod AnswerLemmas
+mod TellLemmas
+mod PricedLemmas
+mod HillLemmas

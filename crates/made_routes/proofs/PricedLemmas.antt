@@ -1,0 +1,141 @@
+-- What a walk costs by a profile that is ready is what it costs by the profile's binding.
+use Rattle.std.proofs.Common.{◌≡◌, ◌⊎◌, ℕ, ℤ, ◌+◌, ◌*◌, ◌<◌, Bool, true, false, cond, nat_lt, List, [], ◌∷◌, map, length, Option, Some, None, Result, Err, refl, ap, ◌∙◌, subst}
+use Rattle.std.specs.List.{range_with_len}
+use Rattle.std.specs.Prelude.{IsNone}
+use Rattle.std.proofs.lemmas.Bool.{ltb-true}
+use Rattle.cost_model.specs.Facts.{Links}
+use Rattle.grid_map.specs.Costs.{Costs, listed_costs}
+use Rattle.grid_map.specs.MapText.{overpass_text}
+use Rattle.grid_map.specs.Segments.{segments_of}
+use Rattle.grid_map.specs.declared.plan.Plan.{Plan}
+use Rattle.hgt_tiles.specs.Relief.{Relief}
+use Rattle.hgt_tiles.specs.Tiles.{relief_at}
+use Rattle.hgt_tiles.specs.declared.names.Corner.{Corner}
+use Rattle.hgt_tiles.specs.declared.tile_set.Tiles.{Tiles}
+use Rattle.made_routes.proofs.TellLemmas.{makes-by, route-told, tells-by}
+use Rattle.made_routes.specs.Costs.{bound_links, costs_by, link_price, price_of, segment_prices}
+use Rattle.made_routes.specs.Errors.{route_error}
+use Rattle.made_routes.specs.Made.{HaveNoTile, IsMadeWorld, Makes, RefusesNothing}
+use Rattle.made_routes.specs.Telling.{Tells}
+use Rattle.made_routes.specs.Walks.{ArePrices, IsBoundFor, IsProfileRefused, IsWalkAnswer, IsWalkBy, IsWalkOver, WalkQuestion}
+use Rattle.made_routes.specs.declared.error.MadeError.{MadeError}
+use Rattle.made_routes.specs.declared.priced.PricedWalk.{PricedWalk}
+use Rattle.profile_text.specs.Tree.{Sections}
+use Rattle.route_ready.specs.Readiness.{IsReadyBy, ready_of, terms_in}
+use Rattle.route_ready.specs.Worlds.{WorldValue, binding_in}
+use Rattle.route_ready.specs.declared.error.RouteError.{RouteError}
+use Rattle.route_ready.specs.declared.error.RouteError.TheVariants as refusal
+use Rattle.route_ready.specs.declared.ready.Ready.{Ready}
+use Rattle.way_class.specs.Facts.{Binding}
+use Rattle.way_class.specs.Links.{links_of}
+
+-- ---- Links of the same facts
+
+-- a price behind a test of a number, where the facts are the same
+price-same : (a b : Links) (link : ℕ) → ((link : ℕ) → link < b.count → a.facts link ≡ b.facts link) → (there : Bool) → nat_lt link b.count ≡ there →
+    cond there (price_of (a.facts link)) None ≡ cond there (price_of (b.facts link)) None
+price-same a b link facts true is = ap price_of (facts link (ltb-true link b.count is))
+price-same a b link facts false is = refl
+
+-- links of the same facts cost the same
+link-same : (a b : Links) → a.count ≡ b.count → ((link : ℕ) → link < b.count → a.facts link ≡ b.facts link) → (link : ℕ) →
+    link_price a link ≡ link_price b link
+unfolding link_price
+link-same a b count facts link =
+    ap (λ (n : ℕ). cond (nat_lt link n) (price_of (a.facts link)) None) count ∙ price-same a b link facts (nat_lt link b.count) refl
+
+-- what functions give in a list, where they give the same
+map-same : (f g : ℕ → Option ℕ) → ((n : ℕ) → f n ≡ g n) → (xs : List ℕ) → map f xs ≡ map g xs
+map-same f g same [] = refl
+map-same f g same (x ∷ xs) = ap (λ (y : Option ℕ). y ∷ map f xs) (same x) ∙ ap (λ (l : List (Option ℕ)). g x ∷ l) (map-same f g same xs)
+
+-- segments cost the same by links of the same facts
+prices-same : (a b : Links) → a.count ≡ b.count → ((link : ℕ) → link < b.count → a.facts link ≡ b.facts link) → (which count : ℕ) →
+    segment_prices a which count ≡ segment_prices b which count
+prices-same a b same facts which count =
+    map-same (λ (place : ℕ). link_price a (2 * place + which)) (λ (place : ℕ). link_price b (2 * place + which))
+    (λ place. link-same a b same facts (2 * place + which)) (range_with_len 0 count)
+
+-- the segments of a grid cost the same by links of the same facts
+costs-same : (plan : Plan) (a b : Links) → a.count ≡ b.count → ((link : ℕ) → link < b.count → a.facts link ≡ b.facts link) →
+    costs_by plan a ≡ costs_by plan b
+costs-same plan a b same facts =
+    ap (λ (l : List (Option ℕ)). listed_costs plan l (segment_prices a 1 (length (segments_of plan))))
+    (prices-same a b same facts 0 (length (segments_of plan)))
+    ∙ ap (λ (l : List (Option ℕ)). listed_costs plan (segment_prices b 0 (length (segments_of plan))) l)
+    (prices-same a b same facts 1 (length (segments_of plan)))
+
+-- ---- Answers
+
+-- a walk by a profile that is ready is a walk by the profile
+walk-ready : (plan : Plan) (from to : ℕ) (binding : Binding) (ready : Ready) → IsReadyBy binding (ready_of binding) ready → (answer : Option PricedWalk) →
+    IsWalkOver plan (costs_by plan (links_of ready.bound)) from to answer → IsWalkBy plan from to binding answer
+walk-ready plan from to binding ready is answer over = record {
+  terms = terms_in ready;
+  accepted = is.terms_are;
+  over = subst (λ (costs : Costs). IsWalkOver plan costs from to answer)
+      (costs-same plan (links_of ready.bound) (bound_links binding) is.count is.facts) over;
+}
+
+module _ (plan : Plan) (from to : ℕ) (world : WorldValue) (sections : Sections) (overrides : List (List ℕ × ℤ)) (none : overrides ≡ [])
+  where
+    -- what is told of a walk by a profile that is ready is told by the profile
+    pub ready-told : (ready : Ready) (result : Result (Option PricedWalk) MadeError) →
+        IsReadyBy (binding_in world sections overrides) (ready_of (binding_in world sections overrides)) ready →
+        Tells (IsWalkOver plan (costs_by plan (links_of ready.bound)) from to) RefusesNothing result →
+        Tells (IsWalkBy plan from to (binding_in world sections [])) (λ error. ready_of (binding_in world sections []) ≡ Err error) result
+    ready-told ready result is told =
+        tells-by (IsWalkOver plan (costs_by plan (links_of ready.bound)) from to) (IsWalkBy plan from to (binding_in world sections [])) RefusesNothing
+        (λ (error : RouteError). ready_of (binding_in world sections []) ≡ Err error) result
+        (walk-ready plan from to (binding_in world sections []) ready
+        (subst (λ (o : List (List ℕ × ℤ)). IsReadyBy (binding_in world sections o) (ready_of (binding_in world sections o)) ready) none is))
+        (λ error nothing. absurd nothing) told
+
+    -- a refusal of the profile is told as such
+    pub refusal-told : (error : RouteError) (told : MadeError) → told ≡ route_error error →
+        (error ≡ refusal.NoMemory) ⊎ (ready_of (binding_in world sections overrides) ≡ Err error) →
+        Tells (IsWalkBy plan from to (binding_in world sections [])) (λ error. ready_of (binding_in world sections []) ≡ Err error) (Err told)
+    refusal-told error told is cause =
+        route-told (IsWalkBy plan from to (binding_in world sections [])) (λ (e : RouteError). ready_of (binding_in world sections []) ≡ Err e) error told
+        is (subst (λ (o : List (List ℕ × ℤ)). (error ≡ refusal.NoMemory) ⊎ (ready_of (binding_in world sections o) ≡ Err error)) none cause)
+
+-- a walk by the profile of a question answers it
+walk-answers : (question : WalkQuestion) (binding : Binding) → IsBoundFor question binding → (answer : Option PricedWalk) →
+    IsWalkBy question.plan question.from question.to binding answer → IsWalkAnswer question answer
+walk-answers question binding bound answer by = go answer by.over
+  where
+    costs : Costs
+    costs = costs_by question.plan (bound_links binding)
+
+    prices : ArePrices question costs
+    prices = record { binding = binding; bound = bound; terms = by.terms; accepted = by.accepted; are = refl }
+
+    go : (answer : Option PricedWalk) → IsWalkOver question.plan costs question.from question.to answer → IsWalkAnswer question answer
+    go (Some walk) over = record { costs = costs; prices = prices; least = over.0; long = over.1 }
+    go None over = record { costs = costs; prices = prices; none = over }
+
+-- tiles that have none have no tile
+pub none-there : (tiles : Tiles) → ((corner : Corner) → IsNone (relief_at tiles corner)) → HaveNoTile tiles
+none-there tiles none corner = go (relief_at tiles corner) (none corner)
+  where
+    go : (there : Option Relief) → IsNone there → there ≡ None
+    go None is = refl
+    go (Some relief) is = absurd (cc)
+
+-- what is told by the profile of a question over the world that is made for it answers the question
+pub walk-made : (question : WalkQuestion) (tiles : Tiles) (world : WorldValue) (result : Result (Option PricedWalk) MadeError) → HaveNoTile tiles →
+    IsMadeWorld question.plan question.table tiles world →
+    Tells (IsWalkBy question.plan question.from question.to (binding_in world question.sections []))
+    (λ error. ready_of (binding_in world question.sections []) ≡ Err error) result →
+    Makes (overpass_text question.plan) (IsWalkAnswer question) (IsProfileRefused question) result
+walk-made question tiles world result level made told =
+    makes-by (overpass_text question.plan) (IsWalkAnswer question) (IsProfileRefused question) result
+    (tells-by (IsWalkBy question.plan question.from question.to binding) (IsWalkAnswer question)
+    (λ (error : RouteError). ready_of binding ≡ Err error) (IsProfileRefused question) result (walk-answers question binding bound)
+    (λ error refused. record { binding = binding; bound = bound; refused = refused }) told)
+  where
+    binding : Binding
+    binding = binding_in world question.sections []
+
+    bound : IsBoundFor question binding
+    bound = record { tiles = tiles; level = level; world = world; made = made; is = refl }

@@ -1,0 +1,30 @@
+use Rattle.std.proofs.Common.{◌≡◌, Option, Result, Ok, Err, refl, sym, subst}
+use Rattle.grid_map.specs.MapText.{overpass_text}
+use Rattle.grid_map.specs.declared.plan.Plan.{Plan}
+use Rattle.made_routes.specs.Made.{Makes}
+use Rattle.made_routes.specs.Walks.{IsProfileRefused, IsWalkAnswer, WalkQuestion}
+use Rattle.made_routes.specs.declared.error.MadeError.{MadeError}
+use Rattle.made_routes.specs.declared.priced.PricedWalk.{PricedWalk}
+use Rattle.profile_text.specs.Expr.{sections_in}
+use Rattle.route_run.specs.Answer.Grid.{question_by}
+use Rattle.route_run.proofs.MadeLemmas.{question_over, walk-over, walk-refused}
+use Rattle.route_run.proofs.answer.grid.priced_over.Goals as goal
+
+pub returns-in-Ok : goal.returns-in-Ok
+returns-in-Ok c =
+    let question = question_by c.args.command.now c.args.table (sections_in c.args.profile.now) in
+    record {
+      exact = c.told.ensures.exact question c.requires.grid refl
+          (walk-over question c.args.grid.now c.cell_at-from.result c.cell_at-to.result (Ok c.in-Ok.found) c.requires.grid c.cell_at-from.ensures.value
+          c.cell_at-to.ensures.value c.in-Ok.ensures.exact);
+    }
+
+pub returns-in-Err : goal.returns-in-Err
+returns-in-Err c =
+    let question = question_by c.args.command.now c.args.table (sections_in c.args.profile.now) in
+    record {
+      exact = walk-refused question c.in-Err.error c.made_refused.result
+          (walk-over question c.args.grid.now c.cell_at-from.result c.cell_at-to.result (Err c.in-Err.error) c.requires.grid
+          c.cell_at-from.ensures.value c.cell_at-to.ensures.value c.in-Err.ensures.exact)
+          c.made_refused.ensures.exact;
+    }
