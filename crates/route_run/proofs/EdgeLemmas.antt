@@ -1,5 +1,5 @@
 -- What a command line comes to at the edge of the program.
-use Rattle.std.proofs.Common.{◌≡◌, ℕ, inl, inr, List, ◌++◌, ◌∙◌, append_assoc, Option, Some, None, Result, Ok, Err, OnOk, OnErr, refl, subst}
+use Rattle.std.proofs.Common.{◌≡◌, ℕ, inl, inr, List, Option, Some, None, Result, Ok, Err, OnOk, OnErr, refl, subst}
 use Rattle.edge_io.specs.Files.{FilesSeen}
 use Rattle.edge_io.specs.Sink.{SinkSeen, Grows, BreaksOff}
 use Rattle.route_run.specs.Edge.{IsReplyBy, IsTelling, IsWritten, IsTold, told_line}

@@ -14,8 +14,8 @@ use Rattle.profile_text.specs.Tree.{Sections}
 use Rattle.route_ready.specs.Lines.{route_line}
 use Rattle.route_ready.specs.declared.error.RouteError.{RouteError}
 use Rattle.route_ready.specs.declared.error.RouteError.TheVariants.{NoTrack}
-use Rattle.route_run.specs.Answer.Grid.{IsPricedAnswer, IsPricedRefusal, ShowsPricedWalk}
-use Rattle.route_run.specs.Answer.Hills.{IsHillsAnswerOver, ShowsHills}
+use Rattle.route_run.specs.Answer.Grid.{IsPricedAnswer, IsPricedRefusal}
+use Rattle.route_run.specs.Answer.Hills.{IsHillsAnswerOver}
 use Rattle.route_run.specs.Answer.Lines.{hills_lines, priced_lines}
 use Rattle.route_run.specs.Answer.Refused.{IsMadeRefusal, IsMadeRefusedAs, IsRefusedAs}
 use Rattle.route_run.specs.declared.status.Status.{Status}

@@ -1,9 +1,7 @@
 -- What is answered to a request over all that was taken in.
 use Rattle.std.proofs.Common.{◌≡◌, ℕ, inr, true, List, Result, Ok, Err, subst}
-use Rattle.hgt_tiles.specs.Relief.{Relief}
 use Rattle.hgt_tiles.specs.declared.tile_set.Tiles.{Tiles}
-use Rattle.request_reply.specs.Replies.{IsReply, question_of}
-use Rattle.route_engine.specs.Answers.{IsAnswer}
+use Rattle.request_reply.specs.Replies.{question_of}
 use Rattle.route_http.specs.Asked.{Asked}
 use Rattle.route_ready.specs.Worlds.{WorldValue}
 use Rattle.route_run.specs.Answer.Route.{Inputs, IsRouted, RepliesAs, is_named, world_by}

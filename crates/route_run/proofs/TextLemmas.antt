@@ -1,5 +1,5 @@
 -- The text of cells, one cell further, and the text of a sum of millionths.
-use Rattle.std.proofs.Common.{◌≡◌, ℕ, ℤ, pos, Result, Ok, Err, is_ok, OnOk, if◌then◌else◌, Bool, true, false, ◌+◌, ◌-◌, ◌%◌, ◌/◌, ◌<◌, ◌≤◌, List, [], ◌∷◌, ◌++◌, length, take, drop, append_assoc, append-nil, refl, ap, sym, ◌∙◌, arith, decimal, to_z}
+use Rattle.std.proofs.Common.{◌≡◌, ℕ, pos, Result, Ok, Err, is_ok, OnOk, if◌then◌else◌, Bool, true, false, ◌-◌, ◌%◌, ◌/◌, ◌<◌, ◌≤◌, List, [], ◌∷◌, ◌++◌, length, take, drop, append_assoc, append-nil, refl, ap, sym, ◌∙◌, arith, decimal, to_z}
 use Rattle.std.proofs.lemmas.Fmt.{decimal_digit}
 use Rattle.std.proofs.lemmas.Int.{ints, to_z_pos}
 use Rattle.std.proofs.lemmas.List.{take_all}

@@ -1,13 +1,7 @@
-use Rattle.std.proofs.Common.{◌≡◌, Option, Result, Ok, Err, refl, sym, subst}
-use Rattle.grid_map.specs.MapText.{overpass_text}
-use Rattle.grid_map.specs.declared.plan.Plan.{Plan}
-use Rattle.made_routes.specs.Made.{Makes}
-use Rattle.made_routes.specs.Walks.{IsProfileRefused, IsWalkAnswer, WalkQuestion}
-use Rattle.made_routes.specs.declared.error.MadeError.{MadeError}
-use Rattle.made_routes.specs.declared.priced.PricedWalk.{PricedWalk}
+use Rattle.std.proofs.Common.{Ok, Err, refl}
 use Rattle.profile_text.specs.Expr.{sections_in}
 use Rattle.route_run.specs.Answer.Grid.{question_by}
-use Rattle.route_run.proofs.MadeLemmas.{question_over, walk-over, walk-refused}
+use Rattle.route_run.proofs.MadeLemmas.{walk-over, walk-refused}
 use Rattle.route_run.proofs.answer.grid.priced_over.Goals as goal
 
 pub returns-in-Ok : goal.returns-in-Ok

@@ -1,4 +1,4 @@
-use Rattle.std.proofs.Common.{sym, ap, ◌∙◌, subst, Some}
+use Rattle.std.proofs.Common.{subst, Some}
 use Rattle.made_routes.specs.Walks.{IsWalkAnswer}
 use Rattle.route_ready.specs.declared.error.RouteError.TheVariants.{NoTrack}
 use Rattle.route_run.specs.Answer.Refused.{IsRefusedAs}

@@ -1,4 +1,4 @@
-use Rattle.std.proofs.Common.{◌≡◌, ap, length, ◌∙◌, arith}
+use Rattle.std.proofs.Common.{◌∙◌}
 use Rattle.route_run.proofs.TextLemmas.{cost-appended, rest-some}
 use Rattle.route_run.proofs.answer.lines.append_cost.Goals as goal
 
