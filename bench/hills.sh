@@ -1,0 +1,21 @@
+#!/bin/bash
+# The program over the hills of seed 1, from corner to corner: for each size the median of three runs, in seconds of the clock and of
+# the processor, the peak of the memory, and the status (3 where there is no track). Its words are the cells of a side: 100 and 300 where
+# there is none.
+cd "$(dirname "$0")/../crates/route_serve" || exit 1
+rt run -- grid seed=2 w=2 h=2 from=0,0 to=1,1 >/dev/null 2>&1
+[ -x out/route_serve ] || exit 1
+TIMEFORMAT='%3R %3U'
+
+# One run over a grid of so many cells a side: KB, status, seconds of the clock and of the processor.
+once() {
+  { time /usr/bin/time -q -f '%M %x' ./out/route_serve hills seed=1 w="$1" h="$1" 2>&1 >/dev/null; } 2>&1 |
+    tail -n 2 | tr '\n' ' '
+  echo
+}
+
+[ $# -gt 0 ] || set -- 100 300
+for side; do
+  for _ in 1 2 3; do once "$side"; done | sort -n -k 4 | awk -v cells="$((side * side))" '
+    NR == 2 { printf "%d cells: %s s, %s s of the processor; %d KB; status %s\n", cells, $3, $4, $1, $2 }'
+done
