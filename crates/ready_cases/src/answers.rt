@@ -10,6 +10,7 @@ use case_rows::Case;
 use context_check::Overrides;
 use cost_model::{FactsOf, Rates};
 use item_list::{append_bytes, append_signed};
+use kept_profiles::KeptProfiles;
 use profile_text::Profile;
 use route_ready::{Ready, World, line, prepare};
 use std::alloc::{AllocError, Global};
@@ -38,7 +39,7 @@ fn in_world(alloc: Global, case: &Case, world: &World) -> Result<Vec<u8>, AllocE
 /// Where the overrides of a case begin.
 fn first_override(case: &Case) -> usize {
     match case.word(0) {
-        b"prepare" => 4,
+        b"prepare" | b"kept" => 4,
         _ => 5,
     }
 }
@@ -51,7 +52,27 @@ fn by_profile(
     profile: &Profile,
 ) -> Result<Vec<u8>, AllocError> {
     let overrides = overrides_from(alloc, case, first_override(case))?;
-    under(alloc, case, world, profile, &overrides)
+    match case.word(0) {
+        b"kept" => kept_told(alloc, world, profile, &overrides),
+        _ => under(alloc, case, world, profile, &overrides),
+    }
+}
+
+/// The terms of a profile that is made ready without overrides, then under these, and then under these once more, by way of what is kept; or
+/// the line of its refusal.
+fn kept_told(
+    alloc: Global,
+    world: &World,
+    profile: &Profile,
+    overrides: &Overrides,
+) -> Result<Vec<u8>, AllocError> {
+    let mut kept = KeptProfiles::new(alloc)?;
+    let _ = kept.ready(alloc, world, profile, 0, &Overrides::new(alloc));
+    let _ = kept.ready(alloc, world, profile, 0, overrides);
+    match kept.ready(alloc, world, profile, 0, overrides) {
+        Ok(ready) => terms_told(alloc, &ready),
+        Err(error) => line(alloc, &error, Some(profile)),
+    }
 }
 
 /// The answer by a profile under overrides, or the line of its refusal.
