@@ -5,6 +5,7 @@
 mod buffers;
 mod grids;
 mod heights;
+mod hubs;
 mod json;
 mod lists;
 mod numbers;
@@ -64,6 +65,9 @@ fn answer(alloc: Global, case: &Case, ground: &mut Ground) -> Result<String, All
         return Ok(answer);
     }
     if let Some(answer) = outside::answer(alloc, case)? {
+        return Ok(answer);
+    }
+    if let Some(answer) = hubs::answer(alloc, case)? {
         return Ok(answer);
     }
     String::from_str(alloc, "no such call")

@@ -7,3 +7,15 @@ pub mod MemoryFiles
 pub mod MemoryFilesView
 pub mod System
 pub mod Whole
+pub mod Acts
+pub mod Hub
+pub mod Script
+pub mod MemoryHub
+pub mod Tape
+pub mod TapeView
+pub mod Place
+pub mod Ids
+pub mod Stage
+pub mod StageView
+pub mod MemoryHubView
+pub mod Sockets

@@ -1,2 +1,3 @@
 mod ShowLemmas
 mod ReplyLemmas
+mod PendingLemmas

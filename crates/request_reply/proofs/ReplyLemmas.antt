@@ -19,9 +19,9 @@ use Rattle.way_class.specs.Facts.{Binding}
 use Rattle.way_class.specs.Links.{links_of}
 use Rattle.request_reply.proofs.ShowLemmas.{shows}
 
-module _ (world : WorldValue) (sections : Sections) (ready : Ready) (request : Request) (is : IsReady world sections (asked request) ready) where
+module _ (world : WorldValue) (sections : Sections) (ready : Ready) (asked : Asked) (is : IsReady world sections asked ready) where
   -- a profile that is ready gives the setting of the request
-  setting-of : IsSettingOf (question_of world sections (asked request)) (setting_of world ready (asked request).circles)
+  pub setting-of : IsSettingOf (question_of world sections asked) (setting_of world ready asked.circles)
   setting-of = record {
     accepted = is.terms_are;
     map = refl;
@@ -31,11 +31,11 @@ module _ (world : WorldValue) (sections : Sections) (ready : Ready) (request : R
   }
 
   -- the bytes of a track that answers the request are its reply
-  pub is-reply : (told : Told) (track : Track) (bytes : List ℕ) → TellsOf request told →
-      IsAnswer (question_of world sections (asked request)) (Ok track) →
-      bytes ≡ reply_of told.form (source_by world ready told) track → IsReply (question_of world sections (asked request)) bytes
+  pub is-reply : (told : Told) (track : Track) (bytes : List ℕ) → TellsOf asked told →
+      IsAnswer (question_of world sections asked) (Ok track) →
+      bytes ≡ reply_of told.form (source_by world ready told) track → IsReply (question_of world sections asked) bytes
   is-reply told track bytes tells answers are = record {
-    setting = setting_of world ready (asked request).circles;
+    setting = setting_of world ready asked.circles;
     over = setting-of;
     track = track;
     answers = answers;
@@ -43,13 +43,13 @@ module _ (world : WorldValue) (sections : Sections) (ready : Ready) (request : R
   }
     where
       given : Told
-      given = record { name = request.profile; alternative = request.alternative; form = request.form }
+      given = record { name = asked.profile; alternative = asked.alternative; form = asked.form }
 
-      told-same : (told : Told) → TellsOf request told → told ≡ given
+      told-same : (told : Told) → TellsOf asked told → told ≡ given
       told-same told tells =
           ap (λ n. record told { name = n }) tells.name
-          ∙ ap (λ n. record told { name = request.profile; alternative = n }) tells.alternative
-          ∙ ap (λ f. record told { name = request.profile; alternative = request.alternative; form = f }) tells.form
+          ∙ ap (λ n. record told { name = asked.profile; alternative = n }) tells.alternative
+          ∙ ap (λ f. record told { name = asked.profile; alternative = asked.alternative; form = f }) tells.form
 
 -- a track that is found by a copy of what is ready may be shown by what is ready
 pub shows-by :

@@ -1,2 +1,4 @@
+pub mod Pending
+pub mod Refusals
 pub mod Replies
 pub mod Told

@@ -59,7 +59,7 @@ fn reply_by(
 }
 
 /// A track as a reply in its form.
-fn shown(
+pub(crate) fn shown(
     alloc: Global,
     world: &World,
     ready: &Ready,

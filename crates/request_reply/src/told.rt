@@ -2,6 +2,7 @@
 
 ghost use Rattle.std.specs.Prelude.{IfOk};
 ghost use Rattle.request_reply.specs.Told.{TellsOf};
+ghost use Rattle.route_http.specs.Seen.{asked};
 
 use item_list::{Name, TryClone};
 use route_http::{Form, Request};
@@ -17,7 +18,7 @@ pub(crate) struct Told {
 
 /// What a reply tells of a request.
 pub(crate) fn told_of(alloc: Global, request: &Request) -> Result<Told, AllocError>
-    ensures exact { IfOk result (TellsOf request.now) }
+    ensures exact { IfOk result (TellsOf (asked request.now)) }
 {
     let name = request.profile.try_clone(alloc)?;
     Ok(Told {

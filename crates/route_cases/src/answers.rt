@@ -4,6 +4,7 @@ ghost use Rattle.route_engine.specs.Jobs.{IsWithin};
 ghost use Rattle.route_http.specs.Seen.{asked};
 
 use crate::inputs::{is_within, map, profile, query, table, tile};
+use crate::replies::in_replies;
 use crate::tracks::{costs_told, told};
 use crate::turns::in_turns;
 use crate::worlds::{profile_of, world_of};
@@ -74,6 +75,7 @@ fn by_call(
         b"route" => routed(alloc, world, profile, request),
         b"costs" => costs(alloc, world, profile, request),
         b"job" => in_turns(alloc, case, world, profile, request),
+        b"reply" => in_replies(alloc, case, world, profile, request),
         _ => Vec::from_slice(alloc, b"no such call"),
     }
 }

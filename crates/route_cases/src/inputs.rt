@@ -10,7 +10,7 @@ use route_http::Request;
 /// The word at a place, counted without the quota of a case that has one.
 fn word(case: &Case, place: usize) -> &[u8] {
     match case.word(0) {
-        b"job" => case.word(place.saturating_add(1)),
+        b"job" | b"reply" => case.word(place.saturating_add(1)),
         _ => case.word(place),
     }
 }

@@ -1,8 +1,10 @@
-//! Runs tables of cases on the public calls of `route_engine`: requests answered as a whole, and in turns.
+//! Runs tables of cases on the public calls of `route_engine`: requests answered as a whole, and in turns, and shelves.
 #![tactic(auto)]
 
 mod answers;
 mod inputs;
+mod replies;
+mod shelves;
 mod tracks;
 mod turns;
 mod worlds;
@@ -23,8 +25,17 @@ fn with_texts(alloc: Global) -> Result<Table, AllocError> {
 
 /// Runs a case, and gives the line to be printed where its answer differs.
 fn run_case(alloc: Global, report: &mut Report, case: &Case) -> Result<Option<String>, AllocError> {
-    let answer = answers::answer(alloc, case)?;
+    let answer = answer(alloc, case)?;
     report.compare(alloc, case, answer.as_slice())
+}
+
+/// The answer to a case, by its call.
+fn answer(alloc: Global, case: &Case) -> Result<Vec<u8>, AllocError> {
+    if case.word(0) == b"shelf".as_slice() {
+        shelves::answer(alloc, case)
+    } else {
+        answers::answer(alloc, case)
+    }
 }
 
 /// Runs the case of a line, where it has one.

@@ -20,7 +20,7 @@ use std::alloc::{AllocError, Global};
 use std::rc::Rc;
 
 /// The most turns that are tried.
-const MOST_TURNS: u64 = 1_000_000;
+pub(crate) const MOST_TURNS: u64 = 1_000_000;
 
 /// The answer to a request in turns, or the line of the profile's refusal.
 pub(crate) fn in_turns(

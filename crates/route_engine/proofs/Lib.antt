@@ -10,3 +10,5 @@ pub mod RouteLemmas
 pub mod TrackLemmas
 pub mod CostLemmas
 pub mod AdvanceLemmas
+pub mod ShelfLemmas
+pub mod CallerLemmas

@@ -6,3 +6,5 @@ pub mod Plans
 pub mod Answers
 pub mod Progress
 pub mod Jobs
+pub mod Stored
+pub mod Shelves

@@ -1,3 +1,8 @@
+pub mod AnswerLemmas
+pub mod EndLemmas
+pub mod FieldLemmas
+pub mod FrameLemmas
+pub mod HeadLemmas
 mod PairLemmas
 mod PartLemmas
 mod SpotLemmas

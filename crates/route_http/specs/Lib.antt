@@ -1,9 +1,15 @@
 pub mod Asked
 pub mod Bars
+pub mod Ends
+pub mod Fields
+pub mod Frames
+pub mod Heads
 pub mod Key
 pub mod Lines
 pub mod List
+pub mod Parsed
 pub mod Parts
 pub mod Request
 pub mod Seen
+pub mod Told
 pub mod Value

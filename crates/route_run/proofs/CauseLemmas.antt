@@ -4,12 +4,12 @@ use Rattle.std.specs.Prelude.{slice_get}
 use Rattle.edge_io.specs.Faults.{CountRose, count_after, next_count}
 use Rattle.edge_io.specs.Files.{FilesSeen}
 use Rattle.route_run.specs.Outcome.{HasOpened, IsReadFault}
-use Rattle.route_run.specs.Stage.Chain.{Settles, Then}
+use Rattle.run_stages.specs.Chain.{Settles, Then}
 use Rattle.overpass_graph.specs.Maps.{MapValue}
-use Rattle.route_run.specs.Stage.File.{TakesFile}
-use Rattle.route_run.specs.Stage.Map.{TakesMap}
-use Rattle.route_run.specs.declared.status.Status.{Status}
-use Rattle.route_run.specs.declared.status.Status.TheVariants.{Done, Usage, Query, TooLong, Lookup, Text, Check, Map, Tile, Route, NotFound, ReadFault, WriteFault, NoMemory}
+use Rattle.run_stages.specs.File.{TakesFile}
+use Rattle.run_stages.specs.Map.{TakesMap}
+use Rattle.run_stages.specs.declared.status.Status.{Status}
+use Rattle.run_stages.specs.declared.status.Status.TheVariants.{Done, Usage, Query, TooLong, Lookup, Text, Check, Map, Tile, Route, NotFound, ReadFault, WriteFault, NoMemory}
 
 -- ---- Counts
 

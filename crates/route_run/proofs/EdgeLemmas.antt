@@ -5,10 +5,10 @@ use Rattle.edge_io.specs.Sink.{SinkSeen, Grows, BreaksOff}
 use Rattle.route_run.specs.Edge.{IsReplyBy, IsTelling, IsWritten, IsTold, told_line}
 use Rattle.route_run.specs.Ends.{Ends}
 use Rattle.route_run.specs.Outcome.{Reach, reach}
-use Rattle.route_run.specs.Status.{number_of_status}
+use Rattle.run_stages.specs.Status.{number_of_status}
 use Rattle.command_words.specs.Help.{told_of}
-use Rattle.route_run.specs.declared.status.Status.{Status}
-use Rattle.route_run.specs.declared.status.Status.TheVariants.{NoMemory}
+use Rattle.run_stages.specs.declared.status.Status.{Status}
+use Rattle.run_stages.specs.declared.status.Status.TheVariants.{NoMemory}
 
 -- a text that was told
 pub reply-told : (words : List (List ℕ)) (text : List ℕ) (files : FilesSeen) (old new : SinkSeen) (status : Status) → Some text ≡ told_of words → Ends (Ok text) status old new → IsReplyBy words (told_of words) (reach files old) (reach files new) status

@@ -1,10 +1,4 @@
 pub mod CauseLemmas
-pub mod SendLemmas
-pub mod StageLemmas
-pub mod TextLemmas
 pub mod EdgeLemmas
-pub mod PlanLemmas
-pub mod RoutedLemmas
-pub mod MadeLemmas
 pub mod RunLemmas
-pub mod TileLemmas
+pub mod SendLemmas

@@ -18,23 +18,23 @@ use Rattle.route_http.specs.Asked.{Asked}
 use Rattle.route_http.specs.Request.{request_of}
 use Rattle.route_ready.specs.declared.error.RouteError.{RouteError}
 use Rattle.item_list.specs.Answer.{answer_map}
-use Rattle.route_run.specs.Answer.Code.{IsCodeAnswer, listing_in, listing_by}
+use Rattle.run_answers.specs.Code.{IsCodeAnswer, listing_in, listing_by}
 use Rattle.grid_map.specs.MapText.{overpass_text}
 use Rattle.grid_map.specs.declared.plan.Plan.{Plan}
 use Rattle.made_routes.specs.Hills.{IsHillsRefusal}
 use Rattle.made_routes.specs.Walks.{WalkQuestion}
-use Rattle.route_run.specs.Answer.Grid.{IsGridAnswerBy, IsPricedAnswer, IsPricedRefusal, IsShortestAnswer, PricesByTable, question_by}
-use Rattle.route_run.specs.Answer.Hills.{IsHillsAnswerOver, hills_plan}
-use Rattle.route_run.specs.Answer.Make.{made_by}
-use Rattle.route_run.specs.Answer.Refused.{IsMadeRefusal}
-use Rattle.route_run.specs.Answer.Route.{Inputs, IsRouteAnswer, IsRouted, Routes, RoutesByTiles}
+use Rattle.run_answers.specs.Grid.{IsGridAnswerBy, IsPricedAnswer, IsPricedRefusal, IsShortestAnswer, PricesByTable, question_by}
+use Rattle.run_answers.specs.Hills.{IsHillsAnswerOver, hills_plan}
+use Rattle.run_answers.specs.Make.{made_by}
+use Rattle.run_answers.specs.Refused.{IsMadeRefusal}
+use Rattle.run_answers.specs.Route.{Inputs, IsRouteAnswer, IsRouted, Routes, RoutesByTiles}
 use Rattle.route_run.specs.Ends.{Ends}
 use Rattle.route_run.specs.Outcome.{IsAnswer, IsCommandAnswer, HasCause, HasReadCause, HasOpened, HasOpenedAll, IsComplete, file_words, profile_words}
-use Rattle.route_run.specs.Stage.Checked.{TakesChecked, checked_by, checked_in}
-use Rattle.route_run.specs.Stage.Profile.{TakesProfile, profile_in}
-use Rattle.route_run.specs.Stage.Query.{query_in}
-use Rattle.route_run.specs.Stage.TagTable.{TakesTable, table_in}
-use Rattle.route_run.specs.Stage.Tiles.{TakesTile, TakesTiles, TakesTilesAfter, tile_by, tile_in}
+use Rattle.run_stages.specs.Checked.{TakesChecked, checked_by, checked_in}
+use Rattle.run_stages.specs.Profile.{TakesProfile, profile_in}
+use Rattle.run_stages.specs.Query.{query_in}
+use Rattle.run_stages.specs.TagTable.{TakesTable, table_in}
+use Rattle.run_stages.specs.Tiles.{TakesTile, TakesTiles, TakesTilesAfter, tile_by, tile_in}
 use Rattle.command_words.specs.Command.{command_of}
 use Rattle.command_words.specs.Given.{Named}
 use Rattle.command_words.specs.declared.command.CodeCommand.{CodeCommand}
@@ -42,8 +42,8 @@ use Rattle.command_words.specs.declared.command.GridCommand.{GridCommand}
 use Rattle.command_words.specs.declared.command.RouteCommand.{RouteCommand}
 use Rattle.command_words.specs.declared.command.Command.{Command}
 use Rattle.command_words.specs.declared.command.Command as Form
-use Rattle.route_run.specs.declared.status.Status.{Status}
-use Rattle.route_run.specs.declared.status.Status.TheVariants.{Done, Usage, Query, TooLong, Lookup, Text, Check, Map, Tile, Route, NotFound, ReadFault, WriteFault, NoMemory}
+use Rattle.run_stages.specs.declared.status.Status.{Status}
+use Rattle.run_stages.specs.declared.status.Status.TheVariants.{Done, Usage, Query, TooLong, Lookup, Text, Check, Map, Tile, Route, NotFound, ReadFault, WriteFault, NoMemory}
 use Rattle.route_run.proofs.CauseLemmas.{OpensAll, RefusalCause, Cause, file-cause, map-cause, opened-none, IsInner, settles-cause, then-cause}
 
 -- ---- The commands

@@ -5,12 +5,12 @@ use Rattle.edge_io.specs.Sink.{SinkSeen, Grows, BreaksOff}
 use Rattle.item_list.specs.Answer.{answer_map}
 use Rattle.route_run.specs.Ends.{Ends}
 use Rattle.route_run.specs.Outcome.{Reach, IsOutcome}
-use Rattle.route_run.specs.Stage.Chain.{Settles}
-use Rattle.route_run.specs.Status.{number_of_status, line_of}
+use Rattle.run_stages.specs.Chain.{Settles}
+use Rattle.run_stages.specs.Status.{number_of_status, line_of}
 use Rattle.command_words.specs.Help.{told_of}
 use Rattle.command_words.specs.Refusals.{texts_of}
-use Rattle.route_run.specs.declared.status.Status.{Status}
-use Rattle.route_run.specs.declared.status.Status.TheVariants.{NoMemory}
+use Rattle.run_stages.specs.declared.status.Status.{Status}
+use Rattle.run_stages.specs.declared.status.Status.TheVariants.{NoMemory}
 
 -- the texts of words that were read, or why they weren't
 abbrev pub args_in : Result (Vec (String Global) Global) Status → Result (List (List ℕ)) Status

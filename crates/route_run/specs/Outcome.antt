@@ -3,21 +3,21 @@ use Rattle.std.specs.Prelude.{ℕ, suc, ◌≡◌, ◌≤◌, List, [], ◌∷�
 use Rattle.edge_io.specs.Faults.{CountRose, count_after}
 use Rattle.edge_io.specs.Files.{FilesSeen}
 use Rattle.edge_io.specs.Sink.{SinkSeen}
-use Rattle.route_run.specs.Answer.Code.{IsCodeAnswer}
-use Rattle.route_run.specs.Answer.Grid.{IsGridAnswer}
-use Rattle.route_run.specs.Answer.Hills.{IsHillsAnswer}
-use Rattle.route_run.specs.Answer.Make.{made_by}
-use Rattle.route_run.specs.Answer.Route.{IsRouteAnswer}
+use Rattle.run_answers.specs.Code.{IsCodeAnswer}
+use Rattle.run_answers.specs.Grid.{IsGridAnswer}
+use Rattle.run_answers.specs.Hills.{IsHillsAnswer}
+use Rattle.run_answers.specs.Make.{made_by}
+use Rattle.run_answers.specs.Route.{IsRouteAnswer}
 use Rattle.route_run.specs.Ends.{Ends}
 use Rattle.item_list.specs.Answer.{answer_map}
-use Rattle.route_run.specs.Stage.Chain.{Settles, Then}
+use Rattle.run_stages.specs.Chain.{Settles, Then}
 use Rattle.command_words.specs.Command.{command_of}
 use Rattle.command_words.specs.Given.{Named}
 use Rattle.command_words.specs.declared.command.CodeCommand.{CodeCommand}
 use Rattle.command_words.specs.declared.command.Command.{Command}
 use Rattle.command_words.specs.declared.command.Command as Form
-use Rattle.route_run.specs.declared.status.Status.{Status}
-use Rattle.route_run.specs.declared.status.Status.TheVariants.{Done, Usage, ReadFault, WriteFault}
+use Rattle.run_stages.specs.declared.status.Status.{Status}
+use Rattle.run_stages.specs.declared.status.Status.TheVariants.{Done, Usage, ReadFault, WriteFault}
 
 -- the command of the words, or the status of the word at fault
 abbrev pub command_in : List (List ℕ) → Result Command Status

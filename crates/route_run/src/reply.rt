@@ -3,17 +3,17 @@
 ghost use Rattle.std.specs.Prelude.{◌≡◌, ◌≢◌, IfOk, OnErr};
 ghost use Rattle.route_run.specs.Edge.{IsEnd, IsReplyBy, IsTelling, args_in, told_line};
 ghost use Rattle.route_run.specs.Outcome.{reach};
-ghost use Rattle.route_run.specs.Status.{number_of_status};
+ghost use Rattle.run_stages.specs.Status.{number_of_status};
 ghost use Rattle.command_words.specs.Help.{told_of};
 ghost use Rattle.command_words.specs.Refusals.{texts_of};
 
-use crate::output::Output;
 use crate::sending::send;
-use crate::status::Status;
 use crate::top::run;
 use command_words::told_text;
 use edge_io::{Files, Sink, send_all};
 use item_list::append_bytes;
+use run_answers::Output;
+use run_stages::Status;
 use std::alloc::{AllocError, Global};
 
 /// Does what a command line asks for, tells on `err` how it ended, and gives the exit status. A command line

@@ -2,12 +2,14 @@
 
 ghost use Rattle.std.specs.Prelude.{◌≡◌, ◌≤◌, Ok, vec_capacity};
 ghost use Rattle.grid_map.specs.MapText.{overpass_text};
-ghost use Rattle.route_run.specs.Ends.{Ends, bytes_in, output_in};
+ghost use Rattle.route_run.specs.Ends.{Ends};
+ghost use Rattle.run_answers.specs.Outputs.{output_in};
+ghost use Rattle.run_stages.specs.Chain.{bytes_in};
 
-use crate::output::{MapOutput, Output};
-use crate::status::Status;
 use edge_io::{Sink, send_all};
 use grid_map::Grid;
+use run_answers::{MapOutput, Output};
+use run_stages::Status;
 
 /// An answer that has its bytes at hand.
 pub fn at_hand(answer: Result<Vec<u8>, Status>) -> Result<Output, Status>

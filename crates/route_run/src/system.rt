@@ -5,8 +5,8 @@ ghost use Rattle.std.specs.IoError.{error_kind};
 ghost use Rattle.route_run.specs.Program.{fault_of};
 
 use crate::reply::edge;
-use crate::status::Status;
 use edge_io::{DirFiles, StdSink, WriteSink};
+use run_stages::Status;
 use std::io::ErrorKind;
 use std::process::ExitCode;
 use std::{env, io};

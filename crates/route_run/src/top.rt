@@ -3,23 +3,18 @@
 ghost use Rattle.std.specs.Prelude.{◌≡◌, Ok, IfOk};
 ghost use Rattle.edge_io.specs.Faults.{CountRose};
 ghost use Rattle.item_list.specs.Answer.{Answers};
-ghost use Rattle.route_run.specs.Ends.{output_in};
+ghost use Rattle.run_answers.specs.Outputs.{output_in};
 ghost use Rattle.route_run.specs.Outcome.{IsOutcome, reach, IsAnswer, IsCommandAnswer, command_in, HasCause, HasReadCause, IsComplete, file_words};
 ghost use Rattle.command_words.specs.Command.{command_of};
 ghost use Rattle.command_words.specs.Fit.{IsFit};
 ghost use Rattle.command_words.specs.Refusals.{texts_of};
 ghost use Rattle.command_words.specs.declared.command.Command.{Command as TheCommand};
 
-use crate::answer::code::code_answer;
-use crate::answer::grid::grid_answer;
-use crate::answer::hills::hills_answer;
-use crate::answer::make::make_answer;
-use crate::answer::route::route_answer;
-use crate::output::Output;
 use crate::sending::{at_hand, send};
-use crate::status::Status;
 use command_words::{Command, Refusal, command_of};
 use edge_io::{Files, Sink};
+use run_answers::{Output, code_answer, grid_answer, hills_answer, make_answer, route_answer};
+use run_stages::Status;
 use std::alloc::Global;
 
 /// Does what the words ask for over `files`, and writes what it prints to `out`.

@@ -2,7 +2,7 @@
 
 use crate::world::World;
 use case_rows::Case;
-use route_run::Status;
+use run_stages::Status;
 use std::alloc::{AllocError, Global};
 
 /// What the top call comes to on the words of a case from a place on: number and line of the status, the output, and how often

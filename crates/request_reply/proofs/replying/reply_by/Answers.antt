@@ -21,7 +21,7 @@ returns c =
     let track = c.in_ok-track.track in
     record {
       exact = λ sections is.
-          is-reply world sections ready c.args.request is c.in_ok-told.told track c.in_ok-bytes.bytes.items
+          is-reply world sections ready (asked c.args.request) is c.in_ok-told.told track c.in_ok-bytes.bytes.items
           c.in_ok-told.ensures.exact
           (copy-answers world sections ready c.in_ok-clone.field-0.value c.args.request track c.in_ok-clone.ensures.cases is c.in_ok-track.ensures.exact)
           (subst (λ r. c.in_ok-bytes.bytes.items ≡ reply_of c.in_ok-told.told.form (source_by world r c.in_ok-told.told) track)

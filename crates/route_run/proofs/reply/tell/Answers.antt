@@ -1,6 +1,6 @@
 use Rattle.std.proofs.Common.{inr, refl, codes}
 use Rattle.route_run.proofs.EdgeLemmas.{telling}
-use Rattle.route_run.specs.declared.status.Status.TheVariants.{NoMemory}
+use Rattle.run_stages.specs.declared.status.Status.TheVariants.{NoMemory}
 use Rattle.route_run.proofs.reply.tell.Goals as goal
 
 pub returns : goal.returns

@@ -1,5 +1,5 @@
 use Rattle.route_run.proofs.RunLemmas.{ends-cause, ends-complete, ends-written}
-use Rattle.route_run.specs.Ends.{output_in}
+use Rattle.run_answers.specs.Outputs.{output_in}
 use Rattle.command_words.specs.Refusals.{texts_of}
 use Rattle.route_run.proofs.top.run.Goals as goal
 

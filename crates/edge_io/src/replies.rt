@@ -1,0 +1,106 @@
+//! What the answers of the system's sockets mean, and how long to wait for one.
+
+ghost use Rattle.std.specs.Prelude.{◌≡◌};
+ghost use Rattle.std.specs.Duration.{as_nanos};
+ghost use Rattle.std.specs.Net.Grammar.{Parses, IsSocketText};
+ghost use Rattle.edge_io.specs.Sockets.{TellsArrival, TellsReading, TellsSending, TellsWaiting, nap_of};
+
+use crate::failed::Failed;
+use std::io;
+use std::io::ErrorKind;
+use std::net::SocketAddr;
+use std::time::Duration;
+
+/// What came of taking in a connection.
+#[derive(Drop)]
+pub enum Arrival<T> {
+    /// A peer has connected.
+    Came(T),
+    /// No peer waits.
+    NoneNow,
+    /// One was aborted, or couldn't be taken in; another may wait.
+    Again,
+}
+
+/// What came of reading from a connection.
+#[derive(Clone, Copy)]
+pub enum Reading {
+    /// So many bytes came, at least one.
+    Arrived { n: usize },
+    /// The peer sends no more.
+    Ended,
+    /// Nothing is there now.
+    NotNow,
+    /// The read was broken off and may be tried again.
+    Again,
+    /// The connection is gone.
+    Lost,
+}
+
+/// The address that a text spells: an IP address and a port.
+pub fn address_of(text: &str) -> Result<SocketAddr, Failed>
+    ensures exact { Parses IsSocketText text.now result }
+{
+    match text.parse::<SocketAddr>() {
+        Ok(address) => Ok(address),
+        Err(_) => Err(Failed),
+    }
+}
+
+/// What the system's answer to an accept means. An error of one connection is none of the listener.
+pub fn arrived<T>(answer: io::Result<T>) -> Arrival<T>
+    ensures exact { TellsArrival answer result }
+{
+    match answer {
+        Ok(stream) => Arrival::Came(stream),
+        Err(error) if error.kind() == ErrorKind::WouldBlock => Arrival::NoneNow,
+        Err(_) => Arrival::Again,
+    }
+}
+
+/// What the system's answer to a read into a buffer with room means.
+pub fn came(answer: io::Result<usize>) -> Reading
+    ensures exact { TellsReading answer result }
+{
+    match answer {
+        Ok(0) => Reading::Ended,
+        Ok(n) => Reading::Arrived { n },
+        Err(error) if error.kind() == ErrorKind::WouldBlock => Reading::NotNow,
+        Err(error) if error.kind() == ErrorKind::Interrupted => Reading::Again,
+        Err(_) => Reading::Lost,
+    }
+}
+
+/// What the system's answer to a write means: so many bytes were taken, none where it would have to wait.
+pub fn taken(answer: io::Result<usize>) -> Result<usize, Failed>
+    ensures exact { TellsSending answer result }
+{
+    match answer {
+        Ok(n) => Ok(n),
+        Err(error) if error.kind() == ErrorKind::WouldBlock => Ok(0),
+        Err(error) if error.kind() == ErrorKind::Interrupted => Ok(0),
+        Err(_) => Err(Failed),
+    }
+}
+
+/// What the system's answer to a wait means.
+pub fn waited(answer: io::Result<()>) -> Result<(), Failed>
+    ensures exact { TellsWaiting answer result }
+{
+    match answer {
+        Ok(()) => Ok(()),
+        Err(_) => Err(Failed),
+    }
+}
+
+/// How long to wait for an event, where so many connections are held and so many wait in line. It is no
+/// time at all but where none is, since a caller that holds connections may have work of its own.
+pub fn nap(held: usize, in_line: usize) -> Duration
+    ensures exact { as_nanos result ≡ nap_of held in_line }
+{
+    if held == 0 && in_line == 0 {
+        Duration::from_millis(80)
+    } else {
+        Duration::from_millis(0)
+    }
+}

@@ -1,0 +1,269 @@
+//! The listening socket and the connections that are held.
+
+ghost use Rattle.std.specs.Prelude.{ℕ, ◌<◌, ◌≤◌, List, length, IfOk, IfSome};
+ghost use Rattle.edge_io.specs.Hub.{FitsBuffer};
+
+use crate::event::Event;
+use crate::failed::Failed;
+use crate::replies::{Arrival, Reading, address_of, arrived, came, nap, taken, waited};
+use crate::turns::Turns;
+use mio::net::{TcpListener, TcpStream};
+use mio::{Events, Interest, Poll, Token};
+use std::alloc::Global;
+use std::collections::BTreeMap;
+use std::io;
+use std::io::{Read, Write};
+use std::net::Net;
+
+/// The number in line of the listening socket; connections have numbers from 1.
+const DOOR: u64 = 0;
+
+/// The most events that are asked for at a time; more come the next time.
+const EVENTS: usize = 128;
+
+/// A listening socket, and what tells which sockets are ready.
+#[derive(Drop)]
+struct Door {
+    listener: TcpListener,
+    poll: Poll,
+    events: Events,
+    in_line: bool,
+}
+
+/// A connection that is held.
+#[derive(Drop)]
+struct Peer {
+    stream: TcpStream,
+    ended: bool,
+    in_line: bool,
+}
+
+/// The listening socket, the connections that are held by their numbers, and who is next in turn.
+#[derive(Drop)]
+pub struct Sockets {
+    alloc: Global,
+    door: Option<Door>,
+    peers: BTreeMap<u64, Peer>,
+    turns: Turns,
+    last: u64,
+}
+
+impl Sockets {
+    /// No socket.
+    pub fn new(alloc: Global) -> Sockets {
+        Sockets {
+            alloc,
+            door: None,
+            peers: BTreeMap::new(alloc),
+            turns: Turns::new(alloc),
+            last: DOOR,
+        }
+    }
+
+    /// Listens at this address, in place of the one before; the connections stay.
+    pub fn open<N: Net>(&mut self, net: &N, address: &str) -> Result<(), Failed> {
+        let address = address_of(address)?;
+        let Ok(listener) = TcpListener::bind(net, address) else {
+            return Err(Failed);
+        };
+        match &mut self.door {
+            Some(door) => door.replace(listener),
+            None => {
+                self.door = Some(Door::new(self.alloc, net, listener)?);
+                Ok(())
+            }
+        }
+    }
+
+    /// What happens next, as far as it is known now.
+    pub fn next(&mut self, buf: &mut [u8]) -> Result<Event, Failed>
+        requires some { 0 < length buf.old }
+        ensures fits { IfOk result (FitsBuffer buf.new) }
+    {
+        self.look()?;
+        'turns: for _ in 0..self.turns.len() {
+            let Some(id) = self.turns.take() else {
+                return Ok(Event::Quiet);
+            };
+            if let Some(event) = self.serve(id, buf) {
+                return Ok(event);
+            }
+        }
+        Ok(Event::Quiet)
+    }
+
+    /// Asks which sockets are ready, and puts them in line.
+    fn look(&mut self) -> Result<(), Failed> {
+        let time = nap(self.peers.len(), self.turns.len());
+        let Some(door) = &mut self.door else {
+            return Err(Failed);
+        };
+        waited(door.poll.poll(&mut door.events, Some(time)))?;
+        'events: for event in door.events.iter() {
+            let Token(id) = event.token();
+            if id as u64 == DOOR {
+                door.in_line = door.in_line || self.turns.join(DOOR);
+            } else {
+                wake(&mut self.peers, &mut self.turns, id as u64);
+            }
+        }
+        Ok(())
+    }
+
+    /// What whoever is in turn has to tell.
+    fn serve(&mut self, id: u64, buf: &mut [u8]) -> Option<Event>
+        requires some { 0 < length buf.old }
+        ensures fits { IfSome result (FitsBuffer buf.new) }
+    {
+        if id == DOOR {
+            self.admit()
+        } else {
+            self.hear(id, buf)
+        }
+    }
+
+    /// Takes in a connection that waits at the door.
+    fn admit(&mut self) -> Option<Event>
+        ensures fits { IfSome result (λ event. (buffer : List ℕ) → FitsBuffer buffer event) }
+    {
+        let Some(door) = &mut self.door else {
+            return None;
+        };
+        door.in_line = false;
+        match arrived(door.listener.accept()) {
+            Arrival::Came((stream, _)) => {
+                door.in_line = self.turns.join(DOOR);
+                self.welcome(stream)
+            }
+            Arrival::NoneNow => None,
+            Arrival::Again => {
+                door.in_line = self.turns.join(DOOR);
+                None
+            }
+        }
+    }
+
+    /// Holds a connection from now on. Where it can't, the connection is dropped and nothing is told.
+    fn welcome(&mut self, mut stream: TcpStream) -> Option<Event>
+        ensures fits { IfSome result (λ event. (buffer : List ℕ) → FitsBuffer buffer event) }
+    {
+        let Some(door) = &self.door else {
+            return None;
+        };
+        let Some(id) = self.last.checked_add(1) else {
+            return None;
+        };
+        let watched = door.watch(&mut stream, id);
+        let peer = Peer {
+            stream,
+            ended: false,
+            in_line: false,
+        };
+        if watched.is_err() || self.peers.insert(id, peer).is_err() {
+            return None;
+        }
+        self.last = id;
+        Some(Event::Opened { id })
+    }
+
+    /// Reads from a connection.
+    fn hear(&mut self, id: u64, buf: &mut [u8]) -> Option<Event>
+        requires some { 0 < length buf.old }
+        ensures fits { IfSome result (FitsBuffer buf.new) }
+    {
+        let Some(peer) = self.peers.get_mut(&id) else {
+            return None;
+        };
+        peer.in_line = false;
+        match came(peer.stream.read(buf)) {
+            Reading::Arrived { n } => {
+                peer.in_line = self.turns.join(id);
+                Some(Event::Bytes { id, n })
+            }
+            Reading::Ended => {
+                peer.ended = true;
+                Some(Event::Ended { id })
+            }
+            Reading::NotNow => None,
+            Reading::Again => {
+                peer.in_line = self.turns.join(id);
+                None
+            }
+            Reading::Lost => {
+                self.close(id);
+                Some(Event::Lost { id })
+            }
+        }
+    }
+
+    /// Offers bytes to a connection, which is let go where that fails.
+    pub fn send(&mut self, id: u64, piece: &[u8]) -> Result<usize, Failed>
+        ensures fits { IfOk result (λ n. n ≤ length piece.now) }
+    {
+        let Some(peer) = self.peers.get_mut(&id) else {
+            return Err(Failed);
+        };
+        let answer = taken(peer.stream.write(piece));
+        if answer.is_err() {
+            self.close(id);
+        }
+        answer
+    }
+
+    /// Lets a connection go, which ends it.
+    pub fn close(&mut self, id: u64) {
+        self.peers.remove(&id);
+    }
+}
+
+impl Door {
+    /// A door at this listening socket.
+    fn new<N: Net>(alloc: Global, net: &N, listener: TcpListener) -> Result<Door, Failed> {
+        let Ok(poll) = Poll::new(net) else {
+            return Err(Failed);
+        };
+        let Ok(events) = Events::with_capacity(alloc, EVENTS) else {
+            return Err(Failed);
+        };
+        let mut door = Door {
+            listener,
+            poll,
+            events,
+            in_line: false,
+        };
+        let watched = door.poll.registry().register(
+            &mut door.listener,
+            Token(DOOR as usize),
+            Interest::READABLE,
+        );
+        waited(watched)?;
+        Ok(door)
+    }
+
+    /// Another listening socket in place of the one before.
+    fn replace(&mut self, mut listener: TcpListener) -> Result<(), Failed> {
+        waited(
+            self.poll
+                .registry()
+                .register(&mut listener, Token(DOOR as usize), Interest::READABLE),
+        )?;
+        self.listener = listener;
+        Ok(())
+    }
+
+    /// Has a connection reported when there is something to read.
+    fn watch(&self, stream: &mut TcpStream, id: u64) -> io::Result<()> {
+        self.poll
+            .registry()
+            .register(stream, Token(id as usize), Interest::READABLE)
+    }
+}
+
+/// Puts a connection in line that has something to read.
+fn wake(peers: &mut BTreeMap<u64, Peer>, turns: &mut Turns, id: u64) {
+    if let Some(peer) = peers.get_mut(&id) {
+        if !peer.in_line && !peer.ended {
+            peer.in_line = turns.join(id);
+        }
+    }
+}

@@ -1,0 +1,82 @@
+//! The network of the system as a hub, which tells nothing of its acts.
+
+ghost use Rattle.std.specs.Prelude.{◌≡◌};
+ghost use Rattle.edge_io.specs.Sockets.{fresh_hub};
+
+use crate::event::Event;
+use crate::failed::{Failed, next};
+use crate::hub::Hub;
+use crate::sockets::Sockets;
+use std::alloc::Global;
+use std::marker::Model;
+use std::net::Net;
+
+/// Connections over TCP, of one thread and without waiting, but where none is held.
+#[derive(Drop)]
+pub struct TcpHub<'a, R: Net> {
+    rt: &'a R,
+    sockets: Sockets,
+    faults: u64,
+    breaks: u64,
+}
+
+impl<'a, R: Net> Model for TcpHub<'a, R> {
+    ghost use Rattle.std.specs.Prelude.{None};
+    ghost use Rattle.edge_io.specs.Hub.{HubSeen};
+
+    ghost Value = { HubSeen };
+
+    ghost view = { λ s. record { acts = None; faults = s.faults; breaks = s.breaks } };
+}
+
+impl<'a, R: Net> TcpHub<'a, R> {
+    /// The network of `rt`, on which nothing is open; it takes no memory yet.
+    pub fn new(rt: &'a R, alloc: Global) -> Self
+        ensures value { result ≡ fresh_hub }
+    {
+        TcpHub {
+            rt,
+            sockets: Sockets::new(alloc),
+            faults: 0,
+            breaks: 0,
+        }
+    }
+}
+
+impl<R: Net> Hub for TcpHub<'_, R> {
+    ghost seen = { λ s. s };
+
+    fn open(&mut self, address: &str) -> Result<(), Failed> {
+        match self.sockets.open(self.rt, address) {
+            Ok(()) => Ok(()),
+            Err(failed) => {
+                self.faults = next(self.faults);
+                Err(failed)
+            }
+        }
+    }
+
+    fn next(&mut self, buf: &mut [u8]) -> Result<Event, Failed> {
+        match self.sockets.next(buf) {
+            Ok(event) => Ok(event),
+            Err(failed) => {
+                self.faults = next(self.faults);
+                Err(failed)
+            }
+        }
+    }
+
+    fn send(&mut self, id: u64, piece: &[u8]) -> Result<usize, Failed> {
+        match self.sockets.send(id, piece) {
+            Ok(n) => Ok(n),
+            Err(failed) => {
+                self.breaks = next(self.breaks);
+                Err(failed)
+            }
+        }
+    }
+
+    fn close(&mut self, id: u64) {
+        self.sockets.close(id);
+    }
+}

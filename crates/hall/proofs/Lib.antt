@@ -1,0 +1,11 @@
+pub mod AllowedLemmas
+pub mod EmptyLemmas
+pub mod QueueLemmas
+pub mod ReadingLemmas
+pub mod RoomLemmas
+pub mod SeatLemmas
+pub mod SendLemmas
+pub mod SoundLemmas
+pub mod StepLemmas
+pub mod VerdictLemmas
+pub mod WorkingLemmas

@@ -1,0 +1,124 @@
+-- What an undecided verdict, and one of no byte, tell of the bytes and of the end.
+use Rattle.std.proofs.Common.{◌≡◌, ℕ, ◌+◌, Bool, true, false, not, ◌&&◌, nat_lt, nat_le, cond, List, [], ◌∷◌, length, refl, sym, subst, bytes_eq, rules, tests}
+use Rattle.route_http.specs.declared.heads.Head.{Head}
+use Rattle.route_http.specs.declared.heads.Head.TheVariants.{Whole, More, Bad, TooLong}
+use Rattle.route_http.specs.declared.heads.Method.{Method}
+use Rattle.route_http.specs.declared.heads.Method.TheVariants.{Get, Post, Other}
+use Rattle.route_http.specs.declared.span.Span.{Span}
+use Rattle.session_answers.specs.Verdicts.{IsVerdict, by_path, is_whole, most_body, of_route, of_upload, part, profile_path, route_path, unfinished, verdict_by}
+use Rattle.session_answers.specs.declared.refusal.Refusal.{Refusal}
+use Rattle.session_answers.specs.declared.refusal.Refusal.TheVariants.{BadRequest, BodyTooLong, MethodNotAllowed, PathUnknown}
+use Rattle.session_answers.specs.declared.verdict.Verdict.{Verdict}
+use Rattle.session_answers.specs.declared.verdict.Verdict.TheVariants.{Undecided, NoByte, Refused, Upload, Query}
+
+-- ---- of a request for a route or an upload
+
+-- a request for a route is decided, and has a byte
+pub record IsDecided (v : Verdict) : Type 0 where
+  pub decided : v ≡ Undecided → ⊥
+  pub has_byte : v ≡ NoByte → ⊥
+
+refused_is_decided : (r : Refusal) → IsDecided (Refused r)
+refused_is_decided r = record { decided = λ h. cc; has_byte = λ h. cc }
+
+by_test : (P : Verdict → Type 0) (b : Bool) (v w : Verdict) → P v → P w → P (cond b v w)
+by_test P b v w first second = elim b as (λ x. P (cond x v w)) [ true ↦ first | false ↦ second ]
+
+route_is_decided : (method : Method) (query : Span) (body : ℕ) → IsDecided (of_route method query body)
+route_is_decided Get query body =
+    by_test IsDecided (nat_lt most_body body) (Refused BodyTooLong) (Query query) (refused_is_decided BodyTooLong)
+    (record { decided = λ h. cc; has_byte = λ h. cc })
+route_is_decided Post query body = refused_is_decided MethodNotAllowed
+route_is_decided Other query body = refused_is_decided MethodNotAllowed
+
+-- the place of an upload's text
+abbrev text_of : ℕ → ℕ → Span
+text_of long body = record { start = long; end = long + body }
+
+upload_has_byte : (long : ℕ) (method : Method) (body : ℕ) (bytes : List ℕ) → of_upload long method body bytes ≡ NoByte → ⊥
+upload_has_byte long Get body bytes is = cc
+upload_has_byte long Other body bytes is = cc
+upload_has_byte long Post body bytes is =
+    by_test (λ v. v ≡ NoByte → ⊥) (nat_lt most_body body) (Refused BodyTooLong)
+    (cond (nat_le (long + body) (length bytes)) (Upload (text_of long body)) Undecided) (λ h. cc)
+    (by_test (λ v. v ≡ NoByte → ⊥) (nat_le (long + body) (length bytes)) (Upload (text_of long body)) Undecided (λ h. cc) (λ h. cc)) is
+
+upload_is_decided : (long : ℕ) (method : Method) (body : ℕ) (bytes : List ℕ) → is_whole long method body bytes ≡ true → IsDecided (of_upload long method body bytes)
+upload_is_decided long Get body bytes whole = refused_is_decided MethodNotAllowed
+upload_is_decided long Other body bytes whole = refused_is_decided MethodNotAllowed
+upload_is_decided long Post body bytes whole =
+    by_test IsDecided (nat_lt most_body body) (Refused BodyTooLong)
+    (cond (nat_le (long + body) (length bytes)) (Upload (text_of long body)) Undecided) (refused_is_decided BodyTooLong)
+    (subst (λ (b : Bool). IsDecided (cond b (Upload (text_of long body)) Undecided)) (sym whole)
+    (record { decided = λ h. cc; has_byte = λ h. cc }))
+
+-- ---- of a whole head
+
+path_has_byte : (path : List ℕ) (long : ℕ) (method : Method) (query : Span) (body : ℕ) (bytes : List ℕ) → by_path path long method query body bytes ≡ NoByte → ⊥
+path_has_byte path long method query body bytes is =
+    by_test (λ v. v ≡ NoByte → ⊥) (bytes_eq path route_path) (of_route method query body)
+    (cond (bytes_eq path profile_path) (of_upload long method body bytes) (Refused PathUnknown))
+    (route_is_decided method query body).has_byte
+    (by_test (λ v. v ≡ NoByte → ⊥) (bytes_eq path profile_path) (of_upload long method body bytes) (Refused PathUnknown)
+    (upload_has_byte long method body bytes) (λ h. cc))
+    is
+
+path_is_decided : (path : List ℕ) (long : ℕ) (method : Method) (query : Span) (body : ℕ) (bytes : List ℕ) → is_whole long method body bytes ≡ true → IsDecided (by_path path long method query body bytes)
+path_is_decided path long method query body bytes whole =
+    by_test IsDecided (bytes_eq path route_path) (of_route method query body)
+    (cond (bytes_eq path profile_path) (of_upload long method body bytes) (Refused PathUnknown))
+    (route_is_decided method query body)
+    (by_test IsDecided (bytes_eq path profile_path) (of_upload long method body bytes) (Refused PathUnknown)
+    (upload_is_decided long method body bytes whole) (refused_is_decided PathUnknown))
+
+whole_is_decided : (bytes : List ℕ) (long : ℕ) (method : Method) (path query : Span) (body : ℕ) → IsDecided (verdict_by (Whole long method path query body) bytes true)
+whole_is_decided bytes long method path query body = by_cases (is_whole long method body bytes) refl
+  where
+    by_cases : (b : Bool) → is_whole long method body bytes ≡ b → IsDecided (verdict_by (Whole long method path query body) bytes true)
+    by_cases true is =
+        subst (λ (b : Bool). IsDecided (cond (not b) (Refused BadRequest) (by_path (part bytes path) long method query body bytes))) (sym is)
+        (path_is_decided (part bytes path) long method query body bytes is)
+    by_cases false is =
+        subst (λ (b : Bool). IsDecided (cond (not b) (Refused BadRequest) (by_path (part bytes path) long method query body bytes))) (sym is)
+        (refused_is_decided BadRequest)
+
+-- ---- of any bytes
+
+ended_decides : (head : Head) (bytes : List ℕ) → verdict_by head bytes true ≡ Undecided → ⊥
+ended_decides TooLong bytes is = cc
+ended_decides Bad bytes is = cc
+ended_decides More bytes is = by_test (λ v. v ≡ Undecided → ⊥) (nat_lt 0 (length bytes)) (Refused BadRequest) NoByte (λ h. cc) (λ h. cc) is
+ended_decides (Whole long method path query body) bytes is = (whole_is_decided bytes long method path query body).decided is
+
+-- where nothing is fixed, the peer didn't end
+pub undecided_goes_on : (bytes : List ℕ) (ended : Bool) → IsVerdict bytes ended Undecided → ended ≡ false
+undecided_goes_on bytes false v = refl
+undecided_goes_on bytes true v = absurd (ended_decides v.head bytes (sym v.is))
+
+-- no byte came, and the peer ended
+pub record IsSilent (bytes : List ℕ) (ended : Bool) : Type 0 where
+  pub ends : ended ≡ true
+  pub none : bytes ≡ []
+
+none_unfinished : (bytes : List ℕ) (ended : Bool) → unfinished ended bytes ≡ NoByte → IsSilent bytes ended
+none_unfinished bytes false is = cc
+none_unfinished [] true is = record { ends = refl; none = refl }
+none_unfinished (b ∷ bytes) true is = absurd (has_byte b bytes is)
+  where
+    has_byte : (b : ℕ) (bytes : List ℕ) → cond (nat_lt 0 (length (b ∷ bytes))) (Refused BadRequest) NoByte ≡ NoByte → ⊥
+    has_byte b bytes is =
+        (let more : nat_lt 0 (length (b ∷ bytes)) ≡ true = search (rules, tests) in
+        let refused : Refused BadRequest ≡ NoByte = subst (λ (x : Bool). cond x (Refused BadRequest) NoByte ≡ NoByte) more is in cc)
+
+none_by_head : (head : Head) (bytes : List ℕ) (ended : Bool) → verdict_by head bytes ended ≡ NoByte → IsSilent bytes ended
+none_by_head TooLong bytes ended is = cc
+none_by_head Bad bytes ended is = cc
+none_by_head More bytes ended is = none_unfinished bytes ended is
+none_by_head (Whole long method path query body) bytes ended is =
+    absurd (by_test (λ v. v ≡ NoByte → ⊥) (ended && not (is_whole long method body bytes)) (Refused BadRequest)
+    (by_path (part bytes path) long method query body bytes) (λ h. cc)
+    (path_has_byte (part bytes path) long method query body bytes) is)
+
+-- where the verdict is that no byte came, none did, and the peer ended
+pub silent_by : (bytes : List ℕ) (ended : Bool) → IsVerdict bytes ended NoByte → IsSilent bytes ended
+silent_by bytes ended v = none_by_head v.head bytes ended (sym v.is)

@@ -1,0 +1,40 @@
+//! What is kept of a connection.
+
+use session_answers::Received;
+
+/// A frame that is sent: one of the two that were made before, or one of its own.
+#[derive(Drop)]
+pub(crate) enum Frame {
+    /// That of want of memory.
+    Memory,
+    /// That of a connection that is turned away.
+    Full,
+    Own(Vec<u8>),
+}
+
+/// How far a connection is.
+#[derive(Drop)]
+pub(crate) enum Phase {
+    /// Its bytes are read.
+    Reading,
+    /// Its search waits for a turn, with so many labels settled.
+    Waits(u64),
+    /// So many bytes of its frame are sent.
+    Answered(Frame, usize),
+    /// Its peer ended before the first byte.
+    Silent,
+}
+
+/// A connection that has a seat.
+#[derive(Drop)]
+pub(crate) struct Seat {
+    pub(crate) id: u64,
+    /// It is turned away; else it is a session.
+    pub(crate) away: bool,
+    pub(crate) received: Received,
+    /// Its peer ended while it was read.
+    pub(crate) ended: bool,
+    /// How many profiles were stored before its request was whole.
+    pub(crate) before: Option<usize>,
+    pub(crate) phase: Phase,
+}

@@ -1,0 +1,4 @@
+pub mod MadeLemmas
+pub mod PlanLemmas
+pub mod RoutedLemmas
+pub mod TextLemmas

@@ -1,0 +1,27 @@
+use Rattle.std.proofs.Common.{Err, refl}
+use Rattle.profile_text.specs.Expr.{sections_in}
+use Rattle.run_answers.specs.Grid.{Prices}
+use Rattle.run_stages.specs.Chain.{bytes_in}
+use Rattle.run_stages.specs.Checked.{TakesChecked}
+use Rattle.run_stages.proofs.StageLemmas.{then-goes, then-stops}
+use Rattle.run_answers.proofs.grid.by_profile.Goals as goal
+
+pub returns-in-Ok : goal.returns-in-Ok
+returns-in-Ok g c =
+    let command = c.args.command.now in
+    let words = c.args.words.now in
+    record {
+      exact = then-goes (TakesChecked words.profile.word words.profile.name c.args.table) (Prices command c.args.table)
+          (g.F.Files.seen c.args.files.now) (g.F.Files.seen c.take_checked.new.files) (g.F.Files.seen c.take_checked.new.files)
+          (bytes_in c.priced.result) (sections_in c.in-Ok.profile) c.in-Ok.ensures.taken (c.priced.ensures.exact, refl);
+    }
+
+pub returns-in-Err : goal.returns-in-Err
+returns-in-Err g c =
+    let command = c.args.command.now in
+    let words = c.args.words.now in
+    record {
+      exact = then-stops (TakesChecked words.profile.word words.profile.name c.args.table) (Prices command c.args.table)
+          (g.F.Files.seen c.args.files.now) (g.F.Files.seen c.take_checked.new.files) (Err c.in-Err.status) c.in-Err.status
+          c.in-Err.ensures.taken refl;
+    }

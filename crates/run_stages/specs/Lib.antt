@@ -1,0 +1,11 @@
+pub mod Chain
+pub mod Checked
+pub mod File
+pub mod Limits
+pub mod Map
+pub mod Profile
+pub mod Query
+pub mod Status
+pub mod TagTable
+pub mod TileSets
+pub mod Tiles

@@ -1,0 +1,17 @@
+pub mod Status
+pub mod TrafficLemmas
+pub mod SeatLemmas
+pub mod StatusLemmas
+pub mod StandLemmas
+pub mod TakeLemmas
+pub mod EventLemmas
+pub mod OpenLemmas
+pub mod WorkLemmas
+pub mod ServeLemmas
+pub mod CloseLemmas
+pub mod LawLemmas
+pub mod LiveLemmas
+pub mod HubLemmas
+pub mod HeardLemmas
+pub mod TurnLemmas
+pub mod CallerLemmas

@@ -1,0 +1,12 @@
+//! Why a server ends.
+
+/// Why a server ended.
+#[derive(Clone, Copy, Debug, PartialEq, Eq)]
+pub enum ServeEnd {
+    /// The hub gave its last event.
+    Over,
+    /// All turns were taken.
+    TurnsSpent,
+    /// The hub failed to give an event.
+    HubFault,
+}

@@ -1,0 +1,127 @@
+-- The request of a query stays it while more profiles are stored.
+use Rattle.std.proofs.Common.{◌≡◌, ℕ, zero, suc, ◌≤◌, ◌<◌, List, [], ◌∷◌, ◌++◌, length, take, drop, refl, sym, ap, ◌∙◌, subst, arith, Option, Some}
+use Rattle.std.specs.Prelude.{slice_get}
+use Rattle.std.proofs.lemmas.List.{length-map, take-append-drop, take-append-le, take_all}
+use Rattle.std.proofs.lemmas.Option.{slice_get_within}
+use Rattle.kept_profiles.specs.declared.kept.KeptProfiles.{KeptProfiles}
+use Rattle.profile_text.specs.Tree.{Sections}
+use Rattle.request_reply.specs.Pending.{IsFor, IsPending, StaysFor, settled_of}
+use Rattle.request_reply.specs.Replies.{question_of}
+use Rattle.request_reply.specs.declared.pending.Pending.{Pending}
+use Rattle.route_engine.proofs.RouteLemmas.{ready-setting}
+use Rattle.route_engine.specs.Jobs.{plan_in, setting_of}
+use Rattle.route_engine.specs.Stored.{profiles_of}
+use Rattle.route_http.specs.Asked.{Asked}
+use Rattle.route_ready.specs.Worlds.{WorldValue}
+use Rattle.session_answers.specs.Jobs.{AreKept, IsBegun, IsJobOf}
+use Rattle.session_answers.specs.Rows.{Asks, IsSearched}
+use Rattle.session_answers.specs.Stored.{Stored}
+
+-- ---- Lists
+
+-- what stands at a place of a list stands there where more comes behind
+front_get : {A : Type 0} (xs ys : List A) (k : ℕ) (a : A) → slice_get xs k ≡ Some a → slice_get (xs ++ ys) k ≡ Some a
+front_get [] ys k a is = absurd (cc)
+front_get (x ∷ xs) ys zero a is = is
+front_get (x ∷ xs) ys (suc k) a is = front_get xs ys k a is
+
+-- what stands at a place is one
+get_same : {A : Type 0} (found : Option A) (a b : A) → found ≡ Some a → found ≡ Some b → a ≡ b
+get_same found a b first second = cc
+
+-- the profiles of two lists one behind the other
+profiles-append : (stored more : List Stored) → profiles_of (stored ++ more) ≡ profiles_of stored ++ profiles_of more
+profiles-append [] more = refl
+profiles-append (s ∷ stored) more = ap (λ (l : List Sections). s.1 ∷ l) (profiles-append stored more)
+
+-- a profile stands at its place where more are stored
+profile_more : (stored more : List Stored) (place : ℕ) (sections : Sections) → slice_get (profiles_of stored) place ≡ Some sections →
+    slice_get (profiles_of (stored ++ more)) place ≡ Some sections
+profile_more stored more place sections there =
+    ap (λ (l : List Sections). slice_get l place) (profiles-append stored more)
+    ∙ front_get (profiles_of stored) (profiles_of more) place sections there
+
+-- and where the first ones are told from all
+profile_front : (before : ℕ) (stored : List Stored) (place : ℕ) (sections : Sections) →
+    slice_get (profiles_of (take before stored)) place ≡ Some sections → slice_get (profiles_of stored) place ≡ Some sections
+profile_front before stored place sections there =
+    ap (λ (l : List Stored). slice_get (profiles_of l) place) (sym (take-append-drop before stored))
+    ∙ profile_more (take before stored) (drop before stored) place sections there
+
+-- ---- What is kept
+
+-- what is kept stays made from the stored profiles
+pub kept_more : (world : WorldValue) (stored more : List Stored) (kept : KeptProfiles) → AreKept world stored kept →
+    AreKept world (stored ++ more) kept
+kept_more world stored more kept are entry within =
+    let made = are entry within in
+    record {
+      sections = made.sections;
+      there = profile_more stored more entry.0.place made.sections made.there;
+      ready_is = made.ready_is;
+    }
+
+-- ---- The request of a query
+
+module _ (world : WorldValue) where
+  -- a request that is searched for is one that is to be
+  pub searched-for : (stored : List Stored) (query : List ℕ) (asked : Asked) (sections : Sections) (p : Pending) →
+      Asks stored query asked sections → IsFor world sections asked p → IsSearched world stored query
+  searched-for stored query asked sections p asks is = record {
+    asked = asked;
+    sections = sections;
+    asks = asks;
+    setting = setting_of world p.ready.value asked.circles;
+    over = ready-setting (question_of world sections asked) world p.ready.value refl is.ready;
+    nodes = (plan_in world p.job).nodes;
+    mapped = is.planned.nodes;
+  }
+
+  -- for which nothing is settled at first
+  pub begun-job : (stored : List Stored) (query : List ℕ) (place : ℕ) (asked : Asked) (sections : Sections) (p : Pending) →
+      Asks stored query asked sections → slice_get (profiles_of stored) place ≡ Some sections → IsPending world p →
+      IsFor world sections asked p → settled_of p ≡ 0 → IsBegun world stored query place p
+  begun-job stored query place asked sections p asks there pending is fresh = record {
+    searched = searched-for stored query asked sections p asks is;
+    job = record { asked = asked; sections = sections; asks = asks; there = there; pending = pending; is = is };
+    fresh = fresh;
+  }
+
+  -- after a turn that leaves it what it is, it still is the request of the query
+  pub job-later : (stored : List Stored) (query : List ℕ) (place : ℕ) (p next : Pending) → IsPending world next → StaysFor world p next →
+      IsJobOf world stored query place p → IsJobOf world stored query place next
+  job-later stored query place p next pending stays job = record {
+    asked = job.asked;
+    sections = job.sections;
+    asks = job.asks;
+    there = job.there;
+    pending = pending;
+    is = stays job.sections job.asked job.is;
+  }
+
+  module _ (query : List ℕ) (place : ℕ) (p : Pending) where
+    -- by all profiles that are stored now
+    pub job_now : (stored : List Stored) → IsJobOf world stored query place p → IsJobOf world (take (length stored) stored) query place p
+    job_now stored = subst (λ (l : List Stored). IsJobOf world l query place p) (sym (take_all (length stored) stored (omega arith)))
+
+    -- by the first ones, where more are stored behind
+    pub job_more : (before : ℕ) (stored more : List Stored) → before ≤ length stored → IsJobOf world (take before stored) query place p →
+        IsJobOf world (take before (stored ++ more)) query place p
+    job_more before stored more within =
+        subst (λ (l : List Stored). IsJobOf world l query place p) (sym (take-append-le before stored more within))
+
+    module _ (before : ℕ) (stored : List Stored) (job : IsJobOf world (take before stored) query place p) where
+      -- its profile is stored
+      pub job_place : place < length stored
+      job_place =
+          let there = profile_front before stored place job.sections job.there in
+          let below = slice_get_within (profiles_of stored) place job.sections there in
+          omega (arith, length-map stored (λ (s : Stored). s.1))
+
+      -- at its place, which is the same among the first ones
+      pub job_profile : (sections : Sections) → slice_get (profiles_of stored) place ≡ Some sections →
+          slice_get (profiles_of (take before stored)) place ≡ Some sections
+      job_profile sections there =
+          let same = get_same (slice_get (profiles_of stored) place) job.sections sections
+          (profile_front before stored place job.sections job.there) there in
+          job.there ∙ ap (λ (s : Sections). Some s) same

@@ -1,0 +1,49 @@
+use Rattle.profile_text.specs.Expr.{sections_in}
+use Rattle.route_engine.specs.Stored.{profiles_of}
+use Rattle.route_http.specs.Seen.{asked}
+use Rattle.route_ready.specs.World.{world_of}
+use Rattle.session_answers.proofs.JobLemmas.{begun-job}
+use Rattle.session_answers.proofs.QueryLemmas.{early-frame, profile-frame}
+use Rattle.session_answers.proofs.StoredLemmas.{found_at}
+use Rattle.session_answers.specs.Profiles.{stored_of}
+use Rattle.session_answers.specs.Rows.{Asks}
+use Rattle.session_answers.proofs.beginning.stored.Goals as goal
+
+pub returns-in-Ok-new-clause-exact : goal.returns-in-Ok-new-clause-exact
+returns-in-Ok-new-clause-exact c = λ query reads.
+    let world = world_of c.args.world.now in
+    let stored = stored_of c.args.profiles.now in
+    let request = asked c.args.request in
+    let sections = sections_in c.profile-profile.result.now in
+    let there = c.profile-profile.ensures.value in
+    let ready = (c.in-Ok.ensures.exact (profiles_of stored) c.requires.kept there).1 in
+    let asks : Asks stored query request sections =
+    record { asks = reads; found = found_at stored request.profile c.args.place sections c.requires.found there } in
+    begun-job world stored query c.args.place request sections c.in-Ok-new.pending asks there c.in-Ok-new.ensures.pending
+    (c.in-Ok-new.ensures.answers sections ready) c.in-Ok-new.ensures.fresh
+
+pub returns-in_ok-frame-in-Err-new-clause-exact : goal.returns-in_ok-frame-in-Err-new-clause-exact
+returns-in_ok-frame-in-Err-new-clause-exact c = λ query reads.
+    let world = world_of c.args.world.now in
+    let stored = stored_of c.args.profiles.now in
+    let request = asked c.args.request in
+    let sections = sections_in c.profile-profile.result.now in
+    let there = c.profile-profile.ensures.value in
+    let ready = (c.in-Ok.ensures.exact (profiles_of stored) c.requires.kept there).1 in
+    let asks : Asks stored query request sections =
+    record { asks = reads; found = found_at stored request.profile c.args.place sections c.requires.found there } in
+    early-frame world stored query request sections asks c.in-Err-new.error c.in_ok-frame-in-Err-new.frame.items
+    c.in_ok-frame-in-Err-new.ensures.reason c.in_ok-frame-in-Err-new.ensures.exact (c.in-Err-new.ensures.cause sections ready)
+
+pub returns-in_ok-frame-in-Err-clause-exact : goal.returns-in_ok-frame-in-Err-clause-exact
+returns-in_ok-frame-in-Err-clause-exact c = λ query reads.
+    let world = world_of c.args.world.now in
+    let stored = stored_of c.args.profiles.now in
+    let request = asked c.args.request in
+    let sections = sections_in c.profile-profile.result.now in
+    let there = c.profile-profile.ensures.value in
+    let why = (c.in-Err.ensures.exact (profiles_of stored) c.requires.kept there).1 in
+    let asks : Asks stored query request sections =
+    record { asks = reads; found = found_at stored request.profile c.args.place sections c.requires.found there } in
+    profile-frame world stored query request sections asks c.in-Err.error c.in_ok-frame-in-Err.frame.items
+    c.in_ok-frame-in-Err.ensures.reason c.in_ok-frame-in-Err.ensures.exact why

@@ -1,0 +1,54 @@
+-- What a query comes to at once, and what a turn of the search for it comes to. This project's own rule.
+use Rattle.std.specs.Prelude.{◌≡◌, ℕ, ◌+◌, List, Some, slice_get}
+use Rattle.kept_profiles.specs.Kept.{IsKept}
+use Rattle.kept_profiles.specs.declared.kept.KeptProfiles.{KeptProfiles}
+use Rattle.profile_text.specs.Tree.{Sections}
+use Rattle.request_reply.specs.Pending.{IsFor, IsPending, settled_of}
+use Rattle.request_reply.specs.declared.pending.Pending.{Pending}
+use Rattle.route_engine.specs.Stored.{profiles_of}
+use Rattle.route_http.specs.Asked.{Asked}
+use Rattle.route_ready.specs.Worlds.{WorldValue}
+use Rattle.session_answers.specs.Rows.{Asks, IsEarlyFrame, IsQueryFrame, IsSearched}
+use Rattle.session_answers.specs.Stored.{Stored}
+use Rattle.session_answers.specs.declared.beginning.Begun.{Begun}
+use Rattle.session_answers.specs.declared.beginning.Begun.TheVariants as begun
+use Rattle.session_answers.specs.declared.turning.Turned.{Turned}
+use Rattle.session_answers.specs.declared.turning.Turned.TheVariants as turned
+
+-- ---- A query that is searched for
+
+-- what is kept of profiles was made from those that are stored
+abbrev pub AreKept : WorldValue → List Stored → KeptProfiles → Type 0
+AreKept world stored kept = IsKept world (profiles_of stored) kept
+
+-- it is the request of a query that goes by the stored profile at a place
+pub record IsJobOf (world : WorldValue) (stored : List Stored) (query : List ℕ) (place : ℕ) (p : Pending) : Type 0 where
+  pub asked : Asked
+  pub sections : Sections
+  pub asks : Asks stored query asked sections
+  pub there : slice_get (profiles_of stored) place ≡ Some sections
+  pub pending : IsPending world p
+  pub is : IsFor world sections asked p
+
+-- it is that request, for which nothing was settled yet
+pub record IsBegun (world : WorldValue) (stored : List Stored) (query : List ℕ) (place : ℕ) (p : Pending) : Type 0 where
+  pub searched : IsSearched world stored query
+  pub job : IsJobOf world stored query place p
+  pub fresh : settled_of p ≡ 0
+
+-- ---- What calls answer
+
+-- what a query comes to at once: a frame that answers it before any search, or its request
+abbrev pub Begins : WorldValue → List Stored → List ℕ → Begun → Type 0
+Begins world stored query (begun.Frame frame) = IsEarlyFrame world stored query frame.items
+Begins world stored query (begun.Job p place) = IsBegun world stored query place p
+
+-- what a turn comes to: its request, which goes on, or a frame that answers it
+abbrev pub TurnsTo : WorldValue → List Stored → List ℕ → ℕ → Turned → Type 0
+TurnsTo world stored query place (turned.More next) = IsJobOf world stored query place next
+TurnsTo world stored query place (turned.Frame frame) = IsQueryFrame world stored query frame.items
+
+-- the whole quota is settled where it goes on
+abbrev pub CountsTo : ℕ → ℕ → Turned → Type 0
+CountsTo quota before (turned.More next) = settled_of next ≡ before + quota
+CountsTo quota before (turned.Frame frame) = Unit {0}

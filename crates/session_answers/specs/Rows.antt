@@ -1,0 +1,72 @@
+-- The answers to a query over a world and the stored profiles. This project's own rule.
+use Rattle.std.specs.Prelude.{◌≡◌, ℕ, List, Some, None, Ok, Err}
+use Rattle.profile_text.specs.Tree.{Sections}
+use Rattle.request_reply.specs.Refusals.{IsEarly}
+use Rattle.request_reply.specs.Replies.{IsReply, question_of}
+use Rattle.route_engine.specs.Answers.{IsAnswer}
+use Rattle.route_engine.specs.Settings.{IsSettingOf, Setting, open_map_of}
+use Rattle.route_http.specs.Asked.{Asked}
+use Rattle.route_http.specs.Frames.{frame_of}
+use Rattle.route_http.specs.Lines.{request_line}
+use Rattle.route_http.specs.Request.{request_of}
+use Rattle.route_http.specs.declared.error.RequestError.{RequestError}
+use Rattle.route_http.specs.declared.form.Form.{Form}
+use Rattle.route_http.specs.declared.form.Form.TheVariants as forms
+use Rattle.route_http.specs.declared.kind.Kind.{Kind}
+use Rattle.route_http.specs.declared.kind.Kind.TheVariants as kinds
+use Rattle.route_ready.specs.Lines.{route_line}
+use Rattle.route_ready.specs.Worlds.{WorldValue}
+use Rattle.route_ready.specs.declared.error.RouteError.{RouteError}
+use Rattle.session_answers.specs.Frames.{line_frame, refusal_frame}
+use Rattle.session_answers.specs.Stored.{Stored, find_stored}
+use Rattle.session_answers.specs.declared.refusal.Refusal.TheVariants.{ProfileUnknown}
+use Rattle.waypoint_nodes.specs.Waypoints.{AreNodes}
+
+-- a query asks for this, by the stored profile of these sections
+pub record Asks (stored : List Stored) (query : List ℕ) (asked : Asked) (sections : Sections) : Type 0 where
+  pub asks : request_of query ≡ Ok asked
+  pub found : find_stored stored asked.profile ≡ Some sections
+
+-- the kind of a reply
+abbrev pub kind_of : Form → Kind
+kind_of forms.GeoJson = kinds.Json
+kind_of forms.Csv = kinds.Csv
+
+-- the frame of a request that has no track
+abbrev pub route_frame : Sections → RouteError → List ℕ
+route_frame sections e = line_frame 422 (route_line (Some sections) e)
+
+-- the frame of a reply
+abbrev pub reply_frame : Asked → List ℕ → List ℕ
+reply_frame asked bytes = frame_of 200 (kind_of asked.form) bytes
+
+-- the frames that answer a query before any search: it is malformed, its profile isn't stored, its profile is refused, or
+-- one of its waypoints is moved to no node
+pub data IsEarlyFrame (world : WorldValue) (stored : List Stored) (query : List ℕ) : List ℕ → Type 0 where
+  malformed : {e : RequestError} → request_of query ≡ Err e → IsEarlyFrame world stored query (line_frame 400 (request_line e))
+  unknown :
+      {asked : Asked} → request_of query ≡ Ok asked → find_stored stored asked.profile ≡ None →
+      IsEarlyFrame world stored query (refusal_frame ProfileUnknown)
+  early :
+      {asked : Asked} {sections : Sections} {e : RouteError} → Asks stored query asked sections →
+      IsEarly (question_of world sections asked) e → IsEarlyFrame world stored query (route_frame sections e)
+
+-- the frames that answer a query: these; the reply of a track; or why there is none
+pub data IsQueryFrame (world : WorldValue) (stored : List Stored) (query : List ℕ) : List ℕ → Type 0 where
+  before : {frame : List ℕ} → IsEarlyFrame world stored query frame → IsQueryFrame world stored query frame
+  refused :
+      {asked : Asked} {sections : Sections} {e : RouteError} → Asks stored query asked sections →
+      IsAnswer (question_of world sections asked) (Err e) → IsQueryFrame world stored query (route_frame sections e)
+  told :
+      {asked : Asked} {sections : Sections} {bytes : List ℕ} → Asks stored query asked sections →
+      IsReply (question_of world sections asked) bytes → IsQueryFrame world stored query (reply_frame asked bytes)
+
+-- a query is to be searched for: its profile is stored and accepted, and each waypoint is moved to a node
+pub record IsSearched (world : WorldValue) (stored : List Stored) (query : List ℕ) : Type 0 where
+  pub asked : Asked
+  pub sections : Sections
+  pub asks : Asks stored query asked sections
+  pub setting : Setting
+  pub over : IsSettingOf (question_of world sections asked) setting
+  pub nodes : List ℕ
+  pub mapped : AreNodes (open_map_of setting) asked.waypoints nodes

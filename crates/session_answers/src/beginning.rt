@@ -1,0 +1,125 @@
+//! What a request for a route comes to at once.
+
+ghost use Rattle.std.specs.Prelude.{◌≡◌, ◌≢◌, ◌<◌, List, ℕ, Ok, Some, IfOk, length};
+ghost use Rattle.lookup_table.specs.Tag.{name_place};
+ghost use Rattle.route_engine.specs.Jobs.{IsWithin};
+ghost use Rattle.route_engine.specs.Stored.{names_of};
+ghost use Rattle.route_http.specs.Lines.{request_line};
+ghost use Rattle.route_http.specs.Request.{request_of};
+ghost use Rattle.route_http.specs.Seen.{asked};
+ghost use Rattle.route_http.specs.declared.error.RequestError.TheVariants.{NoMemory};
+ghost use Rattle.route_ready.specs.World.{world_of};
+ghost use Rattle.session_answers.specs.Frames.{line_frame};
+ghost use Rattle.session_answers.specs.Jobs.{AreKept, Begins};
+ghost use Rattle.session_answers.specs.Profiles.{stored_of};
+
+use crate::frames::{line_frame, refusal_frame};
+use crate::profiles::Profiles;
+use crate::refusal::Refusal;
+use crate::routes::route_frame;
+use kept_profiles::KeptProfiles;
+use request_reply::Pending;
+use route_http::{Request, RequestError, request};
+use route_ready::World;
+use std::alloc::{AllocError, Global};
+
+/// What a request for a route comes to at once.
+#[derive(Drop)]
+pub enum Begun {
+    /// It is answered by this frame.
+    Frame(Vec<u8>),
+    /// It is searched for, by the stored profile at this place.
+    Job(Pending, u32),
+}
+
+/// What a query comes to at once, over a world and the stored profiles. Profiles that were made ready before are used again.
+/// An error is want of memory; what is kept is still sound then.
+pub fn begin(
+    alloc: Global,
+    world: &World,
+    profiles: &Profiles,
+    kept: &mut KeptProfiles,
+    query: &[u8],
+) -> Result<Begun, AllocError>
+    requires kept { AreKept (world_of world.now) (stored_of profiles.now) kept.old }
+    ensures exact { IfOk result (Begins (world_of world.now) (stored_of profiles.now) query.now) }
+    ensures kept { AreKept (world_of world.now) (stored_of profiles.now) kept.new }
+{
+    match request(alloc, query) {
+        Ok(request) => named(alloc, world, profiles, kept, request),
+        Err(error) => {
+            let frame = malformed(alloc, error)?;
+            Ok(Begun::Frame(frame))
+        }
+    }
+}
+
+/// The frame of a query that is no request. Want of memory is no reason.
+fn malformed(alloc: Global, error: RequestError) -> Result<Vec<u8>, AllocError>
+    ensures exact { IfOk result (λ frame. frame.items ≡ line_frame 400 (request_line error)) }
+    ensures reason { IfOk result (λ _. error ≢ NoMemory) }
+{
+    match error {
+        RequestError::NoMemory => Err(AllocError),
+        other => {
+            let line = other.line(alloc)?;
+            line_frame(alloc, 400, line)
+        }
+    }
+}
+
+/// What a request comes to at once.
+fn named(
+    alloc: Global,
+    world: &World,
+    profiles: &Profiles,
+    kept: &mut KeptProfiles,
+    request: Request,
+) -> Result<Begun, AllocError>
+    requires kept { AreKept (world_of world.now) (stored_of profiles.now) kept.old }
+    requires within { IsWithin (asked request) }
+    ensures exact { (query : List ℕ) → request_of query ≡ Ok (asked request) →
+        IfOk result (Begins (world_of world.now) (stored_of profiles.now) query) }
+    ensures kept { AreKept (world_of world.now) (stored_of profiles.now) kept.new }
+{
+    match profiles.find(request.profile.as_slice()) {
+        Some(place) => stored(alloc, world, profiles, kept, request, place),
+        None => {
+            let frame = refusal_frame(alloc, Refusal::ProfileUnknown)?;
+            Ok(Begun::Frame(frame))
+        }
+    }
+}
+
+/// What a request comes to at once whose profile is stored at a place.
+fn stored(
+    alloc: Global,
+    world: &World,
+    profiles: &Profiles,
+    kept: &mut KeptProfiles,
+    request: Request,
+    place: u32,
+) -> Result<Begun, AllocError>
+    requires kept { AreKept (world_of world.now) (stored_of profiles.now) kept.old }
+    requires within { IsWithin (asked request) }
+    requires fits { place < length (stored_of profiles.now) }
+    requires found { name_place (names_of (stored_of profiles.now)) (asked request).profile ≡ Some place }
+    ensures exact { (query : List ℕ) → request_of query ≡ Ok (asked request) →
+        IfOk result (Begins (world_of world.now) (stored_of profiles.now) query) }
+    ensures kept { AreKept (world_of world.now) (stored_of profiles.now) kept.new }
+{
+    let profile = profiles.profile(place);
+    match kept.ready(alloc, world, profile, place, &request.overrides) {
+        Ok(ready) => match Pending::new(alloc, world, ready, request) {
+            Ok(pending) => Ok(Begun::Job(pending, place)),
+            Err(error) => {
+                let frame = route_frame(alloc, profile, error)?;
+                Ok(Begun::Frame(frame))
+            }
+        },
+        Err(error) => {
+            let frame = route_frame(alloc, profile, error)?;
+            Ok(Begun::Frame(frame))
+        }
+    }
+}

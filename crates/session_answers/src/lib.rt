@@ -1,0 +1,22 @@
+//! What a session of the server is answered: by its bytes and the end of its peer, over a world and the stored profiles.
+#![tactic(auto)]
+
+mod beginning;
+mod frames;
+mod naming;
+mod profiles;
+mod received;
+mod refusal;
+mod routes;
+mod turning;
+mod uploading;
+mod verdict;
+
+pub use beginning::{Begun, begin};
+pub use frames::{line_frame, refusal_frame};
+pub use profiles::Profiles;
+pub use received::Received;
+pub use refusal::Refusal;
+pub use turning::{Turned, turn};
+pub use uploading::upload;
+pub use verdict::Verdict;

@@ -1,0 +1,67 @@
+//! What a turn of the search for a request comes to.
+
+ghost use Rattle.std.specs.Prelude.{◌≡◌, ◌≤◌, List, ℕ, Some, IfOk, slice_get};
+ghost use Rattle.profile_text.specs.Expr.{sections_in};
+ghost use Rattle.request_reply.specs.Pending.{IsPending, settled_of};
+ghost use Rattle.route_engine.specs.Stored.{profiles_of};
+ghost use Rattle.route_ready.specs.World.{world_of};
+ghost use Rattle.session_answers.specs.Jobs.{CountsTo, IsJobOf, TurnsTo};
+ghost use Rattle.session_answers.specs.Rows.{kind_of};
+ghost use Rattle.session_answers.specs.Stored.{Stored};
+
+use crate::routes::route_frame;
+use profile_text::Profile;
+use request_reply::{Pending, PendingTurn};
+use route_http::{Form, Kind, frame};
+use route_ready::World;
+use std::alloc::{AllocError, Global};
+
+/// What a turn of the search for a request comes to.
+#[derive(Drop)]
+pub enum Turned {
+    /// It goes on; as many labels were settled as the turn was given.
+    More(Pending),
+    /// The request is answered by this frame.
+    Frame(Vec<u8>),
+}
+
+/// Settles at most `quota` labels in the search for a request, which goes by this stored profile. An error is want of
+/// memory.
+pub fn turn(
+    alloc: Global,
+    world: &World,
+    profile: &Profile,
+    pending: Pending,
+    quota: u32,
+) -> Result<Turned, AllocError>
+    requires pending { IsPending (world_of world.now) pending }
+    requires some { 1 ≤ quota }
+    ensures exact { (stored : List Stored) (query : List ℕ) (place : ℕ) →
+        IsJobOf (world_of world.now) stored query place pending →
+        slice_get (profiles_of stored) place ≡ Some (sections_in profile.now) →
+        IfOk result (TurnsTo (world_of world.now) stored query place) }
+    ensures counts { IfOk result (CountsTo quota (settled_of pending)) }
+{
+    let kind = kind_of(pending.form());
+    match pending.turn(alloc, world, quota) {
+        PendingTurn::More(pending) => Ok(Turned::More(pending)),
+        PendingTurn::Reply(bytes) => {
+            let answer = frame(alloc, 200, kind, bytes.as_slice())?;
+            Ok(Turned::Frame(answer))
+        }
+        PendingTurn::Refused(error) => {
+            let answer = route_frame(alloc, profile, error)?;
+            Ok(Turned::Frame(answer))
+        }
+    }
+}
+
+/// The kind of a reply in a form.
+fn kind_of(form: Form) -> Kind
+    ensures exact { result ≡ kind_of form }
+{
+    match form {
+        Form::GeoJson => Kind::Json,
+        Form::Csv => Kind::Csv,
+    }
+}
