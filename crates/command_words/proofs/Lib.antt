@@ -1,4 +1,7 @@
+pub mod CallerLemmas
+pub mod EntryLemmas
 pub mod FitLemmas
 pub mod HelpLemmas
 pub mod KeyLemmas
 pub mod PathLemmas
+pub mod ServeLemmas

@@ -1,13 +1,14 @@
 -- The command that a list of words is, or the place of the word at fault. This project's own rule.
 use Rattle.std.specs.List.{find}
-use Rattle.std.specs.Prelude.{ℕ, ◌+◌, Bool, cond, ◌&&◌, nat_lt, Option, Some, None, Result, Ok, Err, List, [], ◌∷◌, length, map}
+use Rattle.std.specs.Prelude.{ℕ, ◌+◌, Bool, cond, ◌&&◌, nat_lt, Option, Some, None, option_map, Result, Ok, Err, List, [], ◌∷◌, length, map, codes}
 use Rattle.command_words.specs.Given.{Given, Named}
 use Rattle.command_words.specs.Reader.{entries_of, entries_with, entry_with}
-use Rattle.command_words.specs.Rows.{command_name, commands, keys_of}
+use Rattle.command_words.specs.Rows.{command_name, commands, keys_of, most_turns}
 use Rattle.command_words.specs.Value.{same_text, number_in, place_in, product_in}
 use Rattle.command_words.specs.declared.rows.CommandName.{CommandName}
-use Rattle.command_words.specs.declared.rows.CommandName.TheVariants.{Grid, Make, Code, Route, Hills}
-use Rattle.command_words.specs.declared.rows.Key.TheVariants.{Seed, Width, Height, From, To, What, Lookups, Profile, Map, Query, Tile}
+use Rattle.command_words.specs.declared.rows.CommandName.TheVariants.{Grid, Make, Code, Route, Hills, Serve}
+use Rattle.command_words.specs.declared.rows.Key.{Key}
+use Rattle.command_words.specs.declared.rows.Key.TheVariants.{Seed, Width, Height, From, To, What, Lookups, Profile, Map, Query, Tile, Listen, Turns}
 use Rattle.command_words.specs.declared.command.Command.{Command}
 use Rattle.command_words.specs.declared.command.Command as Form
 use Rattle.command_words.specs.declared.command.CodeCommand.{CodeCommand}
@@ -64,9 +65,9 @@ code_with after (Some lookups) (Some profile) =
     Ok (Form.TheVariants.Code (record { lookups = file_in lookups; profile = file_in profile }))
 code_with after lookups profile = Err after
 
--- the files of tiles that entries name
-abbrev pub tiles_in : List Given → List Named
-tiles_in entries = map file_in (entries_with Tile entries)
+-- the files that entries of a key name
+abbrev pub files_in : Key → List Given → List Named
+files_in key entries = map file_in (entries_with key entries)
 
 -- the command of a query and the files that it is answered over, or the place after the last word where one is missing
 abbrev pub route_with : ℕ → Option Given → Option Given → Option Given → Option Given → List Named → Result Command ℕ
@@ -86,6 +87,29 @@ hills_with after (Some seed) (Some w) (Some h) =
     Ok (Form.TheVariants.Hills (record { seed = number_in seed.value; w = number_in w.value; h = number_in h.value }))
 hills_with after seed w h = Err after
 
+-- how many events a server takes at most by an entry that may be missing
+unfoldable pub turns_in : Option Given → ℕ
+turns_in None = most_turns
+turns_in (Some turns) = number_in turns.value
+
+-- where a server listens by a word that may be missing
+unfoldable pub address_of : Option Named → List ℕ
+address_of None = codes "127.0.0.1:17777"
+address_of (Some word) = word.name
+
+-- the command of a server, or the place after the last word where the tag table or the map is missing
+abbrev pub serve_with : ℕ → Option Given → Option Given → List Named → List Named → Option Given → Option Given → Result Command ℕ
+serve_with after (Some lookups) (Some roads) profiles tiles listen turns =
+    Ok (Form.TheVariants.Serve (record {
+      lookups = file_in lookups;
+      map = file_in roads;
+      profiles = profiles;
+      tiles = tiles;
+      listen = option_map file_in listen;
+      turns = turns_in turns;
+    }))
+serve_with after lookups roads profiles tiles listen turns = Err after
+
 -- the command of this name and these entries, before the word at this place
 unfoldable pub complete : CommandName → List Given → ℕ → Result Command ℕ
 complete Grid entries after =
@@ -96,8 +120,11 @@ complete Make entries after =
 complete Code entries after = code_with after (entry_with Lookups entries) (entry_with Profile entries)
 complete Route entries after =
     route_with after (entry_with Lookups entries) (entry_with Profile entries) (entry_with Map entries)
-    (entry_with Query entries) (tiles_in entries)
+    (entry_with Query entries) (files_in Tile entries)
 complete Hills entries after = hills_with after (entry_with Seed entries) (entry_with Width entries) (entry_with Height entries)
+complete Serve entries after =
+    serve_with after (entry_with Lookups entries) (entry_with Map entries) (files_in Profile entries)
+    (files_in Tile entries) (entry_with Listen entries) (entry_with Turns entries)
 
 -- the command of this name and the words after it
 abbrev pub command_with : CommandName → List (List ℕ) → Result Command ℕ

@@ -1,8 +1,15 @@
--- The numbers of a command are within their limits, and its places in its grid. This project's own rule.
-use Rattle.std.specs.Prelude.{ℕ, ◌≤◌, ◌<◌}
+-- The numbers of a command are within their limits, its places in its grid, and its profiles have names of their own.
+-- This project's own rule.
+use Rattle.std.specs.List.{list_any}
+use Rattle.std.specs.Prelude.{◌≡◌, ℕ, ◌≤◌, ◌<◌, Bool, true, false, List, [], ◌∷◌, ◌++◌}
+use Rattle.command_words.specs.FileNames.{is_profile_file, profile_name}
+use Rattle.command_words.specs.Given.{Named}
+use Rattle.command_words.specs.Rows.{most_turns}
+use Rattle.command_words.specs.Value.{same_text}
 use Rattle.command_words.specs.declared.command.Command.{Command}
 use Rattle.command_words.specs.declared.command.Command as Form
 use Rattle.command_words.specs.declared.command.GridCommand.{GridCommand}
+use Rattle.command_words.specs.declared.command.ServeCommand.{ServeCommand}
 
 -- the seed and the sizes of a grid are within their limits
 pub record IsSized (seed w h : ℕ) : Type 0 where
@@ -20,10 +27,33 @@ pub record IsGridFit (command : GridCommand) : Type 0 where
   pub to_x : command.to.x < command.w
   pub to_y : command.to.y < command.h
 
--- the numbers of a command are within their limits, and its places in its grid
+-- each of these is a path of a profile's file
+abbrev pub AreProfileFiles : List Named → Type 0
+AreProfileFiles [] = Unit {0}
+AreProfileFiles (file ∷ files) = (is_profile_file file.name ≡ true) × AreProfileFiles files
+
+-- a name is among names
+abbrev pub is_among : List (List ℕ) → List ℕ → Bool
+is_among names name = list_any (λ other. same_text other name) names
+
+-- the profiles of these files have none of the names before them, and none the name of another
+abbrev pub AreOnceAfter : List (List ℕ) → List Named → Type 0
+AreOnceAfter before [] = Unit {0}
+AreOnceAfter before (file ∷ files) =
+    (is_among before (profile_name file.name) ≡ false) × AreOnceAfter (before ++ profile_name file.name ∷ []) files
+
+-- the events that a server takes are within their limits, and its profiles have names, each its own
+pub record IsServeFit (command : ServeCommand) : Type 0 where
+  pub some_turns : 1 ≤ command.turns
+  pub turns : command.turns ≤ most_turns
+  pub named : AreProfileFiles command.profiles
+  pub once : AreOnceAfter [] command.profiles
+
+-- the numbers of a command are within their limits, its places in its grid, and its profiles have names of their own
 abbrev pub IsFit : Command → Type 0
 IsFit (Form.TheVariants.Grid command) = IsGridFit command
 IsFit (Form.TheVariants.Make command) = IsSized command.seed command.w command.h
 IsFit (Form.TheVariants.Code command) = Unit {0}
 IsFit (Form.TheVariants.Route command) = Unit {0}
 IsFit (Form.TheVariants.Hills command) = IsSized command.seed command.w command.h
+IsFit (Form.TheVariants.Serve command) = IsServeFit command

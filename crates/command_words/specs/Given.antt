@@ -10,7 +10,7 @@ pub record Given : Type 0 where
   pub word : ℕ
   pub key : Key
 
--- a word that names a file or is a query: its value, and the place of the word
+-- a word that names a file, or is a query or an address: its value, and the place of the word
 pub record Named : Type 0 where
   pub name : List ℕ
   pub word : ℕ

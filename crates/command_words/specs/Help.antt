@@ -3,7 +3,7 @@ use Rattle.std.specs.Prelude.{ℕ, ◌==◌, cond, nat_eq, List, [], ◌∷◌, 
 use lib.Pointwise.{pointwise}
 use Rattle.command_words.specs.Rows.{key_name, command_name, keys_of, about_of, commands}
 use Rattle.command_words.specs.declared.rows.Form.{Form}
-use Rattle.command_words.specs.declared.rows.Form.TheVariants.{Number, Place, Product, File, ProfileFile, Query}
+use Rattle.command_words.specs.declared.rows.Form.TheVariants.{Number, Place, Product, File, ProfileFile, Query, Address}
 use Rattle.command_words.specs.declared.rows.KeyRow.{KeyRow}
 use Rattle.command_words.specs.declared.rows.CommandName.{CommandName}
 
@@ -15,6 +15,7 @@ form_text Product = codes "map|hgt"
 form_text File = codes "FILE"
 form_text ProfileFile = codes "FILE"
 form_text Query = codes "QUERY"
+form_text Address = codes "ADDRESS"
 
 -- a key with the form of its value, in brackets where it isn't wanted
 abbrev pub key_text : KeyRow → List ℕ

@@ -1,32 +1,24 @@
 -- The words after a command, read over the rows of its keys. This project's own rule.
-use Rattle.std.specs.List.{filter, find, list_all}
-use Rattle.std.specs.Prelude.{ℕ, ◌+◌, Bool, true, false, cond, nat_lt, nat_le, Option, Some, None, Result, Ok, Err, List, [], ◌∷◌, ◌++◌, length}
+use denote.Enum.Bare.{sameb}
+use Rattle.std.specs.List.{filter, find, list_all, list_any}
+use Rattle.std.specs.Prelude.{ℕ, ◌+◌, Bool, not, cond, ◌&&◌, nat_lt, nat_le, Option, Some, None, Result, Ok, Err, List, [], ◌∷◌, ◌++◌, length}
+use Rattle.command_words.specs.FileNames.{profile_name}
 use Rattle.command_words.specs.Given.{Given}
 use Rattle.command_words.specs.Rows.{key_name}
 use Rattle.command_words.specs.Value.{same_text, value_of, cut_word}
+use Rattle.command_words.specs.contracts.rows.Key.{the_type}
 use Rattle.command_words.specs.declared.rows.Key.{Key}
-use Rattle.command_words.specs.declared.rows.Key.TheVariants.{Seed, Width, Height, From, To, What, Lookups, Profile, Map, Query, Tile}
+use Rattle.command_words.specs.declared.rows.Key.TheVariants.{Seed, Width, Height, From, To, What, Lookups, Profile, Map, Query, Tile, Listen, Turns}
 use Rattle.command_words.specs.declared.rows.KeyRow.{KeyRow}
 use Rattle.command_words.specs.declared.value.Value.{Value}
 
 -- two keys are one
 abbrev pub same_key : Key → Key → Bool
-same_key Seed Seed = true
-same_key Width Width = true
-same_key Height Height = true
-same_key From From = true
-same_key To To = true
-same_key What What = true
-same_key Lookups Lookups = true
-same_key Profile Profile = true
-same_key Map Map = true
-same_key Query Query = true
-same_key Tile Tile = true
-same_key a b = false
+same_key a b = sameb the_type a b
 
 -- all keys
 abbrev pub all_keys : List Key
-all_keys = Seed ∷ Width ∷ Height ∷ From ∷ To ∷ What ∷ Lookups ∷ Profile ∷ Map ∷ Query ∷ Tile ∷ []
+all_keys = Seed ∷ Width ∷ Height ∷ From ∷ To ∷ What ∷ Lookups ∷ Profile ∷ Map ∷ Query ∷ Tile ∷ Listen ∷ Turns ∷ []
 
 -- the key that a text names
 unfoldable pub key_of : List ℕ → Option Key
@@ -85,15 +77,30 @@ most_of keys key = most_in (row_for keys key)
 unfoldable pub has_all : List KeyRow → List Given → Bool
 has_all keys entries = list_all (λ r. nat_le r.least (count_of r.key entries)) keys
 
--- what words give that follow others, or the place of the first word at fault: one that gives nothing, or
--- whose key isn't wanted as often
+-- both name profiles, of one name
+abbrev pub same_profile : Given → Given → Bool
+same_profile a b =
+    same_key a.key Profile && (same_key b.key Profile && same_text (profile_name a.text) (profile_name b.text))
+
+-- one of these names a profile of the same name
+abbrev pub has_profile_of : Given → List Given → Bool
+has_profile_of entry entries = list_any (λ other. same_profile other entry) entries
+
+-- what a word gives may follow what others give: its key is wanted once more, and none of them names a profile of the
+-- same name
+unfoldable pub may_follow : List KeyRow → List Given → Given → Bool
+may_follow keys before entry =
+    nat_lt (count_of entry.key before) (most_of keys entry.key) && not (has_profile_of entry before)
+
+-- what words give that follow others, or the place of the first word at fault: one that gives nothing, or what may not
+-- follow
 abbrev pub entries_after : List KeyRow → List Given → List (List ℕ) → Result (List Given) ℕ
 entries_after keys before [] = Ok before
 entries_after keys before (text ∷ texts) =
     elim (entry_of keys (length before + 1) text) [
       | None ↦ Err (length before + 1)
       | Some entry ↦
-          cond (nat_lt (count_of entry.key before) (most_of keys entry.key))
+          cond (may_follow keys before entry)
           (entries_after keys (before ++ entry ∷ []) texts) (Err (length before + 1))
     ]
 

@@ -1,12 +1,12 @@
 -- The commands as rows. This project's own rule.
-use Rattle.std.specs.Prelude.{ℕ, List, [], ◌∷◌, codes}
+use Rattle.std.specs.Prelude.{ℕ, ◌^◌, List, [], ◌∷◌, codes}
 use Rattle.command_words.specs.declared.rows.Key.{Key}
-use Rattle.command_words.specs.declared.rows.Key.TheVariants.{Seed, Width, Height, From, To, What, Lookups, Profile, Map, Query, Tile}
+use Rattle.command_words.specs.declared.rows.Key.TheVariants.{Seed, Width, Height, From, To, What, Lookups, Profile, Map, Query, Tile, Listen, Turns}
 use Rattle.command_words.specs.declared.rows.Form.{Form}
 use Rattle.command_words.specs.declared.rows.Form.TheVariants as form
 use Rattle.command_words.specs.declared.rows.KeyRow.{KeyRow}
 use Rattle.command_words.specs.declared.rows.CommandName.{CommandName}
-use Rattle.command_words.specs.declared.rows.CommandName.TheVariants.{Grid, Make, Code, Route, Hills}
+use Rattle.command_words.specs.declared.rows.CommandName.TheVariants.{Grid, Make, Code, Route, Hills, Serve}
 
 -- what stands before the equals sign
 unfoldable pub key_name : Key → List ℕ
@@ -21,6 +21,8 @@ key_name Profile = codes "profile"
 key_name Map = codes "map"
 key_name Query = codes "query"
 key_name Tile = codes "tile"
+key_name Listen = codes "listen"
+key_name Turns = codes "turns"
 
 -- the first word of a command
 unfoldable pub command_name : CommandName → List ℕ
@@ -29,6 +31,7 @@ command_name Make = codes "make"
 command_name Code = codes "code"
 command_name Route = codes "route"
 command_name Hills = codes "hills"
+command_name Serve = codes "serve"
 
 -- a key that is wanted once
 abbrev pub once : Key → Form → KeyRow
@@ -37,6 +40,10 @@ once key wanted = record { form = wanted; least = 1; most = 1; key = key }
 -- a key that may come so often
 abbrev pub up_to : ℕ → Key → Form → KeyRow
 up_to most key wanted = record { form = wanted; least = 0; most = most; key = key }
+
+-- the most events that a server may be told to take, and how many it takes at most where it isn't told
+abbrev pub most_turns : ℕ
+most_turns = 2 ^ 63
 
 -- the keys of a command
 unfoldable pub keys_of : CommandName → List KeyRow
@@ -49,6 +56,9 @@ keys_of Code = once Lookups form.File ∷ once Profile form.ProfileFile ∷ []
 keys_of Route =
     once Lookups form.File ∷ once Profile form.ProfileFile ∷ once Map form.File ∷ once Query form.Query ∷ up_to 64 Tile form.File ∷ []
 keys_of Hills = once Seed (form.Number 0 65535) ∷ once Width (form.Number 1 1000) ∷ once Height (form.Number 1 1000) ∷ []
+keys_of Serve =
+    once Lookups form.File ∷ once Map form.File ∷ up_to 64 Profile form.ProfileFile ∷ up_to 64 Tile form.File
+    ∷ up_to 1 Listen form.Address ∷ up_to 1 Turns (form.Number 1 most_turns) ∷ []
 
 -- what a command does
 unfoldable pub about_of : CommandName → List ℕ
@@ -57,7 +67,8 @@ about_of Make = codes "writes the map of the grid of w by h cells of a seed, or 
 about_of Code = codes "prints the flat code of a profile under a tag table"
 about_of Route = codes "answers a query over a map by a profile, with heights from tiles"
 about_of Hills = codes "prints what the cheapest track costs from corner to corner of the hilly grid of w by h cells of a seed"
+about_of Serve = codes "answers routes over HTTP, and takes profiles"
 
 -- the commands that are built
 abbrev pub commands : List CommandName
-commands = Grid ∷ Make ∷ Code ∷ Route ∷ Hills ∷ []
+commands = Grid ∷ Make ∷ Code ∷ Route ∷ Hills ∷ Serve ∷ []

@@ -1,4 +1,4 @@
--- The values of keys: numbers, places, what is made, names of files, and queries. This project's own rule.
+-- The values of keys: numbers, places, what is made, names of files, queries and addresses. This project's own rule.
 use Rattle.std.specs.List.{before_first, after_first, position_or_len}
 use Rattle.std.specs.Prelude.{ℕ, ◌+◌, ◌-◌, ◌*◌, ◌==◌, Bool, true, false, cond, ◌&&◌, nat_lt, nat_le, nat_eq, Option, Some, None, List, [], ◌∷◌, length, take, drop, position, codes}
 use lib.Pointwise.{pointwise}
@@ -74,7 +74,7 @@ abbrev pub product_value : Option Product → Option Value
 product_value None = None
 product_value (Some product) = Some (Made product)
 
--- a name of a file or a query as a value
+-- a name of a file, a query or an address as a value
 abbrev pub file_value : Bool → Option Value
 file_value false = None
 file_value true = Some Named
@@ -87,6 +87,7 @@ value_of Wanted.Product text = product_value (product_of text)
 value_of Wanted.File text = file_value (is_file_name text)
 value_of Wanted.ProfileFile text = file_value (is_profile_file text)
 value_of Wanted.Query text = file_value (is_file_name text)
+value_of Wanted.Address text = file_value (is_file_name text)
 
 -- a byte is an equals sign
 abbrev pub is_equals : ℕ → Bool

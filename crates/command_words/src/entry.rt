@@ -2,9 +2,10 @@
 
 ghost use Rattle.std.specs.Prelude.{◌≡◌};
 ghost use Rattle.command_words.specs.Command.{file_in};
-ghost use Rattle.command_words.specs.Reader.{entry_of, key_of, row_for, same_key};
+ghost use Rattle.command_words.specs.Reader.{entry_of, key_of, row_for, same_key, same_profile};
 ghost use Rattle.command_words.specs.Value.{number_in, place_in, product_in};
 
+use crate::file_names::profile_name;
 use crate::rows::{Key, KeyRow};
 use crate::value::{Place, Product, Value, cut_word, value_of};
 use std::marker::Model;
@@ -42,7 +43,7 @@ impl<'a> Model for FileWord<'a> {
 }
 
 impl<'a> FileWord<'a> {
-    /// The name, or the query.
+    /// The name, the query or the address.
     pub fn name(&self) -> &'a str
         ensures exact { result.now ≡ self.now.name }
     {
@@ -63,6 +64,15 @@ impl<'a> Entry<'a> {
         ensures exact { result ≡ same_key self.now.key key }
     {
         self.key == key
+    }
+
+    /// Whether both name profiles, of one name.
+    pub fn names_as(&self, other: &Entry) -> bool
+        ensures exact { result ≡ same_profile self.now other.now }
+    {
+        self.is_of(Key::Profile)
+            && other.is_of(Key::Profile)
+            && profile_name(self.text.as_bytes()) == profile_name(other.text.as_bytes())
     }
 
     /// Its key.
@@ -121,7 +131,7 @@ impl<'a> Entry<'a> {
 }
 
 /// All keys.
-const ALL_KEYS: [Key; 11] = [
+const ALL_KEYS: [Key; 13] = [
     Key::Seed,
     Key::Width,
     Key::Height,
@@ -133,6 +143,8 @@ const ALL_KEYS: [Key; 11] = [
     Key::Map,
     Key::Query,
     Key::Tile,
+    Key::Listen,
+    Key::Turns,
 ];
 
 /// The key that a text names.

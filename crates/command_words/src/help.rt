@@ -121,5 +121,6 @@ fn append_form(text: &mut Vec<u8>, form: Form) -> Result<(), AllocError>
         Form::Product => append_bytes(text, b"map|hgt"),
         Form::File | Form::ProfileFile => append_bytes(text, b"FILE"),
         Form::Query => append_bytes(text, b"QUERY"),
+        Form::Address => append_bytes(text, b"ADDRESS"),
     }
 }

@@ -2,6 +2,7 @@
 #![tactic(auto)]
 
 mod command;
+mod completing;
 mod entry;
 mod file_names;
 mod help;
@@ -10,7 +11,8 @@ mod rows;
 mod value;
 
 pub use command::{
-    CodeCommand, Command, GridCommand, HillsCommand, MakeCommand, RouteCommand, command_of,
+    CodeCommand, Command, GridCommand, HillsCommand, MakeCommand, RouteCommand, ServeCommand,
+    command_of,
 };
 pub use entry::FileWord;
 pub use file_names::{is_profile_file, profile_name};

@@ -1,7 +1,7 @@
 //! The words after a command, read over the rows of its keys.
 
 ghost use Rattle.std.specs.Prelude.{◌≡◌, [], Ok, Err, MatchResult, option_map};
-ghost use Rattle.command_words.specs.Reader.{count_of, entries_after, entries_of, entry_with, has_all, most_of};
+ghost use Rattle.command_words.specs.Reader.{count_of, entries_after, entries_of, entry_with, has_all, has_profile_of, may_follow, most_of};
 ghost use Rattle.command_words.specs.Refusals.{OnUsage, now_of, texts_of};
 
 use crate::entry::{Entry, entry_of, row_for};
@@ -17,7 +17,7 @@ pub enum Refusal {
     NoMemory,
 }
 
-/// What the words after a command give, each key as often as its row wants it.
+/// What the words after a command give, each key as often as its row wants it, and no profile's name twice.
 pub fn entries_of<'a>(
     alloc: Global,
     keys: &[KeyRow],
@@ -35,7 +35,7 @@ pub fn entries_of<'a>(
     }
 }
 
-/// What the words after a command give, each key no more often than its row wants it.
+/// What the words after a command give, each key no more often than its row wants it, and no profile's name twice.
 fn read_entries<'a>(
     alloc: Global,
     keys: &[KeyRow],
@@ -51,7 +51,7 @@ fn read_entries<'a>(
         let Some(entry) = entry_of(keys, place, word.as_str()) else {
             return Err(Refusal::Usage(place));
         };
-        if count_of(entries.as_slice(), entry.key()) >= most_of(keys, entry.key()) {
+        if !may_follow(keys, entries.as_slice(), &entry) {
             return Err(Refusal::Usage(place));
         }
         match entries.push(entry) {
@@ -60,6 +60,22 @@ fn read_entries<'a>(
         }
     }
     Ok(entries)
+}
+
+/// Whether what a word gives may follow these: its key is wanted once more, and none of them names a profile of the
+/// same name.
+#[tactic(auto, unfolding(crate::specs::Reader::may_follow))]
+fn may_follow(keys: &[KeyRow], before: &[Entry], entry: &Entry) -> bool
+    ensures exact { result ≡ may_follow keys.now before.now entry.now }
+{
+    count_of(before, entry.key()) < most_of(keys, entry.key()) && !has_profile_of(before, entry)
+}
+
+/// Whether one of these names a profile of the same name.
+fn has_profile_of(entries: &[Entry], entry: &Entry) -> bool
+    ensures exact { result ≡ has_profile_of entry.now entries.now }
+{
+    entries.iter().any(|other| other.names_as(entry))
 }
 
 /// How often a key is wanted at most over these rows.

@@ -17,6 +17,8 @@ pub enum Key {
     Map,
     Query,
     Tile,
+    Listen,
+    Turns,
 }
 
 /// What the value of a key has to be.
@@ -34,6 +36,8 @@ pub enum Form {
     ProfileFile,
     /// A query.
     Query,
+    /// An address to listen at.
+    Address,
 }
 
 /// A key of a command, the form of its value, and how often it is wanted at least and at most.
@@ -53,15 +57,23 @@ pub enum CommandName {
     Code,
     Route,
     Hills,
+    Serve,
 }
 
+/// The most files of a kind of which there may be several.
+const MOST_FILES: usize = 64;
+
+/// The most events that a server may be told to take, and how many it takes at most where it isn't told: 2^63.
+pub const MOST_TURNS: u64 = 1 << 63;
+
 /// The commands that are built.
-pub const COMMANDS: [CommandName; 5] = [
+pub const COMMANDS: [CommandName; 6] = [
     CommandName::Grid,
     CommandName::Make,
     CommandName::Code,
     CommandName::Route,
     CommandName::Hills,
+    CommandName::Serve,
 ];
 
 /// The keys of the command `grid`.
@@ -189,7 +201,7 @@ const ROUTE_KEYS: [KeyRow; 5] = [
     KeyRow {
         form: Form::File,
         least: 0,
-        most: 64,
+        most: MOST_FILES,
         key: Key::Tile,
     },
 ];
@@ -219,6 +231,49 @@ const HILLS_KEYS: [KeyRow; 3] = [
     },
 ];
 
+/// The keys of the command `serve`.
+const SERVE_KEYS: [KeyRow; 6] = [
+    KeyRow {
+        form: Form::File,
+        least: 1,
+        most: 1,
+        key: Key::Lookups,
+    },
+    KeyRow {
+        form: Form::File,
+        least: 1,
+        most: 1,
+        key: Key::Map,
+    },
+    KeyRow {
+        form: Form::ProfileFile,
+        least: 0,
+        most: MOST_FILES,
+        key: Key::Profile,
+    },
+    KeyRow {
+        form: Form::File,
+        least: 0,
+        most: MOST_FILES,
+        key: Key::Tile,
+    },
+    KeyRow {
+        form: Form::Address,
+        least: 0,
+        most: 1,
+        key: Key::Listen,
+    },
+    KeyRow {
+        form: Form::Number {
+            low: 1,
+            high: MOST_TURNS,
+        },
+        least: 0,
+        most: 1,
+        key: Key::Turns,
+    },
+];
+
 impl Key {
     /// What stands before the equals sign.
     #[tactic(auto, unfolding(crate::specs::Rows::key_name))]
@@ -237,6 +292,8 @@ impl Key {
             Key::Map => "map",
             Key::Query => "query",
             Key::Tile => "tile",
+            Key::Listen => "listen",
+            Key::Turns => "turns",
         }
     }
 }
@@ -253,6 +310,7 @@ impl CommandName {
             CommandName::Code => "code",
             CommandName::Route => "route",
             CommandName::Hills => "hills",
+            CommandName::Serve => "serve",
         }
     }
 
@@ -267,6 +325,7 @@ impl CommandName {
             CommandName::Code => &CODE_KEYS,
             CommandName::Route => &ROUTE_KEYS,
             CommandName::Hills => &HILLS_KEYS,
+            CommandName::Serve => &SERVE_KEYS,
         }
     }
 
@@ -285,6 +344,7 @@ impl CommandName {
                 "answers a query over a map by a profile, with heights from tiles",
             CommandName::Hills =>
                 "prints what the cheapest track costs from corner to corner of the hilly grid of w by h cells of a seed",
+            CommandName::Serve => "answers routes over HTTP, and takes profiles",
         }
     }
 }

@@ -22,7 +22,7 @@ pub enum Product {
     Hgt,
 }
 
-/// The value of a key; a file's name is its text, and so is a query.
+/// The value of a key; a file's name is its text, and so are a query and an address.
 #[derive(Clone, Copy)]
 pub enum Value {
     Number(u64),
@@ -40,9 +40,9 @@ pub fn value_of(form: Form, text: &[u8]) -> Option<Value>
         Form::Number { low, high } => number_value(text, low, high),
         Form::Place => place_value(text),
         Form::Product => product_value(text),
-        Form::File | Form::Query if !text.is_empty() => Some(Value::Named),
+        Form::File | Form::Query | Form::Address if !text.is_empty() => Some(Value::Named),
         Form::ProfileFile if is_profile_file(text) => Some(Value::Named),
-        Form::File | Form::Query | Form::ProfileFile => None,
+        Form::File | Form::Query | Form::Address | Form::ProfileFile => None,
     }
 }
 

@@ -9,7 +9,7 @@ use Rattle.overpass_graph.specs.Maps.{MapValue}
 use Rattle.run_stages.specs.File.{TakesFile}
 use Rattle.run_stages.specs.Map.{TakesMap}
 use Rattle.run_stages.specs.declared.status.Status.{Status}
-use Rattle.run_stages.specs.declared.status.Status.TheVariants.{Done, Usage, Query, TooLong, Lookup, Text, Check, Map, Tile, Route, NotFound, ReadFault, WriteFault, NoMemory}
+use Rattle.run_stages.specs.declared.status.Status.TheVariants.{Done, Usage, Query, TooLong, Lookup, Text, Check, Map, Tile, Route, NotFound, ReadFault, WriteFault, TurnsSpent, HubFault, NoMemory}
 
 -- ---- Counts
 
@@ -53,6 +53,8 @@ RefusalCause words old new (Tile word error) = HasOpened (length words) old new
 RefusalCause words old new (Route error line) = HasOpened (length words) old new
 RefusalCause words old new (NotFound word) = HasOpened (length words) old new
 RefusalCause words old new WriteFault = ⊥
+RefusalCause words old new TurnsSpent = ⊥
+RefusalCause words old new HubFault = ⊥
 RefusalCause words old new NoMemory = HasOpened (length words) old new
 
 -- a value or a refusal with its cause
@@ -81,6 +83,8 @@ file-cause word name limit old new (Err (Map at error)) takes = absurd takes.ans
 file-cause word name limit old new (Err (Tile at error)) takes = absurd takes.answer
 file-cause word name limit old new (Err (Route error line)) takes = absurd takes.answer
 file-cause word name limit old new (Err WriteFault) takes = absurd takes.answer
+file-cause word name limit old new (Err TurnsSpent) takes = absurd takes.answer
+file-cause word name limit old new (Err HubFault) takes = absurd takes.answer
 
 -- the stage over a map's file
 pub map-cause : (word : ℕ) (name : List ℕ) (old new : FilesSeen) (result : Result MapValue Status) → TakesMap word name old new result → Cause (word ∷ []) old new result
@@ -99,6 +103,8 @@ map-cause word name old new (Err (Check at error)) takes = absurd takes.answer
 map-cause word name old new (Err (Tile at error)) takes = absurd takes.answer
 map-cause word name old new (Err (Route error line)) takes = absurd takes.answer
 map-cause word name old new (Err WriteFault) takes = absurd takes.answer
+map-cause word name old new (Err TurnsSpent) takes = absurd takes.answer
+map-cause word name old new (Err HubFault) takes = absurd takes.answer
 
 -- nothing was opened where the files are what they were
 pub opened-none : (old new : FilesSeen) → new ≡ old → HasOpened 0 old new
@@ -109,6 +115,8 @@ abbrev pub IsInner : Status → Type 0
 IsInner (Usage word) = ⊥
 IsInner (ReadFault word) = ⊥
 IsInner WriteFault = ⊥
+IsInner TurnsSpent = ⊥
+IsInner HubFault = ⊥
 IsInner Done = ⊥
 IsInner status = Unit {0}
 
@@ -117,6 +125,8 @@ inner-cause : (old new : FilesSeen) (status : Status) → IsInner status → new
 inner-cause old new (Usage word) inner same = absurd inner
 inner-cause old new (ReadFault word) inner same = absurd inner
 inner-cause old new WriteFault inner same = absurd inner
+inner-cause old new TurnsSpent inner same = absurd inner
+inner-cause old new HubFault inner same = absurd inner
 inner-cause old new Done inner same = absurd inner
 inner-cause old new (TooLong word) inner same = opened-none old new same
 inner-cause old new (Lookup word error) inner same = opened-none old new same
@@ -152,6 +162,8 @@ refusal-front first more old new status cause = go status cause
     go (Usage word) c = c
     go (ReadFault word) c = record { rose = c.rose; before = c.before; opened = c.opened; named = get_front first more c.before word c.named }
     go WriteFault c = c
+    go TurnsSpent c = c
+    go HubFault c = c
     go Done c = c
     go (TooLong word) c = longer c
     go (Lookup word error) c = longer c
@@ -188,6 +200,8 @@ refusal-after first more old mid new status before cause = go status cause
       named = get_after first more c.before word c.named;
     }
     go WriteFault c = c
+    go TurnsSpent c = c
+    go HubFault c = c
     go Done c = c
     go (TooLong word) c = longer c
     go (Lookup word error) c = longer c

@@ -43,7 +43,7 @@ use Rattle.command_words.specs.declared.command.RouteCommand.{RouteCommand}
 use Rattle.command_words.specs.declared.command.Command.{Command}
 use Rattle.command_words.specs.declared.command.Command as Form
 use Rattle.run_stages.specs.declared.status.Status.{Status}
-use Rattle.run_stages.specs.declared.status.Status.TheVariants.{Done, Usage, Query, TooLong, Lookup, Text, Check, Map, Tile, Route, NotFound, ReadFault, WriteFault, NoMemory}
+use Rattle.run_stages.specs.declared.status.Status.TheVariants.{Done, Usage, Query, TooLong, Lookup, Text, Check, Map, Tile, Route, NotFound, ReadFault, WriteFault, TurnsSpent, HubFault, NoMemory}
 use Rattle.route_run.proofs.CauseLemmas.{OpensAll, RefusalCause, Cause, file-cause, map-cause, opened-none, IsInner, settles-cause, then-cause}
 
 -- ---- The commands
@@ -76,7 +76,7 @@ listing-inner word table sections status is =
     ] is
 
 -- the stage of the tag table
-table-cause : (word : ℕ) (name : List ℕ) (old new : FilesSeen) (r : Result TagTable Status) → TakesTable word name old new r → Cause (word ∷ []) old new r
+pub table-cause : (word : ℕ) (name : List ℕ) (old new : FilesSeen) (r : Result TagTable Status) → TakesTable word name old new r → Cause (word ∷ []) old new r
 table-cause word name =
     then-cause _ _ (word ∷ []) [] (λ old new r. file-cause word name _ old new r)
     (λ text old new r. settles-cause (table_in word text) old new r (mapped-inner (Lookup word) (table_of text) (λ e. tt)))
@@ -95,7 +95,7 @@ code-cause command =
     (λ sections old new r. settles-cause (listing_in command.profile.word table sections) old new r (listing-inner command.profile.word table sections)))
 
 -- the stage of the profile with its check
-checked-cause : (word : ℕ) (name : List ℕ) (table : TagTable) (old new : FilesSeen) (r : Result Sections Status) → TakesChecked word name table old new r → Cause (word ∷ []) old new r
+pub checked-cause : (word : ℕ) (name : List ℕ) (table : TagTable) (old new : FilesSeen) (r : Result Sections Status) → TakesChecked word name table old new r → Cause (word ∷ []) old new r
 checked-cause word name table =
     then-cause _ _ (word ∷ []) [] (profile-cause word name)
     (λ sections old new r. settles-cause (checked_in word table sections) old new r (checked-inner word table sections))
@@ -107,7 +107,7 @@ tile-cause word name =
     (λ bytes old new r. settles-cause (tile_in word name bytes) old new r (tile-inner word bytes (corner_of_name name) (steps_of (length bytes))))
 
 -- the stages of tiles
-tiles-cause : (before : List Relief) (tiles : List Named) (old new : FilesSeen) (r : Result (List Relief) Status) →
+pub tiles-cause : (before : List Relief) (tiles : List Named) (old new : FilesSeen) (r : Result (List Relief) Status) →
     TakesTilesAfter before tiles old new r → Cause (map (λ (tile : Named). tile.word) tiles) old new r
 tiles-cause before [] old new r is = settles-cause (Ok before) old new r (λ status none. cc) is
 tiles-cause before (tile ∷ tiles) old new r is =
@@ -133,6 +133,8 @@ routed-cause command asked inputs old new (Err (Tile word error)) is same = absu
 routed-cause command asked inputs old new (Err (NotFound word)) is same = absurd is
 routed-cause command asked inputs old new (Err (ReadFault word)) is same = absurd is
 routed-cause command asked inputs old new (Err WriteFault) is same = absurd is
+routed-cause command asked inputs old new (Err TurnsSpent) is same = absurd is
+routed-cause command asked inputs old new (Err HubFault) is same = absurd is
 
 -- the tiles and the answer
 by_tiles-cause : (command : RouteCommand) (asked : Asked) (table : TagTable) (sections : Sections) (roads : MapValue) (old new : FilesSeen)
@@ -176,6 +178,8 @@ shortest-cause command old new (Err (Check word error)) is same = absurd is
 shortest-cause command old new (Err (NotFound word)) is same = absurd is
 shortest-cause command old new (Err (ReadFault word)) is same = absurd is
 shortest-cause command old new (Err WriteFault) is same = absurd is
+shortest-cause command old new (Err TurnsSpent) is same = absurd is
+shortest-cause command old new (Err HubFault) is same = absurd is
 
 -- a refusal over a map that is made
 made-cause : (text : List ℕ) (Refuses : RouteError → Type 0) (profile : Option Sections) (old new : FilesSeen) (status : Status) →
@@ -193,6 +197,8 @@ made-cause text Refuses profile old new (Route error line) is same = opened-none
 made-cause text Refuses profile old new (NotFound word) is same = absurd is
 made-cause text Refuses profile old new (ReadFault word) is same = absurd is
 made-cause text Refuses profile old new WriteFault is same = absurd is
+made-cause text Refuses profile old new TurnsSpent is same = absurd is
+made-cause text Refuses profile old new HubFault is same = absurd is
 made-cause text Refuses profile old new NoMemory is same = opened-none old new same
 
 -- a cheapest walk by a profile that was taken in
@@ -227,14 +233,17 @@ command-cause (Form.TheVariants.Make command) old new r is = settles-cause (Ok (
 command-cause (Form.TheVariants.Code command) old new r is = code-cause command old new r is
 command-cause (Form.TheVariants.Route command) old new r is = route-cause command old new r is
 command-cause (Form.TheVariants.Hills command) old new r is = hills-cause (hills_plan command) old new r is.0 is.1
+command-cause (Form.TheVariants.Serve command) old new r is = absurd is
 
 -- ---- The program
 
 -- what a status says follows from its cause
-read-cause : (words : List ℕ) (old new : FilesSeen) (status : Status) → RefusalCause words old new status → HasReadCause words status old new
+pub read-cause : (words : List ℕ) (old new : FilesSeen) (status : Status) → RefusalCause words old new status → HasReadCause words status old new
 read-cause words old new (Usage word) c = absurd c
 read-cause words old new (ReadFault word) c = c
 read-cause words old new WriteFault c = absurd c
+read-cause words old new TurnsSpent c = absurd c
+read-cause words old new HubFault c = absurd c
 read-cause words old new Done c = absurd c
 read-cause words old new (TooLong word) c = c
 read-cause words old new (Lookup word error) c = c
@@ -252,11 +261,11 @@ opened-no : (most : ℕ) (old new : FilesSeen) → new ≡ old → HasOpened mos
 opened-no most old new same = record { faults = ap (λ (s : FilesSeen). s.faults) same; times = 0; few = omega arith; opened = ap (λ (s : FilesSeen). s.opens) same }
 
 -- all files were opened
-opened-all : (words : List ℕ) (old new : FilesSeen) → OpensAll words old new → HasOpenedAll (length words) old new
+pub opened-all : (words : List ℕ) (old new : FilesSeen) → OpensAll words old new → HasOpenedAll (length words) old new
 opened-all words old new all = record { faults = all.faults; opened = all.opened }
 
 -- a value of the words is their command
-mapped-ok : {A E : Type 0} (told : E → Status) (r : Result A E) (a : A) → answer_map (λ (x : A). x) told r ≡ Ok a → r ≡ Ok a
+pub mapped-ok : {A E : Type 0} (told : E → Status) (r : Result A E) (a : A) → answer_map (λ (x : A). x) told r ≡ Ok a → r ≡ Ok a
 mapped-ok told (Ok x) a is = let same : x ≡ a = cc in ap Ok same
 mapped-ok told (Err e) a is = cc
 
@@ -298,6 +307,8 @@ ends-cause words old new out_old out_new answer status is ends = go answer statu
     go : (answer : Result (List ℕ) Status) (status : Status) → AnswerCause (file_words (command_of words)) old new answer → Ends answer status out_old out_new → HasReadCause (file_words (command_of words)) status old new
     go (Ok bytes) Done c e = c
     go (Ok bytes) WriteFault c e = c
+    go (Ok bytes) TurnsSpent c e = absurd e
+    go (Ok bytes) HubFault c e = absurd e
     go (Ok bytes) (Usage word) c e = absurd e
     go (Ok bytes) (TooLong word) c e = absurd e
     go (Ok bytes) (Lookup word error) c e = absurd e
@@ -315,14 +326,16 @@ ends-cause words old new out_old out_new answer status is ends = go answer statu
 -- ---- The statuses that an answer refuses with
 
 -- a refusal of words is that of their fault, and success and a write fault are no refusals
-abbrev Own : Result Command ℕ → Status → Type 0
+abbrev pub Own : Result Command ℕ → Status → Type 0
 Own named (Usage word) = named ≡ Err word
 Own named Done = ⊥
 Own named WriteFault = ⊥
+Own named TurnsSpent = ⊥
+Own named HubFault = ⊥
 Own named status = Unit {0}
 
 -- the same of an answer
-abbrev OwnAnswer : Result Command ℕ → Result (List ℕ) Status → Type 0
+abbrev pub OwnAnswer : Result Command ℕ → Result (List ℕ) Status → Type 0
 OwnAnswer named (Ok bytes) = Unit {0}
 OwnAnswer named (Err status) = Own named status
 
@@ -331,6 +344,8 @@ refusal-own : (named : Result Command ℕ) (files : List ℕ) (old new : FilesSe
 refusal-own named files old new (Usage word) c = absurd c
 refusal-own named files old new Done c = absurd c
 refusal-own named files old new WriteFault c = absurd c
+refusal-own named files old new TurnsSpent c = absurd c
+refusal-own named files old new HubFault c = absurd c
 refusal-own named files old new (Query error) c = tt
 refusal-own named files old new (TooLong word) c = tt
 refusal-own named files old new (Lookup word error) c = tt
@@ -354,7 +369,7 @@ words-own (Ok command) status is = cc
 words-own (Err fault) status is = let same : Usage fault ≡ status = cc in subst (Own (Err fault)) same refl
 
 -- any answer
-answer-own : (words : List (List ℕ)) (old new : FilesSeen) (r : Result (List ℕ) Status) → IsAnswer words old new r → OwnAnswer (command_of words) r
+pub answer-own : (words : List (List ℕ)) (old new : FilesSeen) (r : Result (List ℕ) Status) → IsAnswer words old new r → OwnAnswer (command_of words) r
 answer-own words old new r (inl stops) =
     subst (OwnAnswer (command_of words)) (sym stops.answer)
     (elim stops.refused.gives [
@@ -369,6 +384,8 @@ own-kept : (named : Result Command ℕ) (status : Status) (old new : ℕ) → Ow
 own-kept named (Usage word) old new own same = same
 own-kept named Done old new own same = same
 own-kept named WriteFault old new own same = absurd own
+own-kept named TurnsSpent old new own same = absurd own
+own-kept named HubFault old new own same = absurd own
 own-kept named (Query error) old new own same = same
 own-kept named (TooLong word) old new own same = same
 own-kept named (Lookup word error) old new own same = same
@@ -389,6 +406,8 @@ ends-written words old new out_old out_new answer status is ends = go answer sta
     go : (answer : Result (List ℕ) Status) (status : Status) → OwnAnswer (command_of words) answer → Ends answer status out_old out_new → HasCause status out_old.faults out_new.faults
     go (Ok bytes) Done own e = e.faults
     go (Ok bytes) WriteFault own e = e.rose
+    go (Ok bytes) TurnsSpent own e = absurd e
+    go (Ok bytes) HubFault own e = absurd e
     go (Ok bytes) (Usage word) own e = absurd e
     go (Ok bytes) (TooLong word) own e = absurd e
     go (Ok bytes) (Lookup word error) own e = absurd e
@@ -411,6 +430,8 @@ own-complete : (named : Result Command ℕ) (command : Command) (files : List �
 own-complete named command files old new (Usage word) is calm own read = cc
 own-complete named command files old new Done is calm own read = absurd own
 own-complete named command files old new WriteFault is calm own read = absurd own
+own-complete named command files old new TurnsSpent is calm own read = absurd own
+own-complete named command files old new HubFault is calm own read = absurd own
 own-complete named command files old new (Query error) is calm own read = tt
 own-complete named command files old new (TooLong word) is calm own read = tt
 own-complete named command files old new (Lookup word error) is calm own read = tt
@@ -436,6 +457,8 @@ ends-complete words old new out_old out_new answer status is ends command named 
         Ends answer status out_old out_new → IsComplete status
     go (Ok bytes) Done own read c e = tt
     go (Ok bytes) WriteFault own read c e = absurd (still c)
+    go (Ok bytes) TurnsSpent own read c e = absurd e
+    go (Ok bytes) HubFault own read c e = absurd e
     go (Ok bytes) (Usage word) own read c e = absurd e
     go (Ok bytes) (TooLong word) own read c e = absurd e
     go (Ok bytes) (Lookup word error) own read c e = absurd e

@@ -16,11 +16,12 @@ use Rattle.run_stages.specs.declared.status.Status.TheVariants.{NoMemory}
 abbrev pub args_in : Result (Vec (String Global) Global) Status → Result (List (List ℕ)) Status
 args_in args = answer_map (λ (v : Vec (String Global) Global). texts_of v.items) (λ (s : Status). s) args
 
--- a text is told: written whole, or a front of it before a write fault, or nothing where memory ran out; the files are left
+-- a text is told: written whole, or a front of it before a write fault, or nothing where memory ran out; the files and the hub are left
 pub record Tells (text : List ℕ) (old new : Reach) (status : Status) : Type 0 where
   pub answer : Result (List ℕ) Status
   pub given : Settles {A = List ℕ} (Ok text) old.files new.files answer
   pub ends : Ends answer status old.out new.out
+  pub hub : new.hub ≡ old.hub
 
 -- words are told something, or are answered as a command
 abbrev pub IsReplyBy : List (List ℕ) → Option (List ℕ) → Reach → Reach → Status → Type 0
@@ -37,8 +38,8 @@ abbrev pub told_line : Status → List ℕ
 told_line status = cond (number_of_status status == 0) [] (line_of status ++ 10 ∷ [])
 
 -- these bytes were written, whole or a front of them before a write fault
-abbrev pub IsWritten : List ℕ → SinkSeen → SinkSeen → Type 0
-IsWritten bytes old new = Grows old new bytes ⊎ BreaksOff old new bytes
+abbrev pub IsPrinted : List ℕ → SinkSeen → SinkSeen → Type 0
+IsPrinted bytes old new = Grows old new bytes ⊎ BreaksOff old new bytes
 
 -- the status that is told: the one in which the command line ended; or want of memory, where the line of one that
 -- isn't success could not be made
@@ -49,7 +50,7 @@ IsTold status told = (told ≡ status) ⊎ ((told ≡ NoMemory) × (number_of_st
 pub record IsTelling (status : Status) (old new : SinkSeen) (number : ℕ) : Type 0 where
   pub told : Status
   pub is_told : IsTold status told
-  pub line : IsWritten (told_line told) old new
+  pub line : IsPrinted (told_line told) old new
   pub number_is : number ≡ number_of_status told
 
 -- what the program does with a command line, and the exit status with which it ends, with what stands where it tells that

@@ -1,13 +1,15 @@
 -- What the program answers to words over files and an output. This project's own rule.
-use Rattle.std.specs.Prelude.{ℕ, suc, ◌≡◌, ◌≤◌, List, [], ◌∷◌, length, map, slice_get, Option, Some, None, Result, Ok, Err}
+use Rattle.std.specs.Prelude.{ℕ, suc, ◌≡◌, ◌≤◌, ◌⊎◌, List, [], ◌∷◌, ◌++◌, length, map, slice_get, Option, Some, None, Result, Ok, Err}
 use Rattle.edge_io.specs.Faults.{CountRose, count_after}
 use Rattle.edge_io.specs.Files.{FilesSeen}
+use Rattle.edge_io.specs.Hub.{HubSeen}
 use Rattle.edge_io.specs.Sink.{SinkSeen}
 use Rattle.run_answers.specs.Code.{IsCodeAnswer}
 use Rattle.run_answers.specs.Grid.{IsGridAnswer}
 use Rattle.run_answers.specs.Hills.{IsHillsAnswer}
 use Rattle.run_answers.specs.Make.{made_by}
 use Rattle.run_answers.specs.Route.{IsRouteAnswer}
+use Rattle.run_server.specs.Serving.{IsServeOutcome}
 use Rattle.route_run.specs.Ends.{Ends}
 use Rattle.item_list.specs.Answer.{answer_map}
 use Rattle.run_stages.specs.Chain.{Settles, Then}
@@ -16,44 +18,82 @@ use Rattle.command_words.specs.Given.{Named}
 use Rattle.command_words.specs.declared.command.CodeCommand.{CodeCommand}
 use Rattle.command_words.specs.declared.command.Command.{Command}
 use Rattle.command_words.specs.declared.command.Command as Form
+use Rattle.command_words.specs.declared.command.ServeCommand.{ServeCommand}
 use Rattle.run_stages.specs.declared.status.Status.{Status}
-use Rattle.run_stages.specs.declared.status.Status.TheVariants.{Done, Usage, ReadFault, WriteFault}
+use Rattle.run_stages.specs.declared.status.Status.TheVariants.{Done, Usage, ReadFault, WriteFault, TurnsSpent, HubFault}
 
 -- the command of the words, or the status of the word at fault
 abbrev pub command_in : List (List ℕ) → Result Command Status
 command_in words = answer_map (λ (c : Command). c) Usage (command_of words)
 
--- what is answered of a command; `make` and `hills` leave the files untouched
+-- what is answered of a command that has something to write; `make` and `hills` leave the files untouched
 abbrev pub IsCommandAnswer : Command → FilesSeen → FilesSeen → Result (List ℕ) Status → Type 0
 IsCommandAnswer (Form.TheVariants.Grid command) old new answer = IsGridAnswer command old new answer
 IsCommandAnswer (Form.TheVariants.Make command) old new answer = Settles (Ok (made_by command)) old new answer
 IsCommandAnswer (Form.TheVariants.Code command) old new answer = IsCodeAnswer command old new answer
 IsCommandAnswer (Form.TheVariants.Route command) old new answer = IsRouteAnswer command old new answer
 IsCommandAnswer (Form.TheVariants.Hills command) old new answer = IsHillsAnswer command answer × (new ≡ old)
+IsCommandAnswer (Form.TheVariants.Serve command) old new answer = ⊥
 
 -- what is answered to words over files: the words are read, and then their command is answered
 abbrev pub IsAnswer : List (List ℕ) → FilesSeen → FilesSeen → Result (List ℕ) Status → Type 0
 IsAnswer words = Then (Settles (command_in words)) IsCommandAnswer
 
--- what the program reaches at a moment: the files and its output
+-- what the program reaches at a moment: the files, its output and the hub
 pub record Reach : Type 0 where
   pub files : FilesSeen
   pub out : SinkSeen
+  pub hub : HubSeen
 
--- files and an output together
-abbrev pub reach : FilesSeen → SinkSeen → Reach
-reach files out = record { files = files; out = out }
+-- files, an output and a hub together
+abbrev pub reach : FilesSeen → SinkSeen → HubSeen → Reach
+reach files out hub = record { files = files; out = out; hub = hub }
 
--- the words are answered over the files, and the answer ends in this status over the output
-pub record IsOutcome (words : List (List ℕ)) (old new : Reach) (status : Status) : Type 0 where
+-- the words are answered over the files, and the answer ends in this status over the output; the hub is left
+pub record IsWritten (words : List (List ℕ)) (old new : Reach) (status : Status) : Type 0 where
   pub answer : Result (List ℕ) Status
   pub given : IsAnswer words old.files new.files answer
   pub ends : Ends answer status old.out new.out
+  pub hub : new.hub ≡ old.hub
+
+-- the words are the command `serve`: it is done over the files and the hub, and nothing is written
+pub record IsServed (words : List (List ℕ)) (old new : Reach) (status : Status) : Type 0 where
+  pub command : ServeCommand
+  pub named : command_of words ≡ Ok (Form.TheVariants.Serve command)
+  pub serves : IsServeOutcome command old.files new.files old.hub new.hub status
+  pub out : new.out ≡ old.out
+
+-- what the program does to words: it writes their answer, or it serves
+abbrev pub IsOutcome : List (List ℕ) → Reach → Reach → Status → Type 0
+IsOutcome words old new status = IsWritten words old new status ⊎ IsServed words old new status
+
+-- a command has something to write: it isn't `serve`
+abbrev pub Writes : Command → Type 0
+Writes (Form.TheVariants.Serve command) = ⊥
+Writes command = Unit {0}
+
+-- what the program does to a command
+pub data IsDone (command : Command) (old new : Reach) (status : Status) : Type 0 where
+  writes :
+      {answer : Result (List ℕ) Status} → IsCommandAnswer command old.files new.files answer → Ends answer status old.out new.out →
+      new.hub ≡ old.hub → IsDone command old new status
+  serves :
+      {serve : ServeCommand} → command ≡ Form.TheVariants.Serve serve →
+      IsServeOutcome serve old.files new.files old.hub new.hub status → new.out ≡ old.out → IsDone command old new status
 
 -- a write fault comes where the output's count of faults rose, and every other status leaves it
 abbrev pub HasCause : Status → ℕ → ℕ → Type 0
 HasCause WriteFault old new = CountRose old new
 HasCause status old new = new ≡ old
+
+-- a hub fault comes where the hub's count of faults rose, and every other status leaves it
+abbrev pub HasHubCause : Status → ℕ → ℕ → Type 0
+HasHubCause HubFault old new = CountRose old new
+HasHubCause status old new = new ≡ old
+
+-- the words of named files
+abbrev pub words_in : List Named → List ℕ
+words_in files = map (λ (file : Named). file.word) files
 
 -- the words of the files of a profile, if there are any
 abbrev pub profile_words : Option CodeCommand → List ℕ
@@ -66,8 +106,10 @@ file_words (Ok (Form.TheVariants.Grid command)) = profile_words command.files
 file_words (Ok (Form.TheVariants.Make command)) = []
 file_words (Ok (Form.TheVariants.Code command)) = command.lookups.word ∷ command.profile.word ∷ []
 file_words (Ok (Form.TheVariants.Route command)) =
-    command.lookups.word ∷ command.profile.word ∷ command.map.word ∷ map (λ (tile : Named). tile.word) command.tiles
+    command.lookups.word ∷ command.profile.word ∷ command.map.word ∷ words_in command.tiles
 file_words (Ok (Form.TheVariants.Hills command)) = []
+file_words (Ok (Form.TheVariants.Serve command)) =
+    command.lookups.word ∷ (words_in command.profiles ++ (command.map.word ∷ words_in command.tiles))
 file_words (Err fault) = []
 
 -- a read fault comes where the count of faults rose, and names the word of the file that was opened last
@@ -90,11 +132,13 @@ pub record HasOpenedAll (all : ℕ) (old new : FilesSeen) : Type 0 where
   pub opened : new.opens ≡ count_after all old.opens
 
 -- what a status says of the files whose words stand in this order: a read fault comes where their count of faults rose;
--- every other status leaves it; where the output was begun, each file was opened once
+-- every other status leaves it; where the output was begun, or the hub was used, each file was opened once
 abbrev pub HasReadCause : List ℕ → Status → FilesSeen → FilesSeen → Type 0
 HasReadCause words (ReadFault word) old new = IsReadFault words word old new
 HasReadCause words Done old new = HasOpenedAll (length words) old new
 HasReadCause words WriteFault old new = HasOpenedAll (length words) old new
+HasReadCause words TurnsSpent old new = HasOpenedAll (length words) old new
+HasReadCause words HubFault old new = HasOpenedAll (length words) old new
 HasReadCause words status old new = HasOpened (length words) old new
 
 -- with a command and no fault of the outside, the status is one of the command's own or want of memory
@@ -102,4 +146,5 @@ abbrev pub IsComplete : Status → Type 0
 IsComplete (Usage word) = ⊥
 IsComplete (ReadFault word) = ⊥
 IsComplete WriteFault = ⊥
+IsComplete HubFault = ⊥
 IsComplete status = Unit {0}

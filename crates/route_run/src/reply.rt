@@ -10,7 +10,7 @@ ghost use Rattle.command_words.specs.Refusals.{texts_of};
 use crate::sending::send;
 use crate::top::run;
 use command_words::told_text;
-use edge_io::{Files, Sink, send_all};
+use edge_io::{Files, Hub, Sink, send_all};
 use item_list::append_bytes;
 use run_answers::Output;
 use run_stages::Status;
@@ -18,31 +18,38 @@ use std::alloc::{AllocError, Global};
 
 /// Does what a command line asks for, tells on `err` how it ended, and gives the exit status. A command line
 /// that could not be read is the status that says why.
-pub fn edge<F: Files, O: Sink, E: Sink>(
+pub fn edge<F: Files, O: Sink, H: Hub, E: Sink>(
     alloc: Global,
     args: Result<Vec<String>, Status>,
     files: &mut F,
     out: &mut O,
+    hub: &mut H,
     err: &mut E,
 ) -> u8
-    ensures outcome { IsEnd (args_in args) (reach (F.seen files.old) (O.seen out.old))
-        (reach (F.seen files.new) (O.seen out.new)) (E.seen err.old) (E.seen err.new) result }
+    ensures outcome { IsEnd (args_in args) (reach (F.seen files.old) (O.seen out.old) (H.seen hub.old))
+        (reach (F.seen files.new) (O.seen out.new) (H.seen hub.new)) (E.seen err.old) (E.seen err.new) result }
 {
     let status = match args {
-        Ok(words) => reply(alloc, words.as_slice(), files, out),
+        Ok(words) => reply(alloc, words.as_slice(), files, out, hub),
         Err(refusal) => refusal,
     };
     tell(alloc, status, err)
 }
 
 /// Answers words, or tells what they ask to be told; the status in which that ends.
-fn reply<F: Files, O: Sink>(alloc: Global, words: &[String], files: &mut F, out: &mut O) -> Status
-    ensures exact { IsReplyBy (texts_of words.now) (told_of (texts_of words.now)) (reach (F.seen files.old) (O.seen out.old))
-        (reach (F.seen files.new) (O.seen out.new)) result }
+fn reply<F: Files, O: Sink, H: Hub>(
+    alloc: Global,
+    words: &[String],
+    files: &mut F,
+    out: &mut O,
+    hub: &mut H,
+) -> Status
+    ensures exact { IsReplyBy (texts_of words.now) (told_of (texts_of words.now)) (reach (F.seen files.old) (O.seen out.old) (H.seen hub.old))
+        (reach (F.seen files.new) (O.seen out.new) (H.seen hub.new)) result }
 {
     match told_text(alloc, words) {
         Ok(Some(text)) => send(out, Ok(Output::Bytes(text))),
-        Ok(None) => run(alloc, words, files, out),
+        Ok(None) => run(alloc, words, files, out, hub),
         Err(_) => Status::NoMemory,
     }
 }

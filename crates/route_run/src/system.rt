@@ -5,13 +5,13 @@ ghost use Rattle.std.specs.IoError.{error_kind};
 ghost use Rattle.route_run.specs.Program.{fault_of};
 
 use crate::reply::edge;
-use edge_io::{DirFiles, StdSink, WriteSink};
+use edge_io::{DirFiles, StdSink, TcpHub, WriteSink};
 use run_stages::Status;
 use std::io::ErrorKind;
 use std::process::ExitCode;
 use std::{env, io};
 
-/// The words of the command line over the system's files and its two outputs, and the exit status.
+/// The words of the command line over the system's files, its two outputs and its network, and the exit status.
 pub fn program(rt: &HostRuntime) -> ExitCode {
     let args = match words_of(rt) {
         Ok(words) => Ok(words),
@@ -21,7 +21,8 @@ pub fn program(rt: &HostRuntime) -> ExitCode {
     let mut files = DirFiles::new(rt);
     let mut out = StdSink::new(rt);
     let mut err = WriteSink::over(io::writer(&told));
-    ExitCode::from(edge(rt.alloc(), args, &mut files, &mut out, &mut err))
+    let mut hub = TcpHub::new(rt, rt.alloc());
+    ExitCode::from(edge(rt.alloc(), args, &mut files, &mut out, &mut hub, &mut err))
 }
 
 /// The words after the program's name.

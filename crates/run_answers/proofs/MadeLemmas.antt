@@ -19,7 +19,7 @@ use Rattle.run_answers.specs.Hills.{IsHillsAnswerOver}
 use Rattle.run_answers.specs.Lines.{hills_lines, priced_lines}
 use Rattle.run_answers.specs.Refused.{IsMadeRefusal, IsMadeRefusedAs, IsRefusedAs}
 use Rattle.run_stages.specs.declared.status.Status.{Status}
-use Rattle.run_stages.specs.declared.status.Status.TheVariants.{Done, Usage, Query, TooLong, Lookup, Text, Check, Map, Tile, Route, NotFound, ReadFault, WriteFault, NoMemory}
+use Rattle.run_stages.specs.declared.status.Status.TheVariants.{Done, Usage, Query, TooLong, Lookup, Text, Check, Map, Tile, Route, NotFound, ReadFault, WriteFault, TurnsSpent, HubFault, NoMemory}
 
 -- a question over another grid, between other cells
 abbrev pub question_over : WalkQuestion → Plan → ℕ → ℕ → WalkQuestion
@@ -44,6 +44,8 @@ module _ (text : List ℕ) (Refuses : RouteError → Type 0) (profile : Option S
     request-refused error (NotFound word) because is = absurd is
     request-refused error (ReadFault word) because is = absurd is
     request-refused error WriteFault because is = absurd is
+    request-refused error TurnsSpent because is = absurd is
+    request-refused error HubFault because is = absurd is
     request-refused error NoMemory because is = tt
 
     -- a refusal over the map of the text is told by its status
@@ -64,6 +66,8 @@ module _ (text : List ℕ) (Refuses : RouteError → Type 0) (profile : Option S
     made-refused Is Was (made.Map fault) (NotFound word) becomes cause is = absurd is
     made-refused Is Was (made.Map fault) (ReadFault word) becomes cause is = absurd is
     made-refused Is Was (made.Map fault) WriteFault becomes cause is = absurd is
+    made-refused Is Was (made.Map fault) TurnsSpent becomes cause is = absurd is
+    made-refused Is Was (made.Map fault) HubFault becomes cause is = absurd is
     made-refused Is Was (made.Map fault) NoMemory becomes cause is = absurd is
     made-refused Is Was made.NoMemory Done becomes cause is = absurd is
     made-refused Is Was made.NoMemory (Usage word) becomes cause is = absurd is
@@ -78,6 +82,8 @@ module _ (text : List ℕ) (Refuses : RouteError → Type 0) (profile : Option S
     made-refused Is Was made.NoMemory (NotFound word) becomes cause is = absurd is
     made-refused Is Was made.NoMemory (ReadFault word) becomes cause is = absurd is
     made-refused Is Was made.NoMemory WriteFault becomes cause is = absurd is
+    made-refused Is Was made.NoMemory TurnsSpent becomes cause is = absurd is
+    made-refused Is Was made.NoMemory HubFault becomes cause is = absurd is
     made-refused Is Was made.NoMemory NoMemory becomes cause is = tt
 
 -- ---- Walks

@@ -8,7 +8,7 @@ use Rattle.run_answers.specs.Route.{Inputs, IsRouted, RepliesAs, is_named, world
 use Rattle.run_stages.specs.Tiles.{AreTilesOf}
 use Rattle.command_words.specs.declared.command.RouteCommand.{RouteCommand}
 use Rattle.run_stages.specs.declared.status.Status.{Status}
-use Rattle.run_stages.specs.declared.status.Status.TheVariants.{Done, Usage, Query, TooLong, Lookup, Text, Check, Map, Tile, Route, NotFound, ReadFault, WriteFault, NoMemory}
+use Rattle.run_stages.specs.declared.status.Status.TheVariants.{Done, Usage, Query, TooLong, Lookup, Text, Check, Map, Tile, Route, NotFound, ReadFault, WriteFault, TurnsSpent, HubFault, NoMemory}
 
 -- what is replied over the world of all that was taken in
 pub routed-as :
@@ -34,3 +34,5 @@ routed-as command asked inputs tiles world result named are is replies =
     go (Err (NotFound word)) told = absurd told
     go (Err (ReadFault word)) told = absurd told
     go (Err WriteFault) told = absurd told
+    go (Err TurnsSpent) told = absurd told
+    go (Err HubFault) told = absurd told

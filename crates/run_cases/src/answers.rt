@@ -46,7 +46,7 @@ pub(crate) fn cost(alloc: Global, world: &World, case: &Case) -> Result<String, 
 }
 
 /// What stands between the first of one mark and the next of another; nothing where they aren't there.
-fn between<'a>(text: &'a str, mark: &str, end: &str) -> &'a str {
+pub(crate) fn between<'a>(text: &'a str, mark: &str, end: &str) -> &'a str {
     let Some((_, rest)) = text.split_once(mark) else {
         return "";
     };

@@ -1,6 +1,7 @@
 //! What a command line comes to where one call after the other fails.
 
 use crate::answers::run;
+use crate::peers::tell_times;
 use crate::world::{Ended, World};
 use case_rows::Case;
 use std::alloc::{AllocError, Global};
@@ -32,14 +33,6 @@ pub(crate) fn each_read(
     tell_times(&mut told, times, last.as_str())?;
     world.fail_never();
     Ok(told)
-}
-
-/// Tells how often in turn an answer came, if it did.
-fn tell_times(told: &mut String, times: u64, answer: &str) -> Result<(), AllocError> {
-    if times > 0 {
-        write!(told, "{times} times {answer}\n")?;
-    }
-    Ok(())
 }
 
 /// What the top call comes to where call 0 of the output fails, then where call 1 does, and so on for so many calls: a line for

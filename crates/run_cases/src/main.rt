@@ -1,12 +1,13 @@
-//! Runs tables of cases on the top call, over files and outputs in memory.
+//! Runs tables of cases on the top call, over files, outputs and hubs in memory.
 #![tactic(auto)]
 
 mod answers;
 mod faults;
+mod peers;
 mod tiles;
 mod world;
 
-use crate::world::World;
+use crate::world::{Told, World};
 use case_rows::{Case, Report, Table};
 use sample_texts::NAMED;
 use std::alloc::{AllocError, Global};
@@ -54,6 +55,14 @@ fn answer(alloc: Global, case: &Case, world: &mut World) -> Result<String, Alloc
             world.write_by(case.count(1), case.count(2), case.count(3));
             String::from_str(alloc, "set")
         }
+        b"hub" => {
+            world.hub_by(case.count(1), case.count(2));
+            String::from_str(alloc, "set")
+        }
+        b"opened" | b"bytes" | b"slowly" | b"each" | b"ended" | b"lost" | b"quiet" | b"await" => {
+            world.add_deed(case)?;
+            String::from_str(alloc, "added")
+        }
         _ => asked(alloc, case, world),
     }
 }
@@ -66,6 +75,9 @@ fn asked(alloc: Global, case: &Case, world: &mut World) -> Result<String, AllocE
         b"size" => answers::size(alloc, world, case),
         b"edge" => world.edge(case),
         b"each_read" => faults::each_read(alloc, world, case),
+        b"served" => world.served(case, 1, Told::Bytes),
+        b"served_costs" => world.served(case, 1, Told::Cost),
+        b"each_call" => peers::each_call(alloc, world, case),
         b"each_write" => faults::each_write(alloc, world, case),
         b"out_of_memory" => answers::no_memory(alloc),
         _ => String::from_str(alloc, "no such call"),

@@ -132,7 +132,7 @@ tile-size word told name bytes read named same is =
 -- ---- The stages
 
 -- what is left at a place begins with what stands there
-left_at : {A : Type 0} (xs : List A) (i : ℕ) (x : A) → i < length xs → x ≡ slice_index_or xs i x → drop i xs ≡ x ∷ drop (i + 1) xs
+pub left_at : {A : Type 0} (xs : List A) (i : ℕ) (x : A) → i < length xs → x ≡ slice_index_or xs i x → drop i xs ≡ x ∷ drop (i + 1) xs
 left_at [] i x below read = absurd (omega arith)
 left_at (y ∷ ys) zero x below read = ap (λ z. z ∷ ys) (sym read)
 left_at (y ∷ ys) (suc i) x below read =

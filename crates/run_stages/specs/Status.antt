@@ -8,7 +8,7 @@ use Rattle.route_http.specs.Lines.{request_line}
 use Rattle.route_ready.specs.declared.error.RouteError.{RouteError}
 use Rattle.route_ready.specs.declared.error.RouteError.TheVariants as route
 use Rattle.run_stages.specs.declared.status.Status.{Status}
-use Rattle.run_stages.specs.declared.status.Status.TheVariants.{Done, Usage, Query, TooLong, Lookup, Text, Check, Map, Tile, Route, NotFound, ReadFault, WriteFault, NoMemory}
+use Rattle.run_stages.specs.declared.status.Status.TheVariants.{Done, Usage, Query, TooLong, Lookup, Text, Check, Map, Tile, Route, NotFound, ReadFault, WriteFault, TurnsSpent, HubFault, NoMemory}
 
 -- the exit status of a request that has no track
 abbrev pub number_of_route : RouteError → ℕ
@@ -38,6 +38,8 @@ number_of_status (NotFound word) = 7
 number_of_status (ReadFault word) = 8
 number_of_status WriteFault = 9
 number_of_status NoMemory = 10
+number_of_status TurnsSpent = 11
+number_of_status HubFault = 12
 
 -- the front of the line of a refused file, which names its word
 abbrev pub word_front : ℕ → List ℕ
@@ -58,4 +60,6 @@ line_of (Route error line) = line
 line_of (NotFound word) = word_front word ++ codes "not found"
 line_of (ReadFault word) = word_front word ++ codes "read fault"
 line_of WriteFault = codes "write fault"
+line_of TurnsSpent = codes "turns spent"
+line_of HubFault = codes "hub fault"
 line_of NoMemory = codes "out of memory"

@@ -44,6 +44,10 @@ pub enum Status {
     ReadFault { word: u64 },
     /// The output met a fault; a front of it was written.
     WriteFault,
+    /// A server took all its turns before the last event.
+    TurnsSpent,
+    /// The hub could not be opened, or failed to give an event.
+    HubFault,
     /// Memory ran out; nothing was written.
     NoMemory,
 }
@@ -67,6 +71,8 @@ impl Status {
             Status::ReadFault { .. } => 8,
             Status::WriteFault => 9,
             Status::NoMemory => 10,
+            Status::TurnsSpent => 11,
+            Status::HubFault => 12,
         }
     }
 
@@ -104,6 +110,8 @@ impl Status {
             Status::NotFound { word } => file_line(alloc, *word, b"not found"),
             Status::ReadFault { word } => file_line(alloc, *word, b"read fault"),
             Status::WriteFault => bytes_of(alloc, b"write fault"),
+            Status::TurnsSpent => bytes_of(alloc, b"turns spent"),
+            Status::HubFault => bytes_of(alloc, b"hub fault"),
             Status::NoMemory => bytes_of(alloc, b"out of memory"),
         }
     }

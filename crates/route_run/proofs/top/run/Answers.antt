@@ -1,19 +1,32 @@
-use Rattle.route_run.proofs.RunLemmas.{ends-cause, ends-complete, ends-written}
-use Rattle.run_answers.specs.Outputs.{output_in}
 use Rattle.command_words.specs.Refusals.{texts_of}
+use Rattle.route_run.proofs.ServeLemmas.{outcome-cause, outcome-complete, outcome-done, outcome-hub, outcome-read, outcome-refused}
+use Rattle.route_run.specs.Outcome.{IsOutcome, reach}
 use Rattle.route_run.proofs.top.run.Goals as goal
 
-pub returns-clause-read_cause : goal.returns-clause-read_cause
-returns-clause-read_cause g c =
-    ends-cause (texts_of c.args.words.now) (g.F.Files.seen c.args.files.now) (g.F.Files.seen c.answer-answer.new.files) (g.O.Sink.seen c.args.out.now) (g.O.Sink.seen c.send.new.out)
-    (output_in c.answer-answer.result) c.send.result c.answer-answer.ensures.exact c.send.ensures.ends
+pub returns-in-Ok : goal.returns-in-Ok
+returns-in-Ok g c =
+    let words = texts_of c.args.words.now in
+    let old = reach (g.F.Files.seen c.args.files.now) (g.O.Sink.seen c.args.out.now) (g.H.Hub.seen c.args.hub.now) in
+    let new = reach (g.F.Files.seen c.command_run.new.files) (g.O.Sink.seen c.command_run.new.out) (g.H.Hub.seen c.command_run.new.hub) in
+    let is : IsOutcome words old new c.command_run.result =
+    outcome-done words old new c.command_run.result c.in-Ok.command c.in-Ok.ensures.exact c.command_run.ensures.exact in
+    record {
+      outcome = is;
+      cause = outcome-cause words old new c.command_run.result is;
+      read_cause = outcome-read words old new c.command_run.result is;
+      hub_cause = outcome-hub words old new c.command_run.result is;
+      complete = outcome-complete words old new c.command_run.result is;
+    }
 
-pub returns-clause-cause : goal.returns-clause-cause
-returns-clause-cause g c =
-    ends-written (texts_of c.args.words.now) (g.F.Files.seen c.args.files.now) (g.F.Files.seen c.answer-answer.new.files) (g.O.Sink.seen c.args.out.now) (g.O.Sink.seen c.send.new.out)
-    (output_in c.answer-answer.result) c.send.result c.answer-answer.ensures.exact c.send.ensures.ends
-
-pub returns-clause-complete : goal.returns-clause-complete
-returns-clause-complete g c = λ command named still calm.
-    ends-complete (texts_of c.args.words.now) (g.F.Files.seen c.args.files.now) (g.F.Files.seen c.answer-answer.new.files) (g.O.Sink.seen c.args.out.now) (g.O.Sink.seen c.send.new.out)
-    (output_in c.answer-answer.result) c.send.result c.answer-answer.ensures.exact c.send.ensures.ends command named still calm
+pub returns-in-Err : goal.returns-in-Err
+returns-in-Err g c =
+    let words = texts_of c.args.words.now in
+    let at = reach (g.F.Files.seen c.args.files.now) (g.O.Sink.seen c.args.out.now) (g.H.Hub.seen c.args.hub.now) in
+    let is : IsOutcome words at at c.in-Err.status = outcome-refused words at c.in-Err.status c.in-Err.ensures.exact in
+    record {
+      outcome = is;
+      cause = outcome-cause words at at c.in-Err.status is;
+      read_cause = outcome-read words at at c.in-Err.status is;
+      hub_cause = outcome-hub words at at c.in-Err.status is;
+      complete = outcome-complete words at at c.in-Err.status is;
+    }

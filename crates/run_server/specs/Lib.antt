@@ -1,0 +1,3 @@
+pub mod Offer
+pub mod Profiles
+pub mod Serving
