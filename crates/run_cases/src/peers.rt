@@ -47,22 +47,24 @@ pub(crate) fn add_deed(
     case: &Case,
 ) -> Result<(), AllocError> {
     let id = case.count(1);
-    match case.word(0) {
-        b"bytes" => script.push(Script::Bytes {
+    let entry = match case.word(0) {
+        b"slowly" => return add_slowly(alloc, script, id, case.word(2)),
+        b"opened" => return add_openings(script, id, case.count(2)),
+        b"each" => return add_requests(alloc, script, id, case),
+        b"bytes" => Script::Bytes {
             id,
             bytes: Items::from_vec(bytes_of(alloc, case.word(2))?),
-        }),
-        b"slowly" => add_slowly(alloc, script, id, case.word(2)),
-        b"opened" => add_openings(script, id, case.count(2)),
-        b"each" => add_requests(alloc, script, id, case),
-        b"ended" => script.push(Script::Ended { id }),
-        b"lost" => script.push(Script::Lost { id }),
-        b"await" => script.push(Script::AwaitClosed {
+        },
+        b"ended" => Script::Ended { id },
+        b"lost" => Script::Lost { id },
+        b"await" => Script::AwaitClosed {
             id,
             most: case.count(2).min(1_000_000) as u32,
-        }),
-        _ => script.push(Script::Quiet),
-    }
+        },
+        _ => Script::Quiet,
+    };
+    script.push(entry)?;
+    Ok(())
 }
 
 /// Bytes that come one at a time.
