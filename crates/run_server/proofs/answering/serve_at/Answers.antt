@@ -1,7 +1,7 @@
 use Rattle.std.proofs.Common.{subst, sym}
 use Rattle.run_server.specs.Offer.{offer_of}
 use Rattle.run_server.specs.Serving.{Serves as serves}
-use Rattle.run_server.proofs.serving.serve_at.Goals as goal
+use Rattle.run_server.proofs.answering.serve_at.Goals as goal
 
 pub returns-in-Ok : goal.returns-in-Ok
 returns-in-Ok g c = record {

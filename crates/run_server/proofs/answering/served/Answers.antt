@@ -5,7 +5,7 @@ use Rattle.hall.specs.View.{service_of, state_of}
 use Rattle.serving.proofs.CallerLemmas.{AreLive-empty}
 use Rattle.serving.specs.Served.{AreLive, OpenOnceIn}
 use Rattle.serving.specs.Turns.{Run}
-use Rattle.run_server.proofs.serving.served.Goals as goal
+use Rattle.run_server.proofs.answering.served.Goals as goal
 
 pub serve-requires : goal.serve-requires
 serve-requires g c = record {
