@@ -8,7 +8,7 @@ use Rattle.command_words.specs.declared.command.Command as Form
 use Rattle.command_words.specs.declared.command.ServeCommand.{ServeCommand}
 use Rattle.edge_io.specs.Faults.{CountRose}
 use Rattle.edge_io.specs.Files.{FilesSeen}
-use Rattle.edge_io.specs.Hub.{Does, HubSeen}
+use Rattle.edge_io.specs.Hub.{HubSeen}
 use Rattle.edge_io.specs.Sink.{SinkSeen}
 use Rattle.hgt_tiles.specs.Relief.{Relief}
 use Rattle.item_list.specs.Answer.{Answers}
@@ -17,18 +17,18 @@ use Rattle.overpass_graph.specs.Maps.{MapValue}
 use Rattle.route_run.proofs.CauseLemmas.{Cause, OpensAll, RefusalCause, map-cause, opened-none, settles-cause, then-cause}
 use Rattle.route_run.proofs.RunLemmas.{Own, OwnAnswer, answer-own, checked-cause, ends-cause, ends-complete, ends-written, mapped-ok, opened-all, read-cause, table-cause, tiles-cause}
 use Rattle.route_run.specs.Ends.{Ends}
-use Rattle.route_run.specs.Outcome.IsDone as done
-use Rattle.route_run.specs.Outcome.{HasCause, HasHubCause, HasOpenedAll, HasReadCause, IsAnswer, IsComplete, IsDone, IsOutcome, Reach, command_in, file_words, words_in}
+use Rattle.route_run.specs.Outcome.{IsDone as done}
+use Rattle.route_run.specs.Outcome.{HasCause, HasHubCause, HasReadCause, IsAnswer, IsComplete, IsDone, IsOutcome, Reach, command_in, file_words, words_in}
 use Rattle.run_server.specs.Offer.{IsHallOver, MakesOffer, Offer, Offers, OffersByTiles}
 use Rattle.run_server.specs.Profiles.{StoresAfter}
-use Rattle.run_server.specs.Serving.{IsServeOutcome, IsServedTo, Serves, status_of_end}
-use Rattle.run_server.specs.Serving.IsServeOutcome as outcome
-use Rattle.run_server.specs.Serving.Serves as serves
+use Rattle.run_server.specs.Serving.{IsServeOutcome, Serves, status_of_end}
+use Rattle.run_server.specs.Serving.{IsServeOutcome as outcome}
+use Rattle.run_server.specs.Serving.{Serves as serves}
 use Rattle.run_stages.specs.Checked.{TakesChecked}
 use Rattle.run_stages.specs.Tiles.{TakesTiles}
 use Rattle.run_stages.specs.declared.status.Status.{Status}
 use Rattle.run_stages.specs.declared.status.Status.TheVariants.{Done, Usage, Query, TooLong, Lookup, Text, Check, Map, Tile, Route, NotFound, ReadFault, WriteFault, TurnsSpent, HubFault, NoMemory}
-use Rattle.serving.specs.Served.{EndsBy, Served}
+use Rattle.serving.specs.Served.{EndsBy}
 use Rattle.serving.specs.declared.serve_end.ServeEnd.{ServeEnd}
 use Rattle.serving.specs.declared.serve_end.ServeEnd.TheVariants as end
 use Rattle.session_answers.specs.Stored.{Stored}
@@ -171,7 +171,7 @@ served-says words turns offer old new hub_old hub_new out _ all (serves.shut fai
   hub = fails.rose;
   complete = λ calm still. absurd (still fails.rose);
 }
-served-says words turns offer old new hub_old hub_new out _ all (serves.served {end = how} does to) =
+served-says words turns offer old new hub_old hub_new out _ all (serves.served {opened = opened} {end = how} does to) =
     go how to.served.ends
   where
     go : (how : ServeEnd) → EndsBy how turns to.served.n to.served.over opened hub_new → Says words old new hub_old hub_new out (status_of_end how)
@@ -293,14 +293,14 @@ module _ (words : List (List ℕ)) (old new : Reach) (status : Status)
     -- words that are a command, which was done
     pub outcome-done : (command : Command) → Answers (λ (c : Command). c) (command_in words) NoMemory (Ok command) → IsDone command old new status →
         IsOutcome words old new status
-    outcome-done command read (done.writes {answer = answer} given ends hub) =
+    outcome-done command read (done.writes answer given ends hub) =
         inl (record {
           answer = answer;
           given = inr (record { value = command; between = old.files; given = record { gives = read; same = refl }; rest = given });
           ends = ends;
           hub = hub;
         })
-    outcome-done command read (done.serves {serve = serve} is serves out) =
+    outcome-done command read (done.serves serve is serves out) =
         inr (record {
           command = serve;
           named = mapped-ok Usage (command_of words) (Form.TheVariants.Serve serve) (read ∙ ap Ok is);

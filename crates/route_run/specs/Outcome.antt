@@ -75,10 +75,10 @@ Writes command = Unit {0}
 -- what the program does to a command
 pub data IsDone (command : Command) (old new : Reach) (status : Status) : Type 0 where
   writes :
-      {answer : Result (List ℕ) Status} → IsCommandAnswer command old.files new.files answer → Ends answer status old.out new.out →
+      (answer : Result (List ℕ) Status) → IsCommandAnswer command old.files new.files answer → Ends answer status old.out new.out →
       new.hub ≡ old.hub → IsDone command old new status
   serves :
-      {serve : ServeCommand} → command ≡ Form.TheVariants.Serve serve →
+      (serve : ServeCommand) → command ≡ Form.TheVariants.Serve serve →
       IsServeOutcome serve old.files new.files old.hub new.hub status → new.out ≡ old.out → IsDone command old new status
 
 -- a write fault comes where the output's count of faults rose, and every other status leaves it
