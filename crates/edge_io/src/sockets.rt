@@ -69,9 +69,20 @@ impl Sockets {
         match &mut self.door {
             Some(door) => door.replace(listener),
             None => {
-                self.door = Some(Door::new(self.alloc, net, listener)?);
+                let door = Door::new(self.alloc, net, listener)?;
+                self.make_room()?;
+                self.door = Some(door);
                 Ok(())
             }
+        }
+    }
+
+    /// Keeps memory for a line of all that are held, of one more, and of the listening socket. Whoever is ready is told once, so
+    /// none of them may be missing in line for want of memory.
+    fn make_room(&mut self) -> Result<(), Failed> {
+        match self.turns.make_room(self.peers.len().saturating_add(2)) {
+            Ok(()) => Ok(()),
+            Err(_) => Err(Failed),
         }
     }
 
@@ -147,10 +158,13 @@ impl Sockets {
     fn welcome(&mut self, mut stream: TcpStream) -> Option<Event>
         ensures fits { IfSome result (λ event. (buffer : List ℕ) → FitsBuffer buffer event) }
     {
-        let Some(door) = &self.door else {
+        let Some(id) = self.last.checked_add(1) else {
             return None;
         };
-        let Some(id) = self.last.checked_add(1) else {
+        if self.make_room().is_err() {
+            return None;
+        }
+        let Some(door) = &self.door else {
             return None;
         };
         let watched = door.watch(&mut stream, id);

@@ -2,7 +2,7 @@
 
 ghost use Rattle.std.specs.Prelude.{◌≡◌, [], ◌∷◌, ◌++◌, length, Some, None, MatchOption, if◌then◌else◌};
 
-use std::alloc::Global;
+use std::alloc::{AllocError, Global};
 use std::collections::VecDeque;
 use std::marker::Model;
 
@@ -35,6 +35,14 @@ impl Turns {
         ensures value { result ≡ length self.now }
     {
         self.line.len()
+    }
+
+    /// Keeps memory for as many in line at a time, so that each of them can be put there.
+    pub fn make_room(&mut self, count: usize) -> Result<(), AllocError>
+        ensures same { self.new ≡ self.old }
+    {
+        let more = count.saturating_sub(self.line.len());
+        self.line.reserve(more)
     }
 
     /// Puts a number at the end of the line; where there is no memory, it isn't in line.
