@@ -2,6 +2,7 @@
 # The command `serve` on a made city: requests a second for short routes with 1, 8 and 64 clients, the slowest of 1,000 requests, and the
 # memory after 100,000 requests, an upload among them. Each request is a connection of its own.
 #   YARDSTICK=FOLDER bench/serve.sh [LINKS]
+# A request costs the more the larger the map is: with 10,000 links the whole takes a minute or two, with 100,000 twenty.
 # FOLDER has gen_city.py, which writes city.json, N49E008.hgt and queries.txt. CITIES is a folder in which cities stay, PROGRAM the
 # program where not the one that `rt run` builds, REQUESTS how many there are at the end.
 set -e
