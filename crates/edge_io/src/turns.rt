@@ -1,6 +1,6 @@
 //! Who is next in turn.
 
-ghost use Rattle.std.specs.Prelude.{◌≡◌, [], ◌∷◌, ◌++◌, length, Some, None, MatchOption, if◌then◌else◌};
+ghost use Rattle.std.specs.Prelude.{◌≡◌, [], ◌∷◌, ◌++◌, length, MatchOption, if◌then◌else◌};
 
 use std::alloc::{AllocError, Global};
 use std::collections::VecDeque;

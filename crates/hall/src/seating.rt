@@ -1,8 +1,7 @@
 //! What changes of one connection.
 
-ghost use Rattle.std.specs.Prelude.{◌≡◌, ◌+◌, ◌^◌, ◌<◌, ◌∷◌, ℕ, Some};
+ghost use Rattle.std.specs.Prelude.{◌≡◌, ◌+◌, ◌^◌, ◌<◌, ◌∷◌, Some};
 ghost use Rattle.hall.specs.Parts.{connection_of, frame_in};
-ghost use Rattle.hall.specs.Seats.{sent_more};
 ghost use Rattle.hall.specs.State.{Silent, Waits, with_frame};
 ghost use Rattle.hall.specs.Steps.{session, turned_away};
 

@@ -1,6 +1,6 @@
 //! Seats: whose they are, and which are free.
 
-ghost use Rattle.std.specs.Prelude.{◌≡◌, ◌<◌, ℕ, None, Some, length, get_or, set, option_map};
+ghost use Rattle.std.specs.Prelude.{◌≡◌, ◌<◌, None, Some, length, get_or, set, option_map};
 ghost use Rattle.hall.specs.Parts.{CountsOne, HasId, IsFreeOne, IsFreeSeat, IsSeatOf, connection_of, connections_of};
 ghost use Rattle.hall.specs.State.{count_of};
 

@@ -1,6 +1,6 @@
 //! A growing list that contracts see as the list of its items.
 
-ghost use Rattle.std.specs.Prelude.{◌≡◌, List, [], ◌∷◌, ◌++◌, length, if◌then◌else◌, is_ok, IfOk};
+ghost use Rattle.std.specs.Prelude.{◌≡◌, List, [], ◌∷◌, ◌++◌, length, if◌then◌else◌, is_ok};
 
 use crate::try_clone::TryClone;
 use std::alloc::{AllocError, Global};

@@ -1,6 +1,6 @@
 //! The clones of numbers, truth values and options.
 
-ghost use Rattle.std.specs.Prelude.{◌≡◌, IfOk};
+ghost use Rattle.std.specs.Prelude.{◌≡◌};
 
 use crate::try_clone::TryClone;
 use std::alloc::{AllocError, Global};

@@ -1,5 +1,5 @@
 //! The element that a list of steps stands for.
-ghost use Rattle.std.specs.Prelude.{ℤ, pos, ◌≡◌, List, Result, Ok, Err, Some, None, MatchOption, MatchResult};
+ghost use Rattle.std.specs.Prelude.{ℤ, ◌≡◌, List, Result, Ok, Err, Some, None, MatchOption, MatchResult};
 ghost use Rattle.item_list.specs.Answer.{Answers};
 ghost use Rattle.geo_int.specs.Spot.{place_of};
 ghost use Rattle.map_tables.specs.Kept.{Tag};
