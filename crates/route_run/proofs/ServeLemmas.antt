@@ -1,8 +1,6 @@
 -- The statuses in which the command `serve` ends, and those of the whole program.
-use Rattle.std.proofs.Common.{◌≡◌, ℕ, inl, inr, List, [], ◌∷◌, ◌++◌, append-nil, Result, Ok, Err, refl, sym, ap, ◌∙◌, subst}
+use Rattle.std.proofs.Common.{◌≡◌, ℕ, inl, inr, List, Result, Ok, Err, refl, sym, ap, ◌∙◌, subst}
 use Rattle.command_words.specs.Command.{command_of}
-use Rattle.command_words.specs.FileNames.{profile_name}
-use Rattle.command_words.specs.Given.{Named}
 use Rattle.command_words.specs.declared.command.Command.{Command}
 use Rattle.command_words.specs.declared.command.Command as Form
 use Rattle.command_words.specs.declared.command.ServeCommand.{ServeCommand}
@@ -10,81 +8,22 @@ use Rattle.edge_io.specs.Faults.{CountRose}
 use Rattle.edge_io.specs.Files.{FilesSeen}
 use Rattle.edge_io.specs.Hub.{HubSeen}
 use Rattle.edge_io.specs.Sink.{SinkSeen}
-use Rattle.hgt_tiles.specs.Relief.{Relief}
 use Rattle.item_list.specs.Answer.{Answers}
-use Rattle.lookup_table.specs.First.{TagTable}
-use Rattle.overpass_graph.specs.Maps.{MapValue}
-use Rattle.route_run.proofs.CauseLemmas.{Cause, OpensAll, RefusalCause, map-cause, opened-none, settles-cause, then-cause}
-use Rattle.route_run.proofs.RunLemmas.{Own, OwnAnswer, answer-own, checked-cause, ends-cause, ends-complete, ends-written, mapped-ok, opened-all, read-cause, table-cause, tiles-cause}
+use Rattle.route_run.proofs.CauseLemmas.{OpensAll, RefusalCause}
+use Rattle.route_run.proofs.OfferLemmas.{offers-cause}
+use Rattle.route_run.proofs.RunLemmas.{Own, OwnAnswer, answer-own, ends-cause, ends-complete, ends-written, mapped-ok, opened-all, read-cause}
 use Rattle.route_run.specs.Ends.{Ends}
 use Rattle.route_run.specs.Outcome.{IsDone as done}
-use Rattle.route_run.specs.Outcome.{HasCause, HasHubCause, HasReadCause, IsAnswer, IsComplete, IsDone, IsOutcome, Reach, command_in, file_words, words_in}
-use Rattle.run_server.specs.Offer.{IsHallOver, MakesOffer, Offer, Offers, OffersByTiles}
-use Rattle.run_server.specs.Profiles.{StoresAfter}
+use Rattle.route_run.specs.Outcome.{HasCause, HasHubCause, HasReadCause, IsAnswer, IsComplete, IsDone, IsOutcome, Reach, command_in, file_words}
+use Rattle.run_server.specs.Offer.{Offer}
 use Rattle.run_server.specs.Serving.{IsServeOutcome, Serves, status_of_end}
 use Rattle.run_server.specs.Serving.{IsServeOutcome as outcome}
 use Rattle.run_server.specs.Serving.{Serves as serves}
-use Rattle.run_stages.specs.Checked.{TakesChecked}
-use Rattle.run_stages.specs.Tiles.{TakesTiles}
 use Rattle.run_stages.specs.declared.status.Status.{Status}
 use Rattle.run_stages.specs.declared.status.Status.TheVariants.{Done, Usage, Query, TooLong, Lookup, Text, Check, Map, Tile, Route, NotFound, ReadFault, WriteFault, TurnsSpent, HubFault, NoMemory}
 use Rattle.serving.specs.Served.{EndsBy}
 use Rattle.serving.specs.declared.serve_end.ServeEnd.{ServeEnd}
 use Rattle.serving.specs.declared.serve_end.ServeEnd.TheVariants as end
-use Rattle.session_answers.specs.Stored.{Stored}
-
--- ---- What is offered
-
--- the stages of profiles
-stores-cause : (table : TagTable) (before : List Stored) (files : List Named) (old new : FilesSeen) (r : Result (List Stored) Status) →
-    StoresAfter table before files old new r → Cause (words_in files) old new r
-stores-cause table before [] old new r is = settles-cause (Ok before) old new r (λ status none. cc) is
-stores-cause table before (file ∷ files) old new r is =
-    then-cause (TakesChecked file.word file.name table) (λ sections. StoresAfter table (before ++ (profile_name file.name, sections) ∷ []) files)
-    (file.word ∷ []) (words_in files) (checked-cause file.word file.name table)
-    (λ sections old new r. stores-cause table (before ++ (profile_name file.name, sections) ∷ []) files old new r) old new r is
-
--- a hall over what was taken in
-hall-cause : (table : TagTable) (stored : List Stored) (roads : MapValue) (reliefs : List Relief) (old new : FilesSeen) (r : Result Offer Status) →
-    IsHallOver table stored roads reliefs r → new ≡ old → Cause [] old new r
-hall-cause table stored roads reliefs old new (Ok offer) is same =
-    record { faults = ap (λ (s : FilesSeen). s.faults) same; opened = ap (λ (s : FilesSeen). s.opens) same }
-hall-cause table stored roads reliefs old new (Err Done) is same = absurd is
-hall-cause table stored roads reliefs old new (Err (Usage word)) is same = absurd is
-hall-cause table stored roads reliefs old new (Err (Query error)) is same = absurd is
-hall-cause table stored roads reliefs old new (Err (TooLong word)) is same = absurd is
-hall-cause table stored roads reliefs old new (Err (Lookup word error)) is same = absurd is
-hall-cause table stored roads reliefs old new (Err (Text word error)) is same = absurd is
-hall-cause table stored roads reliefs old new (Err (Check word error)) is same = absurd is
-hall-cause table stored roads reliefs old new (Err (Map word error)) is same = absurd is
-hall-cause table stored roads reliefs old new (Err (Tile word error)) is same = absurd is
-hall-cause table stored roads reliefs old new (Err (Route error line)) is same = absurd is
-hall-cause table stored roads reliefs old new (Err (NotFound word)) is same = absurd is
-hall-cause table stored roads reliefs old new (Err (ReadFault word)) is same = absurd is
-hall-cause table stored roads reliefs old new (Err WriteFault) is same = absurd is
-hall-cause table stored roads reliefs old new (Err TurnsSpent) is same = absurd is
-hall-cause table stored roads reliefs old new (Err HubFault) is same = absurd is
-hall-cause table stored roads reliefs old new (Err NoMemory) is same = opened-none old new same
-
--- the tiles and the hall
-by_tiles-offer : (command : ServeCommand) (table : TagTable) (stored : List Stored) (roads : MapValue) (old new : FilesSeen) (r : Result Offer Status) →
-    OffersByTiles command table stored roads old new r → Cause (words_in command.tiles) old new r
-by_tiles-offer command table stored roads old new r is =
-    subst (λ (words : List ℕ). Cause words old new r) (append-nil (words_in command.tiles))
-    (then-cause (TakesTiles command.tiles) (MakesOffer table stored roads) (words_in command.tiles) []
-    (λ old new r. tiles-cause [] command.tiles old new r)
-    (λ reliefs old new r is. hall-cause table stored roads reliefs old new r is.0 is.1) old new r is)
-
--- what the command `serve` offers
-offers-cause : (command : ServeCommand) (old new : FilesSeen) (r : Result Offer Status) → Offers command old new r →
-    Cause (file_words (Ok (Form.TheVariants.Serve command))) old new r
-offers-cause command =
-    then-cause _ _ (command.lookups.word ∷ []) (words_in command.profiles ++ (command.map.word ∷ words_in command.tiles))
-    (table-cause command.lookups.word command.lookups.name)
-    (λ table. then-cause _ _ (words_in command.profiles) (command.map.word ∷ words_in command.tiles)
-    (λ old new r. stores-cause table [] command.profiles old new r)
-    (λ stored. then-cause _ _ (command.map.word ∷ []) (words_in command.tiles) (map-cause command.map.word command.map.name)
-    (by_tiles-offer command table stored)))
 
 -- ---- The statuses of the command `serve`
 
