@@ -1,7 +1,7 @@
 //! Tags.
 ghost use Rattle.std.specs.Prelude.{ℕ, ◌≡◌, List, [], ◌∷◌, ◌++◌, not, IfOk, OnOk, OnErr};
 ghost use Rattle.map_elements.specs.Fields.{is_among, tags_from, tags_in};
-ghost use Rattle.map_elements.specs.Names.{Holds};
+ghost use Rattle.map_elements.specs.Names.{Holds, has_tag};
 
 use crate::fields::names::name_of;
 use crate::steps::entries::Entries;
@@ -9,6 +9,9 @@ use crate::steps::part::Part;
 use item_list::{Items, Tags};
 use std::alloc::{AllocError, Global};
 use std::collections::HashSet;
+
+/// The names of an object of so many steps are compared with each other; those of a larger one are kept in a set.
+const FEW_STEPS: usize = 66;
 
 impl<'a> Part<'a> {
     /// The tags of the object that the value is.
@@ -18,11 +21,47 @@ impl<'a> Part<'a> {
         match self.members() {
             None => Ok(None),
             Some(members) => {
+                if self.len() <= FEW_STEPS {
+                    return read_few(alloc, members);
+                }
                 let mut names = HashSet::new(alloc);
                 read_tags(alloc, &mut names, members)
             }
         }
     }
+}
+
+/// The tags of members that are few.
+fn read_few(alloc: Global, members: Entries) -> Result<Option<Tags>, AllocError>
+    ensures exact { IfOk result (λ tags. tags ≡ tags_from [] members.entry) }
+{
+    let mut left = members;
+    let mut tags = Items::new(alloc);
+    'members: while let Some(member) = left.next() {
+        let Some(name) = member.name() else {
+            return Ok(None);
+        };
+        if has_tag(&tags, name) {
+            continue;
+        }
+        let Some(text) = member.value().text() else {
+            return Ok(None);
+        };
+        add_tag(alloc, &mut tags, name, text)?;
+    }
+    Ok(Some(tags))
+}
+
+/// Whether one of the tags has a name.
+fn has_tag(tags: &Tags, name: &[u8]) -> bool
+    ensures value { result ≡ has_tag name.now tags.now }
+{
+    'tags: for tag in tags.as_slice() {
+        if tag.0.as_slice() == name {
+            return true;
+        }
+    }
+    false
 }
 
 /// The tags of members, none of whose names came so far.
