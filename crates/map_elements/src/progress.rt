@@ -57,9 +57,7 @@ impl Progress {
         }
     }
 
-    /// Takes the element whose value is whole. It is no part of the loop over steps, of which one in twelve ends an
-    /// element.
-    #[inline(never)]
+    /// Takes the element whose value is whole.
     fn take_whole(&mut self) -> Result<(), MapError>
         ensures value { (limits : Limits) (values : List (List Step)) → IsTaken limits self.old values →
             MatchResult result (λ _. IsTaken limits self.new (values ++ self.old.steps ∷ []))
