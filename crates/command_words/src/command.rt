@@ -61,7 +61,6 @@ pub struct HillsCommand {
 
 /// The command `serve`: the files of the tag table, of the map, of the profiles and of the tiles, where to listen, if
 /// that is told, and how many events are taken at most.
-#[derive(Drop)]
 pub struct ServeCommand<'a> {
     pub lookups: FileWord<'a>,
     pub map: FileWord<'a>,
@@ -69,6 +68,19 @@ pub struct ServeCommand<'a> {
     pub tiles: Items<FileWord<'a>>,
     pub listen: Option<FileWord<'a>>,
     pub turns: u64,
+}
+
+impl<'a> Drop for ServeCommand<'a> {
+    fn drop(self) {
+        let ServeCommand {
+            lookups: _,
+            map: _,
+            profiles: _,
+            tiles: _,
+            listen: _,
+            turns: _,
+        } = self;
+    }
 }
 
 /// Where a server listens that isn't told.

@@ -5,7 +5,7 @@ ghost use Rattle.context_check.specs.declared.error.CheckError.TheVariants.{NoMe
 use std::alloc::{AllocError, AllocFailed, Global};
 
 /// Why a profile may not be used, in the order in which it is tried. Lines are counted from 1.
-#[derive(Clone, Copy, Debug, PartialEq, Eq)]
+#[derive(Clone, Copy)]
 pub enum CheckError {
     /// The override at this place, from 0, has a name that the global section doesn't assign.
     UnknownOverride { place: u32 },

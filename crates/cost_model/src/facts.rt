@@ -6,7 +6,7 @@ ghost use Rattle.cost_model.specs.Facts.{AreLinks, Links};
 use geo_int::Arrow;
 
 /// The facts of a link, by the tags of its way and of the node at its end.
-#[derive(Clone, Copy, Debug, PartialEq, Eq)]
+#[derive(Clone, Copy)]
 pub struct LinkFacts {
     pub arrow: Arrow,
     /// The end's height less the start's in micrometres.

@@ -4,7 +4,7 @@ ghost use Rattle.std.specs.Prelude.{◌≡◌, ◌≤ℤ◌, ◌<ℤ◌, ◌^◌
 ghost use Rattle.cost_model.specs.Parts.{ArePaid, sum_of};
 
 /// What a walk carries: its last link, and the buffers of descending and climbing in micrometres.
-#[derive(Clone, Copy, Debug, PartialEq, Eq)]
+#[derive(Clone, Copy)]
 pub struct Carry {
     pub link: u32,
     pub down: i64,
@@ -12,7 +12,7 @@ pub struct Carry {
 }
 
 /// The five parts of what a link costs, in millionths.
-#[derive(Clone, Copy, Debug, PartialEq, Eq)]
+#[derive(Clone, Copy)]
 pub struct Parts {
     pub distance: i128,
     pub turn: i128,

@@ -9,7 +9,7 @@ use fixed_num::Num;
 use std::marker::Model;
 
 /// Why global values give no rates.
-#[derive(Clone, Copy, Debug, PartialEq, Eq)]
+#[derive(Clone, Copy)]
 pub enum RateError {
     /// The first negative value, by its place among the seven.
     NegativeRate { which: u32 },
@@ -18,7 +18,7 @@ pub enum RateError {
 }
 
 /// The rates of a profile. Contracts see them as `Prices`.
-#[derive(Clone, Copy, Debug, PartialEq, Eq)]
+#[derive(Clone, Copy)]
 pub struct Rates {
     pub(crate) down_rate: i64,
     pub(crate) up_rate: i64,

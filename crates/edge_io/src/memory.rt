@@ -10,7 +10,6 @@ use std::alloc::{AllocError, Global};
 use std::marker::Model;
 
 /// A sink in memory. It takes its room at once and grows no more.
-#[derive(Drop)]
 pub struct MemSink {
     bytes: Vec<u8>,
     failing: Vec<u64>,
@@ -18,6 +17,19 @@ pub struct MemSink {
     piece: usize,
     calls: u64,
     faults: u64,
+}
+
+impl Drop for MemSink {
+    fn drop(self) {
+        let MemSink {
+            bytes: _,
+            failing: _,
+            room: _,
+            piece: _,
+            calls: _,
+            faults: _,
+        } = self;
+    }
 }
 
 impl Model for MemSink {

@@ -11,7 +11,6 @@ use std::alloc::Global;
 use std::marker::Model;
 
 /// Files in memory, each with its name and its content.
-#[derive(Drop)]
 pub struct MemFiles {
     files: Vec<(Name, Vec<u8>)>,
     failing: Vec<u64>,
@@ -23,6 +22,23 @@ pub struct MemFiles {
     opens: u64,
     reads: u64,
     faults: u64,
+}
+
+impl Drop for MemFiles {
+    fn drop(self) {
+        let MemFiles {
+            files: _,
+            failing: _,
+            piece: _,
+            opened: _,
+            place: _,
+            at: _,
+            calls: _,
+            opens: _,
+            reads: _,
+            faults: _,
+        } = self;
+    }
 }
 
 impl Model for MemFiles {

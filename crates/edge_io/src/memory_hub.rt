@@ -15,7 +15,6 @@ use std::alloc::{AllocError, Global};
 use std::marker::Model;
 
 /// A hub in memory. It takes its room at once and grows no more.
-#[derive(Drop)]
 pub struct MemHub {
     stage: Stage,
     failing: Vec<u64>,
@@ -23,6 +22,19 @@ pub struct MemHub {
     calls: u64,
     faults: u64,
     breaks: u64,
+}
+
+impl Drop for MemHub {
+    fn drop(self) {
+        let MemHub {
+            stage: _,
+            failing: _,
+            piece: _,
+            calls: _,
+            faults: _,
+            breaks: _,
+        } = self;
+    }
 }
 
 impl Model for MemHub {

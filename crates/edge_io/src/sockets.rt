@@ -22,12 +22,22 @@ const DOOR: u64 = 0;
 const EVENTS: usize = 128;
 
 /// A listening socket, and what tells which sockets are ready.
-#[derive(Drop)]
 struct Door {
     listener: TcpListener,
     poll: Poll,
     events: Events,
     in_line: bool,
+}
+
+impl Drop for Door {
+    fn drop(self) {
+        let Door {
+            listener: _,
+            poll: _,
+            events: _,
+            in_line: _,
+        } = self;
+    }
 }
 
 /// A connection that is held.
@@ -39,13 +49,24 @@ struct Peer {
 }
 
 /// The listening socket, the connections that are held by their numbers, and who is next in turn.
-#[derive(Drop)]
 pub struct Sockets {
     alloc: Global,
     door: Option<Door>,
     peers: BTreeMap<u64, Peer>,
     turns: Turns,
     last: u64,
+}
+
+impl Drop for Sockets {
+    fn drop(self) {
+        let Sockets {
+            alloc: _,
+            door: _,
+            peers: _,
+            turns: _,
+            last: _,
+        } = self;
+    }
 }
 
 impl Sockets {

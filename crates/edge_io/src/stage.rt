@@ -17,7 +17,6 @@ use std::alloc::{AllocError, Global};
 use std::marker::Model;
 
 /// A script that is played. It takes its room at once and grows no more.
-#[derive(Drop)]
 pub struct Stage {
     tape: Tape,
     live: Vec<u64>,
@@ -26,6 +25,20 @@ pub struct Stage {
     kept: usize,
     place: usize,
     used: usize,
+}
+
+impl Drop for Stage {
+    fn drop(self) {
+        let Stage {
+            tape: _,
+            live: _,
+            closed: _,
+            room: _,
+            kept: _,
+            place: _,
+            used: _,
+        } = self;
+    }
 }
 
 impl Model for Stage {

@@ -11,11 +11,20 @@ use std::alloc::{AllocError, Global};
 use std::marker::Model;
 
 /// A script, and the acts that were noted over it. It takes its room at once and grows no more.
-#[derive(Drop)]
 pub struct Tape {
     script: Vec<Script>,
     notes: Vec<Note>,
     sent: Vec<u8>,
+}
+
+impl Drop for Tape {
+    fn drop(self) {
+        let Tape {
+            script: _,
+            notes: _,
+            sent: _,
+        } = self;
+    }
 }
 
 impl Model for Tape {

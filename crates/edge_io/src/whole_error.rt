@@ -7,7 +7,7 @@ use crate::failed::Failed;
 use std::alloc::AllocError;
 
 /// Why a file was not read as a whole, in the order in which it is found out.
-#[derive(Clone, Copy, Debug, PartialEq, Eq, Drop)]
+#[derive(Clone, Copy, Drop)]
 pub enum WholeError {
     /// A read failed.
     Fault,

@@ -5,14 +5,14 @@ ghost use Rattle.std.specs.Int.{int_max, int_div_euclid};
 ghost use Rattle.elev_buffer.specs.Step.{IsLimits, IsNoMore, step_of, settled_of, paid_of, weight_of};
 
 /// The buffer above which is paid, and the most that is kept, in micrometres.
-#[derive(Clone, Copy, Debug, PartialEq, Eq)]
+#[derive(Clone, Copy)]
 pub struct Limits {
     pub penalty: i64,
     pub most: i64,
 }
 
 /// What a step leaves.
-#[derive(Clone, Copy, Debug, PartialEq, Eq)]
+#[derive(Clone, Copy)]
 pub struct Stepped {
     /// The new buffer in micrometres.
     pub e: i64,

@@ -1,7 +1,7 @@
 //! Why an operation on numbers has no result.
 
 /// The two faults of the four operations.
-#[derive(Clone, Copy, Debug, PartialEq, Eq)]
+#[derive(Clone, Copy)]
 pub enum Arith {
     /// The divisor is 0. Only `Num::div` gives it.
     DivZero,

@@ -7,7 +7,7 @@ ghost use Rattle.fixed_num.specs.Text.{mil6};
 use crate::decimal::{Parts, signed};
 
 /// Why a text is no coordinate.
-#[derive(Clone, Copy, Debug, PartialEq, Eq)]
+#[derive(Clone, Copy)]
 pub enum CoordError {
     /// The text isn't an optional `-`, digits, and an optional point with digits.
     NotDecimal,

@@ -9,7 +9,7 @@ use crate::decimal::{Parts, signed};
 use crate::number::Num;
 
 /// Why a text is no number.
-#[derive(Clone, Copy, Debug, PartialEq, Eq)]
+#[derive(Clone, Copy)]
 pub enum NumError {
     /// The text isn't an optional `-`, digits, and an optional point with digits.
     NotNumber,

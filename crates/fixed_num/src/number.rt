@@ -18,7 +18,7 @@ const ONE: i64 = 1_000_000;
 /// A number as a whole count of millionths, from -10^15 to 10^15.
 ///
 /// Contracts see it as that count. It can be a key of a map, and be cloned with its list.
-#[derive(Clone, Copy, Debug, PartialEq, Eq, Hash)]
+#[derive(Clone, Copy, PartialEq, Eq, Hash)]
 pub struct Num {
     millionths: i64,
 }

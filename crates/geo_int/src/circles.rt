@@ -8,7 +8,7 @@ use crate::arrows::{east, north};
 use crate::spots::Spot;
 
 /// How far a place lies from a circle's centre, in millimetres.
-#[derive(Clone, Copy, Debug, PartialEq, Eq)]
+#[derive(Clone, Copy)]
 pub(crate) struct Offset {
     pub(crate) east: i64,
     pub(crate) north: i64,

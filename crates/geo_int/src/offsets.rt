@@ -1,7 +1,7 @@
 //! What `arrow` gives: two parts and their length.
 
 /// An arrow from one place to another, in millimetres.
-#[derive(Clone, Copy, Debug, PartialEq, Eq)]
+#[derive(Clone, Copy)]
 pub struct Arrow {
     /// How far the end lies east of the start.
     pub dx: i64,

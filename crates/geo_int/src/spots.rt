@@ -6,7 +6,7 @@ use item_list::TryClone;
 use std::alloc::{AllocError, Global};
 
 /// A place, in microdegrees counted from 180 degrees west and from the south pole.
-#[derive(Clone, Copy, Debug, PartialEq, Eq)]
+#[derive(Clone, Copy)]
 pub struct Spot {
     /// The longitude in microdegrees plus 180,000,000.
     pub ilon: u32,

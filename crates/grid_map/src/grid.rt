@@ -16,11 +16,20 @@ use std::marker::Model;
 
 /// A grid of cells and segments between neighbours; contracts see it as the plan that it was made
 /// from.
-#[derive(Drop)]
 pub struct Grid {
     numbers: Vec<u32>,
     places: Vec<Option<u32>>,
     plan: Plan,
+}
+
+impl Drop for Grid {
+    fn drop(self) {
+        let Grid {
+            numbers: _,
+            places: _,
+            plan: _,
+        } = self;
+    }
 }
 
 impl Model for Grid {

@@ -8,7 +8,7 @@ ghost use Rattle.grid_map.specs.Segments.{segment_of};
 use crate::segment::GridSegment;
 
 /// What a grid is made from: a seed, and the numbers of cells in a row and in a column.
-#[derive(Clone, Copy, Debug, PartialEq, Eq)]
+#[derive(Clone, Copy)]
 pub(crate) struct Plan {
     pub(crate) seed: u32,
     pub(crate) width: u32,

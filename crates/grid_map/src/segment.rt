@@ -1,7 +1,7 @@
 //! A segment of a grid.
 
 /// A segment between two cells that lie side by side.
-#[derive(Clone, Copy, Debug, PartialEq, Eq)]
+#[derive(Clone, Copy)]
 pub struct GridSegment {
     /// The segment's number: twice its first cell's where it goes east, else one more.
     pub k: u32,

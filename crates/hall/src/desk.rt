@@ -17,11 +17,22 @@ pub(crate) struct Waiting {
 
 /// What sessions are answered from: the world, the stored profiles, those of them that were made ready, and the searches
 /// that wait, the longest waiting first.
-#[derive(Drop)]
 pub(crate) struct Desk {
     pub(crate) alloc: Global,
     pub(crate) world: World,
     pub(crate) profiles: Profiles,
     pub(crate) kept: KeptProfiles,
     pub(crate) queue: VecDeque<Waiting>,
+}
+
+impl Drop for Desk {
+    fn drop(self) {
+        let Desk {
+            alloc: _,
+            world: _,
+            profiles: _,
+            kept: _,
+            queue: _,
+        } = self;
+    }
 }

@@ -28,10 +28,15 @@ const SEATS: usize = 128;
 const MOST_WAITING: usize = 64;
 
 /// All connections of a server, with what it answers them from.
-#[derive(Drop)]
 pub struct Hall {
     pub(crate) room: Room,
     pub(crate) ready: ReadyFrames,
+}
+
+impl Drop for Hall {
+    fn drop(self) {
+        let Hall { room: _, ready: _ } = self;
+    }
 }
 
 impl Model for Hall {

@@ -12,6 +12,7 @@ use crate::seat::{Frame, Phase, Seat};
 use crate::seats::{lifted, put};
 use session_answers::{Refusal, refusal_frame};
 use std::alloc::{AllocError, Global};
+use std::mem::replace;
 
 /// The most bytes of a piece.
 const MOST_PIECE: usize = 65536;
@@ -93,7 +94,8 @@ impl ReadyFrames {
         ensures value { connection_of result ≡ record (connection_of seat) { phase = sent_more (phase_in seat.phase) n } }
     {
         let mut seat = seat;
-        seat.phase = self.more_sent(seat.phase, n);
+        let phase = replace(&mut seat.phase, Phase::Silent);
+        seat.phase = self.more_sent(phase, n);
         seat
     }
 

@@ -26,7 +26,6 @@ pub(crate) enum Phase {
 }
 
 /// A connection that has a seat.
-#[derive(Drop)]
 pub(crate) struct Seat {
     pub(crate) id: u64,
     /// It is turned away; else it is a session.
@@ -37,4 +36,17 @@ pub(crate) struct Seat {
     /// How many profiles were stored before its request was whole.
     pub(crate) before: Option<usize>,
     pub(crate) phase: Phase,
+}
+
+impl Drop for Seat {
+    fn drop(self) {
+        let Seat {
+            id: _,
+            away: _,
+            received: _,
+            ended: _,
+            before: _,
+            phase: _,
+        } = self;
+    }
 }

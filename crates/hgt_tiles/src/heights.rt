@@ -7,7 +7,7 @@ ghost use Rattle.hgt_tiles.specs.Height.{mix, between, height_around, has_void};
 
 /// The four samples around a place in metres, and the shares of the way to the east and to the
 /// north in millionths.
-#[derive(Clone, Copy, Debug, PartialEq, Eq)]
+#[derive(Clone, Copy)]
 pub(crate) struct Cell {
     pub(crate) south_west: i16,
     pub(crate) south_east: i16,

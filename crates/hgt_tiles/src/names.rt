@@ -7,7 +7,7 @@ ghost use Rattle.hgt_tiles.specs.Name.{last_part, is_spelled, letters_are_there,
 use item_list::is_digit;
 
 /// A south-west corner in whole degrees, east of Greenwich and north of the equator.
-#[derive(Clone, Copy, Debug, PartialEq, Eq, PartialOrd, Ord)]
+#[derive(Clone, Copy, PartialEq, Eq, PartialOrd, Ord)]
 pub struct Corner {
     pub lon: i16,
     pub lat: i16,

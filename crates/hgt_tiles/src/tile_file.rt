@@ -31,7 +31,7 @@ impl Model for Tile {
 }
 
 /// Why a file holds no tile.
-#[derive(Clone, Copy, Debug, PartialEq, Eq, Drop, Error)]
+#[derive(Clone, Copy, Debug, Drop, Error)]
 pub enum TileError {
     #[error("the name tells no corner")]
     Name,

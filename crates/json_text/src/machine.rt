@@ -9,13 +9,23 @@ use std::mem;
 
 /// The place in the text, the open brackets, and the content of the text or number that is read
 /// and of the last that was given.
-#[derive(Drop)]
 pub struct Machine {
     pub opens: Vec<Bracket>,
     pub content: Vec<u8>,
     pub text: Vec<u8>,
     pub mode: Mode,
     ghost shallow: { vec_len opens ≤ 64 },
+}
+
+impl Drop for Machine {
+    fn drop(self) {
+        let Machine {
+            opens: _,
+            content: _,
+            text: _,
+            mode: _,
+        } = self;
+    }
 }
 
 impl Machine {

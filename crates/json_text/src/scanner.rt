@@ -11,7 +11,6 @@ use std::alloc::{AllocError, Global};
 mod advance;
 
 /// A reader of one JSON text, whose pieces are fed to it and whose steps it gives.
-#[derive(Drop)]
 pub struct Scanner {
     input: Vec<u8>,
     machine: Machine,
@@ -21,6 +20,19 @@ pub struct Scanner {
     failed: bool,
     ghost in_range: { read ≤ vec_len input },
     ghost few: { before + vec_len input < 2 ^ 63 },
+}
+
+impl Drop for Scanner {
+    fn drop(self) {
+        let Scanner {
+            input: _,
+            machine: _,
+            read: _,
+            before: _,
+            ended: _,
+            failed: _,
+        } = self;
+    }
 }
 
 impl Scanner {

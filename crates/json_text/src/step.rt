@@ -2,7 +2,7 @@
 
 /// One step of a JSON text, or what there is to say where no step is fixed. The content of a
 /// `Key`, a `Text` and a `Number` is what `Scanner::text` gives.
-#[derive(Clone, Copy, PartialEq, Eq, Debug)]
+#[derive(Clone, Copy)]
 pub enum JsonStep {
     /// An object begins.
     Open,

@@ -15,10 +15,15 @@ const MOST_TAGS: usize = 1024;
 const MOST_VALUES: usize = 4096;
 
 /// The tags of a part. Their names are kept in an index as well.
-#[derive(Drop)]
 pub struct Rows {
     names: IndexSet<Vec<u8>>,
     tags: Vec<Tag>,
+}
+
+impl Drop for Rows {
+    fn drop(self) {
+        let Rows { names: _, tags: _ } = self;
+    }
 }
 
 impl Model for Rows {

@@ -17,10 +17,15 @@ use std::marker::Model;
 /// A tag table: the tags of ways and of nodes with their listed values.
 ///
 /// Contracts see it as the two lists of tags.
-#[derive(Drop)]
 pub struct Table {
     pub(crate) way: Rows,
     pub(crate) node: Rows,
+}
+
+impl Drop for Table {
+    fn drop(self) {
+        let Table { way: _, node: _ } = self;
+    }
 }
 
 impl Model for Table {

@@ -12,11 +12,20 @@ use std::alloc::{AllocError, Global};
 use std::marker::Model;
 
 /// A tag with the first spelling of each value, and the number of each spelling.
-#[derive(Drop)]
 pub(crate) struct Tag {
     name: Name,
     firsts: Vec<Name>,
     numbers: IndexMap<Vec<u8>, u16>,
+}
+
+impl Drop for Tag {
+    fn drop(self) {
+        let Tag {
+            name: _,
+            firsts: _,
+            numbers: _,
+        } = self;
+    }
 }
 
 impl Model for Tag {

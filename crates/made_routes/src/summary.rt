@@ -1,7 +1,7 @@
 //! What is told of the route across hills.
 
 /// The size of a grid, and what the route between its opposite corners costs.
-#[derive(Clone, Copy, Debug, PartialEq, Eq)]
+#[derive(Clone, Copy)]
 pub struct Hills {
     /// What the track costs, in millionths.
     pub cost: u128,

@@ -9,7 +9,7 @@ ghost use Rattle.map_elements.specs.Reader.{IsAt, IsKind, IsTop, has_list};
 use json_text::JsonStep;
 
 /// Where the steps of a text have led.
-#[derive(Clone, Copy, Debug, PartialEq, Eq)]
+#[derive(Clone, Copy)]
 pub(crate) enum Place {
     /// Nothing has come.
     Start,
@@ -25,7 +25,7 @@ pub(crate) enum Place {
 }
 
 /// What a step does to the brackets.
-#[derive(Clone, Copy, Debug, PartialEq, Eq)]
+#[derive(Clone, Copy)]
 pub(crate) enum Kind {
     /// An object begins.
     Opens,

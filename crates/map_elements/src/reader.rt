@@ -9,11 +9,19 @@ use std::alloc::Global;
 
 /// A reader of a map's text, as Overpass gives it, into tables of its elements. The text is fed in pieces of any size, of
 /// which no copy is kept.
-#[derive(Drop)]
 pub struct DraftReader {
     reading: Reading,
     refused: Option<MapError>,
     ghost open_still: { has_ended reading.scanner ≡ false },
+}
+
+impl Drop for DraftReader {
+    fn drop(self) {
+        let DraftReader {
+            reading: _,
+            refused: _,
+        } = self;
+    }
 }
 
 impl DraftReader {
@@ -88,10 +96,13 @@ impl DraftReader {
             (λ e. IsRefusal limits bytes true e) }
         ensures again { (e : Fault) → refusal self ≡ Some e → result ≡ Err e }
     {
-        if let Some(e) = self.refused {
+        let DraftReader {
+            mut reading,
+            refused,
+        } = self;
+        if let Some(e) = refused {
             return Err(e);
         }
-        let mut reading = self.reading;
         reading.scanner.end();
         match reading.read_on() {
             Ok(()) => reading.into_tables(),

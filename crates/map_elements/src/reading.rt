@@ -15,10 +15,18 @@ use map_tables::{Limits, MapError, Tables};
 use std::alloc::Global;
 
 /// The scanner of a text, and what was read of its steps.
-#[derive(Drop)]
 pub(crate) struct Reading {
     pub(crate) scanner: Scanner,
     pub(crate) progress: Progress,
+}
+
+impl Drop for Reading {
+    fn drop(self) {
+        let Reading {
+            scanner: _,
+            progress: _,
+        } = self;
+    }
 }
 
 /// Whether an answer of a scanner is a verdict and no step.
@@ -108,7 +116,10 @@ impl Reading {
             MatchResult result (λ tables. (tables.limits ≡ limits) × ComesTo limits bytes true (Ok tables.draft))
             (λ e. IsRefusal limits bytes true e) }
     {
-        let progress = self.progress;
+        let Reading {
+            scanner: _,
+            progress,
+        } = self;
         if has_list(progress.place) {
             Ok(progress.tables)
         } else {

@@ -14,7 +14,7 @@ pub(crate) mod entries;
 pub(crate) mod part;
 
 /// What a kept step is.
-#[derive(Clone, Copy, Debug, PartialEq, Eq)]
+#[derive(Clone, Copy)]
 pub(crate) enum StepKind {
     /// An object begins.
     Open,
@@ -39,7 +39,7 @@ pub(crate) enum StepKind {
 }
 
 /// A step that is kept, and where its content stands among the bytes.
-#[derive(Clone, Copy, Debug)]
+#[derive(Clone, Copy)]
 pub(crate) struct Row {
     pub(crate) start: usize,
     pub(crate) length: u32,
@@ -49,10 +49,15 @@ pub(crate) struct Row {
 /// A growing list of the steps of a JSON text.
 ///
 /// Contracts see it as that list.
-#[derive(Drop)]
 pub struct StepList {
     rows: Vec<Row>,
     bytes: Vec<u8>,
+}
+
+impl Drop for StepList {
+    fn drop(self) {
+        let StepList { rows: _, bytes: _ } = self;
+    }
 }
 
 impl Model for StepList {

@@ -7,7 +7,7 @@ use edge_io::Failed;
 use overpass_graph::MapError;
 
 /// Why the open file holds no map.
-#[derive(Clone, Copy, Debug, PartialEq, Eq, Drop)]
+#[derive(Clone, Copy, Drop)]
 pub enum MapFileError {
     /// A read failed.
     Fault,

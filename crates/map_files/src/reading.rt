@@ -80,9 +80,8 @@ fn finish(builder: MapBuilder) -> Result<Map, MapFileError>
 fn told(error: MapError) -> MapFileError
     ensures exact { IsTold error result }
 {
-    if error == MapError::NoMemory {
-        MapFileError::NoMemory
-    } else {
-        MapFileError::Map(error)
+    match error {
+        MapError::NoMemory => MapFileError::NoMemory,
+        other => MapFileError::Map(other),
     }
 }

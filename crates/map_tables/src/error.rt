@@ -1,7 +1,7 @@
 //! Why a text is no map.
 
 /// The kinds of elements that a map has.
-#[derive(Clone, Copy, Debug, PartialEq, Eq, Drop)]
+#[derive(Clone, Copy, Drop)]
 pub enum ElementKind {
     /// A place that ways go through.
     Node,
@@ -12,7 +12,7 @@ pub enum ElementKind {
 }
 
 /// What a map has too many of.
-#[derive(Clone, Copy, Debug, PartialEq, Eq, Drop)]
+#[derive(Clone, Copy, Drop)]
 pub enum MapCount {
     /// Nodes.
     Nodes,
@@ -25,7 +25,7 @@ pub enum MapCount {
 }
 
 /// The first fault of a map's text. Those of one element are tried in the order in which they stand here.
-#[derive(Clone, Copy, Debug, PartialEq, Eq, Drop)]
+#[derive(Clone, Copy, Drop)]
 pub enum MapError {
     /// No JSON text begins with the first `at` bytes and the next one.
     NotJson { at: u64 },

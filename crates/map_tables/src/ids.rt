@@ -8,9 +8,14 @@ use std::alloc::{AllocError, Global};
 use std::marker::Model;
 
 /// Ids, none of which comes twice.
-#[derive(Drop)]
 pub(crate) struct Ids {
     set: IndexSet<i64>,
+}
+
+impl Drop for Ids {
+    fn drop(self) {
+        let Ids { set: _ } = self;
+    }
 }
 
 impl Model for Ids {

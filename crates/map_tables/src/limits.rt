@@ -1,7 +1,7 @@
 //! How much a map may hold.
 
 /// How many nodes, ways, segments of ways and members of relations a map may have at most.
-#[derive(Clone, Copy, Debug, PartialEq, Eq, Drop)]
+#[derive(Clone, Copy, Drop)]
 pub struct Limits {
     /// Nodes.
     pub nodes: u32,

@@ -3,7 +3,6 @@
 use item_list::Name;
 
 /// A member of a relation.
-#[derive(Drop)]
 pub struct Member {
     /// The type of the element, as the text names it.
     pub kind: Name,
@@ -11,4 +10,14 @@ pub struct Member {
     pub reference: i64,
     /// What the element is in the relation.
     pub role: Name,
+}
+
+impl Drop for Member {
+    fn drop(self) {
+        let Member {
+            kind: _,
+            reference: _,
+            role: _,
+        } = self;
+    }
 }

@@ -26,11 +26,20 @@ pub(crate) struct NodeRow {
 }
 
 /// Nodes, each id once.
-#[derive(Drop)]
 pub(crate) struct Nodes {
     ids: Ids,
     rows: Vec<NodeRow>,
     lists: TagLists,
+}
+
+impl Drop for Nodes {
+    fn drop(self) {
+        let Nodes {
+            ids: _,
+            rows: _,
+            lists: _,
+        } = self;
+    }
 }
 
 impl Model for Nodes {

@@ -19,19 +19,37 @@ use std::alloc::{AllocError, Global};
 use std::marker::Model;
 
 /// A relation: its members and its tags.
-#[derive(Drop)]
 pub(crate) struct RelationRow {
     pub(crate) members: Vec<MemberRow>,
     pub(crate) tags: Tags,
 }
 
+impl Drop for RelationRow {
+    fn drop(self) {
+        let RelationRow {
+            members: _,
+            tags: _,
+        } = self;
+    }
+}
+
 /// Relations, each id once.
-#[derive(Drop)]
 pub(crate) struct Relations {
     ids: Ids,
     rows: Vec<RelationRow>,
     words: Words,
     members: u32,
+}
+
+impl Drop for Relations {
+    fn drop(self) {
+        let Relations {
+            ids: _,
+            rows: _,
+            words: _,
+            members: _,
+        } = self;
+    }
 }
 
 impl Model for Relations {

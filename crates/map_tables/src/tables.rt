@@ -19,13 +19,24 @@ use std::alloc::Global;
 use std::marker::Model;
 
 /// The nodes, ways and relations so far, kept in the order in which their ids came first.
-#[derive(Drop)]
 pub struct Tables {
     alloc: Global,
     pub(crate) limits: Limits,
     pub(crate) nodes: Nodes,
     pub(crate) ways: Ways,
     pub(crate) relations: Relations,
+}
+
+impl Drop for Tables {
+    fn drop(self) {
+        let Tables {
+            alloc: _,
+            limits: _,
+            nodes: _,
+            ways: _,
+            relations: _,
+        } = self;
+    }
 }
 
 impl Model for Tables {

@@ -8,10 +8,15 @@ use std::alloc::{AllocError, Global};
 use std::marker::Model;
 
 /// Lists of tags. The empty list stands at place 0, and any other where it was put.
-#[derive(Drop)]
 pub(crate) struct TagLists {
     none: Tags,
     lists: Vec<Tags>,
+}
+
+impl Drop for TagLists {
+    fn drop(self) {
+        let TagLists { none: _, lists: _ } = self;
+    }
 }
 
 impl Model for TagLists {

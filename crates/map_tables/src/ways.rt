@@ -15,18 +15,32 @@ use std::alloc::Global;
 use std::marker::Model;
 
 /// A way: its nodes and its tags.
-#[derive(Drop)]
 pub(crate) struct WayRow {
     pub(crate) nodes: Vec<i64>,
     pub(crate) tags: Tags,
 }
 
+impl Drop for WayRow {
+    fn drop(self) {
+        let WayRow { nodes: _, tags: _ } = self;
+    }
+}
+
 /// Ways, each id once.
-#[derive(Drop)]
 pub(crate) struct Ways {
     ids: Ids,
     rows: Vec<WayRow>,
     segments: u32,
+}
+
+impl Drop for Ways {
+    fn drop(self) {
+        let Ways {
+            ids: _,
+            rows: _,
+            segments: _,
+        } = self;
+    }
 }
 
 impl Model for Ways {

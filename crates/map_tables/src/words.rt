@@ -8,9 +8,14 @@ use std::alloc::{AllocError, Global};
 use std::marker::Model;
 
 /// Words, of which each is kept once.
-#[derive(Drop)]
 pub(crate) struct Words {
     set: IndexSet<Vec<u8>>,
+}
+
+impl Drop for Words {
+    fn drop(self) {
+        let Words { set: _ } = self;
+    }
 }
 
 impl Model for Words {

@@ -7,7 +7,7 @@ use item_list::TryClone;
 use std::alloc::{AllocError, Global};
 
 /// A circle whose inside nobody rides through. Whoever makes one has tested its radius.
-#[derive(Clone, Copy, Debug, PartialEq, Eq)]
+#[derive(Clone, Copy)]
 pub struct Circle {
     /// The centre.
     pub centre: Spot,

@@ -3,7 +3,7 @@
 ghost use Rattle.std.specs.Prelude.{◌<◌};
 
 /// Steps from a first distance on, each a power of two of microdegrees.
-#[derive(Clone, Copy, Debug, PartialEq, Eq)]
+#[derive(Clone, Copy)]
 pub(crate) struct Scale {
     pub(crate) first: u32,
     pub(crate) shift: u32,

@@ -8,7 +8,7 @@ use crate::circle::Circle;
 use geo_int::Spot;
 
 /// An edge of the globe.
-#[derive(Clone, Copy, Debug, PartialEq, Eq)]
+#[derive(Clone, Copy)]
 pub(crate) enum Side {
     South,
     North,

@@ -14,12 +14,22 @@ use geo_int::{Spot, touches};
 use std::alloc::{AllocError, Global};
 
 /// What is known of circles from each edge.
-#[derive(Drop)]
 pub(crate) struct Fences {
     pub(crate) south: Fence,
     pub(crate) north: Fence,
     pub(crate) west: Fence,
     pub(crate) east: Fence,
+}
+
+impl Drop for Fences {
+    fn drop(self) {
+        let Fences {
+            south: _,
+            north: _,
+            west: _,
+            east: _,
+        } = self;
+    }
 }
 
 impl Fences {

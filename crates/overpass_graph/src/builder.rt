@@ -21,10 +21,18 @@ const MOST: Limits = Limits {
 
 /// A builder of a map from its text, as Overpass gives it in JSON. The text is fed in pieces of any size, of which no copy
 /// is kept.
-#[derive(Drop)]
 pub struct MapBuilder {
     alloc: Global,
     reader: DraftReader,
+}
+
+impl Drop for MapBuilder {
+    fn drop(self) {
+        let MapBuilder {
+            alloc: _,
+            reader: _,
+        } = self;
+    }
 }
 
 impl MapBuilder {
@@ -65,8 +73,8 @@ impl MapBuilder {
             MatchResult result (λ map. IsMapOfText bytes map) (λ e. (e ≡ NoMemory) ⊎ IsFaultOfText bytes e) }
         ensures again { (e : Fault) → refusal self ≡ Some e → result ≡ Err e }
     {
-        let alloc = self.alloc;
-        match self.reader.finish() {
+        let MapBuilder { alloc, reader } = self;
+        match reader.finish() {
             Ok(tables) => map_of(alloc, tables),
             Err(e) => Err(e),
         }

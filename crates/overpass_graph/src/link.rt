@@ -1,7 +1,7 @@
 //! A link of a map.
 
 /// A piece of a way between two nodes that follow each other on it, in one direction.
-#[derive(Clone, Copy, Debug, PartialEq, Eq, Drop)]
+#[derive(Clone, Copy, Drop)]
 pub struct Link {
     /// The node that it leaves.
     pub from: u32,

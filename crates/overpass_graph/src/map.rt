@@ -16,12 +16,22 @@ use map_tables::Tables;
 use std::marker::Model;
 
 /// The map of a text: nodes by ascending id, ways in the order of the text, links and turn restrictions.
-#[derive(Drop)]
 pub struct Map {
     pub(crate) tables: Tables,
     pub(crate) order: NodeOrder,
     pub(crate) links: Links,
     pub(crate) turns: Turns,
+}
+
+impl Drop for Map {
+    fn drop(self) {
+        let Map {
+            tables: _,
+            order: _,
+            links: _,
+            turns: _,
+        } = self;
+    }
 }
 
 impl Model for Map {

@@ -52,10 +52,15 @@ impl Laid {
 }
 
 /// The links of a map, and those that leave each node.
-#[derive(Drop)]
 pub(crate) struct Links {
     ends: Groups,
     pieces: Vec<Piece>,
+}
+
+impl Drop for Links {
+    fn drop(self) {
+        let Links { ends: _, pieces: _ } = self;
+    }
 }
 
 impl Model for Links {

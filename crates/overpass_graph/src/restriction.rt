@@ -3,7 +3,7 @@
 use item_list::Items;
 
 /// How a restriction is to be read.
-#[derive(Clone, Copy, Debug, PartialEq, Eq, Drop)]
+#[derive(Clone, Copy, Drop)]
 pub enum RestrictionKind {
     /// From its first ways none may go on to its second ways.
     No,
@@ -12,7 +12,6 @@ pub enum RestrictionKind {
 }
 
 /// A turn restriction: at a node, from some ways, to some ways.
-#[derive(Drop)]
 pub struct Restriction {
     /// How it is to be read.
     pub kind: RestrictionKind,
@@ -22,4 +21,15 @@ pub struct Restriction {
     pub from: Items<u32>,
     /// The ways that go on from it.
     pub to: Items<u32>,
+}
+
+impl Drop for Restriction {
+    fn drop(self) {
+        let Restriction {
+            kind: _,
+            via: _,
+            from: _,
+            to: _,
+        } = self;
+    }
 }

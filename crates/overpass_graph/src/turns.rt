@@ -12,10 +12,18 @@ use std::alloc::{AllocError, Global};
 use std::marker::Model;
 
 /// Restrictions, and those at each node.
-#[derive(Drop)]
 pub(crate) struct Turns {
     at: Groups,
     restrictions: Vec<Restriction>,
+}
+
+impl Drop for Turns {
+    fn drop(self) {
+        let Turns {
+            at: _,
+            restrictions: _,
+        } = self;
+    }
 }
 
 impl Model for Turns {

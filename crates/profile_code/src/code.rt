@@ -11,10 +11,18 @@ use std::marker::Model;
 /// The code of a section, with the names that its assignments set, in order.
 ///
 /// Contracts see it as the list of operations and the list of names.
-#[derive(Drop)]
 pub(crate) struct SectionCode {
     pub(crate) instrs: Items<Instr>,
     pub(crate) names: Names,
+}
+
+impl Drop for SectionCode {
+    fn drop(self) {
+        let SectionCode {
+            instrs: _,
+            names: _,
+        } = self;
+    }
 }
 
 impl Model for SectionCode {
@@ -43,7 +51,6 @@ impl SectionCode {
 
 /// The code of the three sections, how many numbers a run has on the stack at most, and how many
 /// tags the parts have.
-#[derive(Drop)]
 pub(crate) struct Parts {
     pub(crate) global: SectionCode,
     pub(crate) way: SectionCode,
@@ -51,6 +58,19 @@ pub(crate) struct Parts {
     pub(crate) room: usize,
     pub(crate) way_tags: u32,
     pub(crate) node_tags: u32,
+}
+
+impl Drop for Parts {
+    fn drop(self) {
+        let Parts {
+            global: _,
+            way: _,
+            node: _,
+            room: _,
+            way_tags: _,
+            node_tags: _,
+        } = self;
+    }
 }
 
 impl Model for Parts {
@@ -102,9 +122,14 @@ impl Parts {
 ///
 /// Contracts see it as the code of its three sections, with what a run needs to know before it
 /// starts. No run of it is ever stuck.
-#[derive(Drop)]
 pub struct Code {
     pub(crate) parts: Parts,
+}
+
+impl Drop for Code {
+    fn drop(self) {
+        let Code { parts: _ } = self;
+    }
 }
 
 impl Model for Code {

@@ -7,11 +7,20 @@ use profile_text::Op;
 
 /// A look at a tag: its name and its place in the part, and the numbers that it asks for, ascending
 /// and each once.
-#[derive(Drop)]
 pub(crate) struct Look {
     pub(crate) name: Name,
     pub(crate) numbers: Items<u16>,
     pub(crate) tag: u32,
+}
+
+impl Drop for Look {
+    fn drop(self) {
+        let Look {
+            name: _,
+            numbers: _,
+            tag: _,
+        } = self;
+    }
 }
 
 /// An operation. A jump says how many operations it passes.

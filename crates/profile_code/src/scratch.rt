@@ -12,7 +12,6 @@ use std::alloc::{AllocError, Global};
 
 /// The stack and the values of the runs of one code, with where the names with an effect are
 /// assigned last: so a run takes no memory and looks for no name.
-#[derive(Drop)]
 pub struct Scratch {
     pub(crate) stack: Stack,
     pub(crate) global: Values,
@@ -21,6 +20,20 @@ pub struct Scratch {
     pub(crate) global_places: GlobalPlaces,
     pub(crate) way_places: WayPlaces,
     pub(crate) node_place: Option<u32>,
+}
+
+impl Drop for Scratch {
+    fn drop(self) {
+        let Scratch {
+            stack: _,
+            global: _,
+            way: _,
+            node: _,
+            global_places: _,
+            way_places: _,
+            node_place: _,
+        } = self;
+    }
 }
 
 impl Scratch {

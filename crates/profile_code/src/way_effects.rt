@@ -6,7 +6,7 @@ use fixed_num::Num;
 use profile_text::Names;
 
 /// What a way comes to.
-#[derive(Clone, Copy, Debug, PartialEq, Eq)]
+#[derive(Clone, Copy)]
 pub struct WayValues {
     pub costfactor: Num,
     pub turncost: Num,

@@ -11,10 +11,18 @@ use std::marker::Model;
 /// The values that a section has assigned so far, one for each assignment.
 ///
 /// Contracts see it as the list of the names with their values.
-#[derive(Drop)]
 pub(crate) struct Assigned {
     names: Names,
     numbers: Vec<Num>,
+}
+
+impl Drop for Assigned {
+    fn drop(self) {
+        let Assigned {
+            names: _,
+            numbers: _,
+        } = self;
+    }
 }
 
 impl Model for Assigned {

@@ -4,7 +4,7 @@ use fixed_num::Num;
 use item_list::{Items, Name};
 
 /// An operator of two operands.
-#[derive(Clone, Copy, Debug, PartialEq, Eq)]
+#[derive(Clone, Copy)]
 pub enum Op {
     /// 1 where an operand is nonzero; the second is looked at only where the first is zero.
     Or,

@@ -12,10 +12,18 @@ use std::marker::Model;
 /// last assignment is kept in an index as well.
 ///
 /// Contracts see it as the list of the names.
-#[derive(Drop)]
 pub struct Names {
     names: Vec<Name>,
     places: IndexMap<Vec<u8>, u32>,
+}
+
+impl Drop for Names {
+    fn drop(self) {
+        let Names {
+            names: _,
+            places: _,
+        } = self;
+    }
 }
 
 impl Model for Names {

@@ -21,11 +21,20 @@ use std::alloc::Global;
 use std::rc::Rc;
 
 /// A request that is answered in turns of so many labels each.
-#[derive(Drop)]
 pub struct Pending {
     pub(crate) told: Told,
     pub(crate) ready: Rc<Ready>,
     pub(crate) job: Job,
+}
+
+impl Drop for Pending {
+    fn drop(self) {
+        let Pending {
+            told: _,
+            ready: _,
+            job: _,
+        } = self;
+    }
 }
 
 /// What a turn comes to.

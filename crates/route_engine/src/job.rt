@@ -28,7 +28,6 @@ use waypoint_nodes::waypoint_nodes;
 
 /// A request that is answered in turns: its legs are searched one after the other, and of each the alternatives up to the
 /// one that is asked for.
-#[derive(Drop)]
 pub struct Job {
     pub(crate) alloc: Global,
     pub(crate) plan: JobPlan,
@@ -37,8 +36,19 @@ pub struct Job {
     pub(crate) stage: Stage,
 }
 
+impl Drop for Job {
+    fn drop(self) {
+        let Job {
+            alloc: _,
+            plan: _,
+            settled: _,
+            stage: _,
+        } = self;
+    }
+}
+
 /// What a turn of a job answers.
-#[derive(Clone, Copy, Debug, PartialEq, Eq)]
+#[derive(Clone, Copy)]
 pub enum JobTurn {
     /// As many labels were settled as the turn was given, and the job isn't at its end.
     More,
@@ -131,7 +141,12 @@ impl Job {
     pub fn into_track(self) -> Option<Track>
         ensures value { result ≡ track_of self }
     {
-        let Job { stage, .. } = self;
+        let Job {
+            alloc: _,
+            plan: _,
+            settled: _,
+            stage,
+        } = self;
         match stage {
             Stage::Found(track) => Some(track),
             _ => None,

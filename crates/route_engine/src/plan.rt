@@ -8,7 +8,6 @@ use route_ready::Ready;
 use std::rc::Rc;
 
 /// What a job is to find: the legs between nodes, each in the alternative that was asked for.
-#[derive(Drop)]
 pub(crate) struct JobPlan {
     /// The most labels that a search settles.
     pub(crate) limit: u64,
@@ -22,6 +21,20 @@ pub(crate) struct JobPlan {
     pub(crate) alternative: u8,
     /// Whether searches go from junction to junction.
     pub(crate) runs: bool,
+}
+
+impl Drop for JobPlan {
+    fn drop(self) {
+        let JobPlan {
+            limit: _,
+            ready: _,
+            nodes: _,
+            cut: _,
+            modes: _,
+            alternative: _,
+            runs: _,
+        } = self;
+    }
 }
 
 impl JobPlan {

@@ -7,10 +7,18 @@ use item_list::Name;
 use profile_text::Profile;
 
 /// A profile with its name.
-#[derive(Drop)]
 pub(crate) struct Entry {
     pub(crate) name: Name,
     pub(crate) profile: Profile,
+}
+
+impl Drop for Entry {
+    fn drop(self) {
+        let Entry {
+            name: _,
+            profile: _,
+        } = self;
+    }
 }
 
 /// Profiles by name, in the order in which they were stored. Each is found by its name, so that no name comes

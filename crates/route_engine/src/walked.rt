@@ -15,7 +15,6 @@ use std::alloc::{AllocError, Global};
 use track_legs::{Leg, Track, cost_along};
 
 /// The walks that a job has found so far.
-#[derive(Drop)]
 pub(crate) struct Walked {
     /// The legs that are found, in the alternative that was asked for.
     pub(crate) legs: Items<Leg>,
@@ -23,6 +22,16 @@ pub(crate) struct Walked {
     pub(crate) earlier: Items<Items<Items<u32>>>,
     /// The alternatives of the next leg that are found.
     pub(crate) walks: Items<Items<u32>>,
+}
+
+impl Drop for Walked {
+    fn drop(self) {
+        let Walked {
+            legs: _,
+            earlier: _,
+            walks: _,
+        } = self;
+    }
 }
 
 impl Walked {
@@ -97,11 +106,16 @@ impl Walked {
         requires all { length self.legs ≡ leg_count (plan_of (world_of world.now) plan.now) }
         ensures track { IfOk result (IsTrackFor (plan_of (world_of world.now) plan.now)) }
     {
+        let Walked {
+            legs,
+            earlier,
+            walks: _,
+        } = self;
         let nodes = plan.nodes.try_clone(alloc)?;
-        let earlier = by_alternative(alloc, plan.alternative as usize, self.earlier.as_slice())?;
+        let earlier = by_alternative(alloc, plan.alternative as usize, earlier.as_slice())?;
         Ok(Track {
             nodes,
-            legs: self.legs,
+            legs,
             earlier,
         })
     }

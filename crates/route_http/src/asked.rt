@@ -7,7 +7,6 @@ use item_list::{Items, Name};
 use nogo_areas::Circle;
 
 /// What a query asks for.
-#[derive(Drop)]
 pub struct Request {
     /// The waypoints, two or more.
     pub waypoints: Items<Spot>,
@@ -25,4 +24,19 @@ pub struct Request {
     pub overrides: Overrides,
     /// Whether the search steps from junction to junction.
     pub runs: bool,
+}
+
+impl Drop for Request {
+    fn drop(self) {
+        let Request {
+            waypoints: _,
+            circles: _,
+            profile: _,
+            alternative: _,
+            form: _,
+            labels: _,
+            overrides: _,
+            runs: _,
+        } = self;
+    }
 }

@@ -8,7 +8,7 @@ use crate::key::Key;
 use std::alloc::{AllocError, AllocFailed, Global};
 
 /// Why a query is refused. Pairs are counted from 0.
-#[derive(Clone, Copy, Debug, PartialEq, Eq)]
+#[derive(Clone, Copy)]
 pub enum RequestError {
     /// The pair at this place has a name that is no key.
     UnknownKey { place: u64 },

@@ -1,7 +1,7 @@
 //! The form of a reply.
 
 /// The form of a reply.
-#[derive(Clone, Copy, Debug, PartialEq, Eq)]
+#[derive(Clone, Copy)]
 pub enum Form {
     GeoJson,
     Csv,

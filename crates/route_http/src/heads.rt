@@ -5,7 +5,7 @@ ghost use Rattle.route_http.specs.Heads.{method_of};
 use crate::span::Span;
 
 /// The method of a request, as far as a server tells methods apart.
-#[derive(Clone, Copy, Debug, PartialEq, Eq)]
+#[derive(Clone, Copy)]
 pub enum Method {
     Get,
     Post,
@@ -28,7 +28,7 @@ impl Method {
 }
 
 /// What the bytes of a request come to, as far as its head goes.
-#[derive(Clone, Copy, Debug, PartialEq, Eq)]
+#[derive(Clone, Copy)]
 pub enum Head {
     /// The head is there, and it is one that may be served.
     Whole {

@@ -4,7 +4,7 @@ ghost use Rattle.route_http.specs.Key.{key_of};
 ghost use Rattle.route_http.specs.Lines.{key_name};
 
 /// A key of a query.
-#[derive(Clone, Copy, Debug, PartialEq, Eq)]
+#[derive(Clone, Copy)]
 pub enum Key {
     Lonlats,
     Nogos,

@@ -1,7 +1,7 @@
 //! The kind of a reply's body.
 
 /// The kind of a reply's body.
-#[derive(Clone, Copy, Debug, PartialEq, Eq)]
+#[derive(Clone, Copy)]
 pub enum Kind {
     Json,
     Csv,

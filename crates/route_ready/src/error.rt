@@ -12,7 +12,7 @@ use way_class::BindError;
 
 /// Why a request has no track, in the order in which it is tried. Waypoints, legs and assignments are counted from 0.
 /// Want of memory is always `NoMemory`, also where it comes from a check or from binding.
-#[derive(Clone, Copy, Debug, PartialEq, Eq)]
+#[derive(Clone, Copy)]
 pub enum RouteError {
     /// No profile has the name. Callers that look for one give it.
     UnknownProfile,

@@ -4,7 +4,6 @@ use cost_model::Rates;
 use way_class::Bound;
 
 /// A profile under overrides, made ready for a world.
-#[derive(Drop)]
 pub struct Ready {
     /// The facts of all links of the world's map.
     pub bound: Bound,
@@ -12,4 +11,14 @@ pub struct Ready {
     pub rates: Rates,
     /// Whether turn restrictions count.
     pub turns: bool,
+}
+
+impl Drop for Ready {
+    fn drop(self) {
+        let Ready {
+            bound: _,
+            rates: _,
+            turns: _,
+        } = self;
+    }
 }

@@ -16,11 +16,20 @@ use overpass_graph::Map;
 use std::alloc::{AllocError, Global};
 
 /// The tag table, the map and the heights that requests are answered over.
-#[derive(Drop)]
 pub struct World {
     pub(crate) table: Table,
     pub(crate) roads: IndexedMap,
     pub(crate) tiles: Tiles,
+}
+
+impl Drop for World {
+    fn drop(self) {
+        let World {
+            table: _,
+            roads: _,
+            tiles: _,
+        } = self;
+    }
 }
 
 impl World {

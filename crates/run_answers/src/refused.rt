@@ -15,7 +15,7 @@ use std::alloc::Global;
 pub fn refused(alloc: Global, error: RouteError, profile: Option<&Profile>) -> Status
     ensures exact { IsRefusedAs error (option_map (λ p. sections_in p.now) profile.entry) result }
 {
-    if error == RouteError::NoMemory {
+    if matches!(error, RouteError::NoMemory) {
         return Status::NoMemory;
     }
     match line(alloc, &error, profile) {

@@ -1,7 +1,7 @@
 //! Why a server ends.
 
 /// Why a server ended.
-#[derive(Clone, Copy, Debug, PartialEq, Eq)]
+#[derive(Clone, Copy)]
 pub enum ServeEnd {
     /// The hub gave its last event.
     Over,

@@ -9,12 +9,17 @@ use route_engine::Shelf;
 use std::alloc::AllocError;
 
 /// The stored profiles: those given at the start, and then at most 64 uploads, named `custom_1` and so on.
-#[derive(Drop)]
 pub struct Profiles {
     pub(crate) shelf: Shelf,
     /// How many were given at the start; the others are uploads.
     pub(crate) given: usize,
     ghost stored: { AreStored given (shelf_of shelf) },
+}
+
+impl Drop for Profiles {
+    fn drop(self) {
+        let Profiles { shelf: _, given: _ } = self;
+    }
 }
 
 impl Profiles {

@@ -8,12 +8,17 @@ use route_http::{Head, Span, head_from};
 use std::alloc::{AllocError, Global};
 
 /// The bytes of a session that came so far. Each is looked at once, and a head is read once, where it ends.
-#[derive(Drop)]
 pub struct Received {
     pub(crate) bytes: Vec<u8>,
     /// What the bytes come to, as far as their head goes.
     pub(crate) head: Head,
     ghost heads: { IsHeadOf bytes.items head } by { heads-prop bytes.items head },
+}
+
+impl Drop for Received {
+    fn drop(self) {
+        let Received { bytes: _, head: _ } = self;
+    }
 }
 
 impl Received {

@@ -4,7 +4,7 @@ ghost use Rattle.std.specs.Prelude.{◌≡◌};
 ghost use Rattle.session_answers.specs.Frames.{refusal_line, status_of};
 
 /// Why a connection isn't answered otherwise.
-#[derive(Clone, Copy, Debug, PartialEq, Eq)]
+#[derive(Clone, Copy)]
 pub enum Refusal {
     /// The head has more than 16,384 bytes.
     HeadTooLong,

@@ -12,7 +12,7 @@ use route_http::{Head, Method, Span};
 const MOST_BODY: u64 = 262_144;
 
 /// What is fixed for a session.
-#[derive(Clone, Copy, Debug, PartialEq, Eq)]
+#[derive(Clone, Copy)]
 pub enum Verdict {
     /// Nothing yet: more bytes are wanted.
     Undecided,

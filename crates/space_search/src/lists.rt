@@ -10,13 +10,24 @@ use std::collections::BinaryHeap;
 /// The labels made so far by number; the queue of those that wait, least rank first, then least
 /// number; the numbers of the settled ones in order; and for each cell the chain of its settled
 /// ones: the newest, and for each the one before it, by place plus 1, or 0 for none.
-#[derive(Drop)]
 pub struct Lists<T> {
     pub(crate) labels: Vec<Label<T>>,
     pub(crate) queue: BinaryHeap<Reverse<(u128, u32)>>,
     pub(crate) settled: Vec<u32>,
     pub(crate) newest: Vec<u32>,
     pub(crate) older: Vec<u32>,
+}
+
+impl<T: Drop> Drop for Lists<T> {
+    fn drop(self) {
+        let Lists {
+            labels: _,
+            queue: _,
+            settled: _,
+            newest: _,
+            older: _,
+        } = self;
+    }
 }
 
 impl<T> Lists<T> {

@@ -3,7 +3,7 @@
 use crate::turn::Turn;
 
 /// How far a search is.
-#[derive(Clone, Copy, Debug, PartialEq, Eq)]
+#[derive(Clone, Copy)]
 pub enum Phase {
     /// No turn was made.
     New,

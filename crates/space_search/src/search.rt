@@ -5,7 +5,6 @@ use crate::phase::Phase;
 
 /// A search for a goal of least cost. It keeps states of the type `T` and borrows no space: each
 /// turn is given the space again.
-#[derive(Drop)]
 pub struct Search<T> {
     pub(crate) lists: Lists<T>,
     /// The most labels that are settled.
@@ -13,4 +12,15 @@ pub struct Search<T> {
     /// The number among the made labels of the goal that was found; else it says nothing.
     pub(crate) found: u32,
     pub(crate) phase: Phase,
+}
+
+impl<T: Drop> Drop for Search<T> {
+    fn drop(self) {
+        let Search {
+            lists: _,
+            limit: _,
+            found: _,
+            phase: _,
+        } = self;
+    }
 }

@@ -14,7 +14,7 @@ use crate::turn::Turn;
 use std::alloc::AllocError;
 
 /// What was done with the next label.
-#[derive(Clone, Copy, Debug, PartialEq, Eq)]
+#[derive(Clone, Copy)]
 pub enum Taken {
     /// A settled label covers it.
     Dropped,

@@ -1,7 +1,7 @@
 //! What a turn of a search answers.
 
 /// The answer of a turn.
-#[derive(Clone, Copy, Debug, PartialEq, Eq)]
+#[derive(Clone, Copy)]
 pub enum Turn {
     /// As many labels were settled as the turn was given.
     More,

@@ -11,7 +11,7 @@ use overpass_graph::Map;
 use std::alloc::{AllocError, Global};
 
 /// A link of a track and the parts of what it costs there, in millionths: the distance once, whatever the rank counts.
-#[derive(Clone, Copy, Debug, PartialEq, Eq)]
+#[derive(Clone, Copy)]
 pub struct Row {
     /// The link.
     pub link: u32,

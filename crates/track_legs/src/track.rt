@@ -14,7 +14,6 @@ pub struct Leg {
 }
 
 /// A track: the nodes of the waypoints, and a leg between each two that follow each other.
-#[derive(Drop)]
 pub struct Track {
     /// The nodes of the waypoints.
     pub nodes: Items<u32>,
@@ -22,4 +21,14 @@ pub struct Track {
     pub legs: Items<Leg>,
     /// The alternatives before that one: of each the walks of its legs.
     pub earlier: Items<Items<Items<u32>>>,
+}
+
+impl Drop for Track {
+    fn drop(self) {
+        let Track {
+            nodes: _,
+            legs: _,
+            earlier: _,
+        } = self;
+    }
 }

@@ -1,7 +1,7 @@
 //! The two ways in which rows are written.
 
 /// How rows are written.
-#[derive(Clone, Copy, Debug, PartialEq, Eq)]
+#[derive(Clone, Copy)]
 pub(crate) enum Style {
     /// As lines of fields.
     Lines,

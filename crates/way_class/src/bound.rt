@@ -8,13 +8,23 @@ use crate::side::WayClass;
 use fixed_num::Num;
 
 /// The facts of all links by a profile, and the values of its global section.
-#[derive(Drop)]
 pub struct Bound {
     pub(crate) globals: [Num; 7],
     pub(crate) rows: Vec<Row>,
     pub(crate) ways: Vec<WayClass>,
     pub(crate) nodes: Vec<NodeClass>,
     ghost few: { length rows.items < 2 ^ 32 },
+}
+
+impl Drop for Bound {
+    fn drop(self) {
+        let Bound {
+            globals: _,
+            rows: _,
+            ways: _,
+            nodes: _,
+        } = self;
+    }
 }
 
 impl Bound {

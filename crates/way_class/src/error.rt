@@ -7,7 +7,7 @@ use fixed_num::Arith;
 use std::alloc::{AllocError, AllocFailed};
 
 /// The values of the way section that may not be negative, in the order in which they are tried.
-#[derive(Clone, Copy, Debug, PartialEq, Eq)]
+#[derive(Clone, Copy)]
 pub enum WayName {
     Costfactor,
     Turncost,
@@ -20,7 +20,7 @@ pub enum WayName {
 /// file, forward
 /// before backward; of the nodes that have a tag number set, by id, plain before granted. A `variable` is the place of
 /// an assignment in its section, from 0.
-#[derive(Clone, Copy, Debug, PartialEq, Eq)]
+#[derive(Clone, Copy)]
 pub enum BindError {
     Global {
         variable: u32,

@@ -10,7 +10,7 @@ returns-then-has_list c = record {
 }
 
 -- there is none
-pub returns : goal.returns
-returns c = record {
+pub returns-else-has_list : goal.returns-else-has_list
+returns-else-has_list c = record {
   value = λ limits bytes read. inr (ended_shape limits c.args.self bytes read (sym c.has_list.ensures.value ∙ c.if-has_list.false));
 }
