@@ -4,7 +4,6 @@ ghost use Rattle.std.specs.Prelude.{◌≡◌, length};
 ghost use Rattle.case_rows.specs.Words.{word_at};
 
 /// A case: where it stands, its words, of which the first names the call, and the answer that is wanted.
-#[derive(Drop)]
 pub struct Case {
     /// Its line in the table, from 1.
     pub line: u64,
@@ -12,6 +11,17 @@ pub struct Case {
     pub words: Vec<Vec<u8>>,
     /// The answer that is wanted.
     pub wanted: Vec<u8>,
+}
+
+/// By hand, so that its lists are no part of the functions that own a case.
+impl Drop for Case {
+    fn drop(self) {
+        let Case {
+            line: _,
+            words: _,
+            wanted: _,
+        } = self;
+    }
 }
 
 impl Case {

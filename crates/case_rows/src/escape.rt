@@ -3,7 +3,7 @@
 use std::alloc::{AllocError, Global};
 
 /// How far an escape was read.
-#[derive(Clone, Copy, Debug, PartialEq, Eq)]
+#[derive(Clone, Copy)]
 enum Part {
     /// No escape is open.
     Plain,

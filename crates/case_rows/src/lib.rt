@@ -3,9 +3,11 @@
 
 mod case;
 mod escape;
+mod places;
 mod report;
 mod table;
 
 pub use case::Case;
+pub use places::place_of;
 pub use report::Report;
 pub use table::Table;

@@ -9,7 +9,7 @@ use std::alloc::{AllocError, Global};
 use std::io;
 
 /// How many cases were tried, and how many of them differ.
-#[derive(Clone, Copy, Debug, PartialEq, Eq)]
+#[derive(Clone, Copy)]
 pub struct Report {
     /// How many were tried; the count stands still at its last value.
     pub tried: u64,

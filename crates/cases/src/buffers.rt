@@ -3,8 +3,8 @@
 ghost use Rattle.std.specs.Prelude.{IfSome};
 ghost use Rattle.elev_buffer.specs.Covers.{IsPair};
 
-use crate::texts::{OUTSIDE, truth};
-use case_rows::Case;
+use crate::texts::{NO_CALL, OUTSIDE, truth};
+use case_rows::{Case, place_of};
 use elev_buffer::{Limits, Mode, Modes, Pair, covers, step, supersedes};
 use std::alloc::{AllocError, Global};
 
@@ -12,14 +12,17 @@ const MOST: i64 = 1_000_000_000_000_000;
 
 const FAR: i64 = 2_000_000_000_000_000_000;
 
-/// The answer to a case on buffers; none where the call is another.
-pub(crate) fn answer(alloc: Global, case: &Case) -> Result<Option<String>, AllocError> {
-    let text = match case.word(0) {
-        b"step" => stepped(alloc, case)?,
-        b"covers" | b"supersedes" => comparing(alloc, case)?,
-        _ => return Ok(None),
-    };
-    Ok(Some(text))
+/// The calls on buffers.
+pub(crate) const CALLS: [&str; 3] = ["step", "covers", "supersedes"];
+
+/// The answer to a case on buffers.
+pub(crate) fn answer(alloc: Global, case: &Case) -> Result<String, AllocError> {
+    match place_of(&CALLS, case.word(0)) {
+        0 => stepped(alloc, case),
+        1 => comparing(alloc, case, false),
+        2 => comparing(alloc, case, true),
+        _ => String::from_str(alloc, NO_CALL),
+    }
 }
 
 /// What a step from a buffer leaves, pays and weighs: the buffer, what is added, the reduction, the penalty, the most.
@@ -48,15 +51,15 @@ fn pair_of(down: i64, up: i64) -> Option<Pair>
 
 /// The mode of a word.
 fn mode_of(word: &[u8]) -> Mode {
-    match word {
-        b"compensated" => Mode::Compensated,
-        b"ordered" => Mode::Ordered,
+    match place_of(&["compensated", "ordered"], word) {
+        0 => Mode::Compensated,
+        1 => Mode::Ordered,
         _ => Mode::Equal,
     }
 }
 
-/// Whether a label covers or supersedes another: the buffers and the cost of both, the two rates, the two modes.
-fn comparing(alloc: Global, case: &Case) -> Result<String, AllocError> {
+/// Whether a label covers another, or supersedes it: the buffers and the cost of both, the two rates, the two modes.
+fn comparing(alloc: Global, case: &Case, superseding: bool) -> Result<String, AllocError> {
     let first = pair_of(case.signed(1), case.signed(2));
     let second = pair_of(case.signed(4), case.signed(5));
     let (Some(a), Some(b)) = (first, second) else {
@@ -74,9 +77,15 @@ fn comparing(alloc: Global, case: &Case) -> Result<String, AllocError> {
         down: mode_of(case.word(9)),
         up: mode_of(case.word(10)),
     };
-    let answer = match case.word(0) {
-        b"supersedes" => supersedes(&a, first_cost, &b, second_cost, kd, ku, &modes),
-        _ => covers(&a, first_cost, &b, second_cost, kd, ku, &modes),
-    };
-    truth(alloc, answer)
+    if superseding {
+        truth(
+            alloc,
+            supersedes(&a, first_cost, &b, second_cost, kd, ku, &modes),
+        )
+    } else {
+        truth(
+            alloc,
+            covers(&a, first_cost, &b, second_cost, kd, ku, &modes),
+        )
+    }
 }

@@ -1,7 +1,7 @@
 //! Cases on tiles of heights and the heights that they give.
 
-use crate::texts::perhaps;
-use case_rows::Case;
+use crate::texts::{NO_CALL, perhaps};
+use case_rows::{Case, place_of};
 use geo_int::Spot;
 use hgt_tiles::{Tile, TileError, Tiles};
 use std::alloc::{AllocError, Global};
@@ -21,40 +21,46 @@ impl Ground {
     }
 }
 
-/// The answer to a case on heights; none where the call is another.
+/// The calls on heights.
+pub(crate) const CALLS: [&str; 4] = ["tiles", "tile", "height", "tile_of_zeros"];
+
+/// The answer to a case on heights.
 pub(crate) fn answer(
     alloc: Global,
     case: &Case,
     ground: &mut Ground,
-) -> Result<Option<String>, AllocError> {
-    let text = match case.word(0) {
-        b"tiles" => {
-            ground.tiles = Tiles::new(alloc);
-            String::from_str(alloc, "no tile")?
-        }
-        b"tile" => added(alloc, case, ground)?,
-        b"height" => height(alloc, case, ground)?,
-        b"tile_of_zeros" => zeros(alloc, case)?,
-        _ => return Ok(None),
-    };
-    Ok(Some(text))
+) -> Result<String, AllocError> {
+    match place_of(&CALLS, case.word(0)) {
+        0 => cleared(alloc, ground),
+        1 => added(alloc, case, ground),
+        2 => height(alloc, case, ground),
+        3 => zeros(alloc, case),
+        _ => String::from_str(alloc, NO_CALL),
+    }
+}
+
+/// Forgets the tiles.
+fn cleared(alloc: Global, ground: &mut Ground) -> Result<String, AllocError> {
+    ground.tiles = Tiles::new(alloc);
+    String::from_str(alloc, "no tile")
 }
 
 /// The sample in a column and a row, both counted from the south-west, of a landscape.
-fn sample(kind: &[u8], column: u32, row: u32) -> i16 {
+fn sample(kind: usize, column: u32, row: u32) -> i16 {
     match kind {
         // A slope to the east: 20 metres a column, so 24 millimetres a microdegree.
-        b"slope" => (column.min(1200) * 20) as i16,
+        0 => (column.min(1200) * 20) as i16,
         // 100 metres as far as column 480, then a metre a column, and one void.
-        b"hill" if row == 2 && column == 484 => i16::MIN,
-        b"hill" => (column.max(480).min(1200) - 380) as i16,
-        b"south" => (row.min(3600) as i16) - (column.min(3600) as i16),
+        1 if row == 2 && column == 484 => i16::MIN,
+        1 => (column.max(480).min(1200) - 380) as i16,
+        2 => (row.min(3600) as i16) - (column.min(3600) as i16),
         _ => -7,
     }
 }
 
 /// The bytes of a file of a landscape.
-fn file(alloc: Global, kind: &[u8], steps: u32) -> Result<Vec<u8>, AllocError> {
+fn file(alloc: Global, landscape: &[u8], steps: u32) -> Result<Vec<u8>, AllocError> {
+    let kind = place_of(&["slope", "hill", "south"], landscape);
     let mut bytes = Vec::new(alloc);
     for row in 0..steps.saturating_add(1) {
         for column in 0..steps.saturating_add(1) {

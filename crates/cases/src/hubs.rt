@@ -1,22 +1,17 @@
 //! Cases on a hub in memory.
 
-use crate::texts::{OUTSIDE, text_of};
-use case_rows::Case;
+use crate::texts::{OUTSIDE, shown};
+use case_rows::{Case, place_of};
 use edge_io::{Event, Failed, Hub, MemHub, Script, can_play};
 use item_list::{Items, bytes_of};
 use std::alloc::{AllocError, Global};
 
-/// The answer to a case on a hub; none where the call is another.
-pub(crate) fn answer(alloc: Global, case: &Case) -> Result<Option<String>, AllocError> {
-    match case.word(0) {
-        b"hub" => Ok(Some(played(alloc, case)?)),
-        _ => Ok(None),
-    }
-}
+/// The one call on a hub.
+pub(crate) const CALLS: [&str; 1] = ["hub"];
 
 /// What a hub in memory tells: its room, the most of one call, the failing call, its script and the calls on it. At the
 /// end stands whether connection 1 was closed, and the bytes sent to it.
-fn played(alloc: Global, case: &Case) -> Result<String, AllocError> {
+pub(crate) fn answer(alloc: Global, case: &Case) -> Result<String, AllocError> {
     let room = case.count(1).min(1000) as usize;
     let piece = case.count(2).min(1000) as usize;
     let script = script_of(alloc, case.text(4))?;
@@ -24,14 +19,30 @@ fn played(alloc: Global, case: &Case) -> Result<String, AllocError> {
         return String::from_str(alloc, OUTSIDE);
     }
     let mut hub = MemHub::new(alloc, script, room, piece, vec![in alloc; case.count(3)]?)?;
+    played(alloc, case, &mut hub)
+}
+
+/// What a hub tells of the calls of a case.
+fn played(alloc: Global, case: &Case, hub: &mut MemHub) -> Result<String, AllocError> {
     let mut told = String::new(alloc);
     for call in case.text(5).split(',') {
-        told.push_str(called(alloc, &mut hub, call.as_bytes())?.as_str())?;
-        told.push_str(" ")?;
+        play(alloc, &mut told, hub, call.as_bytes())?;
     }
-    let sent = text_of(alloc, hub.bytes_to(alloc, 1)?.as_slice())?;
+    tell_end(alloc, &mut told, hub)?;
+    Ok(told)
+}
+
+/// Writes what one call comes to.
+fn play(alloc: Global, told: &mut String, hub: &mut MemHub, call: &[u8]) -> Result<(), AllocError> {
+    let text = called(alloc, hub, call)?;
+    write!(told, "{text} ")
+}
+
+/// Writes whether connection 1 was closed, and the bytes sent to it.
+fn tell_end(alloc: Global, told: &mut String, hub: &MemHub) -> Result<(), AllocError> {
+    let sent = hub.bytes_to(alloc, 1)?;
     let closed = if hub.closed(1) { "closed" } else { "open" };
-    format!(in alloc; "{told}{closed}:{sent}")
+    write!(told, "{closed}:{}", shown(sent.as_slice()))
 }
 
 /// The script of a text of entries: a letter, the connection's digit, and the rest.
@@ -56,18 +67,20 @@ fn rest_of(word: &[u8]) -> &[u8] {
     if word.len() < 2 { &[] } else { &word[2..] }
 }
 
+/// The first byte of a word, if it has one.
+fn letter_of(word: &[u8]) -> &[u8] {
+    if word.is_empty() { &[] } else { &word[..1] }
+}
+
 /// The entry of a word.
 fn entry_of(alloc: Global, word: &[u8]) -> Result<Script, AllocError> {
     let id = digit(word, 1) as u64;
-    match word.first() {
-        Some(b'o') => Ok(Script::Opened { id }),
-        Some(b'b') => Ok(Script::Bytes {
-            id,
-            bytes: Items::from_vec(bytes_of(alloc, rest_of(word))?),
-        }),
-        Some(b'e') => Ok(Script::Ended { id }),
-        Some(b'l') => Ok(Script::Lost { id }),
-        Some(b'w') => Ok(Script::AwaitClosed {
+    match place_of(&["o", "b", "e", "l", "w"], letter_of(word)) {
+        0 => Ok(Script::Opened { id }),
+        1 => bytes_entry(alloc, id, rest_of(word)),
+        2 => Ok(Script::Ended { id }),
+        3 => Ok(Script::Lost { id }),
+        4 => Ok(Script::AwaitClosed {
             id,
             most: digit(word, 2) as u32,
         }),
@@ -75,23 +88,42 @@ fn entry_of(alloc: Global, word: &[u8]) -> Result<Script, AllocError> {
     }
 }
 
+/// The entry that bytes come from a connection.
+fn bytes_entry(alloc: Global, id: u64, bytes: &[u8]) -> Result<Script, AllocError> {
+    let bytes = Items::from_vec(bytes_of(alloc, bytes)?);
+    Ok(Script::Bytes { id, bytes })
+}
+
 /// What one call comes to: `n` with the length of the buffer, `s` and `c` with a connection, or an opening.
 fn called(alloc: Global, hub: &mut MemHub, word: &[u8]) -> Result<String, AllocError> {
     let id = digit(word, 1) as u64;
-    match word.first() {
-        Some(b'n') => given(alloc, hub, digit(word, 1) as usize),
-        Some(b's') => match hub.send(id, rest_of(word)) {
-            Ok(n) => format!(in alloc; "{n}"),
-            Err(Failed) => String::from_str(alloc, "broken"),
-        },
-        Some(b'c') => {
-            hub.close(id);
-            String::from_str(alloc, "done")
-        }
-        _ => match hub.open("here") {
-            Ok(()) => String::from_str(alloc, "open"),
-            Err(Failed) => String::from_str(alloc, "fault"),
-        },
+    match place_of(&["n", "s", "c"], letter_of(word)) {
+        0 => given(alloc, hub, digit(word, 1) as usize),
+        1 => sent(alloc, hub, id, rest_of(word)),
+        2 => closed(alloc, hub, id),
+        _ => opened(alloc, hub),
+    }
+}
+
+/// How many bytes are sent.
+fn sent(alloc: Global, hub: &mut MemHub, id: u64, bytes: &[u8]) -> Result<String, AllocError> {
+    match hub.send(id, bytes) {
+        Ok(n) => format!(in alloc; "{n}"),
+        Err(Failed) => String::from_str(alloc, "broken"),
+    }
+}
+
+/// A connection is closed.
+fn closed(alloc: Global, hub: &mut MemHub, id: u64) -> Result<String, AllocError> {
+    hub.close(id);
+    String::from_str(alloc, "done")
+}
+
+/// The hub is opened.
+fn opened(alloc: Global, hub: &mut MemHub) -> Result<String, AllocError> {
+    match hub.open("here") {
+        Ok(()) => String::from_str(alloc, "open"),
+        Err(Failed) => String::from_str(alloc, "fault"),
     }
 }
 
@@ -104,7 +136,7 @@ fn given(alloc: Global, hub: &mut MemHub, room: usize) -> Result<String, AllocEr
     match hub.next(&mut buf[..room]) {
         Ok(Event::Opened { id }) => format!(in alloc; "o{id}"),
         Ok(Event::Bytes { id, n }) => {
-            let bytes = text_of(alloc, &buf[..n.min(9)])?;
+            let bytes = shown(&buf[..n.min(9)]);
             format!(in alloc; "b{id}{bytes}")
         }
         Ok(Event::Ended { id }) => format!(in alloc; "e{id}"),

@@ -3,20 +3,22 @@
 ghost use Rattle.std.specs.Prelude.{◌≡◌, false, OnOk};
 ghost use Rattle.json_text.specs.Scanner.{fed, has_ended};
 
-use crate::texts::{OUTSIDE, text_of};
-use case_rows::Case;
+use crate::texts::{NO_CALL, text_of};
+use case_rows::{Case, place_of};
 use json_text::{JsonStep, Scanner};
 use std::alloc::{AllocError, Global};
 
-/// The answer to a case on JSON texts; none where the call is another.
-pub(crate) fn answer(alloc: Global, case: &Case) -> Result<Option<String>, AllocError> {
-    let text = match case.word(0) {
-        b"json" => scanned_by_sizes(alloc, case.word(1))?,
-        b"json_pieces" => scanned_by_words(alloc, case)?,
-        b"json_fronts" => fronts(alloc, case.word(1))?,
-        _ => return Ok(None),
-    };
-    Ok(Some(text))
+/// The calls on JSON texts.
+pub(crate) const CALLS: [&str; 3] = ["json", "json_pieces", "json_fronts"];
+
+/// The answer to a case on JSON texts.
+pub(crate) fn answer(alloc: Global, case: &Case) -> Result<String, AllocError> {
+    match place_of(&CALLS, case.word(0)) {
+        0 => scanned_by_sizes(alloc, case.word(1)),
+        1 => scanned_by_words(alloc, case),
+        2 => fronts(alloc, case.word(1)),
+        _ => String::from_str(alloc, NO_CALL),
+    }
 }
 
 /// The sign of a step or a verdict.
@@ -122,21 +124,39 @@ fn scanned_by_sizes(alloc: Global, text: &[u8]) -> Result<String, AllocError> {
 fn scanned_by_words(alloc: Global, case: &Case) -> Result<String, AllocError> {
     let mut scanner = Scanner::new(alloc);
     let mut told = Vec::new(alloc);
+    take_words(alloc, case, &mut scanner, &mut told)?;
+    text_of(alloc, told.as_slice())
+}
+
+/// Feeds the words behind the call, takes and tells what is fixed after each, and at the end.
+fn take_words(
+    alloc: Global,
+    case: &Case,
+    scanner: &mut Scanner,
+    told: &mut Vec<u8>,
+) -> Result<(), AllocError>
+    requires fed { fed scanner.old ≡ 0 }
+    requires open { has_ended scanner.old ≡ false }
+{
     let mut total = 0u64;
     'words: for place in 1..case.len() {
-        if place > 1 {
-            told.push(b' ')?;
-        }
-        feed(&mut scanner, case.word(place), &mut total)?;
-        take_steps(alloc, &mut scanner, &mut told, true)?;
-        told.extend_from_slice(b" <")?;
-        told.extend_from_slice(scanner.text())?;
-        told.extend_from_slice(b">")?;
+        feed(scanner, case.word(place), &mut total)?;
+        take_piece(alloc, scanner, told)?;
     }
     scanner.end();
-    told.push(b' ')?;
-    take_steps(alloc, &mut scanner, &mut told, true)?;
-    text_of(alloc, told.as_slice())
+    take_steps(alloc, scanner, told, true)
+}
+
+/// Takes what is fixed after a piece, and tells it, and the text that stands then.
+fn take_piece(alloc: Global, scanner: &mut Scanner, told: &mut Vec<u8>) -> Result<(), AllocError>
+    ensures fed { fed scanner.new ≡ fed scanner.old }
+    ensures ended { has_ended scanner.new ≡ has_ended scanner.old }
+{
+    take_steps(alloc, scanner, told, true)?;
+    told.extend_from_slice(b" <")?;
+    told.extend_from_slice(scanner.text())?;
+    told.extend_from_slice(b"> ")?;
+    Ok(())
 }
 
 /// How many proper fronts of a text are bad exactly at their end.

@@ -1,7 +1,7 @@
 //! Cases on lists, names as keys, classes of bytes, and growing texts.
 
-use crate::texts::{OUTSIDE, text_of, truth};
-use case_rows::Case;
+use crate::texts::{NO_CALL, shown, text_of, truth};
+use case_rows::{Case, place_of};
 use item_list::{
     Items, Name, TryClone, append_bytes, append_named, append_number, append_signed, append_wide,
     bytes_of, is_digit, is_space,
@@ -9,22 +9,34 @@ use item_list::{
 use std::alloc::{AllocError, Global};
 use std::collections::HashMap;
 
-/// The answer to a case on lists; none where the call is another.
-pub(crate) fn answer(alloc: Global, case: &Case) -> Result<Option<String>, AllocError> {
-    let text = match case.word(0) {
-        b"list" => copied(alloc, case)?,
-        b"same_name" => {
-            let first = name(alloc, case.word(1))?;
-            let second = name(alloc, case.word(2))?;
-            truth(alloc, first == second)?
-        }
-        b"key" => looked_up(alloc, case)?,
-        b"is_space" => truth(alloc, is_space(byte(case)))?,
-        b"is_digit" => truth(alloc, is_digit(byte(case)))?,
-        b"appended" => appended(alloc, case)?,
-        _ => return Ok(None),
-    };
-    Ok(Some(text))
+/// The calls on lists.
+pub(crate) const CALLS: [&str; 6] = [
+    "list",
+    "same_name",
+    "key",
+    "is_space",
+    "is_digit",
+    "appended",
+];
+
+/// The answer to a case on lists.
+pub(crate) fn answer(alloc: Global, case: &Case) -> Result<String, AllocError> {
+    match place_of(&CALLS, case.word(0)) {
+        0 => copied(alloc, case),
+        1 => compared(alloc, case),
+        2 => looked_up(alloc, case),
+        3 => truth(alloc, is_space(byte(case))),
+        4 => truth(alloc, is_digit(byte(case))),
+        5 => appended(alloc, case),
+        _ => String::from_str(alloc, NO_CALL),
+    }
+}
+
+/// Whether two names are the same.
+fn compared(alloc: Global, case: &Case) -> Result<String, AllocError> {
+    let first = name(alloc, case.word(1))?;
+    let second = name(alloc, case.word(2))?;
+    truth(alloc, first == second)
 }
 
 /// The first word behind the call as a byte.
@@ -39,20 +51,28 @@ fn name(alloc: Global, bytes: &[u8]) -> Result<Name, AllocError> {
 
 /// The words behind the call pushed one by one, cloned, and given back as a vector: how many, and each.
 fn copied(alloc: Global, case: &Case) -> Result<String, AllocError> {
+    let list = pushed(alloc, case)?;
+    let vector = list.try_clone(alloc)?.into_vec();
+    let mut text = format!(in alloc; "{}", list.len())?;
+    tell(&mut text, vector.as_slice())?;
+    Ok(text)
+}
+
+/// The words behind the call, each with its number, pushed one by one.
+fn pushed(alloc: Global, case: &Case) -> Result<Items<(Name, i64)>, AllocError> {
     let mut list = Items::new(alloc);
     for place in 1..case.len() {
         list.push((name(alloc, case.word(place))?, case.signed(place)))?;
     }
-    let count = list.len();
-    let vector = list.try_clone(alloc)?.into_vec();
-    let mut text = format!(in alloc; "{count}")?;
-    for (name, number) in &vector {
-        text.push(' ')?;
-        let shown = text_of(alloc, name.as_slice())?;
-        text.push_str(shown.as_str())?;
-        write!(text, ":{number}")?;
+    Ok(list)
+}
+
+/// Writes names with their numbers.
+fn tell(text: &mut String, items: &[(Name, i64)]) -> Result<(), AllocError> {
+    for (name, number) in items {
+        write!(text, " {}:{number}", shown(name.as_slice()))?;
     }
-    Ok(text)
+    Ok(())
 }
 
 /// The place of the first word among those behind it, in a map whose keys they are; of equal ones the last.
@@ -70,15 +90,17 @@ fn looked_up(alloc: Global, case: &Case) -> Result<String, AllocError> {
 /// A text that grows by a word, a number of each kind, and a word with its number.
 fn appended(alloc: Global, case: &Case) -> Result<String, AllocError> {
     let mut text = Vec::new(alloc);
-    append_bytes(&mut text, case.word(1))?;
-    append_number(&mut text, case.count(2))?;
-    append_bytes(&mut text, b",")?;
-    append_wide(&mut text, case.size(3))?;
-    append_bytes(&mut text, b",")?;
-    append_signed(&mut text, case.signed(4))?;
-    append_named(&mut text, case.word(5), case.count(6))?;
-    if text.is_empty() {
-        return String::from_str(alloc, OUTSIDE);
-    }
+    append(&mut text, case)?;
     text_of(alloc, text.as_slice())
+}
+
+/// Appends these to a text.
+fn append(text: &mut Vec<u8>, case: &Case) -> Result<(), AllocError> {
+    append_bytes(text, case.word(1))?;
+    append_number(text, case.count(2))?;
+    append_bytes(text, b",")?;
+    append_wide(text, case.size(3))?;
+    append_bytes(text, b",")?;
+    append_signed(text, case.signed(4))?;
+    append_named(text, case.word(5), case.count(6))
 }

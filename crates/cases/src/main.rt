@@ -1,36 +1,64 @@
-//! Runs tables of cases on the public calls of the ground: lists, files and outputs in memory, numbers, places, heights,
-//! buffers, tag tables, JSON texts and grids.
+//! Runs tables of cases on the public calls of the ground, of the profile language, of prices and of searches.
 #![tactic(auto)]
 
 mod buffers;
+mod checks;
+mod codes;
 mod grids;
 mod heights;
 mod hubs;
+mod inputs;
 mod json;
+mod line;
 mod lists;
 mod numbers;
 mod outside;
 mod places;
+mod prices;
+mod searches;
 mod tables;
 mod texts;
+mod toll;
+mod trees;
+mod values;
 
 use crate::heights::Ground;
-use case_rows::{Case, Report, Table};
+use crate::texts::NO_CALL;
+use case_rows::{Case, Report, Table, place_of};
 use sample_texts::NAMED;
 use std::alloc::{AllocError, Global};
 use std::io;
 
+/// The calls of each part.
+const PARTS: [&[&str]; 16] = [
+    &numbers::CALLS,
+    &places::CALLS,
+    &buffers::CALLS,
+    &heights::CALLS,
+    &tables::CALLS,
+    &json::CALLS,
+    &grids::CALLS,
+    &lists::CALLS,
+    &outside::CALLS,
+    &hubs::CALLS,
+    &trees::CALLS,
+    &values::CALLS,
+    &checks::CALLS,
+    &codes::CALLS,
+    &prices::CALLS,
+    &searches::CALLS,
+];
+
 fn main(rt: HostRuntime) -> io::Result<()> {
     let mut table = Table::new(rt.alloc());
-    let mut ground = Ground::new(rt.alloc());
     for (name, text) in NAMED {
         table.add_text(name, text)?;
     }
+    let mut ground = Ground::new(rt.alloc());
     let mut report = Report::new();
     for line in rt.lines(rt.alloc()) {
         if let Some(case) = table.take(line?.as_str())? {
-            let answer = answer(rt.alloc(), &case, &mut ground)?;
-            if let Some(told) = report.compare(rt.alloc(), &case, answer.as_bytes())? {
+            if let Some(told) = differs(rt.alloc(), &case, &mut ground, &mut report)? {
                 println!(rt; "{told}")?;
             }
         }
@@ -38,37 +66,46 @@ fn main(rt: HostRuntime) -> io::Result<()> {
     println!(rt; "{} cases, {} differ", report.tried, report.differ)
 }
 
-/// The answer to a case, by the first part of the program that knows its call.
+/// The line that is told of a case if its answer isn't the one that is wanted.
+fn differs(
+    alloc: Global,
+    case: &Case,
+    ground: &mut Ground,
+    report: &mut Report,
+) -> Result<Option<String>, AllocError> {
+    let answer = answer(alloc, case, ground)?;
+    report.compare(alloc, case, answer.as_bytes())
+}
+
+/// The first part that has a call; how many parts there are where none has.
+fn part_of(call: &[u8]) -> usize {
+    for (part, calls) in PARTS.iter().enumerate() {
+        if place_of(calls, call) < calls.len() {
+            return part;
+        }
+    }
+    PARTS.len()
+}
+
+/// The answer to a case, by the part of the program that has its call.
 fn answer(alloc: Global, case: &Case, ground: &mut Ground) -> Result<String, AllocError> {
-    if let Some(answer) = numbers::answer(alloc, case)? {
-        return Ok(answer);
+    match part_of(case.word(0)) {
+        0 => numbers::answer(alloc, case),
+        1 => places::answer(alloc, case),
+        2 => buffers::answer(alloc, case),
+        3 => heights::answer(alloc, case, ground),
+        4 => tables::answer(alloc, case),
+        5 => json::answer(alloc, case),
+        6 => grids::answer(alloc, case),
+        7 => lists::answer(alloc, case),
+        8 => outside::answer(alloc, case),
+        9 => hubs::answer(alloc, case),
+        10 => trees::answer(alloc, case),
+        11 => values::answer(alloc, case),
+        12 => checks::answer(alloc, case),
+        13 => codes::answer(alloc, case),
+        14 => prices::answer(alloc, case),
+        15 => searches::answer(alloc, case),
+        _ => String::from_str(alloc, NO_CALL),
     }
-    if let Some(answer) = places::answer(alloc, case)? {
-        return Ok(answer);
-    }
-    if let Some(answer) = buffers::answer(alloc, case)? {
-        return Ok(answer);
-    }
-    if let Some(answer) = heights::answer(alloc, case, ground)? {
-        return Ok(answer);
-    }
-    if let Some(answer) = tables::answer(alloc, case)? {
-        return Ok(answer);
-    }
-    if let Some(answer) = json::answer(alloc, case)? {
-        return Ok(answer);
-    }
-    if let Some(answer) = grids::answer(alloc, case)? {
-        return Ok(answer);
-    }
-    if let Some(answer) = lists::answer(alloc, case)? {
-        return Ok(answer);
-    }
-    if let Some(answer) = outside::answer(alloc, case)? {
-        return Ok(answer);
-    }
-    if let Some(answer) = hubs::answer(alloc, case)? {
-        return Ok(answer);
-    }
-    String::from_str(alloc, "no such call")
 }

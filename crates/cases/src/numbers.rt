@@ -1,22 +1,35 @@
 //! Cases on fixed-point numbers, coordinates and six decimals.
 
-use crate::texts::{OUTSIDE, perhaps, text_of, truth};
-use case_rows::Case;
+use crate::texts::{NO_CALL, OUTSIDE, perhaps, shown, text_of, truth};
+use case_rows::{Case, place_of};
 use fixed_num::{Arith, CoordError, Num, NumError, SixDecimals, append_mil6, coord};
 use std::alloc::{AllocError, Global};
 
-/// The answer to a case on numbers; none where the call is another.
-pub(crate) fn answer(alloc: Global, case: &Case) -> Result<Option<String>, AllocError> {
-    let text = match case.word(0) {
-        b"literal" => literal(alloc, case.word(1))?,
-        b"coord" => coordinate(alloc, case)?,
-        b"is_number" => truth(alloc, Num::of(case.signed(1)).is_some())?,
-        b"add" | b"sub" | b"mul" | b"div" | b"max" | b"min" => operation(alloc, case)?,
-        b"six" => text_of(alloc, SixDecimals::of(case.wide(1)).as_slice())?,
-        b"append_six" => appended(alloc, case.wide(1))?,
-        _ => return Ok(None),
-    };
-    Ok(Some(text))
+/// The calls on numbers; the last six are operations.
+pub(crate) const CALLS: [&str; 11] = [
+    "literal",
+    "coord",
+    "is_number",
+    "six",
+    "append_six",
+    "add",
+    "sub",
+    "mul",
+    "div",
+    "max",
+    "min",
+];
+
+/// The answer to a case on numbers.
+pub(crate) fn answer(alloc: Global, case: &Case) -> Result<String, AllocError> {
+    match place_of(&CALLS, case.word(0)) {
+        0 => literal(alloc, case.word(1)),
+        1 => coordinate(alloc, case),
+        2 => truth(alloc, Num::of(case.signed(1)).is_some()),
+        3 => text_of(alloc, SixDecimals::of(case.wide(1)).as_slice()),
+        4 => appended(alloc, case.wide(1)),
+        call => operation(alloc, case, call),
+    }
 }
 
 /// The millionths of a literal, or why it is none.
@@ -41,19 +54,24 @@ fn coordinate(alloc: Global, case: &Case) -> Result<String, AllocError> {
     }
 }
 
-/// The millionths of an operation on two numbers, or its fault.
-fn operation(alloc: Global, case: &Case) -> Result<String, AllocError> {
+/// The millionths of the operation at a place of the calls on two numbers, or its fault.
+fn operation(alloc: Global, case: &Case, call: usize) -> Result<String, AllocError> {
     let (Some(a), Some(b)) = (Num::of(case.signed(1)), Num::of(case.signed(2))) else {
         return String::from_str(alloc, OUTSIDE);
     };
-    let outcome = match case.word(0) {
-        b"add" => a.add(b),
-        b"sub" => a.sub(b),
-        b"mul" => a.mul(b),
-        b"div" => a.div(b),
-        b"max" => Ok(a.max(b)),
-        _ => Ok(a.min(b)),
-    };
+    match call {
+        5 => outcome(alloc, a.add(b)),
+        6 => outcome(alloc, a.sub(b)),
+        7 => outcome(alloc, a.mul(b)),
+        8 => outcome(alloc, a.div(b)),
+        9 => outcome(alloc, Ok(a.max(b))),
+        10 => outcome(alloc, Ok(a.min(b))),
+        _ => String::from_str(alloc, NO_CALL),
+    }
+}
+
+/// The millionths of a number, or the fault of its operation.
+fn outcome(alloc: Global, outcome: Result<Num, Arith>) -> Result<String, AllocError> {
     match outcome {
         Ok(number) => perhaps(alloc, Some(i128::from(number.millionths()))),
         Err(Arith::DivZero) => String::from_str(alloc, "division by zero"),
@@ -65,6 +83,5 @@ fn operation(alloc: Global, case: &Case) -> Result<String, AllocError> {
 fn appended(alloc: Global, millionths: i128) -> Result<String, AllocError> {
     let mut line = [b'x'; 60];
     let end = append_mil6(&mut line, 2, millionths);
-    let text = text_of(alloc, line.as_slice())?;
-    format!(in alloc; "{end} {text}")
+    format!(in alloc; "{end} {}", shown(line.as_slice()))
 }

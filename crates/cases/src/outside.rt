@@ -1,20 +1,22 @@
 //! Cases on sinks and files in memory, sending, and files that are read whole.
 
-use crate::texts::{OUTSIDE, text_of};
-use case_rows::Case;
+use crate::texts::{NO_CALL, OUTSIDE, shown};
+use case_rows::{Case, place_of};
 use edge_io::{Failed, Files, MemFiles, MemSink, WholeError, read_whole, send_all};
 use item_list::{Items, Name, bytes_of};
 use std::alloc::{AllocError, Global};
 
-/// The answer to a case on the outside; none where the call is another.
-pub(crate) fn answer(alloc: Global, case: &Case) -> Result<Option<String>, AllocError> {
-    let text = match case.word(0) {
-        b"send" => sent(alloc, case)?,
-        b"read_file" => read(alloc, case)?,
-        b"failed_open" => opened_again(alloc)?,
-        _ => return Ok(None),
-    };
-    Ok(Some(text))
+/// The calls on the outside.
+pub(crate) const CALLS: [&str; 3] = ["send", "read_file", "failed_open"];
+
+/// The answer to a case on the outside.
+pub(crate) fn answer(alloc: Global, case: &Case) -> Result<String, AllocError> {
+    match place_of(&CALLS, case.word(0)) {
+        0 => sent(alloc, case),
+        1 => read(alloc, case),
+        2 => opened_again(alloc),
+        _ => String::from_str(alloc, NO_CALL),
+    }
 }
 
 /// What comes of sending a text to a sink: its room, the most of one call, the failing call, the text.
@@ -29,8 +31,7 @@ fn sent(alloc: Global, case: &Case) -> Result<String, AllocError> {
         Ok(()) => "whole",
         Err(Failed) => "fault",
     };
-    let held = text_of(alloc, sink.bytes())?;
-    format!(in alloc; "{told} {held}")
+    format!(in alloc; "{told} {}", shown(sink.bytes()))
 }
 
 /// A file with its name.
@@ -39,13 +40,20 @@ fn file(alloc: Global, name: &str, text: &str) -> Result<(Name, Vec<u8>), AllocE
     Ok((name, bytes_of(alloc, text.as_bytes())?))
 }
 
-/// Files with two of one name, and one that is empty.
+/// Files by name and text: two of one name, and one that is empty.
+const FILES: [(&str, &str); 4] = [
+    ("towns", "a lake and a hill"),
+    ("empty", ""),
+    ("towns", "another"),
+    ("roads", "one road"),
+];
+
+/// These files.
 fn some_files(alloc: Global) -> Result<Vec<(Name, Vec<u8>)>, AllocError> {
     let mut files = Vec::new(alloc);
-    files.push(file(alloc, "towns", "a lake and a hill")?)?;
-    files.push(file(alloc, "empty", "")?)?;
-    files.push(file(alloc, "towns", "another")?)?;
-    files.push(file(alloc, "roads", "one road")?)?;
+    for (name, text) in FILES {
+        files.push(file(alloc, name, text)?)?;
+    }
     Ok(files)
 }
 
@@ -68,10 +76,7 @@ fn read(alloc: Global, case: &Case) -> Result<String, AllocError> {
 /// What is said of a file that was read whole.
 fn whole(alloc: Global, outcome: &Result<Vec<u8>, WholeError>) -> Result<String, AllocError> {
     match outcome {
-        Ok(bytes) => {
-            let text = text_of(alloc, bytes.as_slice())?;
-            format!(in alloc; "read {text}")
-        }
+        Ok(bytes) => format!(in alloc; "read {}", shown(bytes.as_slice())),
         Err(WholeError::Fault) => String::from_str(alloc, "fault"),
         Err(WholeError::TooLong) => String::from_str(alloc, "too long"),
         Err(WholeError::NoMemory) => Err(AllocError),

@@ -2,25 +2,41 @@
 
 ghost use Rattle.std.specs.Prelude.{◌<◌};
 
-use crate::texts::{OUTSIDE, perhaps, text_of, truth};
-use case_rows::Case;
+use crate::texts::{NO_CALL, OUTSIDE, perhaps, text_of, truth};
+use case_rows::{Case, place_of};
 use geo_int::{Spot, arrow, cos_lat, ele, floor_root, mm3, touches, turn_cos};
 use std::alloc::{AllocError, Global};
 
-/// The answer to a case on places; none where the call is another.
-pub(crate) fn answer(alloc: Global, case: &Case) -> Result<Option<String>, AllocError> {
-    let text = match case.word(0) {
-        b"cosine" => cosine(alloc, case.signed(1))?,
-        b"root" => format!(in alloc; "{}", floor_root(case.size(1)))?,
-        b"spot" => spot(alloc, case)?,
-        b"arrow" => arrow_between(alloc, case)?,
-        b"turn" => turn(alloc, case)?,
-        b"touches" => circle(alloc, case)?,
-        b"metres" => metres(alloc, case.size(1))?,
-        b"height_text" => height(alloc, case.signed(1))?,
-        _ => return Ok(None),
-    };
-    Ok(Some(text))
+/// The calls on places.
+pub(crate) const CALLS: [&str; 8] = [
+    "cosine",
+    "root",
+    "spot",
+    "arrow",
+    "turn",
+    "touches",
+    "metres",
+    "height_text",
+];
+
+/// The answer to a case on places.
+pub(crate) fn answer(alloc: Global, case: &Case) -> Result<String, AllocError> {
+    match place_of(&CALLS, case.word(0)) {
+        0 => cosine(alloc, case.signed(1)),
+        1 => root(alloc, case.size(1)),
+        2 => spot(alloc, case),
+        3 => arrow_between(alloc, case),
+        4 => turn(alloc, case),
+        5 => circle(alloc, case),
+        6 => metres(alloc, case.size(1)),
+        7 => height(alloc, case.signed(1)),
+        _ => String::from_str(alloc, NO_CALL),
+    }
+}
+
+/// The whole root of a number.
+fn root(alloc: Global, square: u128) -> Result<String, AllocError> {
+    format!(in alloc; "{}", floor_root(square))
 }
 
 /// The spot of two words; none where they tell none.

@@ -1,17 +1,25 @@
-//! Runs tables of cases on the public calls of the road map: texts of maps, in whatever pieces, and what comes of them.
+//! Runs tables of cases on maps: texts of maps and what comes of them, the nearest nodes of waypoints, least sums, tracks,
+//! walks of least rank, and profiles bound to maps.
 #![tactic(auto)]
 
 mod answers;
-mod circles;
-mod drafts;
-mod pieces;
-mod shown;
+mod class;
+mod given;
+mod map;
+mod near;
+mod space;
+mod sums;
+mod track;
 
 use case_rows::{Report, Table};
+use sample_texts::NAMED;
 use std::io;
 
 fn main(rt: HostRuntime) -> io::Result<()> {
     let mut table = Table::new(rt.alloc());
+    for (name, text) in NAMED {
+        table.add_text(name, text)?;
+    }
     let mut report = Report::new();
     for line in rt.lines(rt.alloc()) {
         if let Some(case) = table.take(line?.as_str())? {

@@ -1,85 +1,93 @@
-//! Runs tables of cases on the top call, over files, outputs and hubs in memory.
+//! Runs tables of cases on requests: the top call over files, outputs and hubs in memory, requests answered as a whole and in
+//! turns, replies, profiles made ready, the nodes of waypoints, queries, heads and frames.
 #![tactic(auto)]
 
-mod answers;
-mod faults;
-mod peers;
-mod tiles;
-mod world;
+mod ready;
+mod reply;
+mod request;
+mod route;
+mod run;
+mod told;
+mod worlds;
 
-use crate::world::{Told, World};
-use case_rows::{Case, Report, Table};
+use crate::run::World;
+use case_rows::{Case, Report, Table, place_of};
 use sample_texts::NAMED;
 use std::alloc::{AllocError, Global};
 use std::io;
 
-fn main(rt: HostRuntime) -> io::Result<()> {
-    let mut table = Table::new(rt.alloc());
+/// A table that knows the shared texts.
+fn with_texts(alloc: Global) -> Result<Table, AllocError> {
+    let mut table = Table::new(alloc);
     for (name, text) in NAMED {
         table.add_text(name, text)?;
     }
-    let mut world = World::new(rt.alloc());
+    Ok(table)
+}
+
+/// Whether a word is one of these names.
+fn is_among(names: &[&str], word: &[u8]) -> bool {
+    place_of(names, word) < names.len()
+}
+
+/// The answer to a case, by the part that knows its call.
+fn answer(alloc: Global, case: &Case, world: &mut World) -> Result<Vec<u8>, AllocError> {
+    let call = case.word(0);
+    if is_among(&run::SETTINGS, call) {
+        run::set(alloc, case, world)
+    } else if is_among(&run::DEEDS, call) {
+        run::add_deed(alloc, case, world)
+    } else if is_among(&run::RUNS, call) {
+        run::answer(alloc, case, world)
+    } else if is_among(&route::CALLS, call) {
+        route::answer(alloc, case)
+    } else if is_among(&reply::CALLS, call) {
+        reply::answer(alloc, case)
+    } else if is_among(&ready::CALLS, call) {
+        ready::answer(alloc, case)
+    } else {
+        request::answer(alloc, case)
+    }
+}
+
+/// Runs a case, and gives the line to be printed where its answer differs.
+fn run_case(
+    alloc: Global,
+    world: &mut World,
+    report: &mut Report,
+    case: &Case,
+) -> Result<Option<String>, AllocError> {
+    let answer = answer(alloc, case, world)?;
+    report.compare(alloc, case, answer.as_slice())
+}
+
+/// Runs the case of a line, where it has one.
+fn run_line(
+    alloc: Global,
+    table: &mut Table,
+    world: &mut World,
+    report: &mut Report,
+    line: &str,
+) -> Result<Option<String>, AllocError> {
+    match table.take(line)? {
+        Some(case) => run_case(alloc, world, report, &case),
+        None => Ok(None),
+    }
+}
+
+/// Runs the cases of the standard input in a world, and prints each that differs.
+fn run_lines(rt: &HostRuntime, table: &mut Table, world: &mut World) -> io::Result<()> {
     let mut report = Report::new();
     for line in rt.lines(rt.alloc()) {
-        if let Some(case) = table.take(line?.as_str())? {
-            let answer = answer(rt.alloc(), &case, &mut world)?;
-            if let Some(told) = report.compare(rt.alloc(), &case, answer.as_bytes())? {
-                println!(rt; "{told}")?;
-            }
+        if let Some(told) = run_line(rt.alloc(), table, world, &mut report, line?.as_str())? {
+            println!(rt; "{told}")?;
         }
     }
     println!(rt; "{} cases, {} differ", report.tried, report.differ)
 }
 
-/// The answer to a case: what the world is set to, or what a command line comes to in it.
-fn answer(alloc: Global, case: &Case, world: &mut World) -> Result<String, AllocError> {
-    match case.word(0) {
-        b"world" => {
-            *world = World::new(alloc);
-            String::from_str(alloc, "new")
-        }
-        b"file" => {
-            world.add(case.word(1), case.word(2))?;
-            String::from_str(alloc, "added")
-        }
-        b"tile" => {
-            let bytes = tiles::tile(alloc, case.word(2))?;
-            world.add(case.word(1), bytes.as_slice())?;
-            String::from_str(alloc, "added")
-        }
-        b"reading" => {
-            world.read_by(case.count(1), case.count(2));
-            String::from_str(alloc, "set")
-        }
-        b"output" => {
-            world.write_by(case.count(1), case.count(2), case.count(3));
-            String::from_str(alloc, "set")
-        }
-        b"hub" => {
-            world.hub_by(case.count(1), case.count(2));
-            String::from_str(alloc, "set")
-        }
-        b"opened" | b"bytes" | b"slowly" | b"each" | b"ended" | b"lost" | b"quiet" | b"await" => {
-            world.add_deed(case)?;
-            String::from_str(alloc, "added")
-        }
-        _ => asked(alloc, case, world),
-    }
-}
-
-/// What a command line comes to in the world.
-fn asked(alloc: Global, case: &Case, world: &mut World) -> Result<String, AllocError> {
-    match case.word(0) {
-        b"run" => answers::run(alloc, world, case, 1),
-        b"cost" => answers::cost(alloc, world, case),
-        b"size" => answers::size(alloc, world, case),
-        b"edge" => world.edge(case),
-        b"each_read" => faults::each_read(alloc, world, case),
-        b"served" => world.served(case, 1, Told::Bytes),
-        b"served_costs" => world.served(case, 1, Told::Cost),
-        b"each_call" => peers::each_call(alloc, world, case),
-        b"each_write" => faults::each_write(alloc, world, case),
-        b"out_of_memory" => answers::no_memory(alloc),
-        _ => String::from_str(alloc, "no such call"),
-    }
+fn main(rt: HostRuntime) -> io::Result<()> {
+    let mut table = with_texts(rt.alloc())?;
+    let mut world = World::new(rt.alloc());
+    run_lines(&rt, &mut table, &mut world)
 }

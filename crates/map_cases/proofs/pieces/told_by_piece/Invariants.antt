@@ -1,7 +1,0 @@
--- No more was fed than is counted.
-use Rattle.std.proofs.Common.{◌≤◌}
-use Rattle.overpass_graph.specs.Builder.{fed}
-use Rattle.map_cases.proofs.pieces.told_by_piece.Given as goal
-
-abbrev pub invariant-words : goal.invariant-words
-invariant-words l = fed l.builder ≤ l.most

@@ -1,0 +1,4 @@
+pub mod Ends
+pub mod Given
+pub mod Signs
+pub mod Tariffs

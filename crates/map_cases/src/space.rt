@@ -1,0 +1,159 @@
+//! Cases on walks of least rank.
+
+mod ways;
+mod woken;
+
+ghost use Rattle.std.specs.Prelude.{◌≡◌, ◌≢◌, ◌<◌, ◌^◌, IfOk, IfSome, length};
+ghost use Rattle.map_cases.specs.Ends.{AreEnds};
+
+use crate::answers::OUTSIDE;
+use crate::given::{Given, rates_of};
+use crate::space::ways::given_by_ways;
+use crate::space::woken::least_walk_woken;
+use bike_space::{BikeSpace, Walked, least_walk};
+use case_rows::{Case, place_of};
+use cost_model::{FactsOf, Rates, modes};
+use junction_runs::least_walk_by_runs;
+use overpass_graph::Map;
+use std::alloc::{AllocError, Global};
+
+/// The searches for a walk: from link to link, from junction to junction, and with a space that rests between turns.
+const SEARCHES: [&str; 3] = ["walk", "runs", "woken"];
+
+/// The two nodes of a walk, and the limit of labels.
+#[derive(Clone, Copy)]
+struct Ends {
+    from: u32,
+    target: u32,
+    limit: u64,
+}
+
+/// The links of a walk of least rank and its rank: by the facts that the words say, whether turn
+/// restrictions count, the two nodes, the limit of labels, and the links that are cut and used.
+pub(crate) fn answer(alloc: Global, case: &Case, map: &Map) -> Result<String, AllocError> {
+    let Some(rates) = rates_of_case(case) else {
+        return String::from_str(alloc, OUTSIDE);
+    };
+    let Some(ends) = ends_of(case, map) else {
+        return String::from_str(alloc, OUTSIDE);
+    };
+    let given = given_by_ways(alloc, case, map)?;
+    if given.count() == map.links() {
+        told(alloc, walk(alloc, case, map, &given, &rates, ends)?)
+    } else {
+        String::from_str(alloc, OUTSIDE)
+    }
+}
+
+/// The rates of the seven global values that words 5 to 11 are.
+fn rates_of_case(case: &Case) -> Option<Rates> {
+    rates_of(&[
+        case.signed(5),
+        case.signed(6),
+        case.signed(7),
+        case.signed(8),
+        case.signed(9),
+        case.signed(10),
+        case.signed(11),
+    ])
+}
+
+/// The two nodes and the limit that words 12 to 14 are.
+fn ends_of(case: &Case, map: &Map) -> Option<Ends>
+    ensures found { IfSome result (λ ends.
+        AreEnds (length map.now.nodes) ends.from ends.target ends.limit) }
+{
+    let (from, target, limit) = (case.count(12), case.count(13), case.count(14));
+    let nodes = map.nodes() as u64;
+    if from >= nodes || target >= nodes || from == target || limit >= 1 << 32 {
+        return None;
+    }
+    Some(Ends {
+        from: from as u32,
+        target: target as u32,
+        limit,
+    })
+}
+
+/// For each link whether its character in a word is 1.
+fn marks(alloc: Global, word: &[u8], links: u32) -> Result<Vec<bool>, AllocError>
+    ensures counted { IfOk result (λ marks. length marks.items ≡ links) }
+{
+    let mut marks = Vec::new(alloc);
+    'links: for link in 0..links as usize {
+        marks.push(word.get(link) == Some(&b'1'))?;
+    }
+    Ok(marks)
+}
+
+/// What a search answers between two nodes.
+fn walk(
+    alloc: Global,
+    case: &Case,
+    map: &Map,
+    given: &Given,
+    rates: &Rates,
+    ends: Ends,
+) -> Result<Walked, AllocError>
+    requires counted { length given.now.facts.items ≡ length map.now.links }
+    requires ends { AreEnds (length map.now.nodes) ends.from ends.target ends.limit }
+{
+    let cut = marks(alloc, case.word(15), map.links())?;
+    let used = marks(alloc, case.word(16), map.links())?;
+    let space = BikeSpace::new(
+        alloc,
+        map,
+        given,
+        rates,
+        modes(given),
+        cut.as_slice(),
+        used.as_slice(),
+        ends.from,
+        ends.target,
+        case.count(4) == 1,
+    )?;
+    walked(alloc, case, space, map, given, rates, ends.limit)
+}
+
+/// What a search over this space answers, which stands on the map, the facts and the rates, by the
+/// case's first word.
+fn walked<'a>(
+    alloc: Global,
+    case: &Case,
+    space: BikeSpace<'a, Given>,
+    map: &'a Map,
+    given: &'a Given,
+    rates: &'a Rates,
+    limit: u64,
+) -> Result<Walked, AllocError>
+    requires small { limit < 2 ^ 32 }
+    requires differ { space.kept.start ≢ space.kept.target }
+    requires map { space.map.now ≡ map.now }
+    requires facts { space.facts.now ≡ given.now }
+    requires rates { space.rates.now ≡ rates.now }
+{
+    match place_of(&SEARCHES, case.word(0)) {
+        1 => least_walk_by_runs(alloc, &space, limit),
+        2 => least_walk_woken(alloc, space, map, given, rates, limit),
+        _ => least_walk(alloc, &space, limit),
+    }
+}
+
+/// The answer as a line.
+fn told(alloc: Global, walked: Walked) -> Result<String, AllocError> {
+    match walked {
+        Walked::NoWay => String::from_str(alloc, "no way"),
+        Walked::Budget => String::from_str(alloc, "limit spent"),
+        Walked::Found { walk, rank } => walk_told(alloc, walk.as_slice(), rank),
+    }
+}
+
+/// The links of a walk and its rank as a line.
+fn walk_told(alloc: Global, walk: &[u32], rank: u128) -> Result<String, AllocError> {
+    let mut line = String::new(alloc);
+    'links: for link in walk {
+        write!(line, "{link} ")?;
+    }
+    write!(line, "= {rank}")?;
+    Ok(line)
+}

@@ -1,7 +1,0 @@
-use Rattle.std.proofs.Common.{◌≡◌, take}
-use Rattle.std.specs.List.{sum_by}
-use Rattle.track_legs.specs.declared.track.Leg.{Leg}
-use Rattle.reply_cases.proofs.showable.are_ranks_small.Given as goal
-
-abbrev pub invariant-legs : goal.invariant-legs
-invariant-legs l = l.sum ≡ sum_by (λ (leg : Leg). leg.rank) (take l.place l.legs)

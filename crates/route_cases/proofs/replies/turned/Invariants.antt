@@ -1,6 +1,0 @@
-use Rattle.route_ready.specs.World.{world_of}
-use Rattle.request_reply.specs.Pending.{IsPending}
-use Rattle.route_cases.proofs.replies.turned.Given as goal
-
-abbrev pub invariant-turns : goal.invariant-turns
-invariant-turns l = IsPending (world_of l.world) l.pending

@@ -1,0 +1,6 @@
+use Rattle.route_ready.specs.World.{world_of}
+use Rattle.request_reply.specs.Pending.{IsPending}
+use Rattle.run_cases.proofs.route.replies.turned.Given as goal
+
+abbrev pub invariant-turns : goal.invariant-turns
+invariant-turns l = IsPending (world_of l.world) l.pending

@@ -1,0 +1,75 @@
+//! Replies to requests, made in turns.
+
+ghost use Rattle.std.specs.Prelude.{◌≡◌, ◌≤◌, length};
+ghost use Rattle.request_reply.specs.Pending.{IsPending};
+ghost use Rattle.route_engine.specs.Jobs.{IsWithin};
+ghost use Rattle.route_http.specs.Seen.{asked};
+ghost use Rattle.route_ready.specs.World.{world_of};
+ghost use Rattle.way_class.specs.Links.{links_of};
+
+use crate::route::inputs::quota;
+use crate::route::turns::MOST_TURNS;
+use crate::told::outside;
+use case_rows::Case;
+use item_list::{append_bytes, append_number};
+use request_reply::{Pending, PendingTurn};
+use route_http::Request;
+use route_ready::{Ready, World, line};
+use std::alloc::{AllocError, Global};
+use std::rc::Rc;
+
+/// How long the reply to a request is that is answered in turns, or the line of a waypoint without a node.
+pub(crate) fn in_replies(
+    alloc: Global,
+    case: &Case,
+    world: &World,
+    ready: Rc<Ready>,
+    request: Request,
+) -> Result<Vec<u8>, AllocError>
+    requires counted { (links_of ready.value.bound).count ≡ length (world_of world.now).map.links }
+    requires within { IsWithin (asked request) }
+{
+    match Pending::new(alloc, world, ready, request) {
+        Ok(pending) => by_quota(alloc, case, world, pending),
+        Err(error) => line(alloc, &error, None),
+    }
+}
+/// The same with the quota of a case.
+fn by_quota(
+    alloc: Global,
+    case: &Case,
+    world: &World,
+    pending: Pending,
+) -> Result<Vec<u8>, AllocError>
+    requires pending { IsPending (world_of world.now) pending }
+{
+    let quota = quota(case);
+    if quota > 0 {
+        return turned(alloc, world, pending, quota);
+    }
+    outside(alloc)
+}
+
+/// The same in turns of a quota.
+fn turned(alloc: Global, world: &World, pending: Pending, quota: u32) -> Result<Vec<u8>, AllocError>
+    requires pending { IsPending (world_of world.now) pending }
+    requires some { 1 ≤ quota }
+{
+    let mut pending = pending;
+    'turns: for _ in 1..MOST_TURNS {
+        match pending.turn(alloc, world, quota) {
+            PendingTurn::More(next) => pending = next,
+            PendingTurn::Reply(bytes) => return told(alloc, bytes.len()),
+            PendingTurn::Refused(error) => return line(alloc, &error, None),
+        }
+    }
+    Vec::from_slice(alloc, b"not at its end")
+}
+
+/// A length in words.
+fn told(alloc: Global, long: usize) -> Result<Vec<u8>, AllocError> {
+    let mut text = Vec::new(alloc);
+    append_number(&mut text, long as u64)?;
+    append_bytes(&mut text, b" bytes")?;
+    Ok(text)
+}

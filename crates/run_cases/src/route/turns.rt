@@ -1,0 +1,129 @@
+//! Requests answered in turns.
+
+ghost use Rattle.std.specs.Prelude.{◌≡◌, ◌≤◌, length};
+ghost use Rattle.route_engine.specs.Jobs.{IsJobOn, IsWithin};
+ghost use Rattle.route_http.specs.Seen.{asked};
+ghost use Rattle.route_ready.specs.World.{world_of};
+ghost use Rattle.way_class.specs.Links.{links_of};
+
+use crate::route::call_of;
+use crate::route::inputs::quota;
+use crate::route::replies::in_replies;
+use crate::route::tracks::append_track;
+use crate::told::outside;
+use case_rows::Case;
+use item_list::{append_bytes, append_named};
+use overpass_graph::Map;
+use profile_text::Profile;
+use route_engine::{Job, JobTurn};
+use route_http::Request;
+use route_ready::{Ready, RouteError, World, line, prepare};
+use std::alloc::{AllocError, Global};
+use std::rc::Rc;
+
+/// The most turns that are tried.
+pub(crate) const MOST_TURNS: u64 = 1_000_000;
+
+/// The answer to a request in turns, or the line of the profile's refusal.
+pub(crate) fn in_turns(
+    alloc: Global,
+    case: &Case,
+    world: &World,
+    profile: &Profile,
+    request: Request,
+) -> Result<Vec<u8>, AllocError>
+    requires within { IsWithin (asked request) }
+{
+    match prepare(alloc, world, profile, &request.overrides) {
+        Ok(ready) => by_ready(alloc, case, world, ready, request),
+        Err(error) => line(alloc, &error, Some(profile)),
+    }
+}
+
+/// The answer by a profile that is ready.
+fn by_ready(
+    alloc: Global,
+    case: &Case,
+    world: &World,
+    ready: Ready,
+    request: Request,
+) -> Result<Vec<u8>, AllocError>
+    requires counted { (links_of ready.bound).count ≡ length (world_of world.now).map.links }
+    requires within { IsWithin (asked request) }
+{
+    let ready = Rc::new(alloc, ready)?;
+    match call_of(case) {
+        2 => in_job(alloc, case, world, ready, request),
+        _ => in_replies(alloc, case, world, ready, request),
+    }
+}
+
+/// The answer of a job, or the line of a waypoint without a node.
+fn in_job(
+    alloc: Global,
+    case: &Case,
+    world: &World,
+    ready: Rc<Ready>,
+    request: Request,
+) -> Result<Vec<u8>, AllocError>
+    requires counted { (links_of ready.value.bound).count ≡ length (world_of world.now).map.links }
+    requires within { IsWithin (asked request) }
+{
+    match Job::new(alloc, world, ready, request) {
+        Ok(job) => by_quota(alloc, case, world, job),
+        Err(error) => line(alloc, &error, None),
+    }
+}
+/// The answer of a job, with the quota of a case.
+fn by_quota(alloc: Global, case: &Case, world: &World, job: Job) -> Result<Vec<u8>, AllocError>
+    requires on { IsJobOn (world_of world.now) job }
+{
+    let quota = quota(case);
+    if quota > 0 {
+        return turned(alloc, world, job, quota);
+    }
+    outside(alloc)
+}
+
+/// The answer of a job in turns of a quota.
+fn turned(alloc: Global, world: &World, job: Job, quota: u32) -> Result<Vec<u8>, AllocError>
+    requires on { IsJobOn (world_of world.now) job }
+    requires some { 1 ≤ quota }
+{
+    let mut job = job;
+    'turns: for turn in 1..MOST_TURNS {
+        match job.turn(world, quota) {
+            JobTurn::More => {}
+            JobTurn::Found => return found(alloc, world.map(), &job, turn),
+            JobTurn::Refused(error) => return refused(alloc, &job, turn, error),
+        }
+    }
+    Vec::from_slice(alloc, b"not at its end")
+}
+
+/// The track of a job behind its counts.
+fn found(alloc: Global, map: &Map, job: &Job, turns: u64) -> Result<Vec<u8>, AllocError> {
+    let mut text = counts(alloc, job, turns)?;
+    match job.track() {
+        Some(track) => append_track(&mut text, map, track)?,
+        None => append_bytes(&mut text, b"no track is there")?,
+    }
+    Ok(text)
+}
+
+/// The line of a job's refusal behind its counts.
+fn refused(alloc: Global, job: &Job, turns: u64, error: RouteError) -> Result<Vec<u8>, AllocError> {
+    let mut text = counts(alloc, job, turns)?;
+    let told = line(alloc, &error, None)?;
+    append_bytes(&mut text, told.as_slice())?;
+    Ok(text)
+}
+
+/// How many turns a job took, and how many labels it settled.
+fn counts(alloc: Global, job: &Job, turns: u64) -> Result<Vec<u8>, AllocError> {
+    let mut text = Vec::new(alloc);
+    append_named(&mut text, b"turns ", turns)?;
+    append_named(&mut text, b" settled ", job.settled())?;
+    append_bytes(&mut text, b" ")?;
+    Ok(text)
+}

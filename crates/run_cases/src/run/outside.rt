@@ -1,0 +1,20 @@
+//! What a command line runs over.
+
+use edge_io::{MemFiles, MemSink};
+
+/// Files, the output, and what is told beside the output.
+pub(crate) struct Outside {
+    pub(crate) files: MemFiles,
+    pub(crate) out: MemSink,
+    pub(crate) err: MemSink,
+}
+
+impl Drop for Outside {
+    fn drop(self) {
+        let Outside {
+            files: _,
+            out: _,
+            err: _,
+        } = self;
+    }
+}

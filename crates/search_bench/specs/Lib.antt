@@ -1,7 +1,0 @@
-pub mod Strip
-pub mod StripLaws
-pub mod TestLine
-pub mod TestLineLaws
-pub mod TestPlain
-pub mod TestToll
-pub mod TestTollLaws

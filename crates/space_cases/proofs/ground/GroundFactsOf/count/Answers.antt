@@ -1,5 +1,0 @@
-use Rattle.std.proofs.Common.{arith}
-use Rattle.space_cases.proofs.ground.GroundFactsOf.count.Goals as goal
-
-pub overflow_cast-result : goal.overflow_cast-result
-overflow_cast-result c = record { fits = omega (arith, c.args.self.now.few, c.args.self.now.facts.ok.0) }

@@ -1,0 +1,11 @@
+-- The space of a leg is one for junction runs.
+use Rattle.bike_space.specs.Kept.{task_of}
+use Rattle.junction_runs.proofs.CallerLemmas.{leg-for-runs}
+use Rattle.way_class.specs.Links.{links_of}
+use Rattle.timings.proofs.ground.Ground.settle.Goals as goal
+
+pub new-requires : goal.new-requires
+new-requires c =
+    let space = c.args.space.now in
+    let task = task_of space.map.now (links_of space.facts.now) space.rates.now space.kept in
+    record { over = leg-for-runs task space.wakes.lawful }

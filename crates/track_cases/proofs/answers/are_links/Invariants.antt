@@ -1,6 +1,0 @@
-use Rattle.std.proofs.Common.{◌<◌, ℕ, length}
-use Rattle.cost_model.specs.Walks.{link_at}
-use Rattle.track_cases.proofs.answers.are_links.Given as goal
-
-abbrev pub invariant-links : goal.invariant-links
-invariant-links l = (position : ℕ) → position < l.place → link_at l.walk position < length l.map.links
