@@ -5,22 +5,25 @@
 # Without FILE the map is that of a grid of 500 by 500 cells, which has a million links; without TILE the tile slopes up to the east.
 # Where PLAIN names another program that answers `bench lookups= profile= map= tile= queries=` with lines of a name and a figure
 # (bind_ms, load_peak_MB, ready_peak_MB), it is asked for the same map in turn.
+# TIMINGS names the program `timings`, where not the one at `crates/timings/out`, which the gate leaves there.
 set -e
 text=${1:+$(realpath "$1")}
 tile=${2:+$(realpath "$2")}
+timings=${TIMINGS:+$(realpath "$TIMINGS")}
 cd "$(dirname "$0")/.."
-(cd crates/bind_bench && rt run < stdin > /dev/null)
+[ -n "$timings" ] || [ -x crates/timings/out/timings ] || (cd crates/timings && rt run < stdin > /dev/null)
+timings=${timings:-crates/timings/out/timings}
 folder=$(mktemp -d)
 trap 'rm -rf "$folder"' EXIT
 if [ -z "$text" ]; then
-  (cd crates/route_serve && rt run -- --version > /dev/null)
+  [ -x crates/route_serve/out/route_serve ] || ./build > /dev/null
   text=$folder/map.json
   crates/route_serve/out/route_serve make seed=1 w=500 h=500 what=map > "$text"
 fi
 
 # Seconds of the processor and kilobytes of memory for so many bindings.
 timed() {
-  /usr/bin/time -f '%U %M' crates/bind_bench/out/bind_bench "$1" $tile < "$text" 2>&1 > "$folder/told" | tail -1
+  /usr/bin/time -f '%U %M' "$timings" bind "$1" $tile < "$text" 2>&1 > "$folder/told" | tail -1
 }
 
 # The text of a constant of the crate of sample texts.

@@ -1,10 +1,13 @@
 #!/bin/sh
 # Heights of drawn places on a tile of 1,201 rows, steps of a buffer, and coverings: how many a second of each, over
 # the time that the program takes without them.
-cd "$(dirname "$0")/../crates/climb_bench" || exit 1
-rt run >/dev/null 2>&1 || exit 1
+# TIMINGS names the program `timings`, where not the one at `crates/timings/out`, which the gate leaves there.
+timings=${TIMINGS:+$(realpath "$TIMINGS")}
+cd "$(dirname "$0")/.." || exit 1
+[ -n "$timings" ] || [ -x crates/timings/out/timings ] || (cd crates/timings && rt run < stdin > /dev/null 2>&1) || exit 1
+timings=${timings:-crates/timings/out/timings}
 seconds() {
-  /usr/bin/time -f '%U' ./out/climb_bench "$@" 2>&1 >/dev/null
+  /usr/bin/time -f '%U' "$timings" climb "$@" 2>&1 >/dev/null
 }
 base=$(seconds 0 0 0)
 report() {

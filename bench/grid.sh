@@ -3,8 +3,7 @@
 # of the clock and of the processor, the cells per second of each, the peak of the memory, and the status (3
 # where there is no way). Its words are the cells of a side: 100, 300 and 1,000 where there is none.
 cd "$(dirname "$0")/../crates/route_serve" || exit 1
-rt run -- grid seed=2 w=2 h=2 from=0,0 to=1,1 >/dev/null 2>&1
-[ -x out/route_serve ] || exit 1
+[ -x out/route_serve ] || ../../build >/dev/null || exit 1
 TIMEFORMAT='%3R %3U'
 
 # One run over a grid of so many cells a side: KB, status, seconds of the clock and of the processor.

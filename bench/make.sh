@@ -2,8 +2,7 @@
 # The program making maps of grids of seed 2 and the tile: for each the middle of three runs, in seconds of the processor, with the
 # bytes that were written and the peak of the memory. Its words are the cells of a side: 300 and 1,000 where there is none.
 cd "$(dirname "$0")/../crates/route_serve" || exit 1
-rt run -- grid seed=2 w=2 h=2 from=0,0 to=1,1 >/dev/null 2>&1
-[ -x out/route_serve ] || exit 1
+[ -x out/route_serve ] || ../../build >/dev/null || exit 1
 
 # One run: seconds of the processor, KB, and the bytes that were written.
 once() {

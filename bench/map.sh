@@ -1,16 +1,19 @@
 #!/usr/bin/env bash
 # Reads a map's text and makes its map, and prints what it has, processor seconds and the most memory. With a file's name, of that
 # text; otherwise of the maps of grids of 300 by 300 and 1,000 by 1,000 cells.
+# TIMINGS names the program `timings`, where not the one at `crates/timings/out`, which the gate leaves there.
 set -e
+timings=${TIMINGS:+$(realpath "$TIMINGS")}
 cd "$(dirname "$0")/.."
-(cd crates/map_bench && rt run < stdin > /dev/null)
+[ -n "$timings" ] || [ -x crates/timings/out/timings ] || (cd crates/timings && rt run < stdin > /dev/null)
+timings=${timings:-crates/timings/out/timings}
 timed() {
-  /usr/bin/time -f '%U s and %S s of the processor, %M KB' crates/map_bench/out/map_bench
+  /usr/bin/time -f '%U s and %S s of the processor, %M KB' "$timings" map
 }
 if [ -n "$1" ]; then
   timed < "$1"
 else
-  (cd crates/route_serve && rt run -- --version > /dev/null)
+  [ -x crates/route_serve/out/route_serve ] || ./build > /dev/null
   for side in 300 1000; do
     text=$(mktemp)
     crates/route_serve/out/route_serve make seed=1 w=$side h=$side what=map > "$text"

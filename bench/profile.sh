@@ -4,19 +4,22 @@
 # operations an evaluation has. These come from the listing and the tag numbers of the ways, on which the operations
 # are carried out here once more: their cost factors have to sum up to what the program prints. Its word is how many
 # evaluations a run makes: a million where there is none.
-cd "$(dirname "$0")/../crates/profile_bench" || exit 1
-rt run >/dev/null 2>&1 || exit 1
+# TIMINGS names the program `timings`, where not the one at `crates/timings/out`, which the gate leaves there.
+timings=${TIMINGS:+$(realpath "$TIMINGS")}
+cd "$(dirname "$0")/.." || exit 1
+[ -n "$timings" ] || [ -x crates/timings/out/timings ] || (cd crates/timings && rt run < stdin > /dev/null 2>&1) || exit 1
+timings=${timings:-crates/timings/out/timings}
 TIMEFORMAT='%3U'
 
 # The middle of three runs with so many evaluations: seconds of the processor.
 seconds() {
   for _ in 1 2 3; do
-    { time ./out/profile_bench "$1" >/dev/null; } 2>&1
+    { time "$timings" profile "$1" >/dev/null; } 2>&1
   done | sort -n | sed -n 2p
 }
 
 # The operations of the 64 ways and the sum of their cost factors in millionths, after the rules of the language.
-carried_out=$({ ./out/profile_bench 64 listing; echo ways; ./out/profile_bench 64 vectors; } | awk '
+carried_out=$({ "$timings" profile 64 listing; echo ways; "$timings" profile 64 vectors; } | awk '
   function push(n) { stack[++height] = n }
   function pop() { return stack[height--] }
 
@@ -82,7 +85,7 @@ carried_out=$({ ./out/profile_bench 64 listing; echo ways; ./out/profile_bench 6
   }
   END { if (!failed) printf "%.0f %.0f\n", total, sum }')
 read -r operations sum <<<"$carried_out"
-printed=$(./out/profile_bench 64)
+printed=$("$timings" profile 64)
 case $printed in
 *" of $sum millionths") ;;
 *)

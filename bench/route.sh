@@ -14,7 +14,7 @@ folder=$(mktemp -d)
 trap 'rm -rf "$folder"' EXIT
 cities=$(realpath "${CITIES:-$folder}")
 cd "$(dirname "$0")/.."
-(cd crates/route_serve && rt run -- --version > /dev/null)
+[ -x crates/route_serve/out/route_serve ] || ./build > /dev/null
 ours=crates/route_serve/out/route_serve
 if [ -z "$PLAIN" ]; then
   CARGO_TARGET_DIR=$folder/target cargo build --quiet --release --offline --manifest-path "$yardstick/Cargo.toml"

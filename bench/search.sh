@@ -5,16 +5,18 @@
 # per label, which are the peak of the memory less that of a strip of one cell, by the labels. The strip itself is
 # four numbers. Where a cell has one step, each label is made once; else most are made twice, and one of the two is
 # dropped when it is taken.
-cd "$(dirname "$0")/../crates/search_bench" || exit 1
-rt run >/dev/null 2>&1
-[ -x out/search_bench ] || exit 1
-empty=$(/usr/bin/time -f '%M' ./out/search_bench 1 1 1 0 2>&1 >/dev/null)
+# TIMINGS names the program `timings`, where not the one at `crates/timings/out`, which the gate leaves there.
+timings=${TIMINGS:+$(realpath "$TIMINGS")}
+cd "$(dirname "$0")/.." || exit 1
+[ -n "$timings" ] || [ -x crates/timings/out/timings ] || (cd crates/timings && rt run < stdin > /dev/null 2>&1) || exit 1
+timings=${timings:-crates/timings/out/timings}
+empty=$(/usr/bin/time -f '%M' "$timings" search 1 1 1 0 2>&1 >/dev/null)
 
 # One search with these words: labels, seconds of the clock and of the processor, KB.
 for words in '1000 1000 10 1' '1000 1000 10 2' '1000 1000 10 2 1' '1000 1000 10 4' '1000 1000 10 4 1' \
   '100 100 100 4' '100 100 100 4 1'; do
   for _ in 1 2 3; do
-    /usr/bin/time -f '%e %U %S %M' ./out/search_bench $words 2>&1 | tr '\n' ' '
+    /usr/bin/time -f '%e %U %S %M' "$timings" search $words 2>&1 | tr '\n' ' '
     echo
   done | sort -n -k 5 | awk -v words="$words" -v empty="$empty" '
     NR == 2 {

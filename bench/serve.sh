@@ -4,7 +4,7 @@
 #   YARDSTICK=FOLDER bench/serve.sh [LINKS]
 # A request costs the more the larger the map is: with 10,000 links the whole takes a minute or two, with 100,000 twenty.
 # FOLDER has gen_city.py, which writes city.json, N49E008.hgt and queries.txt. CITIES is a folder in which cities stay, PROGRAM the
-# program where not the one that `rt run` builds, REQUESTS how many there are at the end.
+# program where not the one that `./build` makes, REQUESTS how many there are at the end.
 set -e
 [ -n "$YARDSTICK" ] || { echo "usage: YARDSTICK=FOLDER bench/serve.sh [LINKS]"; exit 1; }
 links=${1:-100000}
@@ -12,7 +12,7 @@ folder=$(mktemp -d)
 cities=${CITIES:-$folder}
 cd "$(dirname "$0")/.."
 if [ -z "$PROGRAM" ]; then
-  (cd crates/route_serve && rt run -- --version > /dev/null)
+  [ -x crates/route_serve/out/route_serve ] || ./build > /dev/null
   PROGRAM=crates/route_serve/out/route_serve
 fi
 sample() {

@@ -7,19 +7,22 @@
 # Where PLAIN names another program that answers `bench lookups= profile= map= tile= queries=` with lines of a name and a figure
 # (long_low_ms, long_search_ms, long_settled, and the same of `many`), it is asked for the same pairs in turn. SEARCHES and TURNS say
 # how many pairs and how many turns there are, where not 10 and 3.
+# TIMINGS names the program `timings`, where not the one at `crates/timings/out`, which the gate leaves there.
 set -e
 [ -n "$1" ] || { echo "usage: bench/space.sh FILE [TILE]"; exit 1; }
 text=$(realpath "$1")
 tile=${2:+$(realpath "$2")}
+timings=${TIMINGS:+$(realpath "$TIMINGS")}
 cd "$(dirname "$0")/.."
-(cd crates/space_bench && rt run < stdin > /dev/null)
+[ -n "$timings" ] || [ -x crates/timings/out/timings ] || (cd crates/timings && rt run < stdin > /dev/null)
+timings=${timings:-crates/timings/out/timings}
 folder=$(mktemp -d)
 trap 'rm -rf "$folder"' EXIT
 searches=${SEARCHES:-10}
 
 # Seconds of the processor for so many searches with this limit of labels, with a price of descents or none, by junction runs or not.
 seconds() {
-  /usr/bin/time -f '%U' crates/space_bench/out/space_bench "$1" "$2" "$3" "$4" $tile < "$text" 2>&1 > "$folder/told"
+  /usr/bin/time -f '%U' "$timings" space "$1" "$2" "$3" "$4" $tile < "$text" 2>&1 > "$folder/told"
 }
 
 # The text of a constant of the crate of sample texts.

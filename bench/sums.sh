@@ -2,20 +2,23 @@
 # Least sums of all nodes of a map for ten targets: milliseconds of the processor for one target, which are those of a run for
 # ten less those of a run for none, by ten. With a file's name, on that map; otherwise on that of a grid of 500 by 500 cells, which
 # has a million links.
+# TIMINGS names the program `timings`, where not the one at `crates/timings/out`, which the gate leaves there.
 set -e
+timings=${TIMINGS:+$(realpath "$TIMINGS")}
 cd "$(dirname "$0")/.."
-(cd crates/sums_bench && rt run < stdin > /dev/null)
+[ -n "$timings" ] || [ -x crates/timings/out/timings ] || (cd crates/timings && rt run < stdin > /dev/null)
+timings=${timings:-crates/timings/out/timings}
 text=$1
 if [ -z "$text" ]; then
-  (cd crates/route_serve && rt run -- --version > /dev/null)
+  [ -x crates/route_serve/out/route_serve ] || ./build > /dev/null
   text=$(mktemp)
   trap 'rm -f "$text"' EXIT
   crates/route_serve/out/route_serve make seed=1 w=500 h=500 what=map > "$text"
 fi
 seconds() {
-  /usr/bin/time -f '%U' crates/sums_bench/out/sums_bench "$1" < "$text" 2>&1 > /dev/null
+  /usr/bin/time -f '%U' "$timings" sums "$1" < "$text" 2>&1 > /dev/null
 }
-crates/sums_bench/out/sums_bench 10 < "$text"
+"$timings" sums 10 < "$text"
 for _ in 1 2 3; do
   awk -v none="$(seconds 0)" -v ten="$(seconds 10)" 'BEGIN { printf "%.0f ms a target\n", (ten - none) * 100 }'
 done
