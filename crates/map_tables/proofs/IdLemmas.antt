@@ -1,9 +1,10 @@
 -- Places of ids.
-use Rattle.std.proofs.Common.{◌≡◌, ℕ, zero, suc, ℤ, Bool, true, false, ◌||◌, cond, List, [], ◌∷◌, ◌++◌, position, slice_get, Option, Some, None, option_map, refl, sym, ap, ◌∙◌}
+use Rattle.std.proofs.Common.{◌≡◌, ℕ, zero, suc, ℤ, Bool, true, false, cond, List, [], ◌∷◌, ◌++◌, position, slice_get, Option, Some, None, option_map, refl, sym, ap, ◌∙◌}
 use Rattle.std.proofs.lemmas.Bool.Decides.{Decides-int_eq, same_from_decides}
-use Rattle.std.specs.List.{list_any}
+use Rattle.std.specs.List.{AllByRecursion, IsDistinct}
+use Rattle.std.specs.Map.{keys_of}
 use Rattle.std.specs.Ordering.{int_eq}
-use Rattle.indexmap.specs.IndexSet.{insert_key}
+use Rattle.indexmap.specs.IndexMap.{insert_entry}
 use Rattle.map_tables.proofs.ListLemmas.{position-step}
 use Rattle.map_tables.specs.Kept.{place_in, AreDifferent}
 
@@ -75,22 +76,6 @@ place_in-own (y ∷ ys) x (suc i) apart at =
     ap (λ b. cond b (Some 0) (option_map suc (place_in x ys))) (not_among ys y x i apart.0 at)
     ∙ ap (option_map suc) (place_in-own ys x i apart.1 at)
 
--- a list stays different where a new id is added
-pub AreDifferent-append : (xs : List ℤ) (id : ℤ) → AreDifferent xs → place_in id xs ≡ None
-    → AreDifferent (xs ++ id ∷ [])
-AreDifferent-append [] id apart none = (refl, tt)
-AreDifferent-append (x ∷ xs) id apart none =
-    let parts : (int_eq x id ≡ false) × (place_in id xs ≡ None) = place_in-none x xs id none in
-    (absent_after xs x apart.0 (int_eq-turned id x ∙ parts.0), AreDifferent-append xs id apart.1 parts.1)
-  where
-    absent_after : (ys : List ℤ) (y : ℤ) → place_in y ys ≡ None → int_eq id y ≡ false
-        → place_in y (ys ++ id ∷ []) ≡ None
-    absent_after [] y none other = ap (λ b. cond b (Some 0) (option_map suc None)) other
-    absent_after (z ∷ zs) y none other =
-        let parts : (int_eq z y ≡ false) × (place_in y zs ≡ None) = place_in-none z zs y none in
-        ap (λ b. cond b (Some 0) (option_map suc (place_in y (zs ++ id ∷ [])))) parts.0
-        ∙ ap (option_map suc) (absent_after zs y parts.1 other)
-
 -- ---- The index of ids
 
 -- the index finds the place of an id
@@ -101,16 +86,25 @@ position-place_in id (x ∷ xs) =
     ∙ ap (λ b. cond b (Some 0) (option_map suc (position (int_eq id) xs))) (int_eq-turned id x)
     ∙ ap (λ o. cond (int_eq x id) (Some 0) (option_map suc o)) (position-place_in id xs)
 
--- an id that has no place isn't found by a test either
-none_passes : (xs : List ℤ) (id : ℤ) → place_in id xs ≡ None → list_any (int_eq id) xs ≡ false
-none_passes [] id none = refl
-none_passes (x ∷ xs) id none =
-    let parts : (int_eq x id ≡ false) × (place_in id xs ≡ None) = place_in-none x xs id none in
-    ap (λ b. b || list_any (int_eq id) xs) (int_eq-turned id x ∙ parts.0) ∙ none_passes xs id parts.1
+-- ids none of which is equal to one after it are different
+pub AreDifferent-distinct : (xs : List ℤ) → IsDistinct int_eq xs → AreDifferent xs
+unfolding IsDistinct
+AreDifferent-distinct [] apart = tt
+AreDifferent-distinct (x ∷ xs) apart = (absent xs apart.0, AreDifferent-distinct xs apart.1)
+  where
+    absent : (ys : List ℤ) → AllByRecursion (λ y. int_eq x y ≡ false) ys → place_in x ys ≡ None
+    absent [] others = refl
+    absent (y ∷ ys) others =
+        ap (λ b. cond b (Some 0) (option_map suc (place_in x ys))) (int_eq-turned y x ∙ others.0)
+        ∙ ap (option_map suc) (absent ys others.1)
 
--- a new id, which the index was given as this number, goes last in it
-pub insert_key-new : (old new : List ℤ) (given id : ℤ) → given ≡ id → new ≡ insert_key int_eq old given
-    → place_in id old ≡ None
-    → new ≡ old ++ id ∷ []
-insert_key-new old new given id same is none =
-    is ∙ ap (insert_key int_eq old) same ∙ ap (λ b. cond b old (old ++ id ∷ [])) (none_passes old id none)
+-- what is kept with a new id goes last with it
+pub insert_entry-last : {R : Type 0} (entries : List (ℤ × R)) (id : ℤ) (row : R) → place_in id (keys_of entries) ≡ None
+    → insert_entry int_eq entries id row ≡ entries ++ (id, row) ∷ []
+insert_entry-last [] id row none = refl
+insert_entry-last (entry ∷ entries) id row none =
+    let parts : (int_eq entry.0 id ≡ false) × (place_in id (keys_of entries) ≡ None) =
+    place_in-none entry.0 (keys_of entries) id none in
+    ap (λ b. cond b ((entry.0, row) ∷ entries) (entry ∷ insert_entry int_eq entries id row))
+    (int_eq-turned id entry.0 ∙ parts.0)
+    ∙ ap (λ rest. entry ∷ rest) (insert_entry-last entries id row parts.1)

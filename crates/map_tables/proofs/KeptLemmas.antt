@@ -1,11 +1,12 @@
 -- Kept elements and their places.
-use Rattle.std.proofs.Common.{◌≡◌, inl, ℕ, zero, suc, ◌<◌, ℤ, Bool, false, cond, List, [], ◌∷◌, ◌++◌, length, set, slice_get, Option, Some, None, Result, Ok, Err, OnOk, IfErr, refl, sym, ap, ◌∙◌, subst, arith}
+use Rattle.std.proofs.Common.{◌≡◌, inl, ℕ, zero, suc, ◌+◌, ℤ, Bool, true, false, cond, List, [], ◌∷◌, ◌++◌, set, slice_get, Option, Some, None, Result, Ok, Err, OnOk, IfErr, refl, sym, ap, ◌∙◌, subst, arith}
 use Rattle.std.specs.Ordering.{int_eq}
-use Rattle.map_tables.specs.Kept.{Tag, Kept, kept_with, first_tags, given_again, with_tags, unless, keep_beside, keep, place_in, ids_of, place_of_id, AreDistinct}
+use Rattle.map_tables.specs.Kept.{Tag, Kept, kept_with, given_again, with_tags, unless, keep_beside, keep, place_in, ids_of, place_of_id, AreDistinct, total_of}
 use Rattle.map_tables.specs.Held.{Becomes}
 use Rattle.map_tables.specs.declared.error.MapError.{MapError}
 use Rattle.map_tables.specs.declared.error.MapError.TheVariants.{NoMemory}
 use Rattle.map_tables.proofs.IdLemmas.{same_number, place_in-none, place_in-some}
+use Rattle.map_tables.proofs.ListLemmas.{one_item}
 
 module _ {C : Type 0} where
   -- an id that has no place isn't kept
@@ -60,68 +61,72 @@ module _ {C : Type 0} where
   -- ---- What comes of one more element
 
   -- a new element goes last unless there are too many
-  pub keep-new : {E : Type 0} (same : C → C → Bool) (double : E) (beyond : Option E) (new : Kept C) (ks : List (Kept C))
-      → place_of_id new.id ks ≡ None → keep same double beyond new ks ≡ unless beyond (ks ++ new ∷ [])
-  keep-new same double beyond new ks none = ap (keep_beside same double beyond new ks) (kept_with-none ks new.id none)
+  pub keep-new : {E : Type 0} (same : C → C → Bool) (double : E) (beyond o : Option E) (new : Kept C) (ks : List (Kept C))
+      → place_of_id new.id ks ≡ None → beyond ≡ o → keep same double beyond new ks ≡ unless o (ks ++ new ∷ [])
+  keep-new same double beyond o new ks none is =
+      ap (keep_beside same double beyond new ks) (kept_with-none ks new.id none)
+      ∙ ap (λ fault. unless fault (ks ++ new ∷ [])) is
 
   -- one that is there is given again, or is a double
   pub keep-old : {E : Type 0} (same : C → C → Bool) (double : E) (beyond : Option E) (new : Kept C) (ks : List (Kept C))
-      (i : ℕ) (at : Kept C)
-      → AreDistinct ks → place_of_id new.id ks ≡ Some i → slice_get ks i ≡ Some at
-      → keep same double beyond new ks ≡ cond (same at.content new.content) (Ok (set ks i (given_again new.tags at)))
-      (Err double)
-  keep-old same double beyond new ks i at apart found stands =
+      (i : ℕ) (at : Kept C) (b : Bool)
+      → AreDistinct ks → place_of_id new.id ks ≡ Some i → slice_get ks i ≡ Some at → same at.content new.content ≡ b
+      → keep same double beyond new ks ≡ cond b (Ok (set ks i (given_again new.tags at))) (Err double)
+  keep-old same double beyond new ks i at b apart found stands is =
       ap (keep_beside same double beyond new ks) (kept_with-some ks new.id i at found stands)
       ∙ ap (λ all. cond (same at.content new.content) (Ok all) (Err double))
       (with_tags-some ks new.id new.tags i at apart found stands)
+      ∙ ap (λ test. cond test (Ok (set ks i (given_again new.tags at))) (Err double)) is
 
 -- ---- What a call does
 
--- a call that puts an item at the end does what the answer says
-pub Becomes-pushed : {A X : Type 0} (result : Result A MapError) (old new : List X) (x : X)
-    (answer : Result (List X) MapError)
-    → answer ≡ Ok (old ++ x ∷ []) → OnOk result (new ≡ old ++ x ∷ []) → IfErr result (λ e. (e ≡ NoMemory) × (new ≡ old))
+-- a call that gives the value of an answer, or reports want of memory, does what the answer says
+pub Becomes-next : {A X : Type 0} (result : Result A MapError) (old new next : X) (answer : Result X MapError)
+    → answer ≡ Ok next → OnOk result (new ≡ next) → IfErr result (λ e. (e ≡ NoMemory) × (new ≡ old))
     → Becomes result old new answer
-Becomes-pushed (Ok done) old new x answer is value kept = is ∙ ap Ok (sym value)
-Becomes-pushed (Err e) old new x answer is value kept = (inl kept.0, kept.1)
+Becomes-next (Ok done) old new next answer is value kept = is ∙ ap Ok (sym value)
+Becomes-next (Err e) old new next answer is value kept = (inl kept.0, kept.1)
 
--- a call that gives the element at a place again, or refuses it by the given id, does what the answer says
-pub Becomes-again : {A C : Type 0} (result : Result A MapError) (old now : List (Kept C)) (same : C → C → Bool)
-    (double : ℤ → MapError)
-    (beyond : Option MapError) (new : Kept C) (i : ℕ) (at : Kept C) (given : ℤ) → given ≡ new.id → AreDistinct old
-    → place_of_id new.id old ≡ Some i → slice_get old i ≡ Some at
-    → Becomes result old now (cond (same at.content new.content) (Ok (set old i (given_again new.tags at)))
-    (Err (double given)))
-    → Becomes result old now (keep same (double new.id) beyond new old)
-Becomes-again {C = C} result old now same double beyond new i at given is apart found stands does =
-    subst (λ (answer : Result (List (Kept C)) MapError). Becomes result old now answer)
-    (ap (λ id. cond {A = Result (List (Kept C)) MapError} (same at.content new.content)
-    (Ok (set old i (given_again new.tags at))) (Err (double id))) is
-    ∙ sym (keep-old same (double new.id) beyond new old i at apart found stands)) does
-
--- an element that has tags keeps them where it is given again
-pub given_again-kept : {C : Type 0} (k : Kept C) (tags : List Tag) → 0 < length k.tags → given_again tags k ≡ k
-given_again-kept k tags some =
-    ap (λ (all : List Tag). record { id = k.id; content = k.content; tags = all }) (first k.tags some)
-  where
-    first : (own : List Tag) → 0 < length own → first_tags own tags ≡ own
-    first [] some = absurd (omega arith)
-    first (tag ∷ own) some = refl
-
--- one that has none takes those
-pub given_again-taken : {C : Type 0} (k : Kept C) (tags : List Tag) (content : C) → content ≡ k.content
-    → length k.tags ≡ 0
-    → record { id = k.id; content = content; tags = tags } ≡ given_again tags k
-given_again-taken {C} k tags content is none =
-    ap (λ (c : C). record { id = k.id; content = c; tags = tags }) is
-    ∙ ap (λ (all : List Tag). record { id = k.id; content = k.content; tags = all }) (sym (first k.tags none))
-  where
-    first : (own : List Tag) → length own ≡ 0 → first_tags own tags ≡ tags
-    first [] none = refl
-    first (tag ∷ own) none = absurd (omega (arith, none))
+-- what a call leaves has what it had where each answer has
+pub Becomes-keeps : {A X : Type 0} (P : X → Type 0) (result : Result A MapError) (old new : X)
+    (answer : Result X MapError)
+    → Becomes result old new answer → P old → ((more : X) → answer ≡ Ok more → P more) → P new
+Becomes-keeps P (Ok done) old new answer becomes was each = each new becomes
+Becomes-keeps P (Err e) old new answer becomes was each = subst P (sym becomes.1) was
 
 -- what stands at a place put there again changes nothing
 pub set-same : {A : Type 0} (xs : List A) (i : ℕ) (x : A) → slice_get xs i ≡ Some x → set xs i x ≡ xs
 set-same [] i x at = refl
-set-same (y ∷ ys) zero x at = let same : y ≡ x = cc in ap (λ z. z ∷ ys) (sym same)
+set-same (y ∷ ys) zero x at = ap (λ z. z ∷ ys) (sym (one_item at))
 set-same (y ∷ ys) (suc i) x at = ap (λ zs. y ∷ zs) (set-same ys i x at)
+
+-- ---- Parts of elements
+
+module _ {C : Type 0} (size : C → ℕ) where
+  -- the parts of an element at the end are counted with the others
+  pub total_of-append : (ks : List (Kept C)) (k : Kept C)
+      → total_of size (ks ++ k ∷ []) ≡ total_of size ks + size k.content
+  total_of-append [] k = omega arith
+  total_of-append (x ∷ xs) k =
+      let rest : total_of size (xs ++ k ∷ []) ≡ total_of size xs + size k.content = total_of-append xs k in
+      omega (arith, rest)
+
+  -- another element that consists of the same leaves their number
+  pub total_of-set : (ks : List (Kept C)) (i : ℕ) (k new : Kept C) → slice_get ks i ≡ Some k → new.content ≡ k.content
+      → total_of size (set ks i new) ≡ total_of size ks
+  total_of-set [] i k new at same = absurd cc
+  total_of-set (x ∷ xs) zero k new at same =
+      ap (λ c. size c + total_of size xs) (same ∙ ap (λ (y : Kept C). y.content) (sym (one_item at)))
+  total_of-set (x ∷ xs) (suc i) k new at same = ap (λ n. size x.content + n) (total_of-set xs i k new at same)
+
+  -- and so does one that is given again
+  pub total_of-with_tags : (id : ℤ) (tags : List Tag) (ks : List (Kept C))
+      → total_of size (with_tags id tags ks) ≡ total_of size ks
+  total_of-with_tags id tags [] = refl
+  total_of-with_tags id tags (k ∷ ks) =
+      by_test (int_eq k.id id) ∙ ap (λ n. size k.content + n) (total_of-with_tags id tags ks)
+    where
+      by_test : (b : Bool) → size (cond b (given_again tags k) k).content + total_of size (with_tags id tags ks)
+          ≡ size k.content + total_of size (with_tags id tags ks)
+      by_test true = refl
+      by_test false = refl

@@ -2,8 +2,7 @@ pub mod CallerLemmas
 pub mod IdLemmas
 pub mod KeptLemmas
 pub mod ListLemmas
-pub mod NodeLemmas
-pub mod RelationLemmas
-pub mod RowLemmas
-pub mod WayLemmas
+pub mod MemberLemmas
+pub mod TableLemmas
+pub mod TagLemmas
 pub mod WithinLemmas

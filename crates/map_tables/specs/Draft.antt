@@ -7,11 +7,12 @@ use Rattle.geo_int.specs.Place.{Place}
 use Rattle.item_list.specs.Answer.{and_then}
 use Rattle.map_tables.specs.declared.limits.Limits.{Limits}
 use Rattle.map_tables.specs.declared.member.Member.{Member}
+use Rattle.map_tables.specs.declared.member.MemberLent.{MemberLent}
 use Rattle.map_tables.specs.declared.error.MapError.{MapError}
 use Rattle.map_tables.specs.declared.error.MapError.TheVariants as error_
 use Rattle.map_tables.specs.declared.error.ElementKind.TheVariants as kind_
 use Rattle.map_tables.specs.declared.error.MapCount.TheVariants as count_
-use Rattle.map_tables.specs.Kept.{Kept, keep, AreDistinct, HoldsAt}
+use Rattle.map_tables.specs.Kept.{Kept, keep, total_of, AreDistinct, HoldsAt}
 
 -- the elements so far, each kind in the order in which its ids came first
 pub record Draft : Type 0 where
@@ -50,13 +51,11 @@ segment_count (node ∷ nodes) = length nodes
 
 -- how many segments the ways have
 abbrev pub segments_in : List (Kept (List ℤ)) → ℕ
-segments_in [] = 0
-segments_in (way ∷ ways) = segment_count way.content + segments_in ways
+segments_in = total_of segment_count
 
 -- how many members the relations have
 abbrev pub members_in : List (Kept (List Member)) → ℕ
-members_in [] = 0
-members_in (relation ∷ relations) = length relation.content + members_in relations
+members_in = total_of length
 
 -- a fault where something isn't so
 abbrev pub fault_unless : Bool → MapError → Option MapError
@@ -64,19 +63,22 @@ fault_unless holds fault = if holds then None else Some fault
 
 -- what is too large where one more node comes
 abbrev pub beyond_nodes : Limits → Draft → Option MapError
-beyond_nodes limits draft = fault_unless (nat_lt (length draft.nodes) limits.nodes) (error_.TooLarge count_.Nodes)
+beyond_nodes limits draft =
+    fault_unless (nat_lt (length draft.nodes) limits.nodes) (error_.TooLarge count_.Nodes)
 
 -- what is too large where one more way of these nodes comes: ways are counted before segments
 abbrev pub beyond_ways : Limits → Draft → List ℤ → Option MapError
 beyond_ways limits draft nodes =
     if nat_lt (length draft.ways) limits.ways
-    then fault_unless (nat_le (segments_in draft.ways + segment_count nodes) limits.segments) (error_.TooLarge count_.Segments)
+    then fault_unless (nat_le (segments_in draft.ways + segment_count nodes) limits.segments)
+    (error_.TooLarge count_.Segments)
     else Some (error_.TooLarge count_.Ways)
 
 -- what is too large where one more relation of these members comes
 abbrev pub beyond_members : Limits → Draft → List Member → Option MapError
 beyond_members limits draft members =
-    fault_unless (nat_le (members_in draft.relations + length members) limits.members) (error_.TooLarge count_.Members)
+    fault_unless (nat_le (members_in draft.relations + length members) limits.members)
+    (error_.TooLarge count_.Members)
 
 -- ---- One more element
 
@@ -95,20 +97,23 @@ with_relations draft relations = record { nodes = draft.nodes; ways = draft.ways
 -- a draft with one more node, or the fault
 abbrev pub take_node : Limits → Kept Place → Draft → Result Draft MapError
 take_node limits node draft =
-    and_then (keep same_place (error_.DoubleId kind_.Node node.id) (beyond_nodes limits draft) node draft.nodes)
+    and_then (keep same_place (error_.DoubleId kind_.Node node.id) (beyond_nodes limits draft) node
+    draft.nodes)
     (λ nodes. Ok (with_nodes draft nodes))
 
 -- a draft with one more way, or the fault
 abbrev pub take_way : Limits → Kept (List ℤ) → Draft → Result Draft MapError
 take_way limits way draft =
-    and_then (keep same_nodes (error_.DoubleId kind_.Way way.id) (beyond_ways limits draft way.content) way draft.ways)
+    and_then (keep same_nodes (error_.DoubleId kind_.Way way.id) (beyond_ways limits draft way.content) way
+    draft.ways)
     (λ ways. Ok (with_ways draft ways))
 
 -- a draft with one more relation, or the fault
 abbrev pub take_relation : Limits → Kept (List Member) → Draft → Result Draft MapError
 take_relation limits relation draft =
     and_then
-    (keep same_members (error_.DoubleId kind_.Relation relation.id) (beyond_members limits draft relation.content) relation
+    (keep same_members (error_.DoubleId kind_.Relation relation.id)
+    (beyond_members limits draft relation.content) relation
     draft.relations)
     (λ relations. Ok (with_relations draft relations))
 
@@ -135,3 +140,7 @@ HasMember relations place member = HoldsAt relations place (λ k. member < lengt
 abbrev pub HoldsAtMember : List (Kept (List Member)) → ℕ → ℕ → (Member → Type 0) → Type 0
 HoldsAtMember relations place member P =
     HoldsAt relations place (λ k. (m : Member) → slice_get k.content member ≡ Some m → P m)
+
+-- the member that is lent
+abbrev pub lent_member : MemberLent → Member
+lent_member m = record { kind = m.kind.now; reference = m.reference; role = m.role.now }

@@ -10,14 +10,14 @@ pub record Held : Type 0 where
   pub limits : Limits
   pub draft : Draft
 
--- a call that changes a value gives it as the answer does, and keeps what else there is; or it refuses as the answer
--- does, or reports want of memory, and changes nothing
+-- a call that changes a value gives it as the answer does, and keeps what else there is; or it refuses as the
+-- answer does, or reports want of memory, and changes nothing
 abbrev pub Becomes : {A D : Type 0} → Result A MapError → D → D → Result D MapError → Type 0
 Becomes result old new answer =
     MatchResult result (λ _. answer ≡ Ok new) (λ e. ((e ≡ NoMemory) ⊎ (answer ≡ Err e)) × (new ≡ old))
 
--- the draft becomes what the answer says, and the limits stay; or the call refuses as the answer does, or reports want
--- of memory, and nothing changes
+-- the draft becomes what the answer says, and the limits stay; or the call refuses as the answer does, or
+-- reports want of memory, and nothing changes
 abbrev pub Takes : {A : Type 0} → Result A MapError → Held → Held → Result Draft MapError → Type 0
 Takes result old new answer =
     MatchResult result (λ _. (answer ≡ Ok new.draft) × (new.limits ≡ old.limits))

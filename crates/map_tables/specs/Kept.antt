@@ -1,5 +1,5 @@
 -- Elements of one kind that are kept, each id once (this project's own rule for repeated elements).
-use Rattle.std.specs.Prelude.{◌≡◌, ℤ, Bool, List, [], ◌∷◌, ◌++◌, Option, Some, None, option_map, slice_get, Result, Ok, Err, ℕ, suc, if◌then◌else◌}
+use Rattle.std.specs.Prelude.{◌≡◌, ◌+◌, ℤ, Bool, List, [], ◌∷◌, ◌++◌, Option, Some, None, option_map, slice_get, Result, Ok, Err, ℕ, suc, if◌then◌else◌}
 use Rattle.std.specs.Ordering.{int_eq}
 
 -- a tag: its name and its value
@@ -42,13 +42,15 @@ unless (Some e) a = Err e
 
 -- the kept elements where an element comes whose id is kept already, or isn't: with another content it is a
 -- double, and a new one goes last unless there are too many
-abbrev pub keep_beside : {C E : Type 0} → (C → C → Bool) → E → Option E → Kept C → List (Kept C) → Option (Kept C) → Result (List (Kept C)) E
+abbrev pub keep_beside : {C E : Type 0} → (C → C → Bool) → E → Option E → Kept C → List (Kept C) →
+    Option (Kept C) → Result (List (Kept C)) E
 keep_beside same double beyond new kept None = unless beyond (kept ++ new ∷ [])
 keep_beside same double beyond new kept (Some old) =
     if same old.content new.content then Ok (with_tags new.id new.tags kept) else Err double
 
 -- the kept elements where one more comes
-abbrev pub keep : {C E : Type 0} → (C → C → Bool) → E → Option E → Kept C → List (Kept C) → Result (List (Kept C)) E
+abbrev pub keep : {C E : Type 0} → (C → C → Bool) → E → Option E → Kept C → List (Kept C) →
+    Result (List (Kept C)) E
 keep same double beyond new kept = keep_beside same double beyond new kept (kept_with new.id kept)
 
 -- ---- Places of ids
@@ -80,14 +82,12 @@ AreDistinct kept = AreDifferent (ids_of kept)
 abbrev pub HoldsAt : {C : Type 0} → List (Kept C) → ℕ → (Kept C → Type 0) → Type 0
 HoldsAt {C} kept place P = (k : Kept C) → slice_get kept place ≡ Some k → P k
 
--- ---- Rows that stand for kept elements
+-- ---- Counts
 
--- the kept elements of ids and rows side by side, where each row has its content and its tags
-abbrev pub kept_rows : {C R : Type 0} → (R → C) → (R → List Tag) → List ℤ → List R → List (Kept C)
-kept_rows content tags [] rows = []
-kept_rows content tags (id ∷ ids) [] = []
-kept_rows content tags (id ∷ ids) (row ∷ rows) =
-    record { id = id; content = content row; tags = tags row } ∷ kept_rows content tags ids rows
+-- how many parts kept elements have, each of which has so many
+abbrev pub total_of : {C : Type 0} → (C → ℕ) → List (Kept C) → ℕ
+total_of size [] = 0
+total_of size (k ∷ ks) = size k.content + total_of size ks
 
 -- what a list becomes where more is put at its end
 pub record Extends {A : Type 0} (old new : List A) : Type 0 where

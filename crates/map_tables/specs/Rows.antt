@@ -1,77 +1,81 @@
 -- What the rows of the tables stand for (this project's own representation).
-use Rattle.std.specs.Prelude.{◌≡◌, ℕ, ◌^◌, ◌<◌, ℤ, List, [], ◌∷◌, length, map, slice_index_or}
-use Rattle.geo_int.specs.Place.{Place}
-use Rattle.geo_int.specs.Spot.{place_of}
-use Rattle.map_tables.specs.Kept.{Tag, Kept, kept_rows}
-use Rattle.map_tables.specs.Draft.{segments_in, members_in}
+use Rattle.std.specs.Prelude.{◌≡◌, ℕ, suc, ◌+◌, ◌-◌, ◌^◌, ◌<◌, ◌≤◌, ℤ, List, [], ◌∷◌, length, take, drop, slice_get, nat_eq, Option, None, Some, if◌then◌else◌}
+use Rattle.std.specs.List.{AllByRecursion}
+use Rattle.map_tables.specs.Kept.{Tag, Kept, total_of}
 use Rattle.map_tables.specs.declared.member.Member.{Member}
-use Rattle.map_tables.specs.declared.nodes.NodeRow.{NodeRow}
-use Rattle.map_tables.specs.declared.ways.WayRow.{WayRow}
 use Rattle.map_tables.specs.declared.members.MemberRow.{MemberRow}
-use Rattle.map_tables.specs.declared.relations.RelationRow.{RelationRow}
+use Rattle.map_tables.specs.declared.table.Row.{Row}
 
--- ---- Nodes
+-- ---- Tags
 
--- the list of tags that a row names
-abbrev pub node_tags : List (List Tag) → NodeRow → List Tag
-node_tags lists row = slice_index_or lists row.tags []
+-- the tags of a list, where it is that of the element at a place
+abbrev pub own_tags : ℕ → Option (ℕ × List Tag) → List Tag
+own_tags place None = []
+own_tags place (Some own) = if nat_eq own.0 place then own.1 else []
 
--- the nodes of rows, whose tags stand in lists
-abbrev pub kept_nodes : List (List Tag) → List ℤ → List NodeRow → List (Kept Place)
-kept_nodes lists ids rows = kept_rows (λ (row : NodeRow). place_of row.spot) (node_tags lists) ids rows
+-- the tags of the element at a place whose row names this list
+abbrev pub tags_in : List (ℕ × List Tag) → ℕ → ℕ → List Tag
+tags_in lists place list = own_tags place (slice_get lists list)
 
--- each row names a list of tags
-abbrev pub NameTags : List (List Tag) → List NodeRow → Type 0
-NameTags lists [] = Unit {0}
-NameTags lists (row ∷ rows) = (row.tags < length lists) × NameTags lists rows
+-- a list is that of the element at a place
+pub record IsOwn (lists : List (ℕ × List Tag)) (place list : ℕ) : Type 0 where
+  pub tags : List Tag
+  pub is : slice_get lists list ≡ Some (place, tags)
 
--- there is a row for each id, and it names a list of tags
-pub record AreNodes (lists : List (List Tag)) (ids : List ℤ) (rows : List NodeRow) : Type 0 where
-  pub same : length ids ≡ length rows
-  pub named : NameTags lists rows
+-- elements at other places keep their tags, whichever lists their rows name
+abbrev pub KeepsOthers : ℕ → List (ℕ × List Tag) → List (ℕ × List Tag) → Type 0
+KeepsOthers place old new = (other list : ℕ) → (other ≡ place → ⊥) → tags_in new other list ≡ tags_in old other list
 
--- ---- Ways
+-- ---- A table
 
--- the ways of rows
-abbrev pub kept_ways : List ℤ → List WayRow → List (Kept (List ℤ))
-kept_ways ids rows = kept_rows (λ (row : WayRow). row.nodes.items) (λ (row : WayRow). row.tags) ids rows
+-- the elements of ids and their rows, the first of which stands at a place
+abbrev pub kept_from : {C : Type 0} → List (ℕ × List Tag) → ℕ → List (ℤ × Row C) → List (Kept C)
+kept_from lists place [] = []
+kept_from lists place (entry ∷ entries) =
+    record { id = entry.0; content = entry.1.content; tags = tags_in lists place entry.1.list }
+    ∷ kept_from lists (suc place) entries
 
--- there is a row for each id, and so many segments are counted
-pub record AreWays (segments : ℕ) (ids : List ℤ) (rows : List WayRow) : Type 0 where
-  pub same : length ids ≡ length rows
-  pub counted : segments ≡ segments_in (kept_ways ids rows)
+-- the list for elements without tags is empty, the parts of all elements are counted, and a place has 32 bits
+pub record IsTable {C : Type 0} (size : C → ℕ) (lists : List (ℕ × List Tag)) (no_tags : List Tag) (total : ℕ)
+    (entries : List (ℤ × Row C)) : Type 0 where
+  pub none : no_tags ≡ []
+  pub counted : total ≡ total_of size (kept_from lists 0 entries)
+  pub few : length entries < 2 ^ 32
 
--- ---- Relations
+-- ---- Members
+
+-- the bytes from a place to another
+abbrev pub bytes_from : List ℕ → ℕ → ℕ → List ℕ
+bytes_from bytes from to = take (to - from) (drop from bytes)
 
 -- the member of a row, whose words stand in a list
-abbrev pub member_of : List (List ℕ) → MemberRow → Member
+abbrev pub member_of : List ℕ → MemberRow → Member
 member_of words row = record {
-  kind = slice_index_or words row.kind [];
+  kind = bytes_from words row.start row.middle;
   reference = row.reference;
-  role = slice_index_or words row.role [];
+  role = bytes_from words row.middle row.end;
 }
 
--- the members of a row
-abbrev pub members_of : List (List ℕ) → RelationRow → List Member
-members_of words row = map (member_of words) row.members.items
+-- the row of a member whose words stand behind so many bytes
+abbrev pub row_behind : ℕ → Member → MemberRow
+row_behind bytes member = record {
+  reference = member.reference;
+  start = bytes;
+  middle = bytes + length member.kind;
+  end = bytes + length member.kind + length member.role;
+}
 
--- the relations of rows
-abbrev pub kept_relations : List (List ℕ) → List ℤ → List RelationRow → List (Kept (List Member))
-kept_relations words ids rows = kept_rows (members_of words) (λ (row : RelationRow). row.tags) ids rows
+-- the words of a row stand within so many bytes
+pub record LiesWithin (bytes : ℕ) (row : MemberRow) : Type 0 where
+  pub kind : row.start ≤ row.middle
+  pub role : row.middle ≤ row.end
+  pub last : row.end ≤ bytes
 
--- the members name words
-abbrev pub NameWords : List (List ℕ) → List MemberRow → Type 0
-NameWords words [] = Unit {0}
-NameWords words (m ∷ ms) = ((m.kind < length words) × (m.role < length words)) × NameWords words ms
+-- so do the words of rows
+abbrev pub LieWithin : ℕ → List MemberRow → Type 0
+LieWithin bytes = AllByRecursion (LiesWithin bytes)
 
--- the members of each row name words
-abbrev pub AllNameWords : List (List ℕ) → List RelationRow → Type 0
-AllNameWords words [] = Unit {0}
-AllNameWords words (row ∷ rows) = NameWords words row.members.items × AllNameWords words rows
-
--- there is a row for each id, fewer than 2^32 of them, their members name words, and so many members are counted
-pub record AreRelations (members : ℕ) (words : List (List ℕ)) (ids : List ℤ) (rows : List RelationRow) : Type 0 where
-  pub few : length ids < 2 ^ 32
-  pub same : length ids ≡ length rows
-  pub named : AllNameWords words rows
-  pub counted : members ≡ members_in (kept_relations words ids rows)
+-- the words of rows stand within a list, and a place has 32 bits
+pub record AreMembers (words : List ℕ) (rows : List MemberRow) : Type 0 where
+  pub within : LieWithin (length words) rows
+  pub few : length rows < 2 ^ 32

@@ -24,12 +24,14 @@ pub enum MapCount {
     Members,
 }
 
-/// The first fault of a map's text. Those of one element are tried in the order in which they stand here.
+/// The first fault of a map's text. Those of one element are tried in the order in which they stand
+/// here.
 #[derive(Clone, Copy, Drop)]
 pub enum MapError {
     /// No JSON text begins with the first `at` bytes and the next one.
     NotJson { at: u64 },
-    /// The element at this place, from 1, isn't of the form that its type asks for; 0 for the text as a whole.
+    /// The element at this place, from 1, isn't of the form that its type asks for; 0 for the text
+    /// as a whole.
     Shape { place: u64 },
     /// The latitude or the longitude of the node isn't a coordinate's text, or is out of range.
     BadCoordinate { id: i64 },

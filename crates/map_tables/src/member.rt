@@ -21,3 +21,14 @@ impl Drop for Member {
         } = self;
     }
 }
+
+/// A member that is kept, whose words are lent.
+#[derive(Clone, Copy)]
+pub struct MemberLent<'a> {
+    /// The type of the element, as the text names it.
+    pub kind: &'a [u8],
+    /// The element's id.
+    pub reference: i64,
+    /// What the element is in the relation.
+    pub role: &'a [u8],
+}

@@ -1,85 +1,182 @@
-//! Members of relations as rows, whose words stand in a list.
+//! The members of a relation, as rows over the bytes of their words.
 
-ghost use Rattle.std.specs.Prelude.{◌≡◌, ◌<◌, length, map, IfOk};
-ghost use Rattle.map_tables.specs.Kept.{Extends};
-ghost use Rattle.map_tables.specs.Draft.{same_member, same_members};
-ghost use Rattle.map_tables.specs.Rows.{NameWords, member_of};
+ghost use Rattle.std.specs.Prelude.{◌≡◌, ◌<◌, ◌≤◌, ◌++◌, length, map, slice_get, Some, IfOk, OnOk};
+ghost use Rattle.map_tables.specs.Draft.{lent_member, same_member, same_members};
+ghost use Rattle.map_tables.specs.Rows.{LiesWithin, LieWithin, bytes_from, member_of, row_behind};
 
-use crate::member::Member;
-use crate::words::Words;
+use crate::content::Content;
+use crate::member::{Member, MemberLent};
 use std::alloc::{AllocError, Global};
+use std::marker::Model;
 
-/// A member: what it refers to, and where its words stand.
+/// A member: what it refers to, and where its type begins, its role begins and both end.
 #[derive(Clone, Copy)]
 pub(crate) struct MemberRow {
     pub(crate) reference: i64,
-    pub(crate) kind: u32,
-    pub(crate) role: u32,
+    pub(crate) start: u32,
+    pub(crate) middle: u32,
+    pub(crate) end: u32,
 }
 
-/// The rows of members, whose words are put into a list.
-pub(crate) fn rows_of(
-    alloc: Global,
-    words: &mut Words,
-    members: &[Member],
-) -> Result<Vec<MemberRow>, AllocError>
-    ensures value { IfOk result (λ rows. map (member_of words.new) rows.items ≡ members.now) }
-    ensures named { IfOk result (λ rows. NameWords words.new rows.items) }
-    ensures more { Extends words.old words.new }
-{
-    let mut rows = Vec::with_capacity(alloc, members.len())?;
-    'each: for member in members {
-        let row = row_of(alloc, words, member)?;
-        rows.push(row)?;
+/// The members of a relation, in their order.
+pub(crate) struct Members {
+    rows: Vec<MemberRow>,
+    words: Vec<u8>,
+}
+
+impl Drop for Members {
+    fn drop(self) {
+        let Members { rows: _, words: _ } = self;
     }
-    Ok(rows)
 }
 
-/// The row of a member, whose words are put into a list.
-fn row_of(alloc: Global, words: &mut Words, member: &Member) -> Result<MemberRow, AllocError>
-    ensures value { IfOk result (λ row. member_of words.new row ≡ member.now) }
-    ensures named { IfOk result (λ row. (row.kind < length words.new) × (row.role < length words.new)) }
-    ensures more { Extends words.old words.new }
-{
-    let kind = words.add(alloc, member.kind.as_slice())?;
-    let role = words.add(alloc, member.role.as_slice())?;
-    Ok(MemberRow {
-        reference: member.reference,
-        kind,
-        role,
-    })
+impl Model for Members {
+    ghost use Rattle.std.specs.Prelude.{List, map};
+    ghost use Rattle.map_tables.specs.declared.member.Member.{Member};
+
+    ghost Value = { List Member };
+
+    ghost use Rattle.map_tables.specs.Rows.{member_of, AreMembers};
+
+    ghost view = { λ a. map (member_of a.words.items) a.rows.items };
+
+    ghost invariant = { λ a. AreMembers a.words.items a.rows.items };
 }
 
-/// Whether rows stand for these members, in this order.
-pub(crate) fn are_same(words: &Words, rows: &[MemberRow], members: &[Member]) -> bool
-    requires named { NameWords words.now rows.now }
-    ensures value { result ≡ same_members (map (member_of words.now) rows.now) members.now }
+impl Members {
+    ghost use Rattle.map_tables.specs.declared.member.Member.{Member};
+
+    /// These members.
+    pub(crate) fn new(alloc: Global, members: &[Member]) -> Result<Members, AllocError>
+        ensures value { IfOk result (λ all. all ≡ members.now) }
+    {
+        if members.len() > 4_294_967_295 {
+            return Err(AllocError);
+        }
+        let mut words = Vec::new(alloc);
+        let rows = rows_of(alloc, &mut words, members)?;
+        Ok(Members { rows, words })
+    }
+
+    /// How many there are.
+    pub(crate) fn len(&self) -> u32
+        ensures value { result ≡ length self.now }
+    {
+        self.rows.len() as u32
+    }
+
+    /// The member at a place.
+    pub(crate) fn at(&self, place: u32) -> MemberLent<'_>
+        requires fits { place < length self.now }
+        ensures value { slice_get self.now place ≡ Some (lent_member result) }
+    {
+        lent(self.words.as_slice(), self.rows[place as usize])
+    }
+}
+
+impl Content for Members {
+    ghost use Rattle.std.specs.Prelude.{length};
+
+    ghost same = { same_members };
+
+    ghost size = { length };
+
+    fn is_same(&self, other: &Members) -> bool {
+        are_same(self, other)
+    }
+
+    fn size(&self) -> usize {
+        self.len() as usize
+    }
+}
+
+/// The member of a row.
+fn lent(words: &[u8], row: MemberRow) -> MemberLent<'_>
+    requires within { LiesWithin (length words.now) row }
+    ensures value { lent_member result ≡ member_of words.now row }
 {
-    if rows.len() != members.len() {
+    MemberLent {
+        kind: part(words, row.start, row.middle),
+        reference: row.reference,
+        role: part(words, row.middle, row.end),
+    }
+}
+
+/// The bytes from a place to another.
+fn part(bytes: &[u8], from: u32, to: u32) -> &[u8]
+    requires order { from ≤ to }
+    requires within { to ≤ length bytes.now }
+    ensures value { result.now ≡ bytes_from bytes.now from to }
+{
+    &bytes[from as usize..to as usize]
+}
+
+/// Whether these are the same members in the same order.
+fn are_same(members: &Members, others: &Members) -> bool
+    ensures value { result ≡ same_members members.now others.now }
+{
+    if members.len() != others.len() {
         return false;
     }
-    'each: for i in 0..rows.len() {
-        if !is_same(words, rows[i], &members[i]) {
+    'each: for i in 0..members.len() {
+        if !is_same(members.at(i), others.at(i)) {
             return false;
         }
     }
     true
 }
 
-/// Whether a row stands for this member.
-fn is_same(words: &Words, row: MemberRow, member: &Member) -> bool
-    requires kind { row.kind < length words.now }
-    requires role { row.role < length words.now }
-    ensures value { result ≡ same_member (member_of words.now row) member.now }
+/// Whether this is the same member.
+fn is_same(member: MemberLent, other: MemberLent) -> bool
+    ensures value { result ≡ same_member (lent_member member.entry) (lent_member other.entry) }
 {
-    let same_kind = words.at(row.kind) == member.kind.as_slice();
-    let same_role = words.at(row.role) == member.role.as_slice();
-    same_kind & ((row.reference == member.reference) & same_role)
+    let same_kind = member.kind == other.kind;
+    let same_role = member.role == other.role;
+    same_kind & ((member.reference == other.reference) & same_role)
 }
 
-/// What a row refers to.
-pub(crate) fn reference_of(row: MemberRow) -> i64
-    ensures value { result ≡ row.reference }
+/// The rows of members, whose words are put into a list.
+fn rows_of(
+    alloc: Global,
+    words: &mut Vec<u8>,
+    members: &[Member],
+) -> Result<Vec<MemberRow>, AllocError>
+    ensures value { IfOk result (λ rows. map (member_of words.new.items) rows.items ≡ members.now) }
+    ensures within { IfOk result (λ rows. LieWithin (length words.new.items) rows.items) }
 {
-    row.reference
+    let mut rows = Vec::with_capacity(alloc, members.len())?;
+    'each: for member in members {
+        let row = row_of(words, member)?;
+        rows.push(row)?;
+    }
+    Ok(rows)
+}
+
+/// The row of a member, whose words are put at the end of a list.
+fn row_of(words: &mut Vec<u8>, member: &Member) -> Result<MemberRow, AllocError>
+    ensures value { IfOk result (λ row. row ≡ row_behind (length words.old.items) member.now) }
+    ensures words { OnOk result
+        (words.new.items ≡ words.old.items ++ (member.now.kind ++ member.now.role)) }
+{
+    let start = narrowed(words.len())?;
+    words.extend_from_slice(member.kind.as_slice())?;
+    let middle = narrowed(words.len())?;
+    words.extend_from_slice(member.role.as_slice())?;
+    let end = narrowed(words.len())?;
+    Ok(MemberRow {
+        reference: member.reference,
+        start,
+        middle,
+        end,
+    })
+}
+
+/// A place of 32 bits, unless it is beyond.
+fn narrowed(place: usize) -> Result<u32, AllocError>
+    ensures value { IfOk result (λ narrow. narrow ≡ place) }
+{
+    if place > 4_294_967_295 {
+        return Err(AllocError);
+    }
+    Ok(place as u32)
 }

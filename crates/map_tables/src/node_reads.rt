@@ -5,7 +5,7 @@ ghost use Rattle.geo_int.specs.Place.{Place};
 ghost use Rattle.geo_int.specs.Spot.{place_of};
 ghost use Rattle.map_tables.specs.Kept.{place_of_id, HoldsAt};
 
-use crate::tables::{Tables, narrowed};
+use crate::tables::Tables;
 use geo_int::Spot;
 use item_list::Tags;
 
@@ -14,7 +14,7 @@ impl Tables {
     pub fn nodes(&self) -> u32
         ensures value { result ≡ length self.now.draft.nodes }
     {
-        narrowed(self.nodes.len(), self.limits.nodes)
+        self.nodes.len()
     }
 
     /// The id of a node.
@@ -22,7 +22,7 @@ impl Tables {
         requires fits { node < length self.now.draft.nodes }
         ensures value { HoldsAt self.now.draft.nodes node (λ k. result ≡ k.id) }
     {
-        self.nodes.id(node as usize)
+        self.nodes.id(node)
     }
 
     /// Where a node is.
@@ -30,7 +30,7 @@ impl Tables {
         requires fits { node < length self.now.draft.nodes }
         ensures value { HoldsAt self.now.draft.nodes node (λ k. place_of result ≡ k.content) }
     {
-        self.nodes.spot(node as usize)
+        self.nodes.content(node).spot()
     }
 
     /// The tags of a node.
@@ -38,7 +38,7 @@ impl Tables {
         requires fits { node < length self.now.draft.nodes }
         ensures value { HoldsAt self.now.draft.nodes node (λ k. result.now ≡ k.tags) }
     {
-        self.nodes.tags(node as usize)
+        self.nodes.tags(node)
     }
 
     /// The node of an id.
@@ -46,9 +46,6 @@ impl Tables {
         ensures value { result ≡ place_of_id id self.now.draft.nodes }
         ensures fits { IfSome result (λ node. node < length self.now.draft.nodes) }
     {
-        match self.nodes.find(id) {
-            None => None,
-            Some(place) => Some(narrowed(place, self.limits.nodes)),
-        }
+        self.nodes.find(id)
     }
 }

@@ -2,19 +2,18 @@
 
 ghost use Rattle.std.specs.Prelude.{◌≡◌, ◌<◌, length};
 ghost use Rattle.map_tables.specs.Kept.{HoldsAt};
-ghost use Rattle.map_tables.specs.Draft.{HasMember, HoldsAtMember};
+ghost use Rattle.map_tables.specs.Draft.{HasMember, HoldsAtMember, lent_member};
 
-use crate::tables::{Tables, narrowed};
+use crate::member::MemberLent;
+use crate::tables::Tables;
 use item_list::Tags;
 
 impl Tables {
-    ghost use Rattle.map_tables.specs.declared.member.Member.{Member};
-
     /// How many relations there are.
     pub fn relations(&self) -> u32
         ensures value { result ≡ length self.now.draft.relations }
     {
-        self.relations.len() as u32
+        self.relations.len()
     }
 
     /// The id of a relation.
@@ -22,7 +21,7 @@ impl Tables {
         requires fits { relation < length self.now.draft.relations }
         ensures value { HoldsAt self.now.draft.relations relation (λ k. result ≡ k.id) }
     {
-        self.relations.id(relation as usize)
+        self.relations.id(relation)
     }
 
     /// The tags of a relation.
@@ -30,7 +29,7 @@ impl Tables {
         requires fits { relation < length self.now.draft.relations }
         ensures value { HoldsAt self.now.draft.relations relation (λ k. result.now ≡ k.tags) }
     {
-        self.relations.tags(relation as usize)
+        self.relations.tags(relation)
     }
 
     /// How many members a relation has.
@@ -38,39 +37,16 @@ impl Tables {
         requires fits { relation < length self.now.draft.relations }
         ensures value { HoldsAt self.now.draft.relations relation (λ k. result ≡ length k.content) }
     {
-        narrowed(
-            self.relations.members(relation as usize),
-            self.limits.members,
-        )
+        self.relations.content(relation).len()
     }
 
-    /// The type of a member, as the text names it.
-    pub fn member_kind(&self, relation: u32, member: u32) -> &[u8]
+    /// A member of a relation.
+    pub fn member(&self, relation: u32, member: u32) -> MemberLent<'_>
         requires fits { relation < length self.now.draft.relations }
         requires among { HasMember self.now.draft.relations relation member }
-        ensures value { HoldsAtMember self.now.draft.relations relation member (λ m. result.now ≡ m.kind) }
+        ensures value { HoldsAtMember self.now.draft.relations relation member
+            (λ m. lent_member result ≡ m) }
     {
-        self.relations
-            .member_kind(relation as usize, member as usize)
-    }
-
-    /// The id of the element that a member refers to.
-    pub fn member_reference(&self, relation: u32, member: u32) -> i64
-        requires fits { relation < length self.now.draft.relations }
-        requires among { HasMember self.now.draft.relations relation member }
-        ensures value { HoldsAtMember self.now.draft.relations relation member (λ m. result ≡ m.reference) }
-    {
-        self.relations
-            .member_reference(relation as usize, member as usize)
-    }
-
-    /// What a member is in its relation.
-    pub fn member_role(&self, relation: u32, member: u32) -> &[u8]
-        requires fits { relation < length self.now.draft.relations }
-        requires among { HasMember self.now.draft.relations relation member }
-        ensures value { HoldsAtMember self.now.draft.relations relation member (λ m. result.now ≡ m.role) }
-    {
-        self.relations
-            .member_role(relation as usize, member as usize)
+        self.relations.content(relation).at(member)
     }
 }

@@ -1,20 +1,20 @@
 //! The elements so far, each id of a kind once, within limits.
 
-ghost use Rattle.std.specs.Prelude.{◌≡◌, ◌<◌, ◌≤◌, length, slice_set, IfErr, OnOk};
+ghost use Rattle.std.specs.Prelude.{◌≡◌, ◌<◌, Bool, length, slice_set, IfErr, OnOk};
 ghost use Rattle.geo_int.specs.Spot.{place_of};
 ghost use Rattle.map_tables.specs.Kept.{with_tag, HoldsAt};
-ghost use Rattle.map_tables.specs.Draft.{HasDistinctIds, IsWithin, empty, take_node, take_relation, take_way, with_ways};
+ghost use Rattle.map_tables.specs.Draft.{HasDistinctIds, IsWithin, beyond_members, beyond_nodes, beyond_ways, empty, fault_unless, take_node, take_relation, take_way, with_ways};
 ghost use Rattle.map_tables.specs.Held.{Takes};
 ghost use Rattle.map_tables.specs.declared.error.MapError.TheVariants as error_;
 
-use crate::error::MapError;
+use crate::content::{At, segments_of};
+use crate::error::{ElementKind, MapCount, MapError};
 use crate::limits::Limits;
 use crate::member::Member;
-use crate::nodes::Nodes;
-use crate::relations::Relations;
-use crate::ways::Ways;
+use crate::members::Members;
+use crate::table::{Table, are_within};
 use geo_int::Spot;
-use item_list::{Name, Tags};
+use item_list::{Items, Name, Tags};
 use std::alloc::Global;
 use std::marker::Model;
 
@@ -22,9 +22,9 @@ use std::marker::Model;
 pub struct Tables {
     alloc: Global,
     pub(crate) limits: Limits,
-    pub(crate) nodes: Nodes,
-    pub(crate) ways: Ways,
-    pub(crate) relations: Relations,
+    pub(crate) nodes: Table<At>,
+    pub(crate) ways: Table<Items<i64>>,
+    pub(crate) relations: Table<Members>,
 }
 
 impl Drop for Tables {
@@ -50,7 +50,8 @@ impl Model for Tables {
       draft = record { nodes = t.nodes; ways = t.ways; relations = t.relations };
     } };
 
-    ghost invariant = { λ t. IsWithin t.limits (record { nodes = t.nodes; ways = t.ways; relations = t.relations }) };
+    ghost invariant = { λ t.
+        IsWithin t.limits (record { nodes = t.nodes; ways = t.ways; relations = t.relations }) };
 }
 
 impl Tables {
@@ -61,9 +62,9 @@ impl Tables {
         Tables {
             alloc,
             limits,
-            nodes: Nodes::new(alloc),
-            ways: Ways::new(alloc),
-            relations: Relations::new(alloc),
+            nodes: Table::new(alloc),
+            ways: Table::new(alloc),
+            relations: Table::new(alloc),
         }
     }
 
@@ -84,7 +85,9 @@ impl Tables {
         ensures exact { Takes result self.old self.new
             (take_node self.old.limits (record { id = id; content = place_of spot; tags = tags }) self.old.draft) }
     {
-        self.nodes.add(id, spot, tags, self.limits)
+        let beyond = self.beyond_nodes();
+        self.nodes
+            .add(ElementKind::Node, id, At::new(spot), tags, beyond)
     }
 
     /// Adds a way, or gives the one of this id again.
@@ -92,7 +95,12 @@ impl Tables {
         ensures exact { Takes result self.old self.new
             (take_way self.old.limits (record { id = id; content = nodes.now; tags = tags }) self.old.draft) }
     {
-        self.ways.add(self.alloc, id, nodes, tags, self.limits)
+        let beyond = self.beyond_ways(nodes);
+        let nodes = match Vec::from_slice(self.alloc, nodes) {
+            Ok(nodes) => Items::from_vec(nodes),
+            Err(_) => return Err(MapError::NoMemory),
+        };
+        self.ways.add(ElementKind::Way, id, nodes, tags, beyond)
     }
 
     /// Adds a relation, or gives the one of this id again.
@@ -100,8 +108,13 @@ impl Tables {
         ensures exact { Takes result self.old self.new
             (take_relation self.old.limits (record { id = id; content = members.now; tags = tags }) self.old.draft) }
     {
+        let beyond = self.beyond_members(members);
+        let members = match Members::new(self.alloc, members) {
+            Ok(members) => members,
+            Err(_) => return Err(MapError::NoMemory),
+        };
         self.relations
-            .add(self.alloc, id, members, tags, self.limits)
+            .add(ElementKind::Relation, id, members, tags, beyond)
     }
 
     /// Puts a tag behind those of a way. Where memory runs out, nothing changes.
@@ -114,15 +127,45 @@ impl Tables {
             })) }
         ensures kept { IfErr result (λ e. (e ≡ error_.NoMemory) × (self.new ≡ self.old)) }
     {
-        self.ways.tag(way as usize, name, value)
+        self.ways.tag(self.alloc, way, name, value)
+    }
+
+    /// What is too large where one more node comes.
+    fn beyond_nodes(&self) -> Option<MapError>
+        ensures value { result ≡ beyond_nodes self.now.limits self.now.draft }
+    {
+        fault_unless(self.nodes.len() < self.limits.nodes, MapCount::Nodes)
+    }
+
+    /// What is too large where one more way of these nodes comes.
+    fn beyond_ways(&self, nodes: &[i64]) -> Option<MapError>
+        ensures value { result ≡ beyond_ways self.now.limits self.now.draft nodes.now }
+    {
+        if self.ways.len() >= self.limits.ways {
+            return fault_unless(false, MapCount::Ways);
+        }
+        let all = self.ways.total();
+        let few = are_within(all, segments_of(nodes), self.limits.segments);
+        fault_unless(few, MapCount::Segments)
+    }
+
+    /// What is too large where one more relation of these members comes.
+    fn beyond_members(&self, members: &[Member]) -> Option<MapError>
+        ensures value { result ≡ beyond_members self.now.limits self.now.draft members.now }
+    {
+        let all = self.relations.total();
+        let few = are_within(all, members.len(), self.limits.members);
+        fault_unless(few, MapCount::Members)
     }
 }
 
-/// A place or a count of 32 bits, since it is within a limit of 32 bits.
-pub(crate) fn narrowed(place: usize, most: u32) -> u32
-    requires within { place ≤ most }
-    ensures value { result ≡ place }
+/// The fault of too many, unless something holds.
+fn fault_unless(holds: bool, what: MapCount) -> Option<MapError>
+    ensures value { result ≡ fault_unless holds (error_.TooLarge what) }
 {
-    let _most = most;
-    place as u32
+    if holds {
+        None
+    } else {
+        Some(MapError::TooLarge { what })
+    }
 }

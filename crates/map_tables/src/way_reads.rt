@@ -4,7 +4,7 @@ ghost use Rattle.std.specs.Prelude.{◌≡◌, ◌<◌, length, IfSome};
 ghost use Rattle.map_tables.specs.Kept.{place_of_id, HoldsAt};
 ghost use Rattle.map_tables.specs.Draft.{segments_in};
 
-use crate::tables::{Tables, narrowed};
+use crate::tables::Tables;
 use item_list::Tags;
 
 impl Tables {
@@ -12,14 +12,14 @@ impl Tables {
     pub fn ways(&self) -> u32
         ensures value { result ≡ length self.now.draft.ways }
     {
-        narrowed(self.ways.len(), self.limits.ways)
+        self.ways.len()
     }
 
     /// How many segments all ways have.
     pub fn segments(&self) -> u32
         ensures value { result ≡ segments_in self.now.draft.ways }
     {
-        self.ways.segments()
+        self.ways.total()
     }
 
     /// The id of a way.
@@ -27,7 +27,7 @@ impl Tables {
         requires fits { way < length self.now.draft.ways }
         ensures value { HoldsAt self.now.draft.ways way (λ k. result ≡ k.id) }
     {
-        self.ways.id(way as usize)
+        self.ways.id(way)
     }
 
     /// The ids of a way's nodes.
@@ -35,7 +35,7 @@ impl Tables {
         requires fits { way < length self.now.draft.ways }
         ensures value { HoldsAt self.now.draft.ways way (λ k. result.now ≡ k.content) }
     {
-        self.ways.nodes(way as usize)
+        self.ways.content(way).as_slice()
     }
 
     /// The tags of a way.
@@ -43,7 +43,7 @@ impl Tables {
         requires fits { way < length self.now.draft.ways }
         ensures value { HoldsAt self.now.draft.ways way (λ k. result.now ≡ k.tags) }
     {
-        self.ways.tags(way as usize)
+        self.ways.tags(way)
     }
 
     /// The way of an id.
@@ -51,9 +51,6 @@ impl Tables {
         ensures value { result ≡ place_of_id id self.now.draft.ways }
         ensures fits { IfSome result (λ way. way < length self.now.draft.ways) }
     {
-        match self.ways.find(id) {
-            None => None,
-            Some(place) => Some(narrowed(place, self.limits.ways)),
-        }
+        self.ways.find(id)
     }
 }

@@ -1,11 +1,9 @@
-use Rattle.std.proofs.Common.{◌≡◌, map, take}
-use Rattle.map_tables.specs.Kept.{Extends}
-use Rattle.map_tables.specs.Rows.{NameWords, member_of}
+use Rattle.std.proofs.Common.{◌≡◌, length, map, take}
+use Rattle.map_tables.specs.Rows.{member_of, LieWithin}
 use Rattle.map_tables.proofs.members.rows_of.Given as goal
 
 abbrev pub invariant-each : goal.invariant-each
 invariant-each l = record {
-  more : Extends l.fn.words l.words;
-  value : map (member_of l.words) l.rows.items ≡ take l.member-index l.members;
-  named : NameWords l.words l.rows.items;
+  value : map (member_of l.words.items) l.rows.items ≡ take l.member-index l.members;
+  within : LieWithin (length l.words.items) l.rows.items;
 }

@@ -1,7 +1,9 @@
-use Rattle.std.proofs.Common.{List, ℤ}
+use Rattle.std.proofs.Common.{◌∙◌, ap, sym, List, ℤ}
 use Rattle.map_tables.specs.Kept.{Kept}
-use Rattle.map_tables.specs.Draft.{Draft, IsWithin, same_nodes, with_ways}
-use Rattle.map_tables.proofs.WithinLemmas.{IsWithin-ways, within-after}
+use Rattle.map_tables.specs.Draft.{Draft, IsWithin, beyond_ways, with_ways}
+use Rattle.map_tables.specs.Held.{Held}
+use Rattle.map_tables.proofs.KeptLemmas.{Becomes-keeps}
+use Rattle.map_tables.proofs.WithinLemmas.{IsWithin-ways}
 use Rattle.map_tables.proofs.tables.Tables.add_way.Goals as goal
 
 pub invariant_of-self : goal.invariant_of-self
@@ -11,7 +13,9 @@ invariant_of-self c =
       ways = c.self.inside.ways;
       relations = c.self.inside.relations;
     } in
-    within-after (λ (ways : List (Kept (List ℤ))). IsWithin c.self.inside.limits (with_ways draft ways)) c.add.result
-    c.self.inside.ways c.add.new.self _
-    c.add.ensures.exact c.self.invariant
-    (λ more is. IsWithin-ways c.self.inside.limits draft same_nodes _ _ more c.self.invariant is)
+    Becomes-keeps (λ (ways : List (Kept (List ℤ))). IsWithin c.self.inside.limits (with_ways draft ways))
+    c.add.result c.self.inside.ways c.add.new.self _ c.add.ensures.exact c.self.invariant
+    (IsWithin-ways c.self.inside.limits draft c.self.invariant _ _ _
+    (c.beyond_ways-beyond.ensures.value
+    ∙ ap (λ (held : Held). beyond_ways held.limits held.draft c.args.nodes.now) (sym c.self.view_is)
+    ∙ ap (beyond_ways c.self.inside.limits draft) (sym (c.from_vec-nodes.ensures.value ∙ c.in-Ok.ensures.items))))
