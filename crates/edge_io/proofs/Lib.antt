@@ -1,10 +1,4 @@
-pub mod FolderLemmas
+pub mod ActLemmas
+pub mod CallerLemmas
 pub mod SinkLemmas
 pub mod WholeLemmas
-pub mod ActLemmas
-pub mod TapeLemmas
-pub mod PlaceLemmas
-pub mod HeldLemmas
-pub mod SetLemmas
-pub mod SceneLemmas
-pub mod CallerLemmas

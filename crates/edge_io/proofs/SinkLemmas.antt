@@ -10,7 +10,8 @@ pub Grows-none : (seen : SinkSeen) → Grows seen seen []
 Grows-none seen = record { held = Appends-nil seen.held; faults = refl }
 
 -- after the first bytes and then the next ones, so many first bytes follow
-pub Grows-more : (first mid new : SinkSeen) (bytes : List ℕ) (sent taken : ℕ) → Grows first mid (take sent bytes) → Grows mid new (take taken (drop sent bytes)) → Grows first new (take (sent + taken) bytes)
+pub Grows-more : (first mid new : SinkSeen) (bytes : List ℕ) (sent taken : ℕ) → Grows first mid (take sent bytes) →
+    Grows mid new (take taken (drop sent bytes)) → Grows first new (take (sent + taken) bytes)
 Grows-more first mid new bytes sent taken before more =
     let joined : Appends first.held new.held (take sent bytes ++ take taken (drop sent bytes)) =
     Appends-trans first.held mid.held new.held (take sent bytes) (take taken (drop sent bytes)) before.held more.held in
@@ -20,7 +21,8 @@ Grows-more first mid new bytes sent taken before more =
     }
 
 -- a call that failed after the first bytes breaks off there
-pub BreaksOff-after : (first mid new : SinkSeen) (bytes : List ℕ) (sent : ℕ) → sent < length bytes → Grows first mid (take sent bytes) → FailsToTake mid new → BreaksOff first new bytes
+pub BreaksOff-after : (first mid new : SinkSeen) (bytes : List ℕ) (sent : ℕ) → sent < length bytes → Grows first mid (take sent bytes) →
+    FailsToTake mid new → BreaksOff first new bytes
 BreaksOff-after first mid new bytes sent within before fails = record {
   sent = sent;
   within = within;

@@ -35,11 +35,13 @@ count_more : (times old mid new : ℕ) → mid ≡ count_after times old → new
 count_more times old mid new before next = next ∙ ap next_count before
 
 -- the bytes of one more read follow those before
-pub joined : (first mid new : FilesSeen) (bytes buffer : List ℕ) (n : ℕ) → HasRead first mid bytes → Reads mid new buffer n → Consumes first.left new.left (bytes ++ take n buffer)
+pub joined : (first mid new : FilesSeen) (bytes buffer : List ℕ) (n : ℕ) → HasRead first mid bytes → Reads mid new buffer n →
+    Consumes first.left new.left (bytes ++ take n buffer)
 joined first mid new bytes buffer n before more = Consumes-trans first.left mid.left new.left bytes (take n buffer) before.left more.left
 
 -- one more read, within the limit or beyond it
-pub ReadsBytes-more : (limit : ℕ) (first mid new : FilesSeen) (bytes buffer : List ℕ) (n : ℕ) → length bytes ≤ limit → HasRead first mid bytes → Reads mid new buffer n → ReadsBytes limit first new (bytes ++ take n buffer)
+pub ReadsBytes-more : (limit : ℕ) (first mid new : FilesSeen) (bytes buffer : List ℕ) (n : ℕ) → length bytes ≤ limit →
+    HasRead first mid bytes → Reads mid new buffer n → ReadsBytes limit first new (bytes ++ take n buffer)
 ReadsBytes-more limit first mid new bytes buffer n fits before more = record {
   times = suc before.times;
   few = omega (arith, before.few, length-append bytes (take n buffer));
@@ -52,7 +54,8 @@ ReadsBytes-more limit first mid new bytes buffer n fits before more = record {
 }
 
 -- the bytes so far, where another read gave none
-pub ReadsBytes-end : (limit : ℕ) (first mid new : FilesSeen) (bytes buffer : List ℕ) (n : ℕ) → length bytes ≤ limit → HasRead first mid bytes → Reads mid new buffer n → n ≡ 0 → ReadsBytes limit first new bytes
+pub ReadsBytes-end : (limit : ℕ) (first mid new : FilesSeen) (bytes buffer : List ℕ) (n : ℕ) → length bytes ≤ limit →
+    HasRead first mid bytes → Reads mid new buffer n → n ≡ 0 → ReadsBytes limit first new bytes
 ReadsBytes-end limit first mid new bytes buffer n fits before more none =
     subst (ReadsBytes limit first new) (no_more buffer n none) (ReadsBytes-more limit first mid new bytes buffer n fits before more)
   where
@@ -63,7 +66,8 @@ ReadsBytes-end limit first mid new bytes buffer n fits before more none =
         none_taken buffer = append-nil bytes
 
 -- the bytes so far are all, where another read gave none
-pub IsAllLeft-end : (limit : ℕ) (first mid new : FilesSeen) (bytes buffer : List ℕ) (n : ℕ) → length bytes ≤ limit → HasRead first mid bytes → Reads mid new buffer n → n ≡ 0 → IsAllLeft first.left bytes
+pub IsAllLeft-end : (limit : ℕ) (first mid new : FilesSeen) (bytes buffer : List ℕ) (n : ℕ) → length bytes ≤ limit →
+    HasRead first mid bytes → Reads mid new buffer n → n ≡ 0 → IsAllLeft first.left bytes
 IsAllLeft-end limit first mid new bytes buffer n fits before more none =
     all first.left new.left bytes (ReadsBytes-end limit first mid new bytes buffer n fits before more none).left (more.end none)
   where
@@ -73,9 +77,11 @@ IsAllLeft-end limit first mid new bytes buffer n fits before more none =
     all (Some xs) (Some ys) bytes took end = took ∙ ap (λ (l : List ℕ). bytes ++ l) end ∙ append-nil bytes
 
 -- where more bytes were read than the limit allows, more than the limit were left
-pub IsTooLong-more : (limit : ℕ) (first mid new : FilesSeen) (bytes buffer : List ℕ) (n : ℕ) → n ≤ length buffer → limit < length bytes + n → HasRead first mid bytes → Reads mid new buffer n → IsTooLong first.left limit
+pub IsTooLong-more : (limit : ℕ) (first mid new : FilesSeen) (bytes buffer : List ℕ) (n : ℕ) → n ≤ length buffer →
+    limit < length bytes + n → HasRead first mid bytes → Reads mid new buffer n → IsTooLong first.left limit
 IsTooLong-more limit first mid new bytes buffer n fits beyond before more =
-    long first.left new.left (bytes ++ take n buffer) (joined first mid new bytes buffer n before more) (omega (arith, length-append bytes (take n buffer), length-take-le n buffer fits))
+    long first.left new.left (bytes ++ take n buffer) (joined first mid new bytes buffer n before more)
+    (omega (arith, length-append bytes (take n buffer), length-take-le n buffer fits))
   where
     long : (a b : Option (List ℕ)) (all : List ℕ) → Consumes a b all → limit < length all → IsTooLong a limit
     long None b all took beyond = tt
@@ -83,11 +89,14 @@ IsTooLong-more limit first mid new bytes buffer n fits beyond before more =
     long (Some xs) (Some ys) all took beyond = omega (arith, ap length took, length-append all ys)
 
 -- bytes that were added make the list as much longer
-pub length-extended : (bytes buffer extended : List ℕ) (n : ℕ) → extended ≡ bytes ++ take n buffer → n ≤ length buffer → length extended ≡ length bytes + n
-length-extended bytes buffer extended n is fits = omega (arith, ap length is, length-append bytes (take n buffer), length-take-le n buffer fits)
+pub length-extended : (bytes buffer extended : List ℕ) (n : ℕ) → extended ≡ bytes ++ take n buffer → n ≤ length buffer →
+    length extended ≡ length bytes + n
+length-extended bytes buffer extended n is fits =
+    omega (arith, ap length is, length-append bytes (take n buffer), length-take-le n buffer fits)
 
 -- one more read that gave something
-pub HasRead-more : (first mid new : FilesSeen) (bytes buffer extended : List ℕ) (n : ℕ) → extended ≡ bytes ++ take n buffer → 0 < n → n ≤ length buffer → HasRead first mid bytes → Reads mid new buffer n → HasRead first new extended
+pub HasRead-more : (first mid new : FilesSeen) (bytes buffer extended : List ℕ) (n : ℕ) → extended ≡ bytes ++ take n buffer → 0 < n →
+    n ≤ length buffer → HasRead first mid bytes → Reads mid new buffer n → HasRead first new extended
 HasRead-more first mid new bytes buffer extended n is some fits before more = record {
   times = suc before.times;
   few = omega (arith, before.few, ap length is, length-append bytes (take n buffer), length-take-le n buffer fits);
@@ -100,7 +109,8 @@ HasRead-more first mid new bytes buffer extended n is some fits before more = re
 }
 
 -- a read that failed ends the reading
-pub ReadsOn-fails : (limit : ℕ) (first mid new : FilesSeen) (bytes : List ℕ) → length bytes ≤ limit → HasRead first mid bytes → FailsToRead mid new → ReadsOn limit first new
+pub ReadsOn-fails : (limit : ℕ) (first mid new : FilesSeen) (bytes : List ℕ) → length bytes ≤ limit → HasRead first mid bytes →
+    FailsToRead mid new → ReadsOn limit first new
 ReadsOn-fails limit first mid new bytes fits before fails = record {
   bytes = bytes;
   how = record {
@@ -116,14 +126,16 @@ ReadsOn-fails limit first mid new bytes fits before fails = record {
 }
 
 -- the reading ended at the end of the file
-pub ReadsOn-end : (limit : ℕ) (first mid new : FilesSeen) (bytes buffer : List ℕ) (n : ℕ) → length bytes ≤ limit → HasRead first mid bytes → Reads mid new buffer n → n ≡ 0 → ReadsOn limit first new
+pub ReadsOn-end : (limit : ℕ) (first mid new : FilesSeen) (bytes buffer : List ℕ) (n : ℕ) → length bytes ≤ limit → HasRead first mid bytes →
+    Reads mid new buffer n → n ≡ 0 → ReadsOn limit first new
 ReadsOn-end limit first mid new bytes buffer n fits before more none = record {
   bytes = bytes;
   how = ReadsBytes-end limit first mid new bytes buffer n fits before more none;
 }
 
 -- the reading ended after one more read
-pub ReadsOn-more : (limit : ℕ) (first mid new : FilesSeen) (bytes buffer : List ℕ) (n : ℕ) → length bytes ≤ limit → HasRead first mid bytes → Reads mid new buffer n → ReadsOn limit first new
+pub ReadsOn-more : (limit : ℕ) (first mid new : FilesSeen) (bytes buffer : List ℕ) (n : ℕ) → length bytes ≤ limit →
+    HasRead first mid bytes → Reads mid new buffer n → ReadsOn limit first new
 ReadsOn-more limit first mid new bytes buffer n fits before more = record {
   bytes = bytes ++ take n buffer;
   how = ReadsBytes-more limit first mid new bytes buffer n fits before more;

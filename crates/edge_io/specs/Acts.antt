@@ -3,16 +3,16 @@ use Rattle.std.specs.Prelude.{◌≡◌, ◌==◌, ℕ, Bool, true, false, List,
 use Rattle.edge_io.specs.declared.event.Event.{Event}
 use Rattle.edge_io.specs.declared.event.Event.TheVariants.{Opened, Bytes, Ended, Lost, Quiet, Over}
 
--- one act: an event was given, with the bytes that came; bytes were taken from a send to a connection; a send to a
--- connection failed, which ends it; a connection was closed by the caller
+-- one act: an event was given, with the bytes that came; bytes were taken from a send to a connection; a send
+-- to a connection failed, which ends it; a connection was closed by the caller
 pub data Act : Type 0 where
   Gave : Event → List ℕ → Act
   Took : ℕ → List ℕ → Act
   Broke : ℕ → Act
   Closed : ℕ → Act
 
--- what acts come to for one connection: an event opened it; it is held; the bytes that came; its peer ended; the bytes
--- that were sent to it; it was closed by the caller
+-- what acts come to for one connection: an event opened it; it is held; the bytes that came; its peer ended;
+-- the bytes that were sent to it; it was closed by the caller
 pub record Traffic : Type 0 where
   pub opened : Bool
   pub live : Bool
@@ -73,7 +73,8 @@ told id acts = after_acts id no_traffic acts
 -- at each opening nothing was opened under that id before
 abbrev pub OpensOnce : List Act → Type 0
 OpensOnce acts =
-    (before after : List Act) (id : ℕ) (bytes : List ℕ) → acts ≡ before ++ (Gave (Opened id) bytes ∷ after) → (told id before).opened ≡ false
+    (before after : List Act) (id : ℕ) (bytes : List ℕ) → acts ≡ before ++ (Gave (Opened id) bytes ∷ after) →
+    (told id before).opened ≡ false
 
 -- an act ends a connection: it is lost, a send to it failed, or it was closed
 abbrev pub is_end_of : ℕ → Act → Bool

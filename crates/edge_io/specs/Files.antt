@@ -1,11 +1,12 @@
--- This project's own rule: what the files of the outside show at a moment, and what opening and reading change in it.
+-- This project's own rule: what the files of the outside show at a moment, and what opening and reading
+-- change in it.
 use Rattle.std.specs.Prelude.{ℕ, ◌≡◌, Bool, List, [], ◌∷◌, take, Option, Some, None, is_some, if◌then◌else◌}
 use Rattle.std.specs.Io.KnownBytes.{Consumes, Keeps, IsAtEnd}
 use Rattle.std.specs.Str.{bytes_eq}
 use Rattle.edge_io.specs.Faults.{CountRose, next_count}
 
--- what files show: their names and contents and what is left of the open file, where they are told; whether a file is
--- open; and how many openings, reads and failed calls there were
+-- what files show: their names and contents and what is left of the open file, where they are told; whether a
+-- file is open; and how many openings, reads and failed calls there were
 pub record FilesSeen : Type 0 where
   pub files : Option (List (List ℕ × List ℕ))
   pub left : Option (List ℕ)

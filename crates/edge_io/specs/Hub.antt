@@ -5,8 +5,8 @@ use Rattle.edge_io.specs.Faults.{CountRose}
 use Rattle.edge_io.specs.declared.event.Event.{Event}
 use Rattle.edge_io.specs.declared.event.Event.TheVariants.{Opened, Bytes, Ended, Lost, Quiet, Over}
 
--- what a hub shows: its acts so far, where they are told; how many of its openings and events failed; and how many of
--- its sends failed
+-- what a hub shows: its acts so far, where they are told; how many of its openings and events failed; and how
+-- many of its sends failed
 pub record HubSeen : Type 0 where
   pub acts : Option (List Act)
   pub faults : ℕ
@@ -71,8 +71,8 @@ abbrev pub Gives : HubSeen → HubSeen → List ℕ → Event → Type 0
 Gives old new buffer event = Does old new (Gave event (bytes_given event buffer) ∷ [])
 
 -- so many first bytes of a piece were taken for a connection
-abbrev pub Takes : HubSeen → HubSeen → ℕ → List ℕ → ℕ → Type 0
-Takes old new id piece n = Does old new (Took id (take n piece) ∷ [])
+abbrev pub Takes : (old new : HubSeen) (id : ℕ) (piece : List ℕ) (count : ℕ) → Type 0
+Takes old new id piece count = Does old new (Took id (take count piece) ∷ [])
 
 -- an opening or a next event failed: what is told stays, and the count of these faults rose
 pub record Fails (old new : HubSeen) : Type 0 where
@@ -92,8 +92,8 @@ pub record Closes (old new : HubSeen) (id : ℕ) : Type 0 where
   pub faults : new.faults ≡ old.faults
   pub breaks : new.breaks ≡ old.breaks
 
--- a hub holds a connection, where its acts are told: an event opened it, and since then it was neither lost, nor closed,
--- nor ended by a failed send
+-- a hub holds a connection, where its acts are told: an event opened it, and since then it was neither lost,
+-- nor closed, nor ended by a failed send
 abbrev pub IsLive : Option (List Act) → ℕ → Type 0
 IsLive None id = Unit {0}
 IsLive (Some acts) id = (told id acts).live ≡ true

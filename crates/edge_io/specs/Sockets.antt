@@ -8,7 +8,8 @@ use Rattle.edge_io.specs.declared.failed.Failed.{Failed}
 use Rattle.edge_io.specs.declared.replies.Arrival as Arrived
 use Rattle.edge_io.specs.declared.replies.Reading as Read
 
--- a connection was taken in, none waits exactly where the system says so, and any other error is of one connection alone
+-- a connection was taken in, none waits exactly where the system says so, and any other error is of one
+-- connection alone
 abbrev pub TellsArrival : {A : Type 0} → Result A Error → Arrived.Arrival A → Type 0
 TellsArrival (Ok stream) (Arrived.TheVariants.Came came) = came ≡ stream
 TellsArrival (Ok stream) Arrived.TheVariants.NoneNow = ⊥

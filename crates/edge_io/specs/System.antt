@@ -10,7 +10,8 @@ use Rattle.edge_io.specs.declared.failed.Failed.{Failed}
 abbrev pub fresh_system : FilesSeen
 fresh_system = record { files = None; left = None; is_open = false; opens = 0; reads = 0; faults = 0 }
 
--- an opened file is the open one; none has the name exactly where the system says so; any other error is a failure
+-- an opened file is the open one; none has the name exactly where the system says so; any other error is a
+-- failure
 abbrev pub TellsOpened : {A : Type 0} → Result A Error → Result (Option A) Failed → Type 0
 TellsOpened (Ok file) (Ok found) = found ≡ Some file
 TellsOpened (Ok file) (Err failed) = ⊥

@@ -16,8 +16,8 @@ abbrev pub IsTooLong : Option (List ℕ) → ℕ → Type 0
 IsTooLong None limit = Unit {0}
 IsTooLong (Some rest) limit = limit < length rest
 
--- these bytes of the open file were read, by so many reads: at most one more than bytes, and at most one more than the
--- limit; nothing else happened but what the count of faults tells
+-- these bytes of the open file were read, by so many reads: at most one more than bytes, and at most one more
+-- than the limit; nothing else happened but what the count of faults tells
 pub record ReadsBytes (limit : ℕ) (old new : FilesSeen) (bytes : List ℕ) : Type 0 where
   pub times : ℕ
   pub few : times ≤ length bytes + 1

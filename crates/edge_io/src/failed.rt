@@ -8,7 +8,7 @@ ghost use Rattle.edge_io.specs.Faults.{next_count};
 pub struct Failed;
 
 /// A count after one more, which stands still at its last value.
-pub fn next(count: u64) -> u64
+pub fn next_count(count: u64) -> u64
     ensures value { result ≡ next_count count }
 {
     count.saturating_add(1)

@@ -8,8 +8,9 @@ use crate::failed::Failed;
 
 /// Connections that peers open, whose events come one at a time.
 pub trait Hub {
-    /// What it shows: its acts so far, where it tells them; the count of its openings and events that
-    /// failed, and the count of its sends that failed. Both counts stand still at their last value.
+    /// What it shows: its acts so far, where it tells them; the count of its openings and events
+    /// that failed, and the count of its sends that failed. Both counts stand still at their last
+    /// value.
     ghost seen: { Self → HubSeen };
 
     /// Begins to take connections at this address.
@@ -25,8 +26,8 @@ pub trait Hub {
         ensures value { IfOk result (Gives (seen self.old) (seen self.new) buf.new) }
         ensures kept { OnErr result (Fails (seen self.old) (seen self.new)) };
 
-    /// Offers bytes to a connection, which takes so many first ones; 0 means not now. Where it fails the
-    /// connection is lost, and the hub holds it no more.
+    /// Offers bytes to a connection, which takes so many first ones; 0 means not now. Where it
+    /// fails the connection is lost, and the hub holds it no more.
     fn send(&mut self, id: u64, piece: &[u8]) -> Result<usize, Failed>
         ensures fits { IfOk result (λ n. n ≤ length piece.now) }
         ensures value { IfOk result (Takes (seen self.old) (seen self.new) id piece.now) }

@@ -17,7 +17,8 @@ fn opened<H: Hub>(alloc: Global, hub: &mut H) -> Result<String, Fail> {
     Ok(format!(in alloc; "no free port")?)
 }
 
-/// What a hub told: how many connections opened, ended and were lost, the last that opened, and the bytes.
+/// What a hub told: how many connections opened, ended and were lost, the last that opened, and the
+/// bytes.
 #[derive(Drop)]
 struct Heard {
     opened: u64,
@@ -87,7 +88,8 @@ fn answer_goes_back<H: Hub>(hub: &mut H, peer: &mut TcpStream, id: u64) -> Resul
     Ok(sent == Ok(22) && answer.as_slice() == text)
 }
 
-/// Whether the end of a peer is told, and whether after a close it reads its end and nothing is sent to it.
+/// Whether the end of a peer is told, and whether after a close it reads its end and nothing is
+/// sent to it.
 fn peer_ends<H: Hub>(hub: &mut H, peer: &mut TcpStream, heard: &mut Heard) -> Result<bool, Fail> {
     peer.shutdown(Shutdown::Write)?;
     hear_until(heard, hub, 0, 1)?;

@@ -71,7 +71,8 @@ pub fn came(answer: io::Result<usize>) -> Reading
     }
 }
 
-/// What the system's answer to a write means: so many bytes were taken, none where it would have to wait.
+/// What the system's answer to a write means: so many bytes were taken, none where it would have to
+/// wait.
 pub fn taken(answer: io::Result<usize>) -> Result<usize, Failed>
     ensures exact { TellsSending answer result }
 {
@@ -93,8 +94,9 @@ pub fn waited(answer: io::Result<()>) -> Result<(), Failed>
     }
 }
 
-/// How long to wait for an event, where so many connections are held and so many wait in line. It is no
-/// time at all but where none is, since a caller that holds connections may have work of its own.
+/// How long to wait for an event, where so many connections are held and so many wait in line. It
+/// is no time at all but where none is, since a caller that holds connections may have work of its
+/// own.
 pub fn nap(held: usize, in_line: usize) -> Duration
     ensures exact { as_nanos result ≡ nap_of held in_line }
 {

@@ -98,8 +98,8 @@ impl Sockets {
         }
     }
 
-    /// Keeps memory for a line of all that are held, of one more, and of the listening socket. Whoever is ready is told once, so
-    /// none of them may be missing in line for want of memory.
+    /// Keeps memory for a line of all that are held, of one more, and of the listening socket.
+    /// Whoever is ready is told once, so none of them may be missing in line for want of memory.
     fn make_room(&mut self) -> Result<(), Failed> {
         match self.turns.make_room(self.peers.len().saturating_add(2)) {
             Ok(()) => Ok(()),
@@ -175,7 +175,8 @@ impl Sockets {
         }
     }
 
-    /// Holds a connection from now on. Where it can't, the connection is dropped and nothing is told.
+    /// Holds a connection from now on. Where it can't, the connection is dropped and nothing is
+    /// told.
     fn welcome(&mut self, mut stream: TcpStream) -> Option<Event>
         ensures fits { IfSome result (λ event. (buffer : List ℕ) → FitsBuffer buffer event) }
     {

@@ -3,7 +3,7 @@
 ghost use Rattle.std.specs.Prelude.{◌≡◌};
 ghost use Rattle.edge_io.specs.System.{fresh_system, TellsOpened};
 
-use crate::failed::{Failed, next};
+use crate::failed::{Failed, next_count};
 use crate::files::Files;
 use std::io::{ErrorKind, Read};
 use std::marker::Model;
@@ -65,14 +65,14 @@ impl<R: rt::Files> Files for DirFiles<'_, R> {
     ghost seen = { λ s. s };
 
     fn open(&mut self, name: &str) -> Result<bool, Failed> {
-        self.opens = next(self.opens);
+        self.opens = next_count(self.opens);
         match opened(fs::open(self.rt, name)) {
             Ok(file) => {
                 self.file = file;
                 Ok(self.file.is_some())
             }
             Err(failed) => {
-                self.faults = next(self.faults);
+                self.faults = next_count(self.faults);
                 Err(failed)
             }
         }
@@ -82,11 +82,11 @@ impl<R: rt::Files> Files for DirFiles<'_, R> {
         let Some(file) = &mut self.file else {
             unreachable!();
         };
-        self.reads = next(self.reads);
+        self.reads = next_count(self.reads);
         match file.read(buf) {
             Ok(given) => Ok(given),
             Err(_) => {
-                self.faults = next(self.faults);
+                self.faults = next_count(self.faults);
                 Err(Failed)
             }
         }

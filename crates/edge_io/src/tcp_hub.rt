@@ -4,7 +4,7 @@ ghost use Rattle.std.specs.Prelude.{◌≡◌};
 ghost use Rattle.edge_io.specs.Sockets.{fresh_hub};
 
 use crate::event::Event;
-use crate::failed::{Failed, next};
+use crate::failed::{Failed, next_count};
 use crate::hub::Hub;
 use crate::sockets::Sockets;
 use std::alloc::Global;
@@ -50,7 +50,7 @@ impl<R: Net> Hub for TcpHub<'_, R> {
         match self.sockets.open(self.rt, address) {
             Ok(()) => Ok(()),
             Err(failed) => {
-                self.faults = next(self.faults);
+                self.faults = next_count(self.faults);
                 Err(failed)
             }
         }
@@ -60,7 +60,7 @@ impl<R: Net> Hub for TcpHub<'_, R> {
         match self.sockets.next(buf) {
             Ok(event) => Ok(event),
             Err(failed) => {
-                self.faults = next(self.faults);
+                self.faults = next_count(self.faults);
                 Err(failed)
             }
         }
@@ -70,7 +70,7 @@ impl<R: Net> Hub for TcpHub<'_, R> {
         match self.sockets.send(id, piece) {
             Ok(n) => Ok(n),
             Err(failed) => {
-                self.breaks = next(self.breaks);
+                self.breaks = next_count(self.breaks);
                 Err(failed)
             }
         }

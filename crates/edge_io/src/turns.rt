@@ -54,7 +54,8 @@ impl Turns {
 
     /// Takes the first out of the line, if one waits.
     pub fn take(&mut self) -> Option<u64>
-        ensures exact { MatchOption result ((self.old ≡ []) × (self.new ≡ [])) (λ id. self.old ≡ id ∷ self.new) }
+        ensures exact { MatchOption result ((self.old ≡ []) × (self.new ≡ []))
+            (λ id. self.old ≡ id ∷ self.new) }
     {
         self.line.pop_front()
     }

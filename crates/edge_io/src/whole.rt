@@ -8,8 +8,8 @@ use crate::files::Files;
 use crate::whole_error::WholeError;
 use std::alloc::Global;
 
-/// The whole of what is left of the open file, if that is no more than `limit` bytes. It takes at most
-/// one read more than the limit has bytes.
+/// The whole of what is left of the open file, if that is no more than `limit` bytes. It takes at
+/// most one read more than the limit has bytes.
 pub fn read_whole<F: Files>(
     alloc: Global,
     files: &mut F,
@@ -21,7 +21,8 @@ pub fn read_whole<F: Files>(
     ensures too_long { result ≡ Err WholeError.TooLong → IsTooLong (F.seen files.old).left limit }
 
     // What stands afterwards.
-    ensures value { IfOk result (λ bytes. ReadsBytes limit (F.seen files.old) (F.seen files.new) bytes.items) }
+    ensures value { IfOk result
+        (λ bytes. ReadsBytes limit (F.seen files.old) (F.seen files.new) bytes.items) }
     ensures kept { ReadsOn limit (F.seen files.old) (F.seen files.new) }
     ensures cause { CountsFault (F.seen files.old).faults (F.seen files.new).faults result }
 {

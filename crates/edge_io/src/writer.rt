@@ -2,7 +2,7 @@
 
 ghost use Rattle.std.specs.Prelude.{◌≡◌, None};
 
-use crate::failed::{Failed, next};
+use crate::failed::{Failed, next_count};
 use crate::sink::Sink;
 use std::io;
 use std::io::{Printer, Write};
@@ -51,7 +51,7 @@ impl<W: Write> Sink for WriteSink<W> {
         match self.to.write(piece) {
             Ok(taken) if taken > 0 || piece.is_empty() => Ok(taken),
             _ => {
-                self.faults = next(self.faults);
+                self.faults = next_count(self.faults);
                 Err(Failed)
             }
         }

@@ -20,7 +20,8 @@ returns-then-given-eq0-clause-kept g c =
 
 pub returns-then-given-limit-clause-too_long : goal.returns-then-given-limit-clause-too_long
 returns-then-given-limit-clause-too_long g c = λ _.
-    IsTooLong-more _ _ _ _ _ _ _ c.in_ok-given.ensures.fits (omega (arith, c.reading.bytes.ok.0, c.len.ensures)) c.reading.invariant.read c.in_ok-given.ensures.found
+    IsTooLong-more _ _ _ _ _ _ _ c.in_ok-given.ensures.fits (omega (arith, c.reading.bytes.ok.0, c.len.ensures)) c.reading.invariant.read
+    c.in_ok-given.ensures.found
 
 pub returns-then-given-limit-clause-kept : goal.returns-then-given-limit-clause-kept
 returns-then-given-limit-clause-kept g c =
@@ -28,9 +29,15 @@ returns-then-given-limit-clause-kept g c =
 
 pub reading-preserved : goal.reading-preserved
 reading-preserved g c = record {
-  fits = omega (arith, c.reading.bytes.ok.0, c.len.ensures, length-extended _ _ _ _ c.in_ok-extend_from_slice.ensures.items c.in_ok-given.ensures.fits);
+  fits = omega (
+    arith,
+    c.reading.bytes.ok.0,
+    c.len.ensures,
+    length-extended _ _ _ _ c.in_ok-extend_from_slice.ensures.items c.in_ok-given.ensures.fits,
+  );
   is_open = c.in_ok-given.ensures.found.is_open ∙ c.reading.invariant.is_open;
-  read = HasRead-more _ _ _ _ _ _ _ c.in_ok-extend_from_slice.ensures.items (omega arith) c.in_ok-given.ensures.fits c.reading.invariant.read c.in_ok-given.ensures.found;
+  read = HasRead-more _ _ _ _ _ _ _ c.in_ok-extend_from_slice.ensures.items (omega arith) c.in_ok-given.ensures.fits
+      c.reading.invariant.read c.in_ok-given.ensures.found;
 }
 
 pub returns-in_err-extend_from_slice-clause-kept : goal.returns-in_err-extend_from_slice-clause-kept

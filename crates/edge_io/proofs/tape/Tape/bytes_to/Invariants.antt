@@ -1,8 +1,0 @@
-use Rattle.std.proofs.Common.{◌≡◌, ◌++◌, drop}
-use Rattle.edge_io.proofs.TapeLemmas.{sent_in}
-use Rattle.edge_io.proofs.tape.Tape.bytes_to.Given as goal
-
-abbrev pub invariant-notes : goal.invariant-notes
-invariant-notes l = record {
-  rest : sent_in l.id l.self-inside.sent.items l.self-inside.notes.items ≡ l.bytes.items ++ sent_in l.id l.self-inside.sent.items (drop l.note-index l.self-inside.notes.items);
-}

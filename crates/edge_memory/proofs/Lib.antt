@@ -1,0 +1,6 @@
+pub mod FolderLemmas
+pub mod HeldLemmas
+pub mod PlaceLemmas
+pub mod SceneLemmas
+pub mod SetLemmas
+pub mod TapeLemmas

@@ -1,0 +1,13 @@
+pub mod Ids
+pub mod Memory
+pub mod MemoryFiles
+pub mod MemoryFilesView
+pub mod MemoryHub
+pub mod MemoryHubView
+pub mod MemoryView
+pub mod Place
+pub mod Script
+pub mod Stage
+pub mod StageView
+pub mod Tape
+pub mod TapeView

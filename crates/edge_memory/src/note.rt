@@ -1,0 +1,25 @@
+//! How a hub in memory notes an act: bytes by the place where they stand.
+
+use edge_io::Event;
+
+/// One act. The bytes of an event are those from `from` on of the script's entry `place`; those of
+/// a send stand from `from` on among all the bytes that were sent.
+#[derive(Clone, Copy)]
+pub enum Note {
+    Gave {
+        event: Event,
+        place: usize,
+        from: usize,
+    },
+    Took {
+        id: u64,
+        from: usize,
+        n: usize,
+    },
+    Broke {
+        id: u64,
+    },
+    Closed {
+        id: u64,
+    },
+}
