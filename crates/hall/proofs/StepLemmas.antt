@@ -1,158 +1,312 @@
--- Every state that a call comes to is sound.
-use Rattle.std.proofs.Common.{◌≡◌, ◌⊎◌, ◌<◌, ℕ, ◌+◌, false, List, [], ◌∷◌, ◌++◌, length, Option, Some, inl, inr, refl, sym, ◌∙◌, ap, subst, arith, append-nil, length-append}
-use Rattle.std.proofs.Math.Seq.{take-length}
-use Rattle.hall.proofs.AllowedLemmas.{IsAllowed-at}
-use Rattle.hall.proofs.SoundLemmas.{Changes, sound_changed, sound_freed, sound_placed}
-use Rattle.hall.proofs.VerdictLemmas.{undecided_goes_on}
-use Rattle.hall.specs.Allowed.{AreAllowed, IsAllowed}
-use Rattle.hall.specs.Allowed as rows
-use Rattle.hall.specs.Sound.{IsSound, IsSoundIn}
-use Rattle.hall.specs.State.{Connection, HasSeat, Phase, Reading, Waits, Answered, Silent, Service, State, freed, put, with_frame}
-use Rattle.hall.specs.Steps.{AskedBy, Comes, Ends, Loses, Opens, Takes, Works, memory_frame, session, turned_away, uploaded, whole_in, with_bytes, with_end}
+-- How all connections stand after an event.
+use Rattle.std.proofs.Common.{◌≡◌, ◌≢◌, ◌⊎◌, ◌==◌, ℕ, true, false, List, [], ◌∷◌, ◌++◌, Option, Some, None, inl, inr, refl, sym, ◌∙◌, ap, subst, append-nil, append_assoc}
+use Rattle.std.proofs.lemmas.Bool.{eq-eqb, ne_eqb}
+use Rattle.edge_io.specs.Acts.{Act, Gave, Closed, Traffic, after_own, is_act_on, told}
+use Rattle.edge_io.specs.declared.event.Event.{Event}
+use Rattle.edge_io.specs.declared.event.Event.TheVariants.{Opened, Bytes, Ended, Lost, Quiet, Over}
+use Rattle.hall.proofs.ChangeLemmas.{changes_gone, changes_now, changes_put}
+use Rattle.hall.proofs.SoundLemmas.{read_sound}
+use Rattle.hall.proofs.StandLemmas.{AllStand-by, AllStand-quiet, AllStand-same, GetsOwn-held, GetsOwn-more, held_at, held_more, is_new, new_is_none}
+use Rattle.hall.proofs.Status.{AllStand, Fits, FitsPhase, IsHeldSo, IsNew, Stands, unheard, held, gone}
+use Rattle.hall.proofs.TrafficLemmas.{AreApart, AreApart-more, AreApart-one, OpensThen-more, SendsNone-event, opened-more, told-own}
+use Rattle.hall.proofs.VerdictLemmas.{silent_by}
+use Rattle.hall.specs.Held.{IsFull}
+use Rattle.hall.specs.Law.{EndsSilent, GetsOwn, IsFrontOf, no_seat}
+use Rattle.hall.specs.Sound.{IsSound}
+use Rattle.hall.specs.State.{Connection, Reading, Service, State, changed, empty_hall, freed, put, with_frame}
+use Rattle.hall.specs.Steps.{Hears, Loses, Opens, Step, Takes, full_frame, memory_frame, session, turned_away, uploaded, whole_in, with_bytes, with_end}
 use Rattle.hall.specs.Steps as steps
-use Rattle.route_http.specs.declared.span.Span.{Span}
+use Rattle.hall.specs.Turns.{Turns, shut}
 use Rattle.session_answers.specs.Frames.{refusal_frame}
-use Rattle.session_answers.specs.Rows.{IsEarlyFrame, IsQueryFrame}
-use Rattle.session_answers.specs.Rows as queries
 use Rattle.session_answers.specs.Stored.{Stored}
-use Rattle.session_answers.specs.Verdicts.{IsVerdict, part}
-use Rattle.session_answers.specs.declared.verdict.Verdict.TheVariants.{Query, Upload}
+use Rattle.session_answers.specs.Verdicts.{part}
 
--- ---- A connection is changed
+-- ---- What a session comes to
 
--- no more profiles are stored
-pub none_more : (stored : List Stored) → stored ≡ stored ++ []
-none_more stored = sym (append-nil stored)
+-- a session is read, and these are the facts of what is known of it now, and of what was told
+pub record IsTaking (id : ℕ) (since : List Act) (t u : Traffic) (old c : Connection) : Type 0 where
+  pub reading : c.phase ≡ Reading
+  pub kept : c.bytes ≡ u.came
+  pub ends : c.ended ≡ true → u.ended ≡ true
+  pub quiet : c.ended ≡ true → c.bytes ≡ [] → EndsSilent id since
+  pub before : IsFrontOf old.bytes u.came
+  pub ended_before : old.ended ≡ true → u.ended ≡ true
+  pub none : t.sent ≡ []
+  pub unclosed : t.closed ≡ false
 
--- what is known of a connection by how far it is
-read_sound : (service : Service) (stored : List Stored) (c : Connection) (p : Phase) → IsSoundIn service stored c p → p ≡ Reading → (c.away ≡ false) × (c.ended ≡ false)
-read_sound service stored c Reading is reads = is
-read_sound service stored c (Waits settled) is reads = cc
-read_sound service stored c (Answered frame sent) is reads = cc
-read_sound service stored c Silent is reads = cc
+module _ (service : Service) (stored : List Stored) (id : ℕ) (since : List Act) (t u : Traffic) (old c : Connection)
+    (taking : IsTaking id since t u old c) where
+  -- all that came is a front of itself
+  front : IsFrontOf c.bytes u.came
+  front = ([], sym taking.kept ∙ sym (append-nil c.bytes))
 
-waits_sound : (service : Service) (stored : List Stored) (c : Connection) (p : Phase) (settled : ℕ) → IsSoundIn service stored c p → p ≡ Waits settled → c.away ≡ false
-waits_sound service stored c Reading settled is waits = cc
-waits_sound service stored c (Waits n) settled is waits = is
-waits_sound service stored c (Answered frame sent) settled is waits = cc
-waits_sound service stored c Silent settled is waits = cc
+  -- a session with a frame of which nothing is sent fits, as it was or as it is now
+  answers : (d : Connection) (frame : List ℕ) → (d ≡ old) ⊎ ((d ≡ c) ⊎ (d ≡ whole_in stored c)) → Fits (with_frame d frame) id since t u
+  answers d frame (inl is) =
+      subst (λ (e : Connection). Fits (with_frame e frame) id since t u) (sym is)
+      (record { front = taking.before; ends = taking.ended_before; unclosed = taking.unclosed; by_phase = taking.none })
+  answers d frame (inr (inl is)) =
+      subst (λ (e : Connection). Fits (with_frame e frame) id since t u) (sym is)
+      (record { front = front; ends = taking.ends; unclosed = taking.unclosed; by_phase = taking.none })
+  answers d frame (inr (inr is)) =
+      subst (λ (e : Connection). Fits (with_frame e frame) id since t u) (sym is)
+      (record { front = front; ends = taking.ends; unclosed = taking.unclosed; by_phase = taking.none })
 
--- a frame of which nothing is sent
-unsent_sound : (service : Service) (stored : List Stored) (c : Connection) (frame : List ℕ) → IsAllowed service stored c frame → IsSoundIn service stored (with_frame c frame) (Answered frame 0)
-unsent_sound service stored c frame is = (IsAllowed-at service stored c (Answered frame 0) frame is, omega arith)
+  -- whatever it comes to fits what was told
+  takes_fit : (now : Connection) (added : List Stored) → Takes service stored old c now added → Fits now id since t u
+  takes_fit now added (steps.undecided v) = record {
+    front = front;
+    ends = taking.ends;
+    unclosed = taking.unclosed;
+    by_phase = subst (FitsPhase c id since t u) (sym taking.reading) (taking.kept, taking.none);
+  }
+  takes_fit now added (steps.silent v) =
+      let quiet = silent_by c.bytes c.ended v in
+      record { front = front; ends = taking.ends; unclosed = taking.unclosed; by_phase = (taking.quiet quiet.ends quiet.none, taking.none) }
+  takes_fit now added (steps.refused {r} v) = answers c (refusal_frame r) (inr (inl refl))
+  takes_fit now added (steps.upload {span} v) =
+      answers (whole_in stored c) (uploaded service stored (part c.bytes span)).frame (inr (inr refl))
+  takes_fit now added (steps.early {span} {frame} v found) = answers (whole_in stored c) frame (inr (inr refl))
+  takes_fit now added (steps.waits v searched) =
+      record { front = front; ends = taking.ends; unclosed = taking.unclosed; by_phase = taking.none }
+  takes_fit now added (steps.gives_up {kept} why which) = answers kept memory_frame which
 
-module _ (service : Service) (s : State) (sound : IsSound service s) where
-  -- one seat is changed and no more profiles are stored
-  pub changed : (new : State) (k : ℕ) (c made : Connection) → HasSeat s k c → made.id ≡ c.id → made.away ≡ c.away → new.stored ≡ s.stored →
-      Changes s new k (Some made) [] → IsSoundIn service s.stored made made.phase → IsSound service new
-  changed new k c made has id away same is inside =
-      sound_changed service s new k [] sound c made has id away is
-      (subst (λ (l : List Stored). IsSoundIn service l made made.phase) (sym same) inside)
+-- ---- An event of one connection
 
-  -- the connections that are read are sessions
-  is_read : (k : ℕ) (c : Connection) → HasSeat s k c → c.phase ≡ Reading → (c.away ≡ false) × (c.ended ≡ false)
-  is_read k c has reads = read_sound service s.stored c c.phase (sound.sound k c has) reads
+-- an event of another connection
+event_apart : (id j : ℕ) (event : Event) (bytes : List ℕ) → is_act_on j (Gave event bytes) ≡ (id == j) → j ≢ id →
+    AreApart j (Gave event bytes ∷ [])
+event_apart id j event bytes is ne = AreApart-one j (Gave event bytes) (is ∙ ne_eqb id j (λ e. ne (sym e)))
 
-  is_waiting : (k : ℕ) (c : Connection) (settled : ℕ) → HasSeat s k c → c.phase ≡ Waits settled → c.away ≡ false
-  is_waiting k c settled has waits = waits_sound service s.stored c c.phase settled (sound.sound k c has) waits
+module _ (service : Service) (given : List Stored) (s : State) (sound : IsSound service s) (id : ℕ) (acts : List Act) (event : Event)
+    (bytes : List ℕ)
+    (all : AllStand service given s acts) (apart : (j : ℕ) → j ≢ id → AreApart j (Gave event bytes ∷ [])) where
+  -- the acts with the event
+  abbrev more : List Act
+  more = acts ++ (Gave event bytes ∷ [])
 
-  -- ---- A session is given what is fixed for it
+  -- an event that changes nothing of what is known, and opens nothing, leaves it as it stands
+  ignored_stands : ((c : Connection) → s.known id ≡ Some c → c.phase ≢ Reading) → (told id more).opened ≡ (told id acts).opened →
+      AllStand service given s more
+  ignored_stands unread same =
+      AllStand-same service given s id acts (Gave event bytes ∷ []) apart all (by_status (s.known id) refl (all id))
+    where
+      by_status : (x : Option Connection) → s.known id ≡ x → Stands service given s.stored id acts x →
+          Stands service given s.stored id more x
+      by_status x is (unheard fresh) =
+          let sends = SendsNone-event id acts event bytes in
+          unheard (record { unopened = same ∙ fresh.unopened; none = sends.sent ∙ fresh.none; unclosed = sends.closed ∙ fresh.unclosed })
+      by_status x is (held {c} at) =
+          held (held_more id acts (Gave event bytes ∷ []) c (SendsNone-event id acts event bytes) at
+          (λ reading. absurd (unread c is reading)))
+      by_status x is (gone opened gets) =
+          gone (same ∙ opened)
+          (subst (λ (xs : List Stored). GetsOwn service given xs id more) (append-nil s.stored)
+          (GetsOwn-more service given s.stored [] id acts (Gave event bytes ∷ []) (SendsNone-event id acts event bytes) gets))
 
-  -- a change by which a connection is given a frame
-  pub framed : (waiting : List ℕ) (k : ℕ) (c made : Connection) (frame : List ℕ) → HasSeat s k c → made.id ≡ c.id → made.away ≡ c.away →
-      IsAllowed service s.stored made frame → IsSound service (put (record s { waiting = waiting }) k (Some (with_frame made frame)))
-  framed waiting k c made frame has id away is =
-      changed (put (record s { waiting = waiting }) k (Some (with_frame made frame))) k c (with_frame made frame) has id away refl
-      (record { stored = none_more s.stored; seats = refl }) (unsent_sound service s.stored made frame is)
+  -- where it is lost, what it got is its own
+  lost_stands : (c : Connection) → s.known id ≡ Some c → AllStand service given (freed s id) more
+  lost_stands c known =
+      let at = held_at service given s.stored id acts (s.known id) c known (all id) in
+      AllStand-by service given s (freed s id) id None [] acts (Gave event bytes ∷ []) (changes_gone s id) apart all
+      (gone (opened-more id acts (Gave event bytes ∷ []) at.opened)
+      (subst (λ (xs : List Stored). GetsOwn service given xs id more) (append-nil s.stored)
+      (GetsOwn-more service given s.stored [] id acts (Gave event bytes ∷ []) (SendsNone-event id acts event bytes)
+      (GetsOwn-held service given s.stored id acts c at (sound.sound id c known)))))
 
-  module _ (k : ℕ) (old c : Connection) (has : HasSeat s k old) (reads : old.phase ≡ Reading) (id : c.id ≡ old.id) (away : c.away ≡ old.away)
-      (reads_on : c.phase ≡ Reading) where
-    held : c.away ≡ false
-    held = away ∙ (is_read k old has reads).0
+  -- where it takes what came, what is known of it fits
+  taken_stands : (old c now : Connection) (added : List Stored) → (at : IsHeldSo id acts old) →
+      IsTaking id (at.since ++ (Gave event bytes ∷ [])) (told id more) (told id (at.since ++ (Gave event bytes ∷ []))) old c →
+      Takes service s.stored old c now added → AllStand service given (changed s id now added) more
+  taken_stands old c now added at taking takes =
+      AllStand-by service given s (changed s id now added) id (Some now) added acts (Gave event bytes ∷ [])
+      (changes_now s s.waiting id now added) apart all
+      (held (record {
+        opened = opened-more id acts (Gave event bytes ∷ []) at.opened;
+        since = at.since ++ (Gave event bytes ∷ []);
+        opening = OpensThen-more id acts at.since (Gave event bytes ∷ []) at.opening;
+        fits =
+            takes_fit service s.stored id (at.since ++ (Gave event bytes ∷ [])) (told id more)
+            (told id (at.since ++ (Gave event bytes ∷ []))) old c
+            taking now added takes;
+      }))
 
-    -- the query of a request that is whole now
-    asked_now : (span : Span) → IsVerdict c.bytes c.ended (Query span) → AskedBy (whole_in s c) (length s.stored) (part c.bytes span)
-    asked_now span is = record { span = span; verdict = is; query_is = refl; before_is = refl }
+-- ---- Bytes, ends and losses
 
-    given_up : (kept : Connection) → (kept ≡ old) ⊎ ((kept ≡ c) ⊎ (kept ≡ whole_in s c)) → (kept.id ≡ old.id) × (kept.away ≡ old.away)
-    given_up kept (inl is) = (ap (λ (d : Connection). d.id) is, ap (λ (d : Connection). d.away) is)
-    given_up kept (inr (inl is)) = (ap (λ (d : Connection). d.id) is ∙ id, ap (λ (d : Connection). d.away) is ∙ away)
-    given_up kept (inr (inr is)) = (ap (λ (d : Connection). d.id) is ∙ id, ap (λ (d : Connection). d.away) is ∙ away)
+module _ (service : Service) (given : List Stored) (s : State) (sound : IsSound service s) (id : ℕ) (acts : List Act) (all :
+    AllStand service given s acts) where
+  -- something is heard of a connection: it is ignored, or the facts of one that takes it are these
+  hears_stand : (event : Event) (bytes : List ℕ) (heard : Connection → Connection) (next : State) →
+      ((j : ℕ) → is_act_on j (Gave event bytes) ≡ (id == j)) →
+      (told id (acts ++ (Gave event bytes ∷ []))).opened ≡ (told id acts).opened →
+      ((c : Connection) (at : IsHeldSo id acts c) → c.phase ≡ Reading → c.ended ≡ false →
+      FitsPhase c id at.since (told id acts) (told id at.since) Reading →
+      IsTaking id (at.since ++ (Gave event bytes ∷ [])) (told id (acts ++ (Gave event bytes ∷ [])))
+      (told id (at.since ++ (Gave event bytes ∷ []))) c (heard c)) →
+      Hears service s id heard next → AllStand service given next (acts ++ (Gave event bytes ∷ []))
+  hears_stand event bytes heard next is same taking (steps.ignored unread) =
+      ignored_stands service given s sound id acts event bytes all (λ j ne. event_apart id j event bytes (is j) ne) unread same
+  hears_stand event bytes heard next is same taking (steps.kept {c} {now} {added} known reading takes) =
+      let at = held_at service given s.stored id acts (s.known id) c known (all id) in
+      taken_stands service given s sound id acts event bytes all (λ j ne. event_apart id j event bytes (is j) ne) c (heard c) now added at
+      (taking c at reading (read_sound service s.stored c c.phase (sound.sound id c known) reading).1
+      (subst (FitsPhase c id at.since (told id acts) (told id at.since)) reading at.fits.by_phase)) takes
 
-    -- an upload that is answered
-    uploads : (span : Span) → IsVerdict c.bytes c.ended (Upload span) → IsSound service (steps.stored_in s k c (uploaded service s (part c.bytes span)))
-    uploads span is =
-        let u = uploaded service s (part c.bytes span) in
-        let all = s.stored ++ u.added in
-        let made = with_frame (whole_in s c) u.frame in
-        sound_changed service s (steps.stored_in s k c u) k u.added sound old made has id away (record { stored = refl; seats = refl })
-        (rows.own held (rows.upload {span = span} {before = length s.stored} is refl (omega (arith, length-append s.stored u.added))), omega arith)
+  -- bytes come
+  bytes_stand : (n : ℕ) (bytes : List ℕ) (next : State) → Hears service s id (with_bytes bytes) next →
+      AllStand service given next (acts ++ (Gave (Bytes id n) bytes ∷ []))
+  bytes_stand n bytes next hears =
+      let t = told-own id acts (Gave (Bytes id n) bytes) (eq-eqb id id refl) in
+      hears_stand (Bytes id n) bytes (with_bytes bytes) next (λ j. refl) (ap (λ (v : Traffic). v.opened) t)
+      (λ c at reading goes_on read.
+      let u = told-own id at.since (Gave (Bytes id n) bytes) (eq-eqb id id refl) in
+      record {
+        reading = reading;
+        kept = ap (λ (xs : List ℕ). xs ++ bytes) read.0 ∙ sym (ap (λ (v : Traffic). v.came) u);
+        ends = λ h. absurd (let clash : true ≡ false = sym h ∙ goes_on in cc);
+        quiet = λ h e. absurd (let clash : true ≡ false = sym h ∙ goes_on in cc);
+        before = (bytes, ap (λ (v : Traffic). v.came) u ∙ ap (λ (xs : List ℕ). xs ++ bytes) (sym read.0));
+        ended_before = λ h. absurd (let clash : true ≡ false = sym h ∙ goes_on in cc);
+        none = ap (λ (v : Traffic). v.sent) t ∙ read.1;
+        unclosed = ap (λ (v : Traffic). v.closed) t ∙ at.fits.unclosed;
+      }) hears
 
-    -- every state that a session comes to by what is fixed for it is sound
-    pub sound_takes : (new : State) → Takes service s k old c new → IsSound service new
-    sound_takes new (steps.undecided is) =
-        changed (put s k (Some c)) k old c has id away refl (record { stored = none_more s.stored; seats = refl })
-        (subst (λ (p : Phase). IsSoundIn service s.stored c p) (sym reads_on) (held, undecided_goes_on c.bytes c.ended is))
-    sound_takes new (steps.silent is) =
-        let made : Connection = record c { phase = Silent } in
-        changed (put s k (Some made)) k old made has id away refl (record { stored = none_more s.stored; seats = refl }) tt
-    sound_takes new (steps.refused {r} is) = framed s.waiting k old c (refusal_frame r) has id away (rows.own held (rows.refused is))
-    sound_takes new (steps.upload {span} is) = uploads span is
-    sound_takes new (steps.early {span} {frame} is answers) =
-        let whole = subst (λ (l : List Stored). IsQueryFrame service.world l (part c.bytes span) frame) (sym (take-length s.stored)) (queries.before answers) in
-        framed s.waiting k old (whole_in s c) frame has id away
-        (rows.own held (rows.query {before = length s.stored} (asked_now span is) (omega arith) whole))
-    sound_takes new (steps.waits {span} is searched) =
-        let made : Connection = record (whole_in s c) { phase = Waits 0 } in
-        changed (put (record s { waiting = s.waiting ++ k ∷ [] }) k (Some made)) k old made has id away refl
-        (record { stored = none_more s.stored; seats = refl }) held
-    sound_takes new (steps.gives_up {kept} some which) =
-        let same = given_up kept which in
-        framed s.waiting k old kept memory_frame has same.0 same.1 (rows.memory (same.1 ∙ (is_read k old has reads).0))
+  -- a peer ends
+  end_stands : (bytes : List ℕ) (next : State) → Hears service s id with_end next →
+      AllStand service given next (acts ++ (Gave (Ended id) bytes ∷ []))
+  end_stands bytes next hears =
+      let t = told-own id acts (Gave (Ended id) bytes) (eq-eqb id id refl) in
+      hears_stand (Ended id) bytes with_end next (λ j. refl) (ap (λ (v : Traffic). v.opened) t)
+      (λ c at reading goes_on read.
+      let u = told-own id at.since (Gave (Ended id) bytes) (eq-eqb id id refl) in
+      record {
+        reading = reading;
+        kept = read.0 ∙ sym (ap (λ (v : Traffic). v.came) u);
+        ends = λ h. ap (λ (v : Traffic). v.ended) u;
+        quiet = λ h e. record { before = at.since; bytes = bytes; after = []; acts_are = refl; none_came = sym read.0 ∙ e };
+        before = ([], ap (λ (v : Traffic). v.came) u ∙ sym read.0 ∙ sym (append-nil c.bytes));
+        ended_before = λ h. ap (λ (v : Traffic). v.ended) u;
+        none = ap (λ (v : Traffic). v.sent) t ∙ read.1;
+        unclosed = ap (λ (v : Traffic). v.closed) t ∙ at.fits.unclosed;
+      }) hears
 
-  -- ---- Events
+-- a connection is lost
+loss_stands : (service : Service) (given : List Stored) (s : State) → IsSound service s → (id : ℕ) (acts : List Act) (bytes : List ℕ) →
+    AllStand service given s acts → (next : State) → Loses s id next → AllStand service given next (acts ++ (Gave (Lost id) bytes ∷ []))
+loss_stands service given s sound id acts bytes all next (steps.stranger none) =
+    ignored_stands service given s sound id acts (Lost id) bytes all (λ j ne. event_apart id j (Lost id) bytes refl ne)
+    (λ c known reading. (let clash : None ≡ Some c = sym none ∙ known in cc))
+    (ap (λ (t : Traffic). t.opened) (told-own id acts (Gave (Lost id) bytes) (eq-eqb id id refl)))
+loss_stands service given s sound id acts bytes all next (steps.gone {c} known) =
+    lost_stands service given s sound id acts (Lost id) bytes all (λ j ne. event_apart id j (Lost id) bytes refl ne) c known
 
-  -- a new session, and a connection that is turned away
-  pub sound_opens : (id : ℕ) (new : State) (shut : Option ℕ) → Opens s id new shut → IsSound service new
-  sound_opens id new shut (steps.again k has is) = sound
-  sound_opens id new shut (steps.held {k} none few free) =
-      sound_placed service s (put s k (Some (session id))) k [] sound (session id) free none (record { stored = none_more s.stored; seats = refl })
-      (omega (arith, few)) (omega (arith, sound.few_aways)) (refl, refl)
-  sound_opens id new shut (steps.away {k} none full few free) =
-      sound_placed service s (put s k (Some (turned_away id))) k [] sound (turned_away id) free none (record { stored = none_more s.stored; seats = refl })
-      (omega (arith, sound.few_sessions)) (omega (arith, few)) (rows.away refl, omega arith)
-  sound_opens id new shut (steps.full none full aways_full) = sound
+-- ---- Openings
 
-  pub sound_comes : (id : ℕ) (bytes : List ℕ) (new : State) → Comes service s id bytes new → IsSound service new
-  sound_comes id bytes new (steps.stranger none) = sound
-  sound_comes id bytes new (steps.unread k has is other) = sound
-  sound_comes id bytes new (steps.read k {c} {next} has is reads takes) = sound_takes k c (with_bytes c bytes) has reads refl refl reads next takes
+-- what was told of a connection when it opened
+opened_now : (id : ℕ) (acts : List Act) (bytes : List ℕ) →
+    told id (acts ++ (Gave (Opened id) bytes ∷ [])) ≡ record (told id acts) { opened = true; live = true }
+opened_now id acts bytes = told-own id acts (Gave (Opened id) bytes) (eq-eqb id id refl)
 
-  pub sound_ends : (id : ℕ) (new : State) → Ends service s id new → IsSound service new
-  sound_ends id new (steps.stranger none) = sound
-  sound_ends id new (steps.unread k has is other) = sound
-  sound_ends id new (steps.read k {c} {next} has is reads takes) = sound_takes k c (with_end c) has reads refl refl reads next takes
+-- a connection that is held now stands, where nothing is kept of it and nothing is sent
+opened_stands : (service : Service) (given : List Stored) (s : State) (id : ℕ) (acts : List Act) (bytes : List ℕ) (c : Connection) →
+    AllStand service given s acts → c.bytes ≡ [] → c.ended ≡ false →
+    ((t u : Traffic) → t.sent ≡ [] → u.came ≡ [] → FitsPhase c id [] t u c.phase) → IsNew id acts →
+    AllStand service given (put s id (Some c)) (acts ++ (Gave (Opened id) bytes ∷ []))
+opened_stands service given s id acts bytes c all empty goes_on fits fresh =
+    let now = opened_now id acts bytes in
+    AllStand-by service given s (put s id (Some c)) id (Some c) [] acts (Gave (Opened id) bytes ∷ []) (changes_put s id (Some c))
+    (λ j ne. AreApart-one j (Gave (Opened id) bytes) (ne_eqb id j (λ e. ne (sym e)))) all
+    (held (record {
+      opened = ap (λ (t : Traffic). t.opened) now;
+      since = [];
+      opening = record { before = acts; bytes = bytes; acts_are = refl };
+      fits = record {
+        front = ([], sym (append-nil c.bytes ∙ empty));
+        ends = λ h. absurd (let clash : true ≡ false = sym h ∙ goes_on in cc);
+        unclosed = ap (λ (t : Traffic). t.closed) now ∙ fresh.unclosed;
+        by_phase = fits (told id (acts ++ (Gave (Opened id) bytes ∷ []))) (told id []) (ap (λ (t : Traffic). t.sent) now ∙ fresh.none) refl;
+      };
+    }))
 
-  -- a seat that is freed
-  pub sound_free : (k : ℕ) → k < length s.seats → IsSound service (freed s k)
-  sound_free k there = sound_freed service s (freed s k) k [] sound (record { stored = none_more s.stored; seats = refl }) there
+-- a connection that is closed at once, since there is no room, stands
+full_stands : (service : Service) (given : List Stored) (s : State) (id n : ℕ) (acts : List Act) (bytes : List ℕ) →
+    Turns service (empty_hall given) n acts s → AllStand service given s acts → IsNew id acts → s.known id ≡ None → IsFull s false →
+    IsFull s true → AllStand service given s (acts ++ (Gave (Opened id) bytes ∷ (Closed id ∷ [])))
+full_stands service given s id n acts bytes turns all fresh none many turned =
+    let more : List Act = Gave (Opened id) bytes ∷ (Closed id ∷ []) in
+    let both : told id (acts ++ more) ≡ record (told id acts) { opened = true; live = false; closed = true } =
+    ap (λ (xs : List Act). told id xs) (sym (append_assoc acts (Gave (Opened id) bytes ∷ []) (Closed id ∷ [])))
+    ∙ told-own id (acts ++ (Gave (Opened id) bytes ∷ [])) (Closed id) (eq-eqb id id refl)
+    ∙ ap (λ (t : Traffic). after_own t (Closed id)) (opened_now id acts bytes) in
+    AllStand-same service given s id acts more
+    (λ j ne.
+    let off = ne_eqb id j (λ e. ne (sym e)) in
+    AreApart-more j (Gave (Opened id) bytes ∷ []) (Closed id ∷ [])
+    (AreApart-one j (Gave (Opened id) bytes) off) (AreApart-one j (Closed id) off)) all
+    (subst (λ (x : Option Connection). Stands service given s.stored id (acts ++ more) x) (sym none)
+    (gone (ap (λ (t : Traffic). t.opened) both)
+    (no_seat (ap (λ (t : Traffic). t.sent) both ∙ fresh.none)
+    (record {
+      n = n;
+      before = acts;
+      state = s;
+      turns = turns;
+      bytes = bytes;
+      after = Closed id ∷ [];
+      acts_are = refl;
+      sessions_full = many;
+      aways_full = turned;
+    }))))
 
-  -- ---- Work
+-- an opening
+opening_stands : (service : Service) (given : List Stored) (s : State) (id n : ℕ) (acts : List Act) (bytes : List ℕ) →
+    Turns service (empty_hall given) n acts s → (told id acts).opened ≡ false → AllStand service given s acts →
+    (next : State) (at_once : Option ℕ) → Opens s id next at_once →
+    AllStand service given next (acts ++ (Gave (Opened id) bytes ∷ shut at_once))
+opening_stands service given s id n acts bytes turns never all next at_once (steps.again {c} known) =
+    absurd (new_is_none service given s.stored id acts (s.known id) c never known (all id))
+opening_stands service given s id n acts bytes turns never all next at_once (steps.held none room) =
+    opened_stands service given s id acts bytes session all refl refl (λ t u sent came. (sym came, sent))
+    (is_new service given s.stored id acts (s.known id) never (all id))
+opening_stands service given s id n acts bytes turns never all next at_once (steps.away none many room) =
+    opened_stands service given s id acts bytes turned_away all refl refl (λ t u sent came. sent)
+    (is_new service given s.stored id acts (s.known id) never (all id))
+opening_stands service given s id n acts bytes turns never all next at_once (steps.full none many turned) =
+    full_stands service given s id n acts bytes turns all (is_new service given s.stored id acts (s.known id) never (all id)) none many
+    turned
 
-  pub sound_works : (new : State) → Works service s new → IsSound service new
-  sound_works new (steps.idle none) = sound
-  sound_works new (steps.goes_on {k} {rest} {c} {settled} first has waits) =
-      let made : Connection = record c { phase = Waits (settled + steps.work_quota) } in
-      changed (put (record s { waiting = rest ++ k ∷ [] }) k (Some made)) k c made has refl refl refl
-      (record { stored = none_more s.stored; seats = refl }) (is_waiting k c settled has waits)
-  sound_works new (steps.answers {k} {rest} {c} {settled} {before} {query} {frame} first has waits asked within answers) =
-      framed rest k c c frame has refl refl
-      (rows.own (is_waiting k c settled has waits) (rows.query {before = before} {asked = query} asked within answers))
-  sound_works new (steps.gives_up {k} {rest} {c} {settled} first has waits) =
-      framed rest k c c memory_frame has refl refl (rows.memory (is_waiting k c settled has waits))
+-- ---- A step
 
--- ---- What is told of a sound state
+-- where no connection is closed at once
+without_shut : (service : Service) (given : List Stored) (s : State) (acts : List Act) (event : Event) (bytes : List ℕ) (at_once :
+    Option ℕ) → at_once ≡ None → AllStand service given s (acts ++ (Gave event bytes ∷ [])) →
+    AllStand service given s (acts ++ (Gave event bytes ∷ shut at_once))
+without_shut service given s acts event bytes at_once is all =
+    subst (λ (o : Option ℕ). AllStand service given s (acts ++ (Gave event bytes ∷ shut o))) (sym is) all
 
--- each frame is allowed for its own connection
-pub are_allowed : (service : Service) (s : State) → IsSound service s → AreAllowed service s
-are_allowed service s sound = λ k c frame sent has is. subst (IsSoundIn service s.stored c) is (sound.sound k c has)
+-- nothing that an event opens was opened before
+abbrev pub OpensAnew : List Act → Event → Type 0
+OpensAnew acts event = (id : ℕ) → event ≡ Opened id → (told id acts).opened ≡ false
+
+-- all stand after a step
+pub step_stands : (service : Service) (given : List Stored) (s next : State) → IsSound service s →
+    (n : ℕ) (acts : List Act) (event : Event) (bytes : List ℕ) (at_once : Option ℕ) → Turns service (empty_hall given) n acts s →
+    OpensAnew acts event → AllStand service given s acts → Step service s event bytes next at_once →
+    AllStand service given next (acts ++ (Gave event bytes ∷ shut at_once))
+step_stands service given s next sound n acts (Opened id) bytes at_once turns anew all step =
+    opening_stands service given s id n acts bytes turns (anew id refl) all next at_once step
+step_stands service given s next sound n acts (Bytes id m) bytes at_once turns anew all step =
+    without_shut service given next acts (Bytes id m) bytes at_once step.1
+    (bytes_stand service given s sound id acts all m bytes next step.0)
+step_stands service given s next sound n acts (Ended id) bytes at_once turns anew all step =
+    without_shut service given next acts (Ended id) bytes at_once step.1 (end_stands service given s sound id acts all bytes next step.0)
+step_stands service given s next sound n acts (Lost id) bytes at_once turns anew all step =
+    without_shut service given next acts (Lost id) bytes at_once step.1 (loss_stands service given s sound id acts bytes all next step.0)
+step_stands service given s next sound n acts Quiet bytes at_once turns anew all step =
+    without_shut service given next acts Quiet bytes at_once step.1
+    (subst (λ (x : State). AllStand service given x (acts ++ (Gave Quiet bytes ∷ []))) (sym step.0)
+    (AllStand-quiet service given s acts (Gave Quiet bytes ∷ []) (λ j t. refl) all))
+step_stands service given s next sound n acts Over bytes at_once turns anew all step =
+    without_shut service given next acts Over bytes at_once step.1
+    (subst (λ (x : State). AllStand service given x (acts ++ (Gave Over bytes ∷ []))) (sym step.0)
+    (AllStand-quiet service given s acts (Gave Over bytes ∷ []) (λ j t. refl) all))

@@ -43,7 +43,8 @@ upload_has_byte long Post body bytes is =
     (cond (nat_le (long + body) (length bytes)) (Upload (text_of long body)) Undecided) (λ h. cc)
     (by_test (λ v. v ≡ NoByte → ⊥) (nat_le (long + body) (length bytes)) (Upload (text_of long body)) Undecided (λ h. cc) (λ h. cc)) is
 
-upload_is_decided : (long : ℕ) (method : Method) (body : ℕ) (bytes : List ℕ) → is_whole long method body bytes ≡ true → IsDecided (of_upload long method body bytes)
+upload_is_decided : (long : ℕ) (method : Method) (body : ℕ) (bytes : List ℕ) → is_whole long method body bytes ≡ true →
+    IsDecided (of_upload long method body bytes)
 upload_is_decided long Get body bytes whole = refused_is_decided MethodNotAllowed
 upload_is_decided long Other body bytes whole = refused_is_decided MethodNotAllowed
 upload_is_decided long Post body bytes whole =
@@ -54,7 +55,8 @@ upload_is_decided long Post body bytes whole =
 
 -- ---- of a whole head
 
-path_has_byte : (path : List ℕ) (long : ℕ) (method : Method) (query : Span) (body : ℕ) (bytes : List ℕ) → by_path path long method query body bytes ≡ NoByte → ⊥
+path_has_byte : (path : List ℕ) (long : ℕ) (method : Method) (query : Span) (body : ℕ) (bytes : List ℕ) →
+    by_path path long method query body bytes ≡ NoByte → ⊥
 path_has_byte path long method query body bytes is =
     by_test (λ v. v ≡ NoByte → ⊥) (bytes_eq path route_path) (of_route method query body)
     (cond (bytes_eq path profile_path) (of_upload long method body bytes) (Refused PathUnknown))
@@ -63,7 +65,8 @@ path_has_byte path long method query body bytes is =
     (upload_has_byte long method body bytes) (λ h. cc))
     is
 
-path_is_decided : (path : List ℕ) (long : ℕ) (method : Method) (query : Span) (body : ℕ) (bytes : List ℕ) → is_whole long method body bytes ≡ true → IsDecided (by_path path long method query body bytes)
+path_is_decided : (path : List ℕ) (long : ℕ) (method : Method) (query : Span) (body : ℕ) (bytes : List ℕ) →
+    is_whole long method body bytes ≡ true → IsDecided (by_path path long method query body bytes)
 path_is_decided path long method query body bytes whole =
     by_test IsDecided (bytes_eq path route_path) (of_route method query body)
     (cond (bytes_eq path profile_path) (of_upload long method body bytes) (Refused PathUnknown))
@@ -71,15 +74,18 @@ path_is_decided path long method query body bytes whole =
     (by_test IsDecided (bytes_eq path profile_path) (of_upload long method body bytes) (Refused PathUnknown)
     (upload_is_decided long method body bytes whole) (refused_is_decided PathUnknown))
 
-whole_is_decided : (bytes : List ℕ) (long : ℕ) (method : Method) (path query : Span) (body : ℕ) → IsDecided (verdict_by (Whole long method path query body) bytes true)
+whole_is_decided : (bytes : List ℕ) (long : ℕ) (method : Method) (path query : Span) (body : ℕ) →
+    IsDecided (verdict_by (Whole long method path query body) bytes true)
 whole_is_decided bytes long method path query body = by_cases (is_whole long method body bytes) refl
   where
     by_cases : (b : Bool) → is_whole long method body bytes ≡ b → IsDecided (verdict_by (Whole long method path query body) bytes true)
     by_cases true is =
-        subst (λ (b : Bool). IsDecided (cond (not b) (Refused BadRequest) (by_path (part bytes path) long method query body bytes))) (sym is)
+        subst (λ (b : Bool). IsDecided (cond (not b) (Refused BadRequest) (by_path (part bytes path) long method query body bytes)))
+        (sym is)
         (path_is_decided (part bytes path) long method query body bytes is)
     by_cases false is =
-        subst (λ (b : Bool). IsDecided (cond (not b) (Refused BadRequest) (by_path (part bytes path) long method query body bytes))) (sym is)
+        subst (λ (b : Bool). IsDecided (cond (not b) (Refused BadRequest) (by_path (part bytes path) long method query body bytes)))
+        (sym is)
         (refused_is_decided BadRequest)
 
 -- ---- of any bytes

@@ -1,6 +1,7 @@
--- What the fields of a hall stand for, and what is true of them, for the parts alone (this project's own rule).
+-- What the fields of a hall stand for, and what is true of them, for the parts alone (this project's own
+-- rule).
 use Rattle.hall.specs.View.{HallValue}
-use Rattle.hall.specs.Parts.{IsHeld, connections_of, seats_of}
+use Rattle.hall.specs.Parts.{IsHeld, seats_of}
 use Rattle.hall.specs.declared.hall.Hall.TheInside.{Inside}
 
 -- what is seen of a hall
@@ -8,8 +9,8 @@ abbrev pub hall_in : Inside → HallValue
 hall_in h = record {
   world = h.room.desk.world;
   profiles = h.room.desk.profiles;
-  waiting = seats_of h.room.desk.queue.items;
-  seats = connections_of h.room.seats.items;
+  waiting = h.room.desk.queue.items;
+  seats = seats_of h.room.seats.items;
 }
 
 -- what is true of every hall

@@ -1,8 +1,12 @@
 pub mod Allowed
+pub mod Held
 pub mod Inside
+pub mod Law
 pub mod Parts
-pub mod Seats
+pub mod Sends
+pub mod Served
 pub mod Sound
 pub mod State
 pub mod Steps
+pub mod Turns
 pub mod View

@@ -1,8 +1,7 @@
 //! Connections that open, and those that are lost.
 
-ghost use Rattle.std.specs.Prelude.{◌≡◌, ◌<◌, ◌+◌, false, length, true};
-ghost use Rattle.hall.specs.Parts.{IsHeld, IsPlaced, connections_of, service_in, state_in};
-ghost use Rattle.hall.specs.State.{HasNoSeat, count_of, freed};
+ghost use Rattle.std.specs.Prelude.{◌≡◌, ◌<◌, ◌+◌, None, false, length, true};
+ghost use Rattle.hall.specs.Parts.{IsHeld, IsPlaced, count_of, seats_of, service_in, state_in};
 ghost use Rattle.hall.specs.Steps.{Loses, Opens};
 
 use crate::queue::left;
@@ -14,7 +13,8 @@ use crate::seats::{count, free_seat, put, seat_of};
 /// How many sessions are held at most, and how many connections are turned away at most.
 const MOST_SESSIONS: usize = 64;
 
-/// Takes in a connection that opened, where there is a seat for it. One that is to be closed at once is answered.
+/// Takes in a connection that opened, where there is room for it. One that is to be closed at once
+/// is answered.
 pub(crate) fn opened(room: &mut Room, id: u64) -> Option<u64>
     requires held { IsHeld room.old }
     ensures opens { Opens (state_in room.old) id (state_in room.new) result }
@@ -27,10 +27,10 @@ pub(crate) fn opened(room: &mut Room, id: u64) -> Option<u64>
     }
 }
 
-/// The same of one that has no seat.
+/// The same of one that isn't held.
 fn seated(room: &mut Room, id: u64) -> Option<u64>
     requires held { IsHeld room.old }
-    requires new { HasNoSeat (state_in room.old) id }
+    requires new { (state_in room.old).known id ≡ None }
     ensures opens { Opens (state_in room.old) id (state_in room.new) result }
     ensures held { IsHeld room.new }
     ensures same { service_in room.new ≡ service_in room.old }
@@ -50,34 +50,25 @@ fn seated(room: &mut Room, id: u64) -> Option<u64>
 
 /// Puts a connection in a free seat.
 fn placed(seats: &mut Vec<Option<Seat>>, seat: Seat)
-    requires free { count_of (connections_of seats.old.items) false + count_of (connections_of seats.old.items) true < length seats.old.items }
+    requires free { count_of (seats_of seats.old.items) false + count_of (seats_of seats.old.items)
+        true < length seats.old.items }
     ensures placed { IsPlaced seats.old.items seats.new.items seat }
 {
     let k = free_seat(seats).unwrap();
     put(seats, k, Some(seat));
 }
 
-/// Frees the seat of a connection that is lost.
+/// Frees the seat of a connection that is lost, and drops its search.
 pub(crate) fn lost(room: &mut Room, id: u64)
     requires held { IsHeld room.old }
     ensures loses { Loses (state_in room.old) id (state_in room.new) }
     ensures held { IsHeld room.new }
     ensures same { service_in room.new ≡ service_in room.old }
 {
-    match seat_of(&room.seats, id) {
-        Some(k) => free(room, k),
-        None => {}
-    }
-}
-
-/// Frees a seat, and drops its search.
-pub(crate) fn free(room: &mut Room, k: usize)
-    requires held { IsHeld room.old }
-    requires within { k < length room.old.seats.items }
-    ensures value { state_in room.new ≡ freed (state_in room.old) k }
-    ensures held { IsHeld room.new }
-    ensures same { service_in room.new ≡ service_in room.old }
-{
+    let k = match seat_of(&room.seats, id) {
+        Some(k) => k,
+        None => return,
+    };
     put(&mut room.seats, k, None);
-    left(&mut room.desk.queue, k);
+    left(&mut room.desk.queue, id);
 }

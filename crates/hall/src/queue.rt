@@ -1,40 +1,28 @@
-//! The searches that wait.
+//! The connections whose searches wait.
 
-ghost use Rattle.std.specs.Prelude.{◌≡◌, ◌==◌, not};
-ghost use Rattle.hall.specs.Parts.{Joins, connection_of, waiting};
-ghost use Rattle.std.specs.List.{filter};
+ghost use Rattle.std.specs.Prelude.{◌≡◌};
+ghost use Rattle.hall.specs.Parts.{Joins};
+ghost use Rattle.hall.specs.State.{without};
 
-use crate::desk::Waiting;
 use crate::seat::{Frame, Seat};
 use crate::seating::{answered, waits};
-use request_reply::Pending;
+use route_engine::Pending;
 use std::collections::VecDeque;
 
-/// Puts the search of a connection last, and gives the connection, which waits. Where the queue can't grow, the connection
-/// is answered by want of memory.
-pub(crate) fn joined(
-    queue: &mut VecDeque<Waiting>,
-    k: usize,
-    seat: Seat,
-    place: u32,
-    pending: Pending,
-) -> Seat
-    ensures joins { Joins queue.old.items queue.new.items (waiting k place pending) (connection_of seat) (connection_of result) }
+/// Puts a connection last, and gives it as one that waits. Where the queue can't grow, the
+/// connection is answered by want of memory.
+pub(crate) fn joined(queue: &mut VecDeque<u64>, seat: Seat, place: u32, pending: Pending) -> Seat
+    ensures joins { Joins queue.old.items queue.new.items seat place pending result }
 {
-    let settled = pending.settled();
-    match queue.push_back(Waiting {
-        seat: k,
-        place,
-        pending,
-    }) {
-        Ok(()) => waits(seat, settled),
+    match queue.push_back(seat.id) {
+        Ok(()) => waits(seat, pending, place),
         Err(_) => answered(seat, Frame::Memory),
     }
 }
 
-/// Takes the search of a seat out, where it has one.
-pub(crate) fn left(queue: &mut VecDeque<Waiting>, k: usize)
-    ensures value { queue.new.items ≡ filter (λ w. not (w.seat == k)) queue.old.items }
+/// Takes a connection out, where it waits.
+pub(crate) fn left(queue: &mut VecDeque<u64>, id: u64)
+    ensures value { queue.new.items ≡ without id queue.old.items }
 {
-    queue.retain(|waiting| waiting.seat != k);
+    queue.retain(|waiting| *waiting != id);
 }

@@ -1,5 +1,6 @@
 //! What is kept of a connection.
 
+use route_engine::Pending;
 use session_answers::Received;
 
 /// A frame that is sent: one of the two that were made before, or one of its own.
@@ -17,8 +18,8 @@ pub(crate) enum Frame {
 pub(crate) enum Phase {
     /// Its bytes are read.
     Reading,
-    /// Its search waits for a turn, with so many labels settled.
-    Waits(u64),
+    /// Its search waits for a turn; with the place of its profile.
+    Waits(Pending, u32),
     /// So many bytes of its frame are sent.
     Answered(Frame, usize),
     /// Its peer ended before the first byte.

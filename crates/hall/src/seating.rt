@@ -1,17 +1,18 @@
 //! What changes of one connection.
 
-ghost use Rattle.std.specs.Prelude.{◌≡◌, ◌+◌, ◌^◌, ◌<◌, ◌∷◌, Some};
-ghost use Rattle.hall.specs.Parts.{connection_of, frame_in};
-ghost use Rattle.hall.specs.State.{Silent, Waits, with_frame};
+ghost use Rattle.std.specs.Prelude.{◌≡◌, Some};
+ghost use Rattle.hall.specs.Parts.{answered_by, seated_of, waiting_by};
 ghost use Rattle.hall.specs.Steps.{session, turned_away};
+ghost use Rattle.hall.specs.declared.seat.Phase.TheVariants as phases;
 
 use crate::seat::{Frame, Phase, Seat};
+use route_engine::Pending;
 use session_answers::Received;
 use std::alloc::Global;
 
 /// A new session.
 pub(crate) fn session(alloc: Global, id: u64) -> Seat
-    ensures value { connection_of result ≡ session id }
+    ensures value { seated_of result ≡ record { id = id; known = session } }
 {
     Seat {
         id,
@@ -25,7 +26,7 @@ pub(crate) fn session(alloc: Global, id: u64) -> Seat
 
 /// A connection that is turned away.
 pub(crate) fn turned_away(alloc: Global, id: u64) -> Seat
-    ensures value { connection_of result ≡ turned_away id }
+    ensures value { seated_of result ≡ record { id = id; known = turned_away } }
 {
     Seat {
         id,
@@ -39,7 +40,7 @@ pub(crate) fn turned_away(alloc: Global, id: u64) -> Seat
 
 /// A connection with a frame, of which nothing is sent yet.
 pub(crate) fn answered(seat: Seat, frame: Frame) -> Seat
-    ensures value { connection_of result ≡ with_frame (connection_of seat) (frame_in frame) }
+    ensures value { result ≡ answered_by seat frame }
 {
     let mut seat = seat;
     seat.phase = Phase::Answered(frame, 0);
@@ -48,26 +49,25 @@ pub(crate) fn answered(seat: Seat, frame: Frame) -> Seat
 
 /// A connection whose request became whole after so many profiles were stored.
 pub(crate) fn whole(seat: Seat, before: usize) -> Seat
-    ensures value { connection_of result ≡ record (connection_of seat) { before = Some before } }
-    ensures received { result.received ≡ seat.received }
+    ensures value { result ≡ record seat { before = Some before } }
 {
     let mut seat = seat;
     seat.before = Some(before);
     seat
 }
 
-/// A connection whose search waits, with so many labels settled.
-pub(crate) fn waits(seat: Seat, settled: u64) -> Seat
-    ensures value { connection_of result ≡ record (connection_of seat) { phase = Waits settled } }
+/// A connection whose search waits.
+pub(crate) fn waits(seat: Seat, pending: Pending, place: u32) -> Seat
+    ensures value { result ≡ waiting_by seat pending place }
 {
     let mut seat = seat;
-    seat.phase = Phase::Waits(settled);
+    seat.phase = Phase::Waits(pending, place);
     seat
 }
 
 /// A connection whose peer ended before the first byte.
 pub(crate) fn silent(seat: Seat) -> Seat
-    ensures value { connection_of result ≡ record (connection_of seat) { phase = Silent } }
+    ensures value { result ≡ record seat { phase = phases.Silent } }
 {
     let mut seat = seat;
     seat.phase = Phase::Silent;

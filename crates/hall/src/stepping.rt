@@ -12,7 +12,8 @@ use edge_io::Event;
 /// Takes an event, with the bytes that came.
 pub(crate) fn step(room: &mut Room, event: &Event, bytes: &[u8]) -> Option<u64>
     requires held { IsHeld room.old }
-    ensures step { Step (service_in room.old) (state_in room.old) event.now bytes.now (state_in room.new) result }
+    ensures step { Step (service_in room.old) (state_in room.old) event.now bytes.now
+        (state_in room.new) result }
     ensures held { IsHeld room.new }
     ensures same { service_in room.new ≡ service_in room.old }
 {

@@ -1,18 +1,22 @@
 //! Turns of searches.
 
 ghost use Rattle.std.specs.Prelude.{◌≡◌};
-ghost use Rattle.hall.specs.Parts.{IsHeld, IsSearchOf, WorksOn, connection_of, service_in, state_in};
+ghost use Rattle.hall.specs.Parts.{AreReadied, HasTurn, IsHeld, IsSearchAt, IsSearchOf, IsWaitingIn, Makes, connection_of, service_in, state_in, waiting_for};
 ghost use Rattle.hall.specs.Steps.{Works};
+ghost use Rattle.route_engine.specs.Pending.{settled_of};
 ghost use Rattle.route_ready.specs.World.{world_of};
 ghost use Rattle.session_answers.specs.Profiles.{stored_of};
+ghost use Rattle.session_answers.specs.Received.{received_of};
 
-use crate::desk::{Desk, Waiting};
+use crate::desk::Desk;
 use crate::queue::joined;
 use crate::room::Room;
-use crate::seat::{Frame, Seat};
+use crate::seat::{Frame, Phase, Seat};
 use crate::seating::answered;
-use crate::seats::{lifted, put};
+use crate::seats::{lifted, put, seat_of};
+use route_engine::Pending;
 use session_answers::{Turned, turn};
+use std::mem::replace;
 
 /// How many labels a turn settles.
 const WORK_QUOTA: u32 = 2000;
@@ -24,32 +28,43 @@ pub(crate) fn work(room: &mut Room)
     ensures held { IsHeld room.new }
     ensures same { service_in room.new ≡ service_in room.old }
 {
-    let waiting = match room.desk.queue.pop_front() {
-        Some(waiting) => waiting,
+    let id = match room.desk.queue.pop_front() {
+        Some(id) => id,
         None => return,
     };
-    let k = waiting.seat;
-    let seat = match lifted(&mut room.seats, k) {
-        Some(seat) => seat,
-        None => return,
-    };
-    let seat = worked(&mut room.desk, seat, waiting);
+    let k = seat_of(&room.seats, id).unwrap();
+    let seat = lifted(&mut room.seats, k);
+    let seat = worked(&mut room.desk, seat);
     put(&mut room.seats, k, Some(seat));
 }
 
 /// A connection after a turn of its search.
-fn worked(desk: &mut Desk, seat: Seat, waiting: Waiting) -> Seat
-    requires search { IsSearchOf (world_of desk.old.world) (stored_of desk.old.profiles) (connection_of seat) waiting }
-    ensures works { WorksOn desk.old desk.new waiting (connection_of seat) (connection_of result) }
+fn worked(desk: &mut Desk, seat: Seat) -> Seat
+    requires kept { AreReadied desk.old }
+    requires waits { IsWaitingIn seat.phase }
+    requires search { IsSearchAt desk.old seat }
+    ensures works { Makes desk.old desk.new (HasTurn desk.old (connection_of seat)) seat.id
+        seat.away result }
 {
-    let Waiting {
-        seat: k,
-        place,
-        pending,
-    } = waiting;
+    let mut seat = seat;
+    match replace(&mut seat.phase, Phase::Silent) {
+        Phase::Waits(pending, place) => turned(desk, seat, place, pending),
+        _ => seat,
+    }
+}
+
+/// The same by the search that waited, which was taken out.
+fn turned(desk: &mut Desk, seat: Seat, place: u32, pending: Pending) -> Seat
+    requires kept { AreReadied desk.old }
+    requires search { IsSearchOf (world_of desk.old.world) (stored_of desk.old.profiles)
+        (received_of seat.received) seat.ended seat.before place pending }
+    ensures works { Makes desk.old desk.new
+        (HasTurn desk.old (waiting_for (connection_of seat) (settled_of pending))) seat.id seat.away
+        result }
+{
     let profile = desk.profiles.profile(place);
     match turn(desk.alloc, &desk.world, profile, pending, WORK_QUOTA) {
-        Ok(Turned::More(pending)) => joined(&mut desk.queue, k, seat, place, pending),
+        Ok(Turned::More(pending)) => joined(&mut desk.queue, seat, place, pending),
         Ok(Turned::Frame(frame)) => answered(seat, Frame::Own(frame)),
         Err(_) => answered(seat, Frame::Memory),
     }

@@ -1,14 +1,23 @@
-use Rattle.std.proofs.Common.{List, Option, Some, None, subst, sym}
-use Rattle.hall.specs.Parts.{IsSeatOf, connections_of, state_in}
-use Rattle.hall.specs.Steps.{Loses, gone, stranger}
-use Rattle.hall.specs.declared.seat.Seat.{Seat}
+use Rattle.std.proofs.Common.{List, None, Option, Some, refl, subst}
+use Rattle.hall.proofs.RoomLemmas.{loses_by}
+use Rattle.hall.proofs.SeatLemmas.{known_none}
 use Rattle.hall.proofs.opening.lost.Goals as goal
-
-pub returns-in-Some-clause-loses : goal.returns-in-Some-clause-loses
-returns-in-Some-clause-loses c =
-    let there = subst (λ (l : List (Option Seat)). IsSeatOf (connections_of l) c.args.id (Some c.in-Some.k)) c.deref.ensures.value c.in-Some.ensures.exact in
-    subst (Loses (state_in c.args.room.now) c.args.id) (sym c.free.ensures.value) (gone c.in-Some.k there.1.1 there.1.2)
+use Rattle.hall.specs.Parts.{IsSeatOf, seats_of}
+use Rattle.hall.specs.Steps.{stranger}
+use Rattle.hall.specs.declared.room.Room.{Room}
+use Rattle.hall.specs.declared.seat.Seat.{Seat}
 
 pub returns-in-None-clause-loses : goal.returns-in-None-clause-loses
 returns-in-None-clause-loses c =
-    stranger (subst (λ (l : List (Option Seat)). IsSeatOf (connections_of l) c.args.id None) c.deref.ensures.value c.in-None.ensures.exact)
+    stranger (known_none (seats_of c.args.room.now.seats.items) c.args.id
+    (subst (λ (l : List (Option Seat)). IsSeatOf (seats_of l) c.args.id None) c.deref.ensures.value c.in-None.ensures.exact))
+
+pub returns : goal.returns
+returns c =
+    let room = c.args.room.now in
+    let new : Room = record { seats = c.put.new.seats; desk = record room.desk { queue = c.left.new.queue } } in
+    let found = subst (λ (l : List (Option Seat)). IsSeatOf (seats_of l) c.args.id (Some c.in-Some.k)) c.deref.ensures.value
+    c.in-Some.ensures.exact in
+    let lost = loses_by room new c.requires.held c.in-Some.k c.args.id found c.put.ensures.value refl c.left.ensures.value refl
+    c.requires.held.kept in
+    record { loses = lost.is; held = lost.held; same = lost.same }

@@ -1,10 +1,23 @@
-use Rattle.std.proofs.Common.{List, Option, Some, refl, subst}
-use Rattle.hall.specs.Parts.{IsSeatOf, connections_of}
+use Rattle.std.proofs.Common.{List, None, Option, Some, refl, subst}
+use Rattle.hall.proofs.RoomLemmas.{found_known}
+use Rattle.hall.proofs.SeatLemmas.{known_none}
+use Rattle.hall.proofs.opening.opened.Goals as goal
+use Rattle.hall.specs.Parts.{IsSeatOf, seats_of}
 use Rattle.hall.specs.Steps.{again}
 use Rattle.hall.specs.declared.seat.Seat.{Seat}
-use Rattle.hall.proofs.opening.opened.Goals as goal
 
 pub returns-in-Some : goal.returns-in-Some
 returns-in-Some c =
-    let there = subst (λ (l : List (Option Seat)). IsSeatOf (connections_of l) c.args.id (Some c.in-Some.field-0)) c.deref.ensures.value c.in-Some.ensures.exact in
-    record { opens = again c.in-Some.field-0 there.1.1 there.1.2; held = c.requires.held; same = refl }
+    let there = subst (λ (l : List (Option Seat)). IsSeatOf (seats_of l) c.args.id (Some c.in-Some.field-0)) c.deref.ensures.value
+    c.in-Some.ensures.exact in
+    record {
+      opens = again (found_known c.args.room.now c.requires.held c.in-Some.field-0 c.args.id there);
+      held = c.requires.held;
+      same =
+          refl;
+    }
+
+pub seated-requires-clause-new : goal.seated-requires-clause-new
+seated-requires-clause-new c =
+    known_none (seats_of c.args.room.now.seats.items) c.args.id
+    (subst (λ (l : List (Option Seat)). IsSeatOf (seats_of l) c.args.id None) c.deref.ensures.value c.in-None.ensures.exact)

@@ -1,6 +1,6 @@
 use Rattle.std.proofs.Common.{sym, arith}
 use Rattle.std.proofs.lemmas.List.{length-take-le, take_all}
-use Rattle.hall.specs.Seats.{most_piece}
+use Rattle.hall.specs.Sends.{most_piece}
 use Rattle.hall.proofs.pieces.first.Goals as goal
 
 pub slice_bounds-result-end : goal.slice_bounds-result-end

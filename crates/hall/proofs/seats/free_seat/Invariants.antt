@@ -1,6 +1,6 @@
 use Rattle.std.proofs.Common.{◌≢◌, ℕ, ◌<◌, get_or, None}
-use Rattle.hall.specs.Parts.{connections_of}
+use Rattle.hall.specs.Parts.{seats_of}
 use Rattle.hall.proofs.seats.free_seat.Given as goal
 
 abbrev pub invariant-seats : goal.invariant-seats
-invariant-seats l = (j : ℕ) → j < l.k → get_or (connections_of l.seats) j None ≢ None
+invariant-seats l = (j : ℕ) → j < l.k → get_or (seats_of l.seats) j None ≢ None

@@ -1,12 +1,11 @@
 use Rattle.std.proofs.Common.{refl}
 use Rattle.hall.proofs.EmptyLemmas.{held_empty, state_empty}
-use Rattle.hall.specs.Parts.{connections_of}
-use Rattle.hall.specs.State.{seat_count}
+use Rattle.hall.specs.Parts.{seat_count}
 use Rattle.hall.specs.View.{service_of, state_of}
 use Rattle.hall.specs.declared.desk.Desk.{Desk}
 use Rattle.hall.specs.declared.room.Room.{Room}
-use Rattle.route_engine.specs.Shelves.{shelf_of}
-use Rattle.route_engine.specs.Stored.{profiles_of}
+use Rattle.route_ready.specs.Shelves.{shelf_of}
+use Rattle.route_ready.specs.Entries.{profiles_of}
 use Rattle.route_ready.specs.World.{world_of}
 use Rattle.session_answers.specs.Profiles.{stored_of}
 use Rattle.hall.proofs.hall.Hall.new.Goals as goal
@@ -34,8 +33,8 @@ returns-clause-empty c =
       kept = c.in_ok-kept.kept;
       queue = c.in_ok-queue.queue;
     } in
-    state_empty desk (connections_of c.in_ok-seats.seats.items) (shelf_of c.args.shelf) c.in_ok-seats.ensures.free c.in_ok-queue.ensures.items
-    c.new-profiles.ensures.value
+    let room : Room = record { seats = c.in_ok-seats.seats; desk = desk } in
+    state_empty room seat_count (shelf_of c.args.shelf) c.in_ok-seats.ensures.free c.in_ok-queue.ensures.items c.new-profiles.ensures.value
 
 pub returns-clause-service : goal.returns-clause-service
 unfolding service_of

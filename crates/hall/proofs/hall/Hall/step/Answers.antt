@@ -7,7 +7,8 @@ use Rattle.hall.proofs.hall.Hall.step.Goals as goal
 pub returns-clause-step : goal.returns-clause-step
 unfolding state_of service_of
 returns-clause-step c =
-    subst (λ (v : HallValue). Step (service_of v) (state_of v) c.args.event.now c.args.bytes.now (state_in c.step.new.room) c.step.result) c.self.view_is
+    subst (λ (v : HallValue). Step (service_of v) (state_of v) c.args.event.now c.args.bytes.now (state_in c.step.new.room) c.step.result)
+    c.self.view_is
     c.step.ensures.step
 
 pub returns-clause-same : goal.returns-clause-same

@@ -1,0 +1,27 @@
+use Rattle.std.proofs.Common.{ap, subst, sym, ◌∙◌}
+use Rattle.hall.proofs.hall.Hall.serve_all.Goals as goal
+use Rattle.hall.specs.Parts.{state_in}
+use Rattle.hall.specs.Served.{AreLive, ServedAll}
+use Rattle.hall.specs.View.{HallValue, service_of, state_of}
+
+pub serve_seats-requires : goal.serve_seats-requires
+unfolding state_of
+serve_seats-requires g c = record {
+  held = c.self.invariant;
+  live = subst (λ (v : HallValue). AreLive (state_of v) (g.H.Hub.seen c.args.hub.now)) (sym c.self.view_is) c.requires.live;
+}
+
+pub returns-clause-served : goal.returns-clause-served
+unfolding state_of
+returns-clause-served g c =
+    subst (λ (v : HallValue). ServedAll (state_of v) (g.H.Hub.seen c.args.hub.now) (state_in c.serve_seats.new.room)
+    (g.H.Hub.seen c.serve_seats.new.hub)) c.self.view_is
+    c.serve_seats.ensures.served
+
+pub returns-clause-live : goal.returns-clause-live
+unfolding state_of
+returns-clause-live g c = c.serve_seats.ensures.live
+
+pub returns-clause-same : goal.returns-clause-same
+unfolding service_of
+returns-clause-same g c = c.serve_seats.ensures.same ∙ ap service_of c.self.view_is

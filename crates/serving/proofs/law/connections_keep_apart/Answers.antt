@@ -1,6 +1,0 @@
--- The law, by the induction over a run.
-use Rattle.serving.proofs.LawLemmas.{keeps_apart}
-use Rattle.serving.proofs.law.connections_keep_apart.Goals as goal
-
-pub returns : goal.returns
-returns c = record { law = keeps_apart }
