@@ -46,7 +46,8 @@ module _ (world : WorldValue) (plan : JobPlan) (on : IsPlanOn world plan) (walke
   pub cost-there :
       (one two three : Ready) → one ≡ plan.ready.value → two ≡ plan.ready.value → three ≡ plan.ready.value → IsPrices one.rates →
       (found : Option ℕ) →
-      SomeIff found (walk_cost three.rates (links_of two.bound).facts walk < 2 ^ 128) (walk_cost three.rates (links_of two.bound).facts walk) →
+      SomeIff found (walk_cost three.rates (links_of two.bound).facts walk < 2 ^ 128)
+      (walk_cost three.rates (links_of two.bound).facts walk) →
       found ≡ Some cost
   cost-there one two three first second third prices found is =
       let P : Ready → Ready → Type 0 =

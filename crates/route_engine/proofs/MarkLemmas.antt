@@ -1,6 +1,6 @@
 -- What is marked, one link or one walk further.
 use Rattle.std.proofs.Common.{◌≡◌, ℕ, ◌+◌, ◌<◌, inl, inr, Bool, true, false, ◌||◌, ◌==◌, List, [], ◌∷◌, ◌++◌, length, get_or, set, take, refl, sym, ap, ◌∙◌, subst, arith, eq-eqb, length-set}
-use Rattle.std.proofs.Math.Bool.{or_assoc}
+use Rattle.std.proofs.Math.Bool.{or_assoc, or-false, or-true}
 use Rattle.std.proofs.lemmas.Bool.{ne_eqb, cases_eq}
 use Rattle.std.proofs.lemmas.List.{get_or-set_same, get_or-set_other, get_or_read, take_more}
 use Rattle.bike_space.specs.Alternatives.{is_used, uses}
@@ -10,16 +10,6 @@ use Rattle.overpass_graph.specs.Roads.{twin_of}
 use Rattle.overpass_graph.proofs.CallerLemmas.{twin-twin}
 use Rattle.track_legs.specs.Rows.{AreBelow}
 use Rattle.route_engine.specs.Marked.{AreOnMap, ArePaired, MarksAlso}
-
--- a test beside none
-or-none : (a : Bool) → a || false ≡ a
-or-none true = refl
-or-none false = refl
-
--- a test beside one that is passed
-or-all : (a : Bool) → a || true ≡ true
-or-all true = refl
-or-all false = refl
 
 -- ---- One segment
 
@@ -31,10 +21,10 @@ set-marked marks k link below =
     elim (cases_eq link k) [
       | inl same ↦
           ap (λ n. get_or (set marks k true) n false) same ∙ get_or-set_same marks k true false below
-          ∙ sym (or-all (is_marked marks link)) ∙ ap (λ b. is_marked marks link || b) (sym (eq-eqb k link (sym same)))
+          ∙ sym (or-true (is_marked marks link)) ∙ ap (λ b. is_marked marks link || b) (sym (eq-eqb k link (sym same)))
       | inr differ ↦
           get_or-set_other marks k link true false differ
-          ∙ sym (or-none (is_marked marks link))
+          ∙ sym (or-false (is_marked marks link))
           ∙ ap (λ b. is_marked marks link || b) (sym (ne_eqb k link (λ e. differ (sym e))))
     ]
 
@@ -62,7 +52,7 @@ segment-marked marks link back below paired is =
           ∙ or_assoc (is_marked marks other) (link == other) (back == other)
           ∙ ap (λ b. is_marked marks other || ((link == other) || b))
           (ap (λ n. n == other) is ∙ twin-test link other)
-          ∙ ap (λ b. is_marked marks other || b) (sym (or-none ((link == other) || (link == twin_of other))));
+          ∙ ap (λ b. is_marked marks other || b) (sym (or-false ((link == other) || (link == twin_of other))));
     }
 
 -- ---- One walk
@@ -76,7 +66,7 @@ uses-append (first ∷ walk) other link =
 
 -- without a link nothing is marked besides
 pub also-none : (marks : List Bool) → MarksAlso marks marks (uses [])
-also-none marks = record { long = refl; exact = λ link below. sym (or-none (is_marked marks link)) }
+also-none marks = record { long = refl; exact = λ link below. sym (or-false (is_marked marks link)) }
 
 -- the segments of the links before a place and of the one at it
 pub also-more :

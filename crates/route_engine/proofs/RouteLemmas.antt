@@ -7,7 +7,7 @@ use Rattle.route_ready.specs.declared.error.RouteError.{RouteError}
 use Rattle.route_ready.specs.declared.error.RouteError.TheVariants.{NoMemory}
 use Rattle.route_ready.specs.declared.ready.Ready.{Ready}
 use Rattle.track_legs.specs.declared.track.Track.{Track}
-use Rattle.waypoint_nodes.specs.Waypoints.{RefusesWaypoint}
+use Rattle.route_engine.specs.Waypoints.{RefusesWaypoint}
 use Rattle.route_engine.specs.Answers.{IsAnswer, Replies, found, plan_for, refused, trackless, unmapped}
 use Rattle.route_engine.specs.Jobs.{IsPlanFor, IsTrackOver, setting_of}
 use Rattle.route_engine.specs.Plans.{IsRefusal, IsTrackFor, Plan}

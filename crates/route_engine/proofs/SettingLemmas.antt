@@ -7,8 +7,8 @@ use Rattle.nogo_areas.specs.declared.circle.Circle.{Circle}
 use Rattle.overpass_graph.specs.Maps.{MapValue, node_at}
 use Rattle.overpass_graph.specs.declared.link.Link.{Link}
 use Rattle.route_http.specs.Seen.{circles_seen}
-use Rattle.waypoint_nodes.specs.Waypoints.{AreNodes, OpenMap}
-use Rattle.waypoint_nodes.proofs.CallerLemmas.{node-below}
+use Rattle.route_engine.specs.Waypoints.{AreNodes, OpenMap}
+use Rattle.route_engine.proofs.WaypointLemmas.{node-below}
 use Rattle.route_engine.specs.Settings.{any_circle_touches, cut_links, is_link_cut}
 
 -- circles touch a way as their centres and radii do
@@ -18,7 +18,8 @@ touches-seen a b (circle ∷ circles) =
     ap (λ t. touches_way a b circle || t) (touches-seen a b circles)
 
 -- they cut a link so
-cuts-seen : (roads : MapValue) (circles : List Circle) (link : Link) → cuts_link roads circles link ≡ is_link_cut roads (circles_seen circles) link
+cuts-seen : (roads : MapValue) (circles : List Circle) (link : Link) →
+    cuts_link roads circles link ≡ is_link_cut roads (circles_seen circles) link
 unfolding cuts_link
 cuts-seen roads circles link =
     touches-seen (node_at roads.nodes link.from).content (node_at roads.nodes link.to).content circles

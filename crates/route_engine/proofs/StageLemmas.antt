@@ -56,7 +56,8 @@ pub fewer-found : (plan : Plan) (walked : Walked) → IsSoFar plan walked → fo
 fewer-found plan walked so_far =
     let most = mul-le (suc (length walked.legs)) (suc plan.alternative) (leg_count plan) (suc plan.alternative)
     (omega (arith, so_far.next)) (omega arith) in
-    let one : suc (length walked.legs) * suc plan.alternative ≡ suc plan.alternative + length walked.legs * suc plan.alternative = grind arith in
+    let one : suc (length walked.legs) * suc plan.alternative ≡ suc plan.alternative + length walked.legs * suc plan.alternative =
+    grind arith in
     omega (arith, most, one, so_far.is.few)
 
 -- the labels that are settled stay within what is allowed where the search goes on

@@ -87,13 +87,15 @@ module _ (plan : Plan) (before after : Walked) (so_far : IsSoFar plan before) (w
                       let one : get_or after.legs k no_leg ≡ get_or before.legs k no_leg =
                       ap (λ (ls : List TrackLeg). get_or ls k no_leg) legs ∙ get_or_append_left before.legs (leg ∷ []) no_leg k h in
                       let walks_one : get_or after.earlier k [] ≡ get_or before.earlier k [] =
-                      ap (λ (es : List (List (List ℕ))). get_or es k []) earlier ∙ get_or_append_left before.earlier (before.walks ∷ []) [] k inside in
+                      ap (λ (es : List (List (List ℕ))). get_or es k []) earlier
+                      ∙ get_or_append_left before.earlier (before.walks ∷ []) [] k inside in
                       subst (λ w. IsFoundLeg plan k w (get_or after.legs k no_leg)) (sym walks_one)
                       (subst (IsFoundLeg plan k (get_or before.earlier k [])) (sym one) (so_far.is.legs.each k h))
                   | inr h ↦
                       let last : length before.legs ≡ k = omega (arith, below, h, legs_count) in
                       let one : get_or after.legs (length before.legs) no_leg ≡ leg =
-                      ap (λ (ls : List TrackLeg). get_or ls (length before.legs) no_leg) legs ∙ get_or-append_seam before.legs leg [] no_leg in
+                      ap (λ (ls : List TrackLeg). get_or ls (length before.legs) no_leg) legs
+                      ∙ get_or-append_seam before.legs leg [] no_leg in
                       let walks_one : get_or after.earlier (length before.legs) [] ≡ before.walks =
                       ap (λ (es : List (List (List ℕ))). get_or es (length before.legs) []) earlier
                       ∙ ap (λ n. get_or (before.earlier ++ before.walks ∷ []) n []) (sym so_far.is.legs.count)
@@ -112,7 +114,8 @@ module _ (plan : Plan) (before after : Walked) (so_far : IsSoFar plan before) (w
 
 -- where a call gives so, the leg is found that comes next
 pub leg-given :
-    {E : Type 0} (plan : Plan) (before : Walked) (so_far : IsSoFar plan before) (walk : List ℕ) (rank : ℕ) (next : IsNext plan before walk rank)
+    {E : Type 0} (plan : Plan) (before : Walked) (so_far : IsSoFar plan before) (walk : List ℕ) (rank : ℕ) (next :
+    IsNext plan before walk rank)
     (cost : ℕ) → plan.alternative ≤ length before.walks → leg_cost (next_leg plan before) walk ≡ cost → cost < 2 ^ 120 →
     (r : Result Walked E) → IfOk r (HasLegMore before (record { links = walk; cost = cost; rank = rank })) → IfOk r (IsWalkedOn plan before)
 leg-given plan before so_far walk rank next cost all costs small (Ok after) has =

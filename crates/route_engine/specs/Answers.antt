@@ -4,7 +4,7 @@ use Rattle.route_ready.specs.Readiness.{ready_of}
 use Rattle.route_ready.specs.declared.error.RouteError.{RouteError}
 use Rattle.route_ready.specs.declared.error.RouteError.TheVariants.{NoMemory, NotMapped}
 use Rattle.track_legs.specs.declared.track.Track.{Track}
-use Rattle.waypoint_nodes.specs.Waypoints.{AreNodes, IsUnmapped}
+use Rattle.route_engine.specs.Waypoints.{AreNodes, IsUnmapped}
 use Rattle.route_engine.specs.Plans.{IsRefusal, IsTrackFor, Plan}
 use Rattle.route_engine.specs.Settings.{IsSettingOf, Question, Setting, open_map_of}
 
@@ -18,14 +18,15 @@ plan_for question setting nodes = record {
   runs = question.asked.runs;
 }
 
--- the answer to a request. The profile is refused as is defined; or it is accepted, and then: a waypoint is moved to no
--- node, the first such; or each is moved to its node, and there is a track between these, or a leg has none, or the limit
--- of labels was spent
+-- the answer to a request. The profile is refused as is defined; or it is accepted, and then: a waypoint is
+-- moved to no node, the first such; or each is moved to its node, and there is a track between these, or a
+-- leg has none, or the limit of labels was spent
 pub data IsAnswer (question : Question) : Result Track RouteError → Type 0 where
   refused : {e : RouteError} → ready_of question.binding ≡ Err e → IsAnswer question (Err e)
   unmapped :
       {setting : Setting} {number : ℕ} → IsSettingOf question setting →
-      IsUnmapped (open_map_of setting) question.asked.waypoints number → IsAnswer question (Err (NotMapped number))
+      IsUnmapped (open_map_of setting) question.asked.waypoints number →
+      IsAnswer question (Err (NotMapped number))
   trackless :
       {setting : Setting} {nodes : List ℕ} {e : RouteError} → IsSettingOf question setting →
       AreNodes (open_map_of setting) question.asked.waypoints nodes →
@@ -38,4 +39,5 @@ pub data IsAnswer (question : Question) : Result Track RouteError → Type 0 whe
 -- a call gives an answer to the request, or reports want of memory
 abbrev pub Replies : Question → Result Track RouteError → Type 0
 Replies question result =
-    MatchResult result (λ track. IsAnswer question (Ok track)) (λ e. (e ≡ NoMemory) ⊎ IsAnswer question (Err e))
+    MatchResult result (λ track. IsAnswer question (Ok track)) (λ e. (e ≡ NoMemory) ⊎
+    IsAnswer question (Err e))

@@ -8,7 +8,7 @@ use Rattle.route_ready.specs.declared.error.RouteError.TheVariants.{NoMemory}
 use Rattle.route_ready.specs.declared.ready.Ready.{Ready}
 use Rattle.track_legs.specs.declared.track.Track.{Track}
 use Rattle.way_class.specs.Links.{links_of}
-use Rattle.waypoint_nodes.specs.Waypoints.{AreNodes}
+use Rattle.route_engine.specs.Waypoints.{AreNodes}
 use Rattle.route_engine.specs.Plans.{IsRefusal, IsTrackFor, Plan}
 use Rattle.route_engine.specs.Progress.{IsStage, allowed, walk_count}
 use Rattle.route_engine.specs.Settings.{Setting, cut_links, open_map_of}
@@ -45,7 +45,8 @@ plan_of world plan = record {
   runs = plan.runs;
 }
 
--- the plan fits the world: it has facts for each link and two nodes or more of its map, and is within the limits of a request
+-- the plan fits the world: it has facts for each link and two nodes or more of its map, and is within the
+-- limits of a request
 pub record IsPlanOn (world : WorldValue) (plan : JobPlan) : Type 0 where
   pub counted : (links_of plan.ready.value.bound).count ≡ length world.map.links
   pub cut : length plan.cut.items ≡ length world.map.links
@@ -119,13 +120,15 @@ ended_with job = last_answer job.stage
 
 -- ---- Turns
 
--- it goes on; or the track is found that the plan asks for; or there is none for this reason, or memory ran out
+-- it goes on; or the track is found that the plan asks for; or there is none for this reason, or memory ran
+-- out
 abbrev pub AnswersJob : Plan → Option Track → JobTurn → Type 0
 AnswersJob plan track More = track ≡ None
 AnswersJob plan track Found = (found : Track) × (track ≡ Some found) × IsTrackFor plan found
 AnswersJob plan track (Refused e) = (track ≡ None) × ((e ≡ NoMemory) ⊎ IsRefusal plan e)
 
--- the labels that are settled after a turn, by those before it: the whole quota more where the job goes on, and else fewer
+-- the labels that are settled after a turn, by those before it: the whole quota more where the job goes on,
+-- and else fewer
 abbrev pub CountsJob : ℕ → ℕ → ℕ → JobTurn → Type 0
 CountsJob quota before after More = after ≡ before + quota
 CountsJob quota before after Found = (before ≤ after) × (after < before + quota)

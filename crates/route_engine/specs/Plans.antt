@@ -13,8 +13,8 @@ use Rattle.route_engine.specs.Settings.{Setting, leg_between}
 use Rattle.track_legs.specs.Sums.{total_cost, total_rank}
 use Rattle.route_engine.specs.Transposed.{walks_of}
 
--- what a job is to find: the legs between these nodes over a setting, each in the alternative of this number, with so
--- many labels a search at most, and by junction runs or not
+-- what a job is to find: the legs between these nodes over a setting, each in the alternative of this number,
+-- with so many labels a search at most, and by junction runs or not
 pub record Plan : Type 0 where
   pub setting : Setting
   pub nodes : List ℕ
@@ -42,8 +42,8 @@ pub record HasNoTrack (plan : Plan) (number : ℕ) : Type 0 where
   pub before : LegsHaveWalks plan number
   pub none : HasNoWalk (nth_leg plan number)
 
--- the limit of labels was spent on this leg, whose nodes differ, in the search for this alternative: each leg before it
--- has a walk, these are the alternatives of the leg before that one, and this is the evidence
+-- the limit of labels was spent on this leg, whose nodes differ, in the search for this alternative: each leg
+-- before it has a walk, these are the alternatives of the leg before that one, and this is the evidence
 pub record IsSpent (plan : Plan) (number alternative : ℕ) : Type 0 where
   pub within : number < leg_count plan
   pub asked : alternative ≤ plan.alternative
@@ -54,17 +54,19 @@ pub record IsSpent (plan : Plan) (number alternative : ℕ) : Type 0 where
   pub are : AreAlternatives (nth_leg plan number) earlier
   pub walks : List (List ℕ)
   pub evidence : IsSpentFor
-      (record { leg = nth_leg plan number; used = is_used earlier; limit = plan.limit; runs = plan.runs }) walks
+      (record { leg = nth_leg plan number; used = is_used earlier; limit = plan.limit; runs = plan.runs })
+      walks
 
 -- why there is no track
 pub data IsRefusal (plan : Plan) : RouteError → Type 0 where
   no_track : {number : ℕ} → HasNoTrack plan number → IsRefusal plan (NoTrack number)
-  spent : {number alternative : ℕ} → IsSpent plan number alternative → IsRefusal plan (Budget number alternative)
+  spent : {number alternative : ℕ} → IsSpent plan number alternative →
+      IsRefusal plan (Budget number alternative)
 
 -- ---- A track
 
--- a leg of a track: the asked alternative, given these walks, which are the alternatives before it; with its cost and
--- its rank. Where its two nodes are one, its walk is empty
+-- a leg of a track: the asked alternative, given these walks, which are the alternatives before it; with its
+-- cost and its rank. Where its two nodes are one, its walk is empty
 pub record IsFound (leg : Leg) (earlier : List (List ℕ)) (found : TrackLeg) : Type 0 where
   pub are : AreAlternatives leg earlier
   pub is : IsAlternative leg earlier found.links
@@ -72,8 +74,8 @@ pub record IsFound (leg : Leg) (earlier : List (List ℕ)) (found : TrackLeg) : 
   pub rank : leg_rank leg (is_used earlier) found.links ≡ found.rank
   pub stays : leg.start ≡ leg.target → found.links ≡ []
 
--- the track that a plan asks for: a leg between each two nodes that follow each other, and of each the alternatives
--- before the asked one. Costs and ranks each add up to less than 2^127
+-- the track that a plan asks for: a leg between each two nodes that follow each other, and of each the
+-- alternatives before the asked one. Costs and ranks each add up to less than 2^127
 pub record IsTrackFor (plan : Plan) (track : Track) : Type 0 where
   pub nodes : track.nodes ≡ plan.nodes
   pub legs : suc (length track.legs) ≡ length plan.nodes

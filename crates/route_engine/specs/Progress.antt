@@ -83,7 +83,8 @@ next_quest plan walked used =
 pub record IsHunt (plan : Plan) (walked : Walked) (search : LegSearch) : Type 0 where
   pub on : IsSearchOn plan.setting.map plan.setting.links plan.setting.prices search
   pub marks : List Bool
-  pub agree : (link : ℕ) → link < length plan.setting.map.links → is_marked marks link ≡ is_used walked.walks link
+  pub agree : (link : ℕ) → link < length plan.setting.map.links →
+      is_marked marks link ≡ is_used walked.walks link
   pub quest : quest_of plan.setting.map plan.setting.links plan.setting.prices search
       ≡ next_quest plan walked (is_marked marks)
   pub within : settled_of search ≤ plan.limit
@@ -119,8 +120,8 @@ IsStage plan (Searching walked search) = IsSoFar plan walked × IsBegun plan wal
 IsStage plan (Found track) = IsTrackFor plan track
 IsStage plan (Refused e) = (e ≡ NoMemory) ⊎ IsRefusal plan e
 
--- how many labels may be settled at a stage: the limit for each walk that is found, and what the search for the next one
--- has settled
+-- how many labels may be settled at a stage: the limit for each walk that is found, and what the search for
+-- the next one has settled
 abbrev pub allowed : Plan → Stage → ℕ
 allowed plan (Searching walked search) = found_count plan walked * plan.limit + settled_in search
 allowed plan (Found track) = walk_count plan * plan.limit

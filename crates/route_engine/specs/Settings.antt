@@ -10,7 +10,7 @@ use Rattle.overpass_graph.specs.Maps.{MapValue, node_at}
 use Rattle.overpass_graph.specs.declared.link.Link.{Link}
 use Rattle.route_http.specs.Asked.{Asked}
 use Rattle.route_ready.specs.Readiness.{ready_of}
-use Rattle.waypoint_nodes.specs.Waypoints.{OpenMap}
+use Rattle.route_engine.specs.Waypoints.{OpenMap}
 use Rattle.way_class.specs.Facts.{Binding, facts_of}
 
 -- a request, and what it is answered over: a profile under its overrides, bound to a map and to heights
@@ -18,8 +18,8 @@ pub record Question : Type 0 where
   pub binding : Binding
   pub asked : Asked
 
--- what legs go over: a map, the facts of its links, the prices of climbing, whether each link is cut by a circle, and
--- whether turn restrictions count
+-- what legs go over: a map, the facts of its links, the prices of climbing, whether each link is cut by a
+-- circle, and whether turn restrictions count
 pub record Setting : Type 0 where
   pub map : MapValue
   pub links : Links
@@ -32,7 +32,8 @@ pub record Setting : Type 0 where
 -- some of these circles, each a centre and a radius, touches the straight way between two places
 abbrev pub any_circle_touches : Place → Place → List (Place × ℕ) → Bool
 any_circle_touches a b [] = false
-any_circle_touches a b (circle ∷ circles) = circle_touches a b circle.0 circle.1 || any_circle_touches a b circles
+any_circle_touches a b (circle ∷ circles) = circle_touches a b circle.0 circle.1 ||
+    any_circle_touches a b circles
 
 -- some of these circles touches the straight way between the ends of a link
 abbrev pub is_link_cut : MapValue → List (Place × ℕ) → Link → Bool
@@ -45,8 +46,8 @@ cut_links roads circles = map (is_link_cut roads circles) roads.links
 
 -- ---- The setting of a request
 
--- this is what the legs of a request go over: the profile is accepted with these prices, each link of the map has the
--- facts that are defined (beyond the map they say nothing), and the request's circles cut these links
+-- this is what the legs of a request go over: the profile is accepted with these prices, each link of the map
+-- has the facts that are defined (beyond the map they say nothing), and the request's circles cut these links
 pub record IsSettingOf (question : Question) (setting : Setting) : Type 0 where
   pub accepted : ready_of question.binding ≡ Ok (record { prices = setting.prices; turns = setting.turns })
   pub map : setting.map ≡ question.binding.map

@@ -1,5 +1,5 @@
--- The walks of alternatives, turned round: leg by leg for each alternative in place of alternative by alternative for
--- each leg (this project's own rule).
+-- The walks of alternatives, turned round: leg by leg for each alternative in place of alternative by
+-- alternative for each leg (this project's own rule).
 use Rattle.std.specs.Prelude.{◌≡◌, ℕ, ◌<◌, List, [], length, get_or, map}
 
 -- the walk of this place in each list of walks

@@ -40,7 +40,8 @@ pub(crate) fn advance(
     requires so_far { IsSoFar (plan_of (world_of world.now) plan.now) walked }
     requires begun { IsBegun (plan_of (world_of world.now) plan.now) walked search }
     requires some { 1 ≤ quota }
-    ensures advances { Advances (plan_of (world_of world.now) plan.now) walked (settled_in search) quota result }
+    ensures advances { Advances (plan_of (world_of world.now) plan.now) walked (settled_in search)
+        quota result }
 {
     match try_advance(alloc, world, plan, walked, search, quota) {
         Ok(advanced) => advanced,

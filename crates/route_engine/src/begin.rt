@@ -55,9 +55,11 @@ fn search_with(
     requires start { start < length (world_of world.now).map.nodes }
     requires target { target < length (world_of world.now).map.nodes }
     requires differ { start ≢ target }
-    ensures on { IfOk result (IsSearchOn (world_of world.now).map (links_of plan.now.ready.value.bound)
+    ensures on { IfOk result
+        (IsSearchOn (world_of world.now).map (links_of plan.now.ready.value.bound)
         plan.now.ready.value.rates) }
-    ensures quest { IfOk result (λ search. quest_of (world_of world.now).map (links_of plan.now.ready.value.bound)
+    ensures quest { IfOk result
+        (λ search. quest_of (world_of world.now).map (links_of plan.now.ready.value.bound)
         plan.now.ready.value.rates search ≡ record {
           leg = leg_between (plan_of (world_of world.now) plan.now).setting start target;
           used = is_marked used.now;
@@ -85,7 +87,8 @@ fn search_with(
     )
 }
 
-/// A turn of the search for the next walk. On a leg whose nodes are one that is the walk without links, at once.
+/// A turn of the search for the next walk. On a leg whose nodes are one that is the walk without
+/// links, at once.
 pub(crate) fn turn_of(
     alloc: Global,
     world: &World,
@@ -94,7 +97,8 @@ pub(crate) fn turn_of(
     quota: u32,
 ) -> Result<LegTurn, AllocError>
     requires on { IsPlanOn (world_of world.now) plan.now }
-    requires begun { (walked : Walked) × IsBegun (plan_of (world_of world.now) plan.now) walked search }
+    requires begun { (walked : Walked) ×
+        IsBegun (plan_of (world_of world.now) plan.now) walked search }
     requires some { 1 ≤ quota }
     ensures answers { IfOk result (λ turn. (walked : Walked) →
         IsBegun (plan_of (world_of world.now) plan.now) walked search →

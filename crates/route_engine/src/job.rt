@@ -4,17 +4,18 @@ ghost use Rattle.std.specs.Prelude.{◌≡◌, ◌⊎◌, ◌≤◌, IfErr, IfOk
 ghost use Rattle.route_engine.specs.Jobs.{AnswersJob, CountsJob, IsJobOn, IsPlanFor, IsPlanOn, IsWithin};
 ghost use Rattle.route_engine.specs.Jobs.{ended_with, most_settled, plan_in, plan_of, setting_of, settled_by, track_of};
 ghost use Rattle.route_engine.specs.Settings.{cut_links, open_map_of};
+ghost use Rattle.route_engine.specs.Waypoints.{RefusesWaypoint};
 ghost use Rattle.route_engine.specs.declared.job.JobTurn.{JobTurn};
 ghost use Rattle.route_http.specs.Seen.{asked};
 ghost use Rattle.route_ready.specs.World.{world_of};
 ghost use Rattle.route_ready.specs.declared.error.RouteError.TheVariants.{NoMemory};
 ghost use Rattle.way_class.specs.Links.{links_of};
-ghost use Rattle.waypoint_nodes.specs.Waypoints.{RefusesWaypoint};
 
 use crate::advance::{advance, next_stage};
 use crate::plan::JobPlan;
 use crate::stage::Stage;
 use crate::walked::Walked;
+use crate::waypoints::waypoint_nodes;
 use cost_model::{Passages, modes};
 use item_list::Items;
 use nogo_areas::cut;
@@ -24,10 +25,9 @@ use std::alloc::Global;
 use std::mem::replace;
 use std::rc::Rc;
 use track_legs::Track;
-use waypoint_nodes::waypoint_nodes;
 
-/// A request that is answered in turns: its legs are searched one after the other, and of each the alternatives up to the
-/// one that is asked for.
+/// A request that is answered in turns: its legs are searched one after the other, and of each the
+/// alternatives up to the one that is asked for.
 pub struct Job {
     pub(crate) alloc: Global,
     pub(crate) plan: JobPlan,
@@ -59,21 +59,25 @@ pub enum JobTurn {
 }
 
 impl Job {
-    /// A job for a request over a world, with a profile that was made ready for it. It is refused where a waypoint is moved to no
-    /// node.
+    /// A job for a request over a world, with a profile that was made ready for it. It is refused
+    /// where a waypoint is moved to no node.
     pub fn new(
         alloc: Global,
         world: &World,
         ready: Rc<Ready>,
         request: Request,
     ) -> Result<Job, RouteError>
-        requires counted { (links_of ready.value.bound).count ≡ length (world_of world.now).map.links }
+        requires counted { (links_of ready.value.bound).count ≡
+            length (world_of world.now).map.links }
         requires within { IsWithin (asked request) }
         ensures on { IfOk result (IsJobOn (world_of world.now)) }
-        ensures plan { let setting = setting_of (world_of world.now) ready.value (asked request).circles in
-            IfOk result (λ job. IsPlanFor setting (asked request) (plan_in (world_of world.now) job)) }
+        ensures plan { let setting =
+            setting_of (world_of world.now) ready.value (asked request).circles in
+            IfOk result (λ job. IsPlanFor setting (asked request)
+            (plan_in (world_of world.now) job)) }
         ensures fresh { IfOk result (λ job. settled_by job ≡ 0) }
-        ensures cause { let setting = setting_of (world_of world.now) ready.value (asked request).circles in
+        ensures cause { let setting =
+            setting_of (world_of world.now) ready.value (asked request).circles in
             IfErr result (λ e. (e ≡ NoMemory) ⊎
             RefusesWaypoint (open_map_of setting) (asked request).waypoints e) }
     {
@@ -94,11 +98,14 @@ impl Job {
 
         // It stays a job over the world, with its plan.
         ensures on { IsJobOn (world_of world.now) self.new }
-        ensures plan { plan_in (world_of world.now) self.new ≡ plan_in (world_of world.now) self.old }
+        ensures plan { plan_in (world_of world.now) self.new ≡
+            plan_in (world_of world.now) self.old }
 
-        ensures answers { AnswersJob (plan_in (world_of world.now) self.old) (track_of self.new) result }
+        ensures answers { AnswersJob (plan_in (world_of world.now) self.old) (track_of self.new)
+            result }
         ensures counts { CountsJob quota (settled_by self.old) (settled_by self.new) result }
-        ensures bounded { settled_by self.new ≤ most_settled (plan_in (world_of world.now) self.new) }
+        ensures bounded { settled_by self.new ≤ most_settled
+            (plan_in (world_of world.now) self.new) }
 
         ensures again { (answer : JobTurn) → ended_with self.old ≡ Some answer →
             (result ≡ answer) × (self.new ≡ self.old) }
@@ -153,7 +160,8 @@ impl Job {
         }
     }
 
-    /// How many labels its searches have settled so far. Those of a search that ran out of memory in this turn aren't counted.
+    /// How many labels its searches have settled so far. Those of a search that ran out of memory
+    /// in this turn aren't counted.
     pub fn settled(&self) -> u64
         ensures value { result ≡ settled_by self.now }
     {
@@ -171,9 +179,12 @@ fn plan_for(
     requires counted { (links_of ready.value.bound).count ≡ length (world_of world.now).map.links }
     requires within { IsWithin (asked request.now) }
     ensures on { IfOk result (IsPlanOn (world_of world.now)) }
-    ensures plan { let setting = setting_of (world_of world.now) ready.value (asked request.now).circles in
-        IfOk result (λ plan. IsPlanFor setting (asked request.now) (plan_of (world_of world.now) plan)) }
-    ensures cause { let setting = setting_of (world_of world.now) ready.value (asked request.now).circles in
+    ensures plan { let setting =
+        setting_of (world_of world.now) ready.value (asked request.now).circles in
+        IfOk result (λ plan. IsPlanFor setting (asked request.now)
+        (plan_of (world_of world.now) plan)) }
+    ensures cause { let setting =
+        setting_of (world_of world.now) ready.value (asked request.now).circles in
         IfErr result (λ e. (e ≡ NoMemory) ⊎
         RefusesWaypoint (open_map_of setting) (asked request.now).waypoints e) }
 {
@@ -193,9 +204,12 @@ fn with_cut(
     requires within { IsWithin (asked request.now) }
     requires cut { cut.items ≡ cut_links (world_of world.now).map (asked request.now).circles }
     ensures on { IfOk result (IsPlanOn (world_of world.now)) }
-    ensures plan { let setting = setting_of (world_of world.now) ready.value (asked request.now).circles in
-        IfOk result (λ plan. IsPlanFor setting (asked request.now) (plan_of (world_of world.now) plan)) }
-    ensures cause { let setting = setting_of (world_of world.now) ready.value (asked request.now).circles in
+    ensures plan { let setting =
+        setting_of (world_of world.now) ready.value (asked request.now).circles in
+        IfOk result (λ plan. IsPlanFor setting (asked request.now)
+        (plan_of (world_of world.now) plan)) }
+    ensures cause { let setting =
+        setting_of (world_of world.now) ready.value (asked request.now).circles in
         IfErr result (λ e. (e ≡ NoMemory) ⊎
         RefusesWaypoint (open_map_of setting) (asked request.now).waypoints e) }
 {

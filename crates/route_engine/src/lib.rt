@@ -1,19 +1,23 @@
-//! Answers to requests: the legs of a track searched one after the other, in turns, each in its alternatives; and the profiles that
-//! requests name.
+//! Answers to requests: the legs of a track searched one after the other, in turns, each in its
+//! alternatives; and the profiles that requests name.
 #![tactic(auto)]
 
 mod advance;
 mod begin;
 mod job;
 mod marks;
+mod pending;
 mod plan;
+mod replying;
 mod routing;
-mod shelf;
-mod shelving;
 mod stage;
+mod told;
 mod transposing;
 mod walked;
+mod waypoints;
 
 pub use job::{Job, JobTurn};
+pub use pending::{Pending, PendingTurn};
+pub use replying::reply;
 pub use routing::{route, route_by};
-pub use shelf::Shelf;
+pub use waypoints::waypoint_nodes;

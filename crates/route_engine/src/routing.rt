@@ -60,7 +60,8 @@ pub fn route_by(
     ensures exact { (binding : Binding) → (world_of world.now).map ≡ binding.map →
         IsReadyBy binding (ready_of binding) ready.value →
         let question : Question = record { binding = binding; asked = asked request } in Replies question result }
-    ensures found { let setting = setting_of (world_of world.now) ready.value (asked request).circles in
+    ensures found { let setting =
+        setting_of (world_of world.now) ready.value (asked request).circles in
         IfOk result (IsTrackOver setting (asked request)) }
 {
     match Job::new(alloc, world, ready, request) {

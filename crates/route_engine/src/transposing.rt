@@ -29,7 +29,8 @@ fn walks_at(
     alternative: usize,
     legs: &[Items<Items<u32>>],
 ) -> Result<Items<Items<u32>>, AllocError>
-    requires counted { (leg : ℕ) → leg < length legs.now → alternative < length (get_or legs.now leg []) }
+    requires counted { (leg : ℕ) → leg < length legs.now →
+        alternative < length (get_or legs.now leg []) }
     ensures exact { IfOk result (λ walks. walks ≡ walks_of legs.now alternative) }
 {
     let mut walks = Items::new(alloc);

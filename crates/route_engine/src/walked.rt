@@ -124,8 +124,10 @@ impl Walked {
 /// What the walk costs that comes next: at most what it ranks.
 fn next_cost(world: &World, plan: &JobPlan, walked: &Walked, walk: &[u32]) -> u128
     requires on { IsPlanOn (world_of world.now) plan.now }
-    requires next { (rank : ℕ) × IsNext (plan_of (world_of world.now) plan.now) walked.now walk.now rank }
-    ensures exact { leg_cost (next_leg (plan_of (world_of world.now) plan.now) walked.now) walk.now ≡ result }
+    requires next { (rank : ℕ) ×
+        IsNext (plan_of (world_of world.now) plan.now) walked.now walk.now rank }
+    ensures exact { leg_cost (next_leg (plan_of (world_of world.now) plan.now) walked.now)
+        walk.now ≡ result }
     ensures small { result < 2 ^ 120 }
 {
     // What the map and the rates promise of themselves.

@@ -23,11 +23,13 @@ use Rattle.way_class.specs.Sides.{is_nonzero}
 abbrev pub turns_name : List ℕ
 turns_name = codes "considerTurnRestrictions"
 
--- turn restrictions count: the value that the global section gives the name last isn't 0; without one they don't
+-- turn restrictions count: the value that the global section gives the name last isn't 0; without one they
+-- don't
 unfoldable pub turns_of : Subject → Bool
 turns_of subject = is_nonzero (last_or (global_of subject) turns_name (pos 0))
 
--- what a profile says of walks besides the facts of links: the prices of climbing, and whether turn restrictions count
+-- what a profile says of walks besides the facts of links: the prices of climbing, and whether turn
+-- restrictions count
 pub record Terms : Type 0 where
   pub prices : Prices
   pub turns : Bool
@@ -51,15 +53,17 @@ linked_terms binding prices =
 
 -- the terms with these global values, unless they give no rates
 abbrev pub priced_terms : Binding → List ℤ → Result Terms RouteError
-priced_terms binding globals = and_then (answer_map (λ prices. prices) Rate (rates_of globals)) (linked_terms binding)
+priced_terms binding globals =
+    and_then (answer_map (λ prices. prices) Rate (rates_of globals)) (linked_terms binding)
 
 -- the terms of a profile that the check accepts, unless its global section meets a fault
 abbrev pub global_terms : Binding → Result Terms RouteError
 global_terms binding =
-    and_then (answer_map (λ globals. globals) global_fault (global_answer binding.subject)) (priced_terms binding)
+    and_then (answer_map (λ globals. globals) global_fault (global_answer binding.subject))
+    (priced_terms binding)
 
--- the terms of a profile on a world, or the first refusal: of the check, of the global section, of its values as rates,
--- of the ways in the order of the file and of the nodes by id
+-- the terms of a profile on a world, or the first refusal: of the check, of the global section, of its values
+-- as rates, of the ways in the order of the file and of the nodes by id
 unfoldable pub ready_of : Binding → Result Terms RouteError
 ready_of binding =
     let subject = binding.subject in
@@ -75,7 +79,8 @@ terms_in ready = record { prices = ready.rates; turns = ready.turns }
 pub record IsReadyBy (binding : Binding) (terms : Result Terms RouteError) (ready : Ready) : Type 0 where
   pub terms_are : terms ≡ Ok (terms_in ready)
   pub count : (links_of ready.bound).count ≡ length binding.map.links
-  pub facts : (link : ℕ) → link < length binding.map.links → (links_of ready.bound).facts link ≡ facts_of binding link
+  pub facts : (link : ℕ) → link < length binding.map.links →
+      (links_of ready.bound).facts link ≡ facts_of binding link
 
 -- a profile that is ready for its world
 abbrev pub IsReadyOf : Binding → Ready → Type 0

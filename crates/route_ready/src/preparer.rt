@@ -24,15 +24,16 @@ use profile_text::Profile;
 use std::alloc::Global;
 use way_class::bind;
 
-/// A profile under overrides, made ready for a world; or the first refusal: of the check, of the global section, of its
-/// values as rates, of the ways and of the nodes.
+/// A profile under overrides, made ready for a world; or the first refusal: of the check, of the
+/// global section, of its values as rates, of the ways and of the nodes.
 pub fn prepare(
     alloc: Global,
     world: &World,
     profile: &Profile,
     overrides: &Overrides,
 ) -> Result<Ready, RouteError>
-    ensures exact { let binding = binding_in (world_of world.now) (sections_in profile.now) overrides.now in
+    ensures exact { let binding =
+        binding_in (world_of world.now) (sections_in profile.now) overrides.now in
         Readies binding (ready_of binding) result }
 {
     match check(alloc, profile, world.table(), overrides) {

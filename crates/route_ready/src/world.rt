@@ -35,7 +35,8 @@ impl Drop for World {
 impl World {
     /// The world of a tag table, a map and tiles. An index of the map's nodes is made once, here.
     pub fn new(alloc: Global, table: Table, map: Map, tiles: Tiles) -> Result<World, AllocError>
-        ensures value { let given : WorldValue = record { table = table; map = map; tiles = tiles } in
+        ensures value { let given : WorldValue =
+            record { table = table; map = map; tiles = tiles } in
             IfOk result (λ world. world_of world ≡ given) }
     {
         let roads = IndexedMap::new(alloc, map)?;
@@ -67,8 +68,9 @@ impl World {
         &self.tiles
     }
 
-    /// The node to which a waypoint is moved where these links are open: of the nodes that some open link leaves or
-    /// reaches the nearest, of those as near the first; none where none lies within 250 metres. It takes no memory.
+    /// The node to which a waypoint is moved where these links are open: of the nodes that some
+    /// open link leaves or reaches the nearest, of those as near the first; none where none lies
+    /// within 250 metres. It takes no memory.
     pub fn nearest<O: OpenLinks>(&self, passages: &O, at: Spot) -> Option<u32>
         requires same_links { (O.opens passages.now).count ≡ length (world_of self.now).map.links }
         ensures exact { let map = (world_of self.now).map in

@@ -1,29 +1,24 @@
 -- The request of a query stays it while more profiles are stored.
-use Rattle.std.proofs.Common.{◌≡◌, ℕ, zero, suc, ◌≤◌, ◌<◌, List, [], ◌∷◌, ◌++◌, length, take, drop, refl, sym, ap, ◌∙◌, subst, arith, Option, Some}
+use Rattle.std.proofs.Common.{◌≡◌, ℕ, ◌≤◌, ◌<◌, List, [], ◌∷◌, ◌++◌, length, take, drop, refl, sym, ap, ◌∙◌, subst, arith, Option, Some}
 use Rattle.std.specs.Prelude.{slice_get}
 use Rattle.std.proofs.lemmas.List.{length-map, take-append-drop, take-append-le, take_all}
 use Rattle.std.proofs.lemmas.Option.{slice_get_within}
-use Rattle.kept_profiles.specs.declared.kept.KeptProfiles.{KeptProfiles}
+use Rattle.session_answers.specs.declared.kept.KeptProfiles.{KeptProfiles}
 use Rattle.profile_text.specs.Tree.{Sections}
-use Rattle.request_reply.specs.Pending.{IsFor, IsPending, StaysFor, settled_of}
-use Rattle.request_reply.specs.Replies.{question_of}
-use Rattle.request_reply.specs.declared.pending.Pending.{Pending}
+use Rattle.route_engine.specs.Pending.{IsFor, IsPending, StaysFor, settled_of}
+use Rattle.route_engine.specs.Replies.{question_of}
+use Rattle.route_engine.specs.declared.pending.Pending.{Pending}
 use Rattle.route_engine.proofs.RouteLemmas.{ready-setting}
 use Rattle.route_engine.specs.Jobs.{plan_in, setting_of}
-use Rattle.route_engine.specs.Stored.{profiles_of}
+use Rattle.route_ready.specs.Entries.{profiles_of}
 use Rattle.route_http.specs.Asked.{Asked}
 use Rattle.route_ready.specs.Worlds.{WorldValue}
 use Rattle.session_answers.specs.Jobs.{AreKept, IsBegun, IsJobOf}
 use Rattle.session_answers.specs.Rows.{Asks, IsSearched}
 use Rattle.session_answers.specs.Stored.{Stored}
+use Rattle.item_list.proofs.ListLemmas.{slice_get-append}
 
 -- ---- Lists
-
--- what stands at a place of a list stands there where more comes behind
-front_get : {A : Type 0} (xs ys : List A) (k : ℕ) (a : A) → slice_get xs k ≡ Some a → slice_get (xs ++ ys) k ≡ Some a
-front_get [] ys k a is = absurd (cc)
-front_get (x ∷ xs) ys zero a is = is
-front_get (x ∷ xs) ys (suc k) a is = front_get xs ys k a is
 
 -- what stands at a place is one
 get_same : {A : Type 0} (found : Option A) (a b : A) → found ≡ Some a → found ≡ Some b → a ≡ b
@@ -39,7 +34,7 @@ profile_more : (stored more : List Stored) (place : ℕ) (sections : Sections) �
     slice_get (profiles_of (stored ++ more)) place ≡ Some sections
 profile_more stored more place sections there =
     ap (λ (l : List Sections). slice_get l place) (profiles-append stored more)
-    ∙ front_get (profiles_of stored) (profiles_of more) place sections there
+    ∙ slice_get-append (profiles_of stored) (profiles_of more) place sections there
 
 -- and where the first ones are told from all
 profile_front : (before : ℕ) (stored : List Stored) (place : ℕ) (sections : Sections) →

@@ -1,6 +1,9 @@
+mod KeptLemmas
+mod KeyLemmas
+mod QueryLemmas
+mod ReadyLemmas
+mod ReceivedLemmas
 pub mod CallerLemmas
 pub mod JobLemmas
-mod QueryLemmas
-mod ReceivedLemmas
 pub mod StoredLemmas
 pub mod VerdictLemmas

@@ -3,12 +3,12 @@ use Rattle.std.proofs.Common.{◌≡◌, ◌≢◌, ◌⊎◌, inl, inr, ℕ, Li
 use Rattle.std.specs.Prelude.{slice_get}
 use Rattle.lookup_table.specs.Tag.{name_place}
 use Rattle.profile_text.specs.Tree.{Sections}
-use Rattle.request_reply.specs.Pending.{RefusesTo, RepliesTo}
-use Rattle.request_reply.specs.Refusals.{RefusesEarly, profile}
-use Rattle.request_reply.specs.Replies.{IsReply, question_of}
-use Rattle.request_reply.specs.declared.pending.Pending.{Pending}
+use Rattle.route_engine.specs.Pending.{RefusesTo, RepliesTo}
+use Rattle.route_engine.specs.Refusals.{RefusesEarly, profile}
+use Rattle.route_engine.specs.Replies.{IsReply, question_of}
+use Rattle.route_engine.specs.declared.pending.Pending.{Pending}
 use Rattle.route_engine.specs.Answers.{IsAnswer}
-use Rattle.route_engine.specs.Stored.{names_of, profiles_of}
+use Rattle.route_ready.specs.Entries.{names_of, profiles_of}
 use Rattle.route_http.specs.Asked.{Asked}
 use Rattle.route_http.specs.Frames.{frame_of}
 use Rattle.route_http.specs.Lines.{request_line}
@@ -75,7 +75,8 @@ module _ (world : WorldValue) (stored : List Stored) (query : List ℕ) where
   reply-frame asked sections asks kind bytes frame kind_is replies is =
       subst (IsQueryFrame world stored query) (sym (is ∙ ap (λ (k : Kind). frame_of 200 k bytes) kind_is)) (told asks replies)
 
-module _ (world : WorldValue) (stored : List Stored) (query : List ℕ) (place : ℕ) (p : Pending) (job : IsJobOf world stored query place p) where
+module _ (world : WorldValue) (stored : List Stored) (query : List ℕ) (place : ℕ) (p : Pending) (job :
+    IsJobOf world stored query place p) where
   -- the request of a query that has no track
   pub job-refused : (sections : Sections) → slice_get (profiles_of stored) place ≡ Some sections → (e : RouteError) (frame : List ℕ) →
       e ≢ route.NoMemory → frame ≡ route_frame sections e → RefusesTo world p e → IsQueryFrame world stored query frame

@@ -4,12 +4,12 @@ use Rattle.std.specs.Prelude.{bytes_eq, codes, decimal, if◌then◌else◌, opt
 use Rattle.std.proofs.lemmas.Bool.{cases_lt}
 use Rattle.std.proofs.lemmas.Fmt.{decimal_injective}
 use Rattle.std.proofs.lemmas.List.{append_cancel_left, get_or_append_left, length-map, take-append-le, take_all}
-use Rattle.std.proofs.lemmas.Slice.Eq.{bytes_eq-Decides}
 use Rattle.std.proofs.Math.Seq.{get_or-append_seam}
 use Rattle.lookup_table.specs.Tag.{name_place}
 use Rattle.profile_text.specs.Tree.{Sections}
-use Rattle.route_engine.specs.Stored.{names_of, profiles_of}
+use Rattle.route_ready.specs.Entries.{names_of, profiles_of}
 use Rattle.session_answers.specs.Stored.{AreGiven, AreStored, Stored, find_stored, most_uploads, upload_name}
+use Rattle.item_list.proofs.TestLemmas.{bytes_eq-other, option_map-none, option_map-some}
 
 -- ---- Names of uploads
 
@@ -26,19 +26,12 @@ none_by : (test : Bool) (rest : Option ℕ) → test ≡ false → rest ≡ None
 none_by true rest other none = absurd (cc)
 none_by false rest other none = ap (λ (o : Option ℕ). option_map suc o) none
 
--- names that differ are told apart
-other_bytes : (a b : List ℕ) → a ≢ b → bytes_eq a b ≡ false
-other_bytes a b differ =
-    elim (bytes_eq a b) as (λ (t : Bool). bytes_eq a b ≡ t → t ≡ false) [
-      | true ↦ λ same. absurd (differ ((bytes_eq-Decides a b).0 same))
-      | false ↦ λ same. refl
-    ] refl
-
 -- a name that is none of these has no place among them
-place_none : (names : List (List ℕ)) (name : List ℕ) → ((k : ℕ) → k < length names → get_or names k [] ≢ name) → name_place names name ≡ None
+place_none : (names : List (List ℕ)) (name : List ℕ) → ((k : ℕ) → k < length names → get_or names k [] ≢ name) →
+    name_place names name ≡ None
 place_none [] name differ = refl
 place_none (x ∷ names) name differ =
-    none_by (bytes_eq name x) (name_place names name) (other_bytes name x (λ same. differ 0 (omega arith) (sym same)))
+    none_by (bytes_eq name x) (name_place names name) (bytes_eq-other name x (λ same. differ 0 (omega arith) (sym same)))
     (place_none names name (λ k inside same. differ (suc k) (omega arith) same))
 
 -- ---- What is stored
@@ -128,34 +121,26 @@ stored_given stored given = record {
 
 -- ---- What is found
 
--- what is counted up is there where it was before
-map_some : (a : Option ℕ) (k : ℕ) → option_map suc a ≡ Some k → (n : ℕ) × (a ≡ Some n) × (suc n ≡ k)
-map_some None k is = absurd (cc)
-map_some (Some n) k is = (n, refl, cc)
-
-map_none : (a : Option ℕ) → option_map suc a ≡ None → a ≡ None
-map_none None is = refl
-map_none (Some n) is = absurd (cc)
-
--- by the test of the first name, as the place of a name goes
-found_by : (test : Bool) (s : Stored) (rest : List Stored) (name : List ℕ) (place : ℕ) (sections : Sections) →
-    ((n : ℕ) → name_place (names_of rest) name ≡ Some n → slice_get (profiles_of rest) n ≡ Some sections → find_stored rest name ≡ Some sections) →
-    ◌≡◌ {A = Option ℕ} (if test then Some 0 else option_map suc (name_place (names_of rest) name)) (Some place) →
-    slice_get (profiles_of (s ∷ rest)) place ≡ Some sections →
-    (if test then Some s.1 else find_stored rest name) ≡ Some sections
-found_by true s rest name place sections later is there =
-    let first : ◌≡◌ {A = ℕ} 0 place = cc in
-    ap (λ (k : ℕ). slice_get (profiles_of (s ∷ rest)) k) first ∙ there
-found_by false s rest name place sections later is there =
-    let found = map_some (name_place (names_of rest) name) place is in
-    later found.0 found.1 (ap (λ (k : ℕ). slice_get (profiles_of (s ∷ rest)) k) found.2 ∙ there)
+-- where the profile of a name among further ones is that at its place
+module _ (s : Stored) (rest : List Stored) (sections : Sections) (found : Option ℕ) (answer : Option Sections)
+    (later : (n : ℕ) → found ≡ Some n → slice_get (profiles_of rest) n ≡ Some sections → answer ≡ Some sections) where
+  -- by the test of the first name, as the place of a name goes
+  found_by : (test : Bool) (place : ℕ) → ◌≡◌ {A = Option ℕ} (if test then Some 0 else option_map suc found) (Some place) →
+      slice_get (profiles_of (s ∷ rest)) place ≡ Some sections → (if test then Some s.1 else answer) ≡ Some sections
+  found_by true place is there =
+      let first : ◌≡◌ {A = ℕ} 0 place = cc in
+      ap (λ (k : ℕ). slice_get (profiles_of (s ∷ rest)) k) first ∙ there
+  found_by false place is there =
+      let at = option_map-some suc place found is in
+      later at.0 at.1 (ap (λ (k : ℕ). slice_get (profiles_of (s ∷ rest)) k) at.2 ∙ there)
 
 -- the profile of a name is that at its place
 pub found_at : (stored : List Stored) (name : List ℕ) (place : ℕ) (sections : Sections) → name_place (names_of stored) name ≡ Some place →
     slice_get (profiles_of stored) place ≡ Some sections → find_stored stored name ≡ Some sections
 found_at [] name place sections is there = absurd (cc)
 found_at (s ∷ rest) name place sections is there =
-    found_by (bytes_eq name s.0) s rest name place sections (λ n found here. found_at rest name n sections found here) is there
+    found_by s rest sections (name_place (names_of rest) name) (find_stored rest name)
+    (λ n found here. found_at rest name n sections found here) (bytes_eq name s.0) place is there
 
 -- by the test of the first name, where a name has no place
 unknown_by : (test : Bool) (s : Stored) (rest : List Stored) (name : List ℕ) →
@@ -163,7 +148,7 @@ unknown_by : (test : Bool) (s : Stored) (rest : List Stored) (name : List ℕ) �
     ◌≡◌ {A = Option ℕ} (if test then Some 0 else option_map suc (name_place (names_of rest) name)) None →
     (if test then Some s.1 else find_stored rest name) ≡ None
 unknown_by true s rest name later is = absurd (cc)
-unknown_by false s rest name later is = later (map_none (name_place (names_of rest) name) is)
+unknown_by false s rest name later is = later (option_map-none suc (name_place (names_of rest) name) is)
 
 -- a name that has no place is none that is stored
 pub unknown_at : (stored : List Stored) (name : List ℕ) → name_place (names_of stored) name ≡ None → find_stored stored name ≡ None

@@ -13,7 +13,8 @@ use Rattle.route_http.specs.Heads.{IsHeadOf, IsHeadUpTo, IsJudged, IsServed, Tel
 served-prop : (bytes : List ℕ) (r : RequestHead) (body : ℕ) → IsProp (IsServed bytes r body)
 served-prop bytes r body = hlevel props
 
-tells-prop : (bytes : List ℕ) (r : RequestHead) (long : ℕ) (method : Method) (path query : Span) → IsProp (Tells bytes r long method path query)
+tells-prop : (bytes : List ℕ) (r : RequestHead) (long : ℕ) (method : Method) (path query : Span) →
+    IsProp (Tells bytes r long method path query)
 tells-prop bytes r long method path query = hlevel props
 
 judged-prop : (bytes : List ℕ) (answer : Head) → IsProp (IsJudged bytes answer)
@@ -22,7 +23,8 @@ judged-prop bytes (head.Whole long method path query body) = λ a b.
     λ i. (
       same i,
       is_prop→PathP (λ j. IsServed bytes (same j) body) (λ j. served-prop bytes (same j) body) a.1 b.1 i,
-      is_prop→PathP (λ j. Tells bytes (same j) long method path query) (λ j. tells-prop bytes (same j) long method path query) a.2 b.2 i,
+      is_prop→PathP (λ j. Tells bytes (same j) long method path query)
+          (λ j. tells-prop bytes (same j) long method path query) a.2 b.2 i,
     )
 judged-prop bytes head.More = hlevel props
 judged-prop bytes head.Bad = hlevel props

@@ -1,11 +1,11 @@
 -- What a query comes to at once, and what a turn of the search for it comes to. This project's own rule.
 use Rattle.std.specs.Prelude.{◌≡◌, ℕ, ◌+◌, List, Some, slice_get}
-use Rattle.kept_profiles.specs.Kept.{IsKept}
-use Rattle.kept_profiles.specs.declared.kept.KeptProfiles.{KeptProfiles}
+use Rattle.session_answers.specs.Kept.{IsKept}
+use Rattle.session_answers.specs.declared.kept.KeptProfiles.{KeptProfiles}
 use Rattle.profile_text.specs.Tree.{Sections}
-use Rattle.request_reply.specs.Pending.{IsFor, IsPending, settled_of}
-use Rattle.request_reply.specs.declared.pending.Pending.{Pending}
-use Rattle.route_engine.specs.Stored.{profiles_of}
+use Rattle.route_engine.specs.Pending.{IsFor, IsPending, settled_of}
+use Rattle.route_engine.specs.declared.pending.Pending.{Pending}
+use Rattle.route_ready.specs.Entries.{profiles_of}
 use Rattle.route_http.specs.Asked.{Asked}
 use Rattle.route_ready.specs.Worlds.{WorldValue}
 use Rattle.session_answers.specs.Rows.{Asks, IsEarlyFrame, IsQueryFrame, IsSearched}
@@ -22,7 +22,8 @@ abbrev pub AreKept : WorldValue → List Stored → KeptProfiles → Type 0
 AreKept world stored kept = IsKept world (profiles_of stored) kept
 
 -- it is the request of a query that goes by the stored profile at a place
-pub record IsJobOf (world : WorldValue) (stored : List Stored) (query : List ℕ) (place : ℕ) (p : Pending) : Type 0 where
+pub record IsJobOf (world : WorldValue) (stored : List Stored) (query : List ℕ) (place : ℕ) (p : Pending) :
+    Type 0 where
   pub asked : Asked
   pub sections : Sections
   pub asks : Asks stored query asked sections
@@ -31,7 +32,8 @@ pub record IsJobOf (world : WorldValue) (stored : List Stored) (query : List ℕ
   pub is : IsFor world sections asked p
 
 -- it is that request, for which nothing was settled yet
-pub record IsBegun (world : WorldValue) (stored : List Stored) (query : List ℕ) (place : ℕ) (p : Pending) : Type 0 where
+pub record IsBegun (world : WorldValue) (stored : List Stored) (query : List ℕ) (place : ℕ) (p : Pending) :
+    Type 0 where
   pub searched : IsSearched world stored query
   pub job : IsJobOf world stored query place p
   pub fresh : settled_of p ≡ 0
@@ -44,7 +46,8 @@ Begins world stored query (begun.Frame frame) = IsEarlyFrame world stored query 
 Begins world stored query (begun.Job p place) = IsBegun world stored query place p
 
 -- what a turn comes to: its request, which goes on, or a frame that answers it
-abbrev pub TurnsTo : WorldValue → List Stored → List ℕ → ℕ → Turned → Type 0
+abbrev pub TurnsTo : (world : WorldValue) (stored : List Stored) (query : List ℕ) (place : ℕ)
+    (turned : Turned) → Type 0
 TurnsTo world stored query place (turned.More next) = IsJobOf world stored query place next
 TurnsTo world stored query place (turned.Frame frame) = IsQueryFrame world stored query frame.items
 

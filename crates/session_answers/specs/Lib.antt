@@ -1,6 +1,7 @@
 pub mod Frames
 pub mod HeadProps
 pub mod Jobs
+pub mod Kept
 pub mod Profiles
 pub mod Received
 pub mod Rows

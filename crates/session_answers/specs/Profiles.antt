@@ -1,6 +1,6 @@
 -- What the stored profiles of a server stand for. This project's own rule.
 use Rattle.std.specs.Prelude.{ℕ, ◌-◌, List, length}
-use Rattle.route_engine.specs.Shelves.{shelf_of}
+use Rattle.route_ready.specs.Shelves.{shelf_of}
 use Rattle.session_answers.specs.Stored.{Stored}
 use Rattle.session_answers.specs.declared.profiles.Profiles.{Profiles}
 

@@ -1,8 +1,8 @@
 -- The answers to a query over a world and the stored profiles. This project's own rule.
 use Rattle.std.specs.Prelude.{◌≡◌, ℕ, List, Some, None, Ok, Err}
 use Rattle.profile_text.specs.Tree.{Sections}
-use Rattle.request_reply.specs.Refusals.{IsEarly}
-use Rattle.request_reply.specs.Replies.{IsReply, question_of}
+use Rattle.route_engine.specs.Refusals.{IsEarly}
+use Rattle.route_engine.specs.Replies.{IsReply, question_of}
 use Rattle.route_engine.specs.Answers.{IsAnswer}
 use Rattle.route_engine.specs.Settings.{IsSettingOf, Setting, open_map_of}
 use Rattle.route_http.specs.Asked.{Asked}
@@ -20,7 +20,7 @@ use Rattle.route_ready.specs.declared.error.RouteError.{RouteError}
 use Rattle.session_answers.specs.Frames.{line_frame, refusal_frame}
 use Rattle.session_answers.specs.Stored.{Stored, find_stored}
 use Rattle.session_answers.specs.declared.refusal.Refusal.TheVariants.{ProfileUnknown}
-use Rattle.waypoint_nodes.specs.Waypoints.{AreNodes}
+use Rattle.route_engine.specs.Waypoints.{AreNodes}
 
 -- a query asks for this, by the stored profile of these sections
 pub record Asks (stored : List Stored) (query : List ℕ) (asked : Asked) (sections : Sections) : Type 0 where
@@ -40,10 +40,11 @@ route_frame sections e = line_frame 422 (route_line (Some sections) e)
 abbrev pub reply_frame : Asked → List ℕ → List ℕ
 reply_frame asked bytes = frame_of 200 (kind_of asked.form) bytes
 
--- the frames that answer a query before any search: it is malformed, its profile isn't stored, its profile is refused, or
--- one of its waypoints is moved to no node
+-- the frames that answer a query before any search: it is malformed, its profile isn't stored, its profile is
+-- refused, or one of its waypoints is moved to no node
 pub data IsEarlyFrame (world : WorldValue) (stored : List Stored) (query : List ℕ) : List ℕ → Type 0 where
-  malformed : {e : RequestError} → request_of query ≡ Err e → IsEarlyFrame world stored query (line_frame 400 (request_line e))
+  malformed : {e : RequestError} → request_of query ≡ Err e →
+      IsEarlyFrame world stored query (line_frame 400 (request_line e))
   unknown :
       {asked : Asked} → request_of query ≡ Ok asked → find_stored stored asked.profile ≡ None →
       IsEarlyFrame world stored query (refusal_frame ProfileUnknown)
@@ -56,10 +57,12 @@ pub data IsQueryFrame (world : WorldValue) (stored : List Stored) (query : List 
   before : {frame : List ℕ} → IsEarlyFrame world stored query frame → IsQueryFrame world stored query frame
   refused :
       {asked : Asked} {sections : Sections} {e : RouteError} → Asks stored query asked sections →
-      IsAnswer (question_of world sections asked) (Err e) → IsQueryFrame world stored query (route_frame sections e)
+      IsAnswer (question_of world sections asked) (Err e) →
+      IsQueryFrame world stored query (route_frame sections e)
   told :
       {asked : Asked} {sections : Sections} {bytes : List ℕ} → Asks stored query asked sections →
-      IsReply (question_of world sections asked) bytes → IsQueryFrame world stored query (reply_frame asked bytes)
+      IsReply (question_of world sections asked) bytes →
+      IsQueryFrame world stored query (reply_frame asked bytes)
 
 -- a query is to be searched for: its profile is stored and accepted, and each waypoint is moved to a node
 pub record IsSearched (world : WorldValue) (stored : List Stored) (query : List ℕ) : Type 0 where

@@ -8,7 +8,7 @@ use Rattle.profile_text.specs.Lines.{text_line}
 use Rattle.profile_text.specs.Read.{profile_of}
 use Rattle.profile_text.specs.Tree.{Sections}
 use Rattle.profile_text.specs.declared.error.TextError.{TextError}
-use Rattle.route_engine.specs.Stored.{names_of}
+use Rattle.route_ready.specs.Entries.{names_of}
 use Rattle.route_http.specs.Frames.{frame_of}
 use Rattle.route_http.specs.declared.kind.Kind.TheVariants.{Json}
 use Rattle.session_answers.specs.Frames.{line_frame, refusal_frame}
@@ -75,10 +75,11 @@ find_stored (stored ∷ rest) name = if bytes_eq name stored.0 then Some stored.
 abbrev pub AreGiven : List (List ℕ) → Type 0
 AreGiven names = (k : ℕ) (rest : List ℕ) → get_or names k [] ≢ codes "custom_" ++ rest
 
--- so many of the stored profiles were given, which stand first and of which no name begins as those of uploads do; the
--- others are uploads, at most so many as may be, and have their names in their order
+-- so many of the stored profiles were given, which stand first and of which no name begins as those of
+-- uploads do; the others are uploads, at most so many as may be, and have their names in their order
 pub record AreStored (given : ℕ) (stored : List Stored) : Type 0 where
   pub within : given ≤ length stored
   pub few : length stored ≤ given + most_uploads
   pub names : AreGiven (names_of (take given stored))
-  pub uploads : (k : ℕ) → given + k < length stored → get_or (names_of stored) (given + k) [] ≡ upload_name (k + 1)
+  pub uploads : (k : ℕ) → given + k < length stored →
+      get_or (names_of stored) (given + k) [] ≡ upload_name (k + 1)

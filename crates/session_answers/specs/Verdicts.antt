@@ -50,7 +50,8 @@ of_route Other query body = Refused MethodNotAllowed
 abbrev pub of_body : ℕ → ℕ → List ℕ → Verdict
 of_body long body bytes =
     if nat_lt most_body body then Refused BodyTooLong
-    else (if nat_le (long + body) (length bytes) then Upload (record { start = long; end = long + body }) else Undecided)
+    else (if nat_le (long + body) (length bytes) then Upload
+    (record { start = long; end = long + body }) else Undecided)
 
 -- what an upload comes to
 abbrev pub of_upload : ℕ → Method → ℕ → List ℕ → Verdict
@@ -59,7 +60,8 @@ of_upload long Other body bytes = Refused MethodNotAllowed
 of_upload long Post body bytes = of_body long body bytes
 
 -- what a request comes to by its path
-abbrev pub by_path : List ℕ → ℕ → Method → Span → ℕ → List ℕ → Verdict
+abbrev pub by_path : (path : List ℕ) (long : ℕ) (method : Method) (query : Span) (body : ℕ)
+    (bytes : List ℕ) → Verdict
 by_path path long method query body bytes =
     if bytes_eq path route_path then of_route method query body
     else (if bytes_eq path profile_path then of_upload long method body bytes else Refused PathUnknown)
@@ -86,7 +88,8 @@ pub record IsVerdict (bytes : List ℕ) (ended : Bool) (verdict : Verdict) : Typ
 
 -- ---- Where it stands
 
--- the text of an upload and the query of a route stand within the bytes, and the text is no longer than a body may be
+-- the text of an upload and the query of a route stand within the bytes, and the text is no longer than a
+-- body may be
 abbrev pub IsVerdictIn : List ℕ → Verdict → Type 0
 IsVerdictIn bytes Undecided = Unit {0}
 IsVerdictIn bytes NoByte = Unit {0}

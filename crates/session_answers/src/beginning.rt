@@ -3,22 +3,22 @@
 ghost use Rattle.std.specs.Prelude.{◌≡◌, ◌≢◌, ◌<◌, List, ℕ, Ok, Some, IfOk, length};
 ghost use Rattle.lookup_table.specs.Tag.{name_place};
 ghost use Rattle.route_engine.specs.Jobs.{IsWithin};
-ghost use Rattle.route_engine.specs.Stored.{names_of};
 ghost use Rattle.route_http.specs.Lines.{request_line};
 ghost use Rattle.route_http.specs.Request.{request_of};
 ghost use Rattle.route_http.specs.Seen.{asked};
 ghost use Rattle.route_http.specs.declared.error.RequestError.TheVariants.{NoMemory};
 ghost use Rattle.route_ready.specs.World.{world_of};
+ghost use Rattle.route_ready.specs.Entries.{names_of};
 ghost use Rattle.session_answers.specs.Frames.{line_frame};
 ghost use Rattle.session_answers.specs.Jobs.{AreKept, Begins};
 ghost use Rattle.session_answers.specs.Profiles.{stored_of};
 
 use crate::frames::{line_frame, refusal_frame};
+use crate::kept::KeptProfiles;
 use crate::profiles::Profiles;
 use crate::refusal::Refusal;
 use crate::routes::route_frame;
-use kept_profiles::KeptProfiles;
-use request_reply::Pending;
+use route_engine::Pending;
 use route_http::{Request, RequestError, request};
 use route_ready::World;
 use std::alloc::{AllocError, Global};
@@ -32,8 +32,8 @@ pub enum Begun {
     Job(Pending, u32),
 }
 
-/// What a query comes to at once, over a world and the stored profiles. Profiles that were made ready before are used again.
-/// An error is want of memory; what is kept is still sound then.
+/// What a query comes to at once, over a world and the stored profiles. Profiles that were made
+/// ready before are used again. An error is want of memory; what is kept is still sound then.
 pub fn begin(
     alloc: Global,
     world: &World,
@@ -103,7 +103,8 @@ fn stored(
     requires kept { AreKept (world_of world.now) (stored_of profiles.now) kept.old }
     requires within { IsWithin (asked request) }
     requires fits { place < length (stored_of profiles.now) }
-    requires found { name_place (names_of (stored_of profiles.now)) (asked request).profile ≡ Some place }
+    requires found { name_place (names_of (stored_of profiles.now)) (asked request).profile ≡
+        Some place }
     ensures exact { (query : List ℕ) → request_of query ≡ Ok (asked request) →
         IfOk result (Begins (world_of world.now) (stored_of profiles.now) query) }
     ensures kept { AreKept (world_of world.now) (stored_of profiles.now) kept.new }

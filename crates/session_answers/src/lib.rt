@@ -1,8 +1,11 @@
-//! What a session of the server is answered: by its bytes and the end of its peer, over a world and the stored profiles.
+//! What a session of the server is answered: by its bytes and the end of its peer, over a world and
+//! the stored profiles.
 #![tactic(auto)]
 
 mod beginning;
 mod frames;
+mod kept;
+mod key;
 mod naming;
 mod profiles;
 mod received;
@@ -14,6 +17,7 @@ mod verdict;
 
 pub use beginning::{Begun, begin};
 pub use frames::{line_frame, refusal_frame};
+pub use kept::KeptProfiles;
 pub use profiles::Profiles;
 pub use received::Received;
 pub use refusal::Refusal;

@@ -1,14 +1,15 @@
 //! The profiles that a server has stored.
 
-ghost use Rattle.route_engine.specs.Shelves.{shelf_of};
+ghost use Rattle.route_ready.specs.Shelves.{shelf_of};
 ghost use Rattle.session_answers.specs.Stored.{AreStored};
 
 use item_list::Name;
 use profile_text::Profile;
-use route_engine::Shelf;
+use route_ready::Shelf;
 use std::alloc::AllocError;
 
-/// The stored profiles: those given at the start, and then at most 64 uploads, named `custom_1` and so on.
+/// The stored profiles: those given at the start, and then at most 64 uploads, named `custom_1` and
+/// so on.
 pub struct Profiles {
     pub(crate) shelf: Shelf,
     /// How many were given at the start; the others are uploads.
@@ -26,7 +27,7 @@ impl Profiles {
     ghost use Rattle.std.specs.Prelude.{◌≡◌, ◌+◌, ◌<◌, ◌≤◌, [], ◌∷◌, ◌++◌, length, slice_get, Some, IfSome, OnErr, OnOk};
     ghost use Rattle.lookup_table.specs.Tag.{name_place};
     ghost use Rattle.profile_text.specs.Expr.{sections_in};
-    ghost use Rattle.route_engine.specs.Stored.{names_of, profiles_of};
+    ghost use Rattle.route_ready.specs.Entries.{names_of, profiles_of};
     ghost use Rattle.session_answers.specs.Profiles.{given_of, stored_of, uploads_of};
     ghost use Rattle.session_answers.specs.Stored.{AreGiven, most_uploads, upload_name};
 
@@ -67,7 +68,8 @@ impl Profiles {
     /// The profile at a place.
     pub fn profile(&self, place: u32) -> &Profile
         requires fits { place < length (stored_of self.now) }
-        ensures value { slice_get (profiles_of (stored_of self.now)) place ≡ Some (sections_in result.now) }
+        ensures value { slice_get (profiles_of (stored_of self.now)) place ≡
+            Some (sections_in result.now) }
     {
         self.shelf.profile(place)
     }
@@ -76,7 +78,8 @@ impl Profiles {
     pub(crate) fn store(&mut self, name: Name, profile: Profile) -> Result<(), AllocError>
         requires room { uploads_of self.old < most_uploads }
         requires named { name ≡ upload_name (uploads_of self.old + 1) }
-        ensures value { OnOk result (stored_of self.new ≡ stored_of self.old ++ (name, sections_in profile) ∷ []) }
+        ensures value { OnOk result (stored_of self.new ≡ stored_of self.old ++
+            (name, sections_in profile) ∷ []) }
         ensures kept { OnErr result (stored_of self.new ≡ stored_of self.old) }
         ensures given { given_of self.new ≡ given_of self.old }
     {

@@ -7,7 +7,8 @@ use crate::verdict::{Verdict, verdict_by};
 use route_http::{Head, Span, head_from};
 use std::alloc::{AllocError, Global};
 
-/// The bytes of a session that came so far. Each is looked at once, and a head is read once, where it ends.
+/// The bytes of a session that came so far. Each is looked at once, and a head is read once, where
+/// it ends.
 pub struct Received {
     pub(crate) bytes: Vec<u8>,
     /// What the bytes come to, as far as their head goes.
@@ -36,7 +37,8 @@ impl Received {
         }
     }
 
-    /// Takes more bytes, and tells what is fixed by all that came. Where memory runs out, nothing changes.
+    /// Takes more bytes, and tells what is fixed by all that came. Where memory runs out, nothing
+    /// changes.
     pub fn add(&mut self, new: &[u8]) -> Result<Verdict, AllocError>
         ensures value { OnOk result (received_of self.new ≡ received_of self.old ++ new.now) }
         ensures exact { IfOk result (IsVerdict (received_of self.new) false) }

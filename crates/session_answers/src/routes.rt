@@ -10,13 +10,15 @@ use profile_text::Profile;
 use route_ready::{RouteError, line};
 use std::alloc::{AllocError, Global};
 
-/// The frame of a request that has no track, by the profile that it asks for. Want of memory is no reason.
+/// The frame of a request that has no track, by the profile that it asks for. Want of memory is no
+/// reason.
 pub(crate) fn route_frame(
     alloc: Global,
     profile: &Profile,
     error: RouteError,
 ) -> Result<Vec<u8>, AllocError>
-    ensures exact { IfOk result (λ frame. frame.items ≡ route_frame (sections_in profile.now) error) }
+    ensures exact { IfOk result
+        (λ frame. frame.items ≡ route_frame (sections_in profile.now) error) }
     ensures reason { IfOk result (λ _. error ≢ NoMemory) }
 {
     match error {

@@ -2,16 +2,16 @@
 
 ghost use Rattle.std.specs.Prelude.{◌≡◌, ◌≤◌, List, ℕ, Some, IfOk, slice_get};
 ghost use Rattle.profile_text.specs.Expr.{sections_in};
-ghost use Rattle.request_reply.specs.Pending.{IsPending, settled_of};
-ghost use Rattle.route_engine.specs.Stored.{profiles_of};
+ghost use Rattle.route_engine.specs.Pending.{IsPending, settled_of};
 ghost use Rattle.route_ready.specs.World.{world_of};
+ghost use Rattle.route_ready.specs.Entries.{profiles_of};
 ghost use Rattle.session_answers.specs.Jobs.{CountsTo, IsJobOf, TurnsTo};
 ghost use Rattle.session_answers.specs.Rows.{kind_of};
 ghost use Rattle.session_answers.specs.Stored.{Stored};
 
 use crate::routes::route_frame;
 use profile_text::Profile;
-use request_reply::{Pending, PendingTurn};
+use route_engine::{Pending, PendingTurn};
 use route_http::{Form, Kind, frame};
 use route_ready::World;
 use std::alloc::{AllocError, Global};
@@ -25,8 +25,8 @@ pub enum Turned {
     Frame(Vec<u8>),
 }
 
-/// Settles at most `quota` labels in the search for a request, which goes by this stored profile. An error is want of
-/// memory.
+/// Settles at most `quota` labels in the search for a request, which goes by this stored profile.
+/// An error is want of memory.
 pub fn turn(
     alloc: Global,
     world: &World,

@@ -25,8 +25,8 @@ use std::alloc::{AllocError, Global};
 /// The most uploads that are stored.
 const MOST_UPLOADS: usize = 64;
 
-/// The frame that answers an upload of this text. The profile is stored exactly where its frame tells its name; where
-/// memory runs out, nothing is stored.
+/// The frame that answers an upload of this text. The profile is stored exactly where its frame
+/// tells its name; where memory runs out, nothing is stored.
 pub fn upload(
     alloc: Global,
     table: &Table,
@@ -68,9 +68,11 @@ fn checked(
     profiles: &mut Profiles,
     profile: Profile,
 ) -> Result<Vec<u8>, AllocError>
-    ensures exact { let uploaded = by_text table.now (uploads_of profiles.old) (Ok (sections_in profile)) in
+    ensures exact { let uploaded =
+        by_text table.now (uploads_of profiles.old) (Ok (sections_in profile)) in
         IfOk result (λ frame. frame.items ≡ uploaded.frame) }
-    ensures stored { let uploaded = by_text table.now (uploads_of profiles.old) (Ok (sections_in profile)) in
+    ensures stored { let uploaded =
+        by_text table.now (uploads_of profiles.old) (Ok (sections_in profile)) in
         OnOk result (stored_of profiles.new ≡ stored_of profiles.old ++ uploaded.added) }
     ensures kept { OnErr result (stored_of profiles.new ≡ stored_of profiles.old) }
     ensures given { given_of profiles.new ≡ given_of profiles.old }
@@ -83,7 +85,8 @@ fn checked(
 
 /// Whether a profile is accepted by the check without overrides.
 fn judged(alloc: Global, table: &Table, profile: &Profile) -> Result<(), CheckError>
-    ensures exact { Passes (refusal_of table.now (sections_in profile.now) []) check_error.NoMemory result }
+    ensures exact { Passes (refusal_of table.now (sections_in profile.now) []) check_error.NoMemory
+        result }
 {
     let none = Overrides::new(alloc);
     match check(alloc, profile, table, &none) {
@@ -122,7 +125,8 @@ fn accepted(alloc: Global, profiles: &mut Profiles, profile: Profile) -> Result<
     }
 }
 
-/// The frame of a profile that is stored. It is made first, so that nothing is stored where memory runs out.
+/// The frame of a profile that is stored. It is made first, so that nothing is stored where memory
+/// runs out.
 fn stored(alloc: Global, profiles: &mut Profiles, profile: Profile) -> Result<Vec<u8>, AllocError>
     requires room { uploads_of profiles.old < most_uploads }
     ensures exact { let uploaded = stored_after (uploads_of profiles.old) (sections_in profile) in

@@ -56,7 +56,9 @@ returns-in-Budget c =
     let fewer = subst (SettlesLeg c.args.quota (settled_in c.args.search) c.in_ok-settled.field-0.settled) same counts.settles in
     record {
       advances =
-          advances-refused plan c.args.walked (settled_in c.args.search) c.args.quota c.in_ok-settled.field-0.settled _ c.refused-in-Budget.result
+          advances-refused plan c.args.walked (settled_in c.args.search) c.args.quota c.in_ok-settled.field-0.settled _
+          c.refused-in-Budget.result
           (spent-refuses plan c.args.walked c.requires.so_far spent) fewer counts.within
-          c.refused-in-Budget.ensures.settled (c.refused-in-Budget.ensures.stage ∙ ap stages.Refused c.spent.ensures.value) c.refused-in-Budget.ensures.ended;
+          c.refused-in-Budget.ensures.settled (c.refused-in-Budget.ensures.stage
+          ∙ ap stages.Refused c.spent.ensures.value) c.refused-in-Budget.ensures.ended;
     }

@@ -11,8 +11,10 @@ returns-in-Ok c =
     record {
       exact = λ binding same is.
           let question : Question = record { binding = binding; asked = asked c.args.request } in
-          replies question world c.args.ready.value same is (plan_in world c.in-Ok.job) c.in-Ok.ensures.plan c.finish.result c.finish.ensures.exact;
-      found = track-over (setting_of world c.args.ready.value (asked c.args.request).circles) (asked c.args.request) (plan_in world c.in-Ok.job)
+          replies question world c.args.ready.value same is (plan_in world c.in-Ok.job) c.in-Ok.ensures.plan c.finish.result
+          c.finish.ensures.exact;
+      found = track-over (setting_of world c.args.ready.value (asked c.args.request).circles) (asked c.args.request)
+          (plan_in world c.in-Ok.job)
           c.in-Ok.ensures.plan c.finish.result c.finish.ensures.exact;
     }
 

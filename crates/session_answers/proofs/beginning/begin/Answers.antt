@@ -13,5 +13,6 @@ named-requires-clause-within c =
 
 pub returns-in_ok-frame-in-Err-clause-exact : goal.returns-in_ok-frame-in-Err-clause-exact
 returns-in_ok-frame-in-Err-clause-exact c =
-    malformed-frame (world_of c.args.world.now) (stored_of c.args.profiles.now) c.args.query.now c.in-Err.error c.in_ok-frame-in-Err.frame.items
+    malformed-frame (world_of c.args.world.now) (stored_of c.args.profiles.now) c.args.query.now c.in-Err.error
+    c.in_ok-frame-in-Err.frame.items
     c.in-Err.ensures.exact c.in_ok-frame-in-Err.ensures.reason c.in_ok-frame-in-Err.ensures.exact

@@ -1,6 +1,6 @@
 use Rattle.std.proofs.Common.{sym, ap, ◌∙◌}
 use Rattle.lookup_table.specs.Tag.{name_place}
-use Rattle.route_engine.specs.Stored.{names_of}
+use Rattle.route_ready.specs.Entries.{names_of}
 use Rattle.route_http.specs.Seen.{asked}
 use Rattle.route_ready.specs.World.{world_of}
 use Rattle.session_answers.proofs.QueryLemmas.{unknown-frame}
@@ -9,5 +9,7 @@ use Rattle.session_answers.proofs.beginning.named.Goals as goal
 
 pub returns-in_ok-frame-in-None-clause-exact : goal.returns-in_ok-frame-in-None-clause-exact
 returns-in_ok-frame-in-None-clause-exact c = λ query asks.
-    unknown-frame (world_of c.args.world.now) (stored_of c.args.profiles.now) query (asked c.args.request) c.in_ok-frame-in-None.frame.items asks
-    (ap (name_place (names_of (stored_of c.args.profiles.now))) (sym c.as_slice.ensures.value) ∙ sym c.in-None.ensures.exact) c.in_ok-frame-in-None.ensures.exact
+    unknown-frame (world_of c.args.world.now) (stored_of c.args.profiles.now) query (asked c.args.request) c.in_ok-frame-in-None.frame.items
+    asks
+    (ap (name_place (names_of (stored_of c.args.profiles.now))) (sym c.as_slice.ensures.value)
+    ∙ sym c.in-None.ensures.exact) c.in_ok-frame-in-None.ensures.exact

@@ -1,5 +1,5 @@
 use Rattle.profile_text.specs.Expr.{sections_in}
-use Rattle.route_engine.specs.Stored.{profiles_of}
+use Rattle.route_ready.specs.Entries.{profiles_of}
 use Rattle.route_http.specs.Seen.{asked}
 use Rattle.route_ready.specs.World.{world_of}
 use Rattle.session_answers.proofs.JobLemmas.{begun-job}

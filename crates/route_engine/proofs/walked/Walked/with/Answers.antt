@@ -24,6 +24,7 @@ returns c =
     record {
       found =
           leg-given plan c.args.self c.requires.so_far c.args.walk c.args.rank c.requires.next cost.result
-          (omega (arith, c.if-len-plan.false, c.len.ensures.value)) (subst (λ w. leg_cost (next_leg plan c.args.self) w ≡ cost.result) c.as_slice.ensures.value cost.ensures.exact)
+          (omega (arith, c.if-len-plan.false, c.len.ensures.value))
+          (subst (λ w. leg_cost (next_leg plan c.args.self) w ≡ cost.result) c.as_slice.ensures.value cost.ensures.exact)
           cost.ensures.small c.with_leg.result c.with_leg.ensures.more;
     }

@@ -1,7 +1,7 @@
 use Rattle.std.proofs.Common.{ap, ◌∙◌}
 use Rattle.lookup_table.specs.Tag.{name_place}
-use Rattle.route_engine.specs.Shelves.{shelf_of}
-use Rattle.route_engine.specs.Stored.{names_of}
+use Rattle.route_ready.specs.Shelves.{shelf_of}
+use Rattle.route_ready.specs.Entries.{names_of}
 use Rattle.session_answers.proofs.StoredLemmas.{next_new}
 use Rattle.session_answers.proofs.profiles.Profiles.store.Goals as goal
 

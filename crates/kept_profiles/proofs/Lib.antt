@@ -1,3 +1,0 @@
-mod KeyLemmas
-mod KeptLemmas
-mod ReadyLemmas

@@ -1,8 +1,0 @@
-use Rattle.std.proofs.Common.{sym, ap, subst}
-use Rattle.kept_profiles.proofs.KeptLemmas.{AllMade, made-none}
-use Rattle.kept_profiles.proofs.kept.KeptProfiles.new.Goals as goal
-
-pub returns : goal.returns
-returns c = record {
-  kept = λ world stored. subst (AllMade world stored) (sym (ap (λ cache. cache.entries) c.in_ok-cache.ensures)) (made-none world stored);
-}

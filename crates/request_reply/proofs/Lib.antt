@@ -1,3 +1,0 @@
-mod ShowLemmas
-mod ReplyLemmas
-mod PendingLemmas

@@ -1,4 +1,0 @@
-pub mod Pending
-pub mod Refusals
-pub mod Replies
-pub mod Told

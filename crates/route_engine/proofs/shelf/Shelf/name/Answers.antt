@@ -1,5 +1,0 @@
-use Rattle.route_engine.proofs.ShelfLemmas.{name_at}
-use Rattle.route_engine.proofs.shelf.Shelf.name.Goals as goal
-
-pub returns : goal.returns
-returns c = record { value = name_at c.args.self.now.entries.items c.args.place c.index.result.now c.requires.fits c.index.ensures }

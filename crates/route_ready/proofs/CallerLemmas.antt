@@ -1,0 +1,2 @@
+-- What crates above may cite of shelves.
+pub use Rattle.route_ready.proofs.ShelfLemmas.{names_pushed}
