@@ -1,15 +1,16 @@
 -- How often files were opened by the stages of a command, and when a fault of theirs is answered.
-use Rattle.std.proofs.Common.{◌≡◌, ℕ, zero, suc, ◌+◌, inl, inr, List, [], ◌∷◌, ◌++◌, length, Some, Result, Ok, Err, sym, ap, ◌∙◌, subst, arith, length-append}
+use Rattle.std.proofs.Common.{◌≡◌, ℕ, zero, suc, ◌+◌, inl, inr, List, [], ◌∷◌, ◌++◌, length, Some, Result, Ok, Err, sym, ap, ◌∙◌, subst, arith, append-nil, length-append}
 use Rattle.std.specs.Prelude.{slice_get}
+use Rattle.command_words.specs.Given.{Named}
 use Rattle.edge_io.specs.Faults.{CountRose, count_after, next_count}
 use Rattle.edge_io.specs.Files.{FilesSeen}
-use Rattle.route_run.specs.Outcome.{HasOpened, IsReadFault}
-use Rattle.run_stages.specs.Chain.{Settles, Then}
+use Rattle.route_run.specs.Outcome.{HasOpened, HasOpenedAll, IsReadFault, words_in}
+use Rattle.run_files.specs.Chain.{Leaves, Settles, Stage, TakesEachAfter, Then}
 use Rattle.overpass_graph.specs.Maps.{MapValue}
-use Rattle.run_stages.specs.File.{TakesFile}
-use Rattle.run_stages.specs.Map.{TakesMap}
-use Rattle.run_stages.specs.declared.status.Status.{Status}
-use Rattle.run_stages.specs.declared.status.Status.TheVariants.{Done, Usage, Query, TooLong, Lookup, Text, Check, Map, Tile, Route, NotFound, ReadFault, WriteFault, TurnsSpent, HubFault, NoMemory}
+use Rattle.run_files.specs.File.{TakesFile}
+use Rattle.run_files.specs.Map.{TakesMap}
+use Rattle.run_files.specs.declared.status.Status.{Status}
+use Rattle.run_files.specs.declared.status.Status.TheVariants.{Done, Usage, Query, TooLong, Lookup, Text, Check, Map, Tile, Route, NotFound, ReadFault, WriteFault, TurnsSpent, HubFault, NoMemory}
 
 -- ---- Counts
 
@@ -33,82 +34,78 @@ get_front (x ∷ xs) more (suc k) word is = get_front xs more k word is
 
 -- ---- What a stage says of the files whose words stand in this order
 
--- each of them was opened, and no call failed
-pub record OpensAll (words : List ℕ) (old new : FilesSeen) : Type 0 where
-  pub faults : new.faults ≡ old.faults
-  pub opened : new.opens ≡ count_after (length words) old.opens
-
 -- a refusal: never of a word, and with its cause
 abbrev pub RefusalCause : List ℕ → FilesSeen → FilesSeen → Status → Type 0
-RefusalCause words old new (Usage word) = ⊥
 RefusalCause words old new (ReadFault word) = IsReadFault words word old new
+RefusalCause words old new (Usage word) = ⊥
 RefusalCause words old new Done = ⊥
-RefusalCause words old new (TooLong word) = HasOpened (length words) old new
-RefusalCause words old new (Lookup word error) = HasOpened (length words) old new
-RefusalCause words old new (Text word error) = HasOpened (length words) old new
-RefusalCause words old new (Check word error) = HasOpened (length words) old new
-RefusalCause words old new (Query error) = HasOpened (length words) old new
-RefusalCause words old new (Map word error) = HasOpened (length words) old new
-RefusalCause words old new (Tile word error) = HasOpened (length words) old new
-RefusalCause words old new (Route error line) = HasOpened (length words) old new
-RefusalCause words old new (NotFound word) = HasOpened (length words) old new
 RefusalCause words old new WriteFault = ⊥
 RefusalCause words old new TurnsSpent = ⊥
 RefusalCause words old new HubFault = ⊥
-RefusalCause words old new NoMemory = HasOpened (length words) old new
+RefusalCause words old new status = HasOpened (length words) old new
 
 -- a value or a refusal with its cause
 abbrev pub Cause : {A : Type 0} → List ℕ → FilesSeen → FilesSeen → Result A Status → Type 0
-Cause words old new (Ok a) = OpensAll words old new
+Cause words old new (Ok a) = HasOpenedAll (length words) old new
 Cause words old new (Err status) = RefusalCause words old new status
 
 -- one file was opened
-opened-one : (word : ℕ) (old new : FilesSeen) → new.faults ≡ old.faults → new.opens ≡ next_count old.opens → HasOpened 1 old new
-opened-one word old new faults opens = record { faults = faults; times = 1; few = omega arith; opened = opens }
+opened-one : (old new : FilesSeen) → new.faults ≡ old.faults → new.opens ≡ next_count old.opens → HasOpened 1 old new
+opened-one old new faults opens = record { faults = faults; times = 1; few = omega arith; opened = opens }
 
 -- a stage over one file
-pub file-cause : (word : ℕ) (name : List ℕ) (limit : ℕ) (old new : FilesSeen) (result : Result (List ℕ) Status) → TakesFile word name limit old new result → Cause (word ∷ []) old new result
-file-cause word name limit old new (Ok bytes) takes = record { faults = takes.answer.1; opened = takes.opens }
-file-cause word name limit old new (Err (NotFound at)) takes = opened-one word old new takes.answer.2 takes.opens
-file-cause word name limit old new (Err (TooLong at)) takes = opened-one word old new takes.answer.2 takes.opens
-file-cause word name limit old new (Err (ReadFault at)) takes = record { rose = takes.answer.1; before = 0; opened = takes.opens; named = ap Some (sym takes.answer.0) }
-file-cause word name limit old new (Err NoMemory) takes = opened-one word old new takes.answer takes.opens
-file-cause word name limit old new (Err Done) takes = absurd takes.answer
-file-cause word name limit old new (Err (Usage at)) takes = absurd takes.answer
-file-cause word name limit old new (Err (Lookup at error)) takes = absurd takes.answer
-file-cause word name limit old new (Err (Text at error)) takes = absurd takes.answer
-file-cause word name limit old new (Err (Check at error)) takes = absurd takes.answer
-file-cause word name limit old new (Err (Query error)) takes = absurd takes.answer
-file-cause word name limit old new (Err (Map at error)) takes = absurd takes.answer
-file-cause word name limit old new (Err (Tile at error)) takes = absurd takes.answer
-file-cause word name limit old new (Err (Route error line)) takes = absurd takes.answer
-file-cause word name limit old new (Err WriteFault) takes = absurd takes.answer
-file-cause word name limit old new (Err TurnsSpent) takes = absurd takes.answer
-file-cause word name limit old new (Err HubFault) takes = absurd takes.answer
+pub file-cause : (file : Named) (limit : ℕ) (old new : FilesSeen) (result : Result (List ℕ) Status) → TakesFile file limit old new result →
+    Cause (file.word ∷ []) old new result
+file-cause file limit old new (Ok bytes) takes = record { faults = takes.answer.1; opened = takes.opens }
+file-cause file limit old new (Err (NotFound at)) takes = opened-one old new takes.answer.2 takes.opens
+file-cause file limit old new (Err (TooLong at)) takes = opened-one old new takes.answer.2 takes.opens
+file-cause file limit old new (Err (ReadFault at)) takes =
+    record { rose = takes.answer.1; before = 0; opened = takes.opens; named = ap Some (sym takes.answer.0) }
+file-cause file limit old new (Err NoMemory) takes = opened-one old new takes.answer takes.opens
+file-cause file limit old new (Err Done) takes = absurd takes.answer
+file-cause file limit old new (Err (Usage at)) takes = absurd takes.answer
+file-cause file limit old new (Err (Lookup at error)) takes = absurd takes.answer
+file-cause file limit old new (Err (Text at error)) takes = absurd takes.answer
+file-cause file limit old new (Err (Check at error)) takes = absurd takes.answer
+file-cause file limit old new (Err (Query error)) takes = absurd takes.answer
+file-cause file limit old new (Err (Map at error)) takes = absurd takes.answer
+file-cause file limit old new (Err (Tile at error)) takes = absurd takes.answer
+file-cause file limit old new (Err (Route error line)) takes = absurd takes.answer
+file-cause file limit old new (Err WriteFault) takes = absurd takes.answer
+file-cause file limit old new (Err TurnsSpent) takes = absurd takes.answer
+file-cause file limit old new (Err HubFault) takes = absurd takes.answer
 
 -- the stage over a map's file
-pub map-cause : (word : ℕ) (name : List ℕ) (old new : FilesSeen) (result : Result MapValue Status) → TakesMap word name old new result → Cause (word ∷ []) old new result
-map-cause word name old new (Ok map) takes = record { faults = takes.answer.1; opened = takes.opens }
-map-cause word name old new (Err (NotFound at)) takes = opened-one word old new takes.answer.2 takes.opens
-map-cause word name old new (Err (TooLong at)) takes = opened-one word old new takes.answer.2 takes.opens
-map-cause word name old new (Err (Map at error)) takes = opened-one word old new takes.answer.2 takes.opens
-map-cause word name old new (Err (ReadFault at)) takes = record { rose = takes.answer.1; before = 0; opened = takes.opens; named = ap Some (sym takes.answer.0) }
-map-cause word name old new (Err NoMemory) takes = opened-one word old new takes.answer takes.opens
-map-cause word name old new (Err Done) takes = absurd takes.answer
-map-cause word name old new (Err (Usage at)) takes = absurd takes.answer
-map-cause word name old new (Err (Query error)) takes = absurd takes.answer
-map-cause word name old new (Err (Lookup at error)) takes = absurd takes.answer
-map-cause word name old new (Err (Text at error)) takes = absurd takes.answer
-map-cause word name old new (Err (Check at error)) takes = absurd takes.answer
-map-cause word name old new (Err (Tile at error)) takes = absurd takes.answer
-map-cause word name old new (Err (Route error line)) takes = absurd takes.answer
-map-cause word name old new (Err WriteFault) takes = absurd takes.answer
-map-cause word name old new (Err TurnsSpent) takes = absurd takes.answer
-map-cause word name old new (Err HubFault) takes = absurd takes.answer
+pub map-cause : (file : Named) (old new : FilesSeen) (result : Result MapValue Status) → TakesMap file old new result →
+    Cause (file.word ∷ []) old new result
+map-cause file old new (Ok map) takes = record { faults = takes.answer.1; opened = takes.opens }
+map-cause file old new (Err (NotFound at)) takes = opened-one old new takes.answer.2 takes.opens
+map-cause file old new (Err (TooLong at)) takes = opened-one old new takes.answer.2 takes.opens
+map-cause file old new (Err (Map at error)) takes = opened-one old new takes.answer.2 takes.opens
+map-cause file old new (Err (ReadFault at)) takes =
+    record { rose = takes.answer.1; before = 0; opened = takes.opens; named = ap Some (sym takes.answer.0) }
+map-cause file old new (Err NoMemory) takes = opened-one old new takes.answer takes.opens
+map-cause file old new (Err Done) takes = absurd takes.answer
+map-cause file old new (Err (Usage at)) takes = absurd takes.answer
+map-cause file old new (Err (Query error)) takes = absurd takes.answer
+map-cause file old new (Err (Lookup at error)) takes = absurd takes.answer
+map-cause file old new (Err (Text at error)) takes = absurd takes.answer
+map-cause file old new (Err (Check at error)) takes = absurd takes.answer
+map-cause file old new (Err (Tile at error)) takes = absurd takes.answer
+map-cause file old new (Err (Route error line)) takes = absurd takes.answer
+map-cause file old new (Err WriteFault) takes = absurd takes.answer
+map-cause file old new (Err TurnsSpent) takes = absurd takes.answer
+map-cause file old new (Err HubFault) takes = absurd takes.answer
 
 -- nothing was opened where the files are what they were
-pub opened-none : (old new : FilesSeen) → new ≡ old → HasOpened 0 old new
-opened-none old new same = record { faults = ap (λ (s : FilesSeen). s.faults) same; times = 0; few = omega arith; opened = ap (λ (s : FilesSeen). s.opens) same }
+pub opened-none : (most : ℕ) (old new : FilesSeen) → new ≡ old → HasOpened most old new
+opened-none most old new same = record {
+  faults = ap (λ (s : FilesSeen). s.faults) same;
+  times = 0;
+  few = omega arith;
+  opened =
+      ap (λ (s : FilesSeen). s.opens) same;
+}
 
 -- a status that a stage may give that touches no file
 abbrev pub IsInner : Status → Type 0
@@ -128,105 +125,133 @@ inner-cause old new WriteFault inner same = absurd inner
 inner-cause old new TurnsSpent inner same = absurd inner
 inner-cause old new HubFault inner same = absurd inner
 inner-cause old new Done inner same = absurd inner
-inner-cause old new (TooLong word) inner same = opened-none old new same
-inner-cause old new (Lookup word error) inner same = opened-none old new same
-inner-cause old new (Text word error) inner same = opened-none old new same
-inner-cause old new (Check word error) inner same = opened-none old new same
-inner-cause old new (Query error) inner same = opened-none old new same
-inner-cause old new (Map word error) inner same = opened-none old new same
-inner-cause old new (Tile word error) inner same = opened-none old new same
-inner-cause old new (Route error line) inner same = opened-none old new same
-inner-cause old new (NotFound word) inner same = opened-none old new same
-inner-cause old new NoMemory inner same = opened-none old new same
+inner-cause old new (TooLong word) inner same = opened-none 0 old new same
+inner-cause old new (Lookup word error) inner same = opened-none 0 old new same
+inner-cause old new (Text word error) inner same = opened-none 0 old new same
+inner-cause old new (Check word error) inner same = opened-none 0 old new same
+inner-cause old new (Query error) inner same = opened-none 0 old new same
+inner-cause old new (Map word error) inner same = opened-none 0 old new same
+inner-cause old new (Tile word error) inner same = opened-none 0 old new same
+inner-cause old new (Route error line) inner same = opened-none 0 old new same
+inner-cause old new (NotFound word) inner same = opened-none 0 old new same
+inner-cause old new NoMemory inner same = opened-none 0 old new same
 
--- a stage that touches no file, whose refusals are of that kind
-pub settles-cause : {A : Type 0} (answer : Result A Status) (old new : FilesSeen) (result : Result A Status) → ((status : Status) → answer ≡ Err status → IsInner status) → Settles answer old new result → Cause [] old new result
-settles-cause answer old new (Ok a) inner settles = record {
-  faults = ap (λ (s : FilesSeen). s.faults) settles.same;
-  opened = ap (λ (s : FilesSeen). s.opens) settles.same;
-}
-settles-cause answer old new (Err status) inner settles =
+-- all of no files were opened
+opens-none : (old new : FilesSeen) → new ≡ old → HasOpenedAll 0 old new
+opens-none old new same = record { faults = ap (λ (s : FilesSeen). s.faults) same; opened = ap (λ (s : FilesSeen). s.opens) same }
+
+-- a stage that gives an answer and touches no file, whose refusals are of that kind
+pub settles-cause : {A : Type 0} (answer : Result A Status) → ((status : Status) → answer ≡ Err status → IsInner status) →
+    (old new : FilesSeen) (result : Result A Status) → Settles answer old new result → Cause [] old new result
+settles-cause answer inner old new (Ok a) settles = opens-none old new settles.same
+settles-cause answer inner old new (Err status) settles =
     elim settles.gives [
       | inl none ↦ inner-cause old new status (subst IsInner (sym none) tt) settles.same
       | inr is ↦ inner-cause old new status (inner status is) settles.same
     ]
 
--- more files make a refusal of the first ones one of all
-refusal-front : (first more : List ℕ) (old new : FilesSeen) (status : Status) → RefusalCause first old new status → RefusalCause (first ++ more) old new status
-refusal-front first more old new status cause = go status cause
-  where
-    longer : HasOpened (length first) old new → HasOpened (length (first ++ more)) old new
-    longer opened = record { faults = opened.faults; times = opened.times; few = omega (arith, opened.few, length-append first more); opened = opened.opened }
+-- a stage that leaves the files, whose refusals are of that kind
+pub leaves-cause : {A : Type 0} (Is : Result A Status → Type 0) → ((status : Status) → Is (Err status) → IsInner status) →
+    (old new : FilesSeen) (result : Result A Status) → Leaves Is old new result → Cause [] old new result
+leaves-cause Is inner old new (Ok a) is = opens-none old new is.1
+leaves-cause Is inner old new (Err status) is = inner-cause old new status (inner status is.0) is.1
 
-    go : (status : Status) → RefusalCause first old new status → RefusalCause (first ++ more) old new status
-    go (Usage word) c = c
-    go (ReadFault word) c = record { rose = c.rose; before = c.before; opened = c.opened; named = get_front first more c.before word c.named }
-    go WriteFault c = c
-    go TurnsSpent c = c
-    go HubFault c = c
-    go Done c = c
-    go (TooLong word) c = longer c
-    go (Lookup word error) c = longer c
-    go (Text word error) c = longer c
-    go (Check word error) c = longer c
-    go (Query error) c = longer c
-    go (Map word error) c = longer c
-    go (Tile word error) c = longer c
-    go (Route error line) c = longer c
-    go (NotFound word) c = longer c
-    go NoMemory c = longer c
+-- ---- Stages one after the other
+
+-- a refusal over files, told of others
+refusal-as : (words others : List ℕ) (old new first last : FilesSeen) →
+    (HasOpened (length words) old new → HasOpened (length others) first last) →
+    ((word : ℕ) → IsReadFault words word old new → IsReadFault others word first last) → (status : Status) →
+    RefusalCause words old new status →
+    RefusalCause others first last status
+refusal-as words others old new first last opened fault (ReadFault word) c = fault word c
+refusal-as words others old new first last opened fault (Usage word) c = c
+refusal-as words others old new first last opened fault Done c = c
+refusal-as words others old new first last opened fault WriteFault c = c
+refusal-as words others old new first last opened fault TurnsSpent c = c
+refusal-as words others old new first last opened fault HubFault c = c
+refusal-as words others old new first last opened fault (TooLong word) c = opened c
+refusal-as words others old new first last opened fault (Lookup word error) c = opened c
+refusal-as words others old new first last opened fault (Text word error) c = opened c
+refusal-as words others old new first last opened fault (Check word error) c = opened c
+refusal-as words others old new first last opened fault (Query error) c = opened c
+refusal-as words others old new first last opened fault (Map word error) c = opened c
+refusal-as words others old new first last opened fault (Tile word error) c = opened c
+refusal-as words others old new first last opened fault (Route error line) c = opened c
+refusal-as words others old new first last opened fault (NotFound word) c = opened c
+refusal-as words others old new first last opened fault NoMemory c = opened c
+
+-- more files make a refusal of the first ones one of all
+refusal-front : (words more : List ℕ) (old new : FilesSeen) (status : Status) → RefusalCause words old new status →
+    RefusalCause (words ++ more) old new status
+refusal-front words more old new = refusal-as words (words ++ more) old new old new opened fault
+  where
+    opened : HasOpened (length words) old new → HasOpened (length (words ++ more)) old new
+    opened o = record { faults = o.faults; times = o.times; few = omega (arith, o.few, length-append words more); opened = o.opened }
+
+    fault : (word : ℕ) → IsReadFault words word old new → IsReadFault (words ++ more) word old new
+    fault word f = record { rose = f.rose; before = f.before; opened = f.opened; named = get_front words more f.before word f.named }
 
 -- a refusal after the first files were opened
-refusal-after : (first more : List ℕ) (old mid new : FilesSeen) (status : Status) → OpensAll first old mid → RefusalCause more mid new status → RefusalCause (first ++ more) old new status
-refusal-after first more old mid new status before cause = go status cause
+refusal-after : (words more : List ℕ) (old mid new : FilesSeen) (status : Status) → HasOpenedAll (length words) old mid →
+    RefusalCause more mid new status → RefusalCause (words ++ more) old new status
+refusal-after words more old mid new status before = refusal-as more (words ++ more) mid new old new opened fault status
   where
-    counted : (n : ℕ) → new.opens ≡ count_after n mid.opens → new.opens ≡ count_after (length first + n) old.opens
-    counted n is = is ∙ ap (count_after n) before.opened ∙ count_after-count_after (length first) n old.opens
+    counted : (n : ℕ) → new.opens ≡ count_after n mid.opens → new.opens ≡ count_after (length words + n) old.opens
+    counted n is = is ∙ ap (count_after n) before.opened ∙ count_after-count_after (length words) n old.opens
 
-    longer : HasOpened (length more) mid new → HasOpened (length (first ++ more)) old new
-    longer opened = record {
-      faults = opened.faults ∙ before.faults;
-      times = length first + opened.times;
-      few = omega (arith, opened.few, length-append first more);
-      opened = counted opened.times opened.opened;
+    opened : HasOpened (length more) mid new → HasOpened (length (words ++ more)) old new
+    opened o = record {
+      faults = o.faults ∙ before.faults;
+      times = length words + o.times;
+      few = omega (arith, o.few, length-append words more);
+      opened = counted o.times o.opened;
     }
 
-    go : (status : Status) → RefusalCause more mid new status → RefusalCause (first ++ more) old new status
-    go (Usage word) c = c
-    go (ReadFault word) c = record {
-      rose = subst (λ n. CountRose n new.faults) before.faults c.rose;
-      before = length first + c.before;
-      opened = counted (suc c.before) c.opened ∙ ap (λ n. count_after n old.opens) (let e : length first + suc c.before ≡ suc (length first + c.before) = omega arith in e);
-      named = get_after first more c.before word c.named;
+    fault : (word : ℕ) → IsReadFault more word mid new → IsReadFault (words ++ more) word old new
+    fault word f = record {
+      rose = subst (λ n. CountRose n new.faults) before.faults f.rose;
+      before = length words + f.before;
+      opened = counted (suc f.before) f.opened
+          ∙ ap (λ n. count_after n old.opens) (let e : length words + suc f.before ≡ suc (length words + f.before) = omega arith in e);
+      named = get_after words more f.before word f.named;
     }
-    go WriteFault c = c
-    go TurnsSpent c = c
-    go HubFault c = c
-    go Done c = c
-    go (TooLong word) c = longer c
-    go (Lookup word error) c = longer c
-    go (Text word error) c = longer c
-    go (Check word error) c = longer c
-    go (Query error) c = longer c
-    go (Map word error) c = longer c
-    go (Tile word error) c = longer c
-    go (Route error line) c = longer c
-    go (NotFound word) c = longer c
-    go NoMemory c = longer c
 
 -- two stages together
-pub then-cause : {A B : Type 0} (first : FilesSeen → FilesSeen → Result A Status → Type 0) (second : A → FilesSeen → FilesSeen → Result B Status → Type 0) (words more : List ℕ)
+pub then-cause : {A B : Type 0} (first : Stage A) (second : A → Stage B) (words more : List ℕ)
     → ((old new : FilesSeen) (r : Result A Status) → first old new r → Cause words old new r)
     → ((a : A) (old new : FilesSeen) (r : Result B Status) → second a old new r → Cause more old new r)
     → (old new : FilesSeen) (r : Result B Status) → Then first second old new r → Cause (words ++ more) old new r
 then-cause first second words more one two old new r (inl stops) =
-    subst (Cause (words ++ more) old new) (sym stops.answer) (refusal-front words more old new stops.status (one old new (Err stops.status) stops.refused))
+    subst (Cause (words ++ more) old new) (sym stops.answer)
+    (refusal-front words more old new stops.status (one old new (Err stops.status) stops.refused))
 then-cause first second words more one two old new (Ok b) (inr goes) =
     let before = one old goes.between (Ok goes.value) goes.given in
     let after = two goes.value goes.between new (Ok b) goes.rest in
     record {
       faults = after.faults ∙ before.faults;
-      opened = after.opened ∙ ap (count_after (length more)) before.opened ∙ count_after-count_after (length words) (length more) old.opens ∙ ap (λ n. count_after n old.opens) (sym (length-append words more));
+      opened = after.opened ∙ ap (count_after (length more)) before.opened ∙ count_after-count_after (length words) (length more) old.opens
+          ∙ ap (λ n. count_after n old.opens) (sym (length-append words more));
     }
 then-cause first second words more one two old new (Err status) (inr goes) =
-    refusal-after words more old goes.between new status (one old goes.between (Ok goes.value) goes.given) (two goes.value goes.between new (Err status) goes.rest)
+    refusal-after words more old goes.between new status (one old goes.between (Ok goes.value) goes.given)
+    (two goes.value goes.between new (Err status) goes.rest)
+
+-- two stages, of which the second opens no file
+pub last-cause : {A B : Type 0} (first : Stage A) (second : A → Stage B) (words : List ℕ)
+    → ((old new : FilesSeen) (r : Result A Status) → first old new r → Cause words old new r)
+    → ((a : A) (old new : FilesSeen) (r : Result B Status) → second a old new r → Cause [] old new r)
+    → (old new : FilesSeen) (r : Result B Status) → Then first second old new r → Cause words old new r
+last-cause first second words one two old new r is =
+    subst (λ (w : List ℕ). Cause w old new r) (append-nil words) (then-cause first second words [] one two old new r is)
+
+-- files that are taken in one after the other
+pub each-cause : {A : Type 0} (stage : Named → Stage A)
+    → ((file : Named) (old new : FilesSeen) (r : Result A Status) → stage file old new r → Cause (file.word ∷ []) old new r)
+    → (before : List A) (files : List Named) (old new : FilesSeen) (r : Result (List A) Status) →
+    TakesEachAfter stage before files old new r
+    → Cause (words_in files) old new r
+each-cause stage one before [] old new r is = settles-cause (Ok before) (λ status none. cc) old new r is
+each-cause stage one before (file ∷ files) old new r is =
+    then-cause (stage file) (λ a. TakesEachAfter stage (before ++ a ∷ []) files) (file.word ∷ []) (words_in files) (one file)
+    (λ a old new r. each-cause stage one (before ++ a ∷ []) files old new r) old new r is

@@ -5,21 +5,24 @@ use Rattle.edge_io.specs.Sink.{SinkSeen, Grows, BreaksOff}
 use Rattle.route_run.specs.Edge.{IsReplyBy, IsTelling, IsPrinted, IsTold, told_line}
 use Rattle.route_run.specs.Ends.{Ends}
 use Rattle.route_run.specs.Outcome.{Reach, reach}
-use Rattle.run_stages.specs.Status.{number_of_status}
+use Rattle.run_files.specs.Status.{number_of_status}
 use Rattle.command_words.specs.Help.{told_of}
 use Rattle.edge_io.specs.Hub.{HubSeen}
-use Rattle.run_stages.specs.declared.status.Status.{Status}
-use Rattle.run_stages.specs.declared.status.Status.TheVariants.{NoMemory}
+use Rattle.run_files.specs.declared.status.Status.{Status}
+use Rattle.run_files.specs.declared.status.Status.TheVariants.{NoMemory}
 
 -- a text that was told
-pub reply-told : (words : List (List ℕ)) (text : List ℕ) (files : FilesSeen) (hub : HubSeen) (old new : SinkSeen) (status : Status) → Some text ≡ told_of words → Ends (Ok text) status old new → IsReplyBy words (told_of words) (reach files old hub) (reach files new hub) status
+pub reply-told : (words : List (List ℕ)) (text : List ℕ) (files : FilesSeen) (hub : HubSeen) (old new : SinkSeen) (status : Status) →
+    Some text ≡ told_of words → Ends (Ok text) status old new →
+    IsReplyBy words (told_of words) (reach files old hub) (reach files new hub) status
 reply-told words text files hub old new status is ends =
     subst (λ (told : Option (List ℕ)). IsReplyBy words told (reach files old hub) (reach files new hub) status) is
     (record { answer = Ok text; given = record { gives = refl; same = refl }; ends = ends; hub = refl })
 
 -- want of memory before anything was told or read
 pub reply-memory : (words : List (List ℕ)) (told : Option (List ℕ)) (at : Reach) → IsReplyBy words told at at NoMemory
-reply-memory words (Some text) at = record { answer = Err NoMemory; given = record { gives = inl refl; same = refl }; ends = (refl, refl); hub = refl }
+reply-memory words (Some text) at =
+    record { answer = Err NoMemory; given = record { gives = inl refl; same = refl }; ends = (refl, refl); hub = refl }
 reply-memory words None at = inl (record {
   answer = Err NoMemory;
   given = inl (record { status = NoMemory; refused = record { gives = inl refl; same = refl }; answer = refl });
@@ -28,13 +31,16 @@ reply-memory words None at = inl (record {
 })
 
 -- bytes that were sent were written, whole or a front of them
-pub is_written : {T E : Type 0} (result : Result T E) (bytes : List ℕ) (old new : SinkSeen) → OnOk result (Grows old new bytes) → OnErr result (BreaksOff old new bytes) → IsPrinted bytes old new
+pub is_written : {T E : Type 0} (result : Result T E) (bytes : List ℕ) (old new : SinkSeen) → OnOk result (Grows old new bytes) →
+    OnErr result (BreaksOff old new bytes) → IsPrinted bytes old new
 is_written (Ok a) bytes old new whole front = inl whole
 is_written (Err e) bytes old new whole front = inr front
 
 -- a status whose line was sent is told
-pub telling : {T E : Type 0} (result : Result T E) (status told : Status) (bytes : List ℕ) (old new : SinkSeen) (number : ℕ) → IsTold status told → bytes ≡ told_line told
-    → OnOk result (Grows old new bytes) → OnErr result (BreaksOff old new bytes) → number ≡ number_of_status told → IsTelling status old new number
+pub telling : {T E : Type 0} (result : Result T E) (status told : Status) (bytes : List ℕ) (old new : SinkSeen) (number : ℕ) →
+    IsTold status told → bytes ≡ told_line told
+    → OnOk result (Grows old new bytes) → OnErr result (BreaksOff old new bytes) → number ≡ number_of_status told →
+    IsTelling status old new number
 telling result status told bytes old new number is_told is whole front number_is = record {
   told = told;
   is_told = is_told;

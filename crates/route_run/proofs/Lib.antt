@@ -1,7 +1,7 @@
 pub mod CauseLemmas
 pub mod CommandLemmas
 pub mod EdgeLemmas
+pub mod GivenLemmas
 pub mod OfferLemmas
-pub mod RunLemmas
+pub mod SaidLemmas
 pub mod SendLemmas
-pub mod ServeLemmas

@@ -8,7 +8,8 @@ use Rattle.edge_io.specs.Faults.{CountRose}
 use Rattle.edge_io.specs.Sink.{SinkSeen, Grows, BreaksOff}
 
 -- a piece that was written behind others
-pub Grows-then : (first mid new : SinkSeen) (before piece : List ℕ) → Grows first mid before → Grows mid new piece → Grows first new (before ++ piece)
+pub Grows-then : (first mid new : SinkSeen) (before piece : List ℕ) → Grows first mid before → Grows mid new piece →
+    Grows first new (before ++ piece)
 Grows-then first mid new before piece one two = record {
   held = Appends-trans first.held mid.held new.held before piece one.held two.held;
   faults = two.faults ∙ one.faults;
@@ -24,6 +25,7 @@ BreaksOff-then first mid new before piece rest all one breaks is =
     record {
       sent = length before + breaks.sent;
       within = omega (arith, breaks.within, ap length (sym is), length-append before (piece ++ rest), length-append piece rest);
-      held = subst (Appends first.held new.held) (sym front) (Appends-trans first.held mid.held new.held before (take breaks.sent piece) one.held breaks.held);
+      held = subst (Appends first.held new.held) (sym front)
+          (Appends-trans first.held mid.held new.held before (take breaks.sent piece) one.held breaks.held);
       rose = subst (λ (n : ℕ). CountRose n new.faults) one.faults breaks.rose;
     }

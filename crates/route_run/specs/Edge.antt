@@ -5,18 +5,19 @@ use Rattle.edge_io.specs.Sink.{SinkSeen, Grows, BreaksOff}
 use Rattle.item_list.specs.Answer.{answer_map}
 use Rattle.route_run.specs.Ends.{Ends}
 use Rattle.route_run.specs.Outcome.{Reach, IsOutcome}
-use Rattle.run_stages.specs.Chain.{Settles}
-use Rattle.run_stages.specs.Status.{number_of_status, line_of}
+use Rattle.run_files.specs.Chain.{Settles}
+use Rattle.run_files.specs.Status.{number_of_status, line_of}
 use Rattle.command_words.specs.Help.{told_of}
 use Rattle.command_words.specs.Refusals.{texts_of}
-use Rattle.run_stages.specs.declared.status.Status.{Status}
-use Rattle.run_stages.specs.declared.status.Status.TheVariants.{NoMemory}
+use Rattle.run_files.specs.declared.status.Status.{Status}
+use Rattle.run_files.specs.declared.status.Status.TheVariants.{NoMemory}
 
 -- the texts of words that were read, or why they weren't
 abbrev pub args_in : Result (Vec (String Global) Global) Status → Result (List (List ℕ)) Status
 args_in args = answer_map (λ (v : Vec (String Global) Global). texts_of v.items) (λ (s : Status). s) args
 
--- a text is told: written whole, or a front of it before a write fault, or nothing where memory ran out; the files and the hub are left
+-- a text is told: written whole, or a front of it before a write fault, or nothing where memory ran out; the
+-- files and the hub are left
 pub record Tells (text : List ℕ) (old new : Reach) (status : Status) : Type 0 where
   pub answer : Result (List ℕ) Status
   pub given : Settles {A = List ℕ} (Ok text) old.files new.files answer
@@ -24,7 +25,8 @@ pub record Tells (text : List ℕ) (old new : Reach) (status : Status) : Type 0 
   pub hub : new.hub ≡ old.hub
 
 -- words are told something, or are answered as a command
-abbrev pub IsReplyBy : List (List ℕ) → Option (List ℕ) → Reach → Reach → Status → Type 0
+abbrev pub IsReplyBy : (words : List (List ℕ)) (told : Option (List ℕ)) (old new : Reach) (status : Status) →
+    Type 0
 IsReplyBy words (Some text) old new status = Tells text old new status
 IsReplyBy words None old new status = IsOutcome words old new status
 
@@ -41,8 +43,8 @@ told_line status = cond (number_of_status status == 0) [] (line_of status ++ 10 
 abbrev pub IsPrinted : List ℕ → SinkSeen → SinkSeen → Type 0
 IsPrinted bytes old new = Grows old new bytes ⊎ BreaksOff old new bytes
 
--- the status that is told: the one in which the command line ended; or want of memory, where the line of one that
--- isn't success could not be made
+-- the status that is told: the one in which the command line ended; or want of memory, where the line of one
+-- that isn't success could not be made
 abbrev pub IsTold : Status → Status → Type 0
 IsTold status told = (told ≡ status) ⊎ ((told ≡ NoMemory) × (number_of_status status ≢ 0))
 
@@ -53,8 +55,10 @@ pub record IsTelling (status : Status) (old new : SinkSeen) (number : ℕ) : Typ
   pub line : IsPrinted (told_line told) old new
   pub number_is : number ≡ number_of_status told
 
--- what the program does with a command line, and the exit status with which it ends, with what stands where it tells that
-pub record IsEnd (args : Result (List (List ℕ)) Status) (old new : Reach) (err_old err_new : SinkSeen) (number : ℕ) : Type 0 where
+-- what the program does with a command line, and the exit status with which it ends, with what stands where
+-- it tells that
+pub record IsEnd (args : Result (List (List ℕ)) Status) (old new : Reach) (err_old err_new : SinkSeen)
+    (number : ℕ) : Type 0 where
   pub status : Status
   pub reply : IsReply args old new status
   pub telling : IsTelling status err_old err_new number

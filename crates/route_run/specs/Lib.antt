@@ -1,4 +1,6 @@
 pub mod Edge
 pub mod Ends
+pub mod Offer
 pub mod Outcome
 pub mod Program
+pub mod Serving

@@ -8,35 +8,38 @@ use Rattle.run_answers.specs.Code.{IsCodeAnswer}
 use Rattle.run_answers.specs.Grid.{IsGridAnswer}
 use Rattle.run_answers.specs.Hills.{IsHillsAnswer}
 use Rattle.run_answers.specs.Make.{made_by}
-use Rattle.run_answers.specs.Route.{IsRouteAnswer}
-use Rattle.run_server.specs.Serving.{IsServeOutcome}
+use Rattle.run_answers.specs.Route.{IsRouteAnswer, route_files}
+use Rattle.route_run.specs.Serving.{IsServeOutcome}
 use Rattle.route_run.specs.Ends.{Ends}
+use Rattle.route_run.specs.Offer.{serve_files}
 use Rattle.item_list.specs.Answer.{answer_map}
-use Rattle.run_stages.specs.Chain.{Settles, Then}
+use Rattle.run_files.specs.Chain.{Leaves, Settles, Stage, Then}
+use Rattle.run_files.specs.World.{WorldFiles}
 use Rattle.command_words.specs.Command.{command_of}
 use Rattle.command_words.specs.Given.{Named}
 use Rattle.command_words.specs.declared.command.CodeCommand.{CodeCommand}
 use Rattle.command_words.specs.declared.command.Command.{Command}
 use Rattle.command_words.specs.declared.command.Command as Form
 use Rattle.command_words.specs.declared.command.ServeCommand.{ServeCommand}
-use Rattle.run_stages.specs.declared.status.Status.{Status}
-use Rattle.run_stages.specs.declared.status.Status.TheVariants.{Done, Usage, ReadFault, WriteFault, TurnsSpent, HubFault}
+use Rattle.run_files.specs.declared.status.Status.{Status}
+use Rattle.run_files.specs.declared.status.Status.TheVariants.{Done, Usage, ReadFault, WriteFault, TurnsSpent, HubFault}
 
 -- the command of the words, or the status of the word at fault
 abbrev pub command_in : List (List ℕ) → Result Command Status
 command_in words = answer_map (λ (c : Command). c) Usage (command_of words)
 
 -- what is answered of a command that has something to write; `make` and `hills` leave the files untouched
-abbrev pub IsCommandAnswer : Command → FilesSeen → FilesSeen → Result (List ℕ) Status → Type 0
+abbrev pub IsCommandAnswer : Command → Stage (List ℕ)
 IsCommandAnswer (Form.TheVariants.Grid command) old new answer = IsGridAnswer command old new answer
 IsCommandAnswer (Form.TheVariants.Make command) old new answer = Settles (Ok (made_by command)) old new answer
 IsCommandAnswer (Form.TheVariants.Code command) old new answer = IsCodeAnswer command old new answer
 IsCommandAnswer (Form.TheVariants.Route command) old new answer = IsRouteAnswer command old new answer
-IsCommandAnswer (Form.TheVariants.Hills command) old new answer = IsHillsAnswer command answer × (new ≡ old)
+IsCommandAnswer (Form.TheVariants.Hills command) old new answer =
+    Leaves (IsHillsAnswer command) old new answer
 IsCommandAnswer (Form.TheVariants.Serve command) old new answer = ⊥
 
 -- what is answered to words over files: the words are read, and then their command is answered
-abbrev pub IsAnswer : List (List ℕ) → FilesSeen → FilesSeen → Result (List ℕ) Status → Type 0
+abbrev pub IsAnswer : List (List ℕ) → Stage (List ℕ)
 IsAnswer words = Then (Settles (command_in words)) IsCommandAnswer
 
 -- what the program reaches at a moment: the files, its output and the hub
@@ -67,19 +70,16 @@ pub record IsServed (words : List (List ℕ)) (old new : Reach) (status : Status
 abbrev pub IsOutcome : List (List ℕ) → Reach → Reach → Status → Type 0
 IsOutcome words old new status = IsWritten words old new status ⊎ IsServed words old new status
 
--- a command has something to write: it isn't `serve`
-abbrev pub Writes : Command → Type 0
-Writes (Form.TheVariants.Serve command) = ⊥
-Writes command = Unit {0}
-
 -- what the program does to a command
 pub data IsDone (command : Command) (old new : Reach) (status : Status) : Type 0 where
   writes :
-      (answer : Result (List ℕ) Status) → IsCommandAnswer command old.files new.files answer → Ends answer status old.out new.out →
+      (answer : Result (List ℕ) Status) → IsCommandAnswer command old.files new.files answer →
+      Ends answer status old.out new.out →
       new.hub ≡ old.hub → IsDone command old new status
   serves :
       (serve : ServeCommand) → command ≡ Form.TheVariants.Serve serve →
-      IsServeOutcome serve old.files new.files old.hub new.hub status → new.out ≡ old.out → IsDone command old new status
+      IsServeOutcome serve old.files new.files old.hub new.hub status → new.out ≡ old.out →
+      IsDone command old new status
 
 -- a write fault comes where the output's count of faults rose, and every other status leaves it
 abbrev pub HasCause : Status → ℕ → ℕ → Type 0
@@ -100,16 +100,18 @@ abbrev pub profile_words : Option CodeCommand → List ℕ
 profile_words None = []
 profile_words (Some files) = files.lookups.word ∷ files.profile.word ∷ []
 
+-- the words of the files of a world
+abbrev pub world_words : WorldFiles → List ℕ
+world_words files = files.lookups.word ∷ (words_in files.profiles ++ (files.map.word ∷ words_in files.tiles))
+
 -- the words of a command's files, in the order in which they are opened
 abbrev pub file_words : Result Command ℕ → List ℕ
 file_words (Ok (Form.TheVariants.Grid command)) = profile_words command.files
 file_words (Ok (Form.TheVariants.Make command)) = []
-file_words (Ok (Form.TheVariants.Code command)) = command.lookups.word ∷ command.profile.word ∷ []
-file_words (Ok (Form.TheVariants.Route command)) =
-    command.lookups.word ∷ command.profile.word ∷ command.map.word ∷ words_in command.tiles
+file_words (Ok (Form.TheVariants.Code command)) = profile_words (Some command)
+file_words (Ok (Form.TheVariants.Route command)) = world_words (route_files command)
 file_words (Ok (Form.TheVariants.Hills command)) = []
-file_words (Ok (Form.TheVariants.Serve command)) =
-    command.lookups.word ∷ (words_in command.profiles ++ (command.map.word ∷ words_in command.tiles))
+file_words (Ok (Form.TheVariants.Serve command)) = world_words (serve_files command)
 file_words (Err fault) = []
 
 -- a read fault comes where the count of faults rose, and names the word of the file that was opened last
@@ -131,8 +133,9 @@ pub record HasOpenedAll (all : ℕ) (old new : FilesSeen) : Type 0 where
   pub faults : new.faults ≡ old.faults
   pub opened : new.opens ≡ count_after all old.opens
 
--- what a status says of the files whose words stand in this order: a read fault comes where their count of faults rose;
--- every other status leaves it; where the output was begun, or the hub was used, each file was opened once
+-- what a status says of the files whose words stand in this order: a read fault comes where their count of
+-- faults rose; every other status leaves it; where the output was begun, or the hub was used, each file was
+-- opened once
 abbrev pub HasReadCause : List ℕ → Status → FilesSeen → FilesSeen → Type 0
 HasReadCause words (ReadFault word) old new = IsReadFault words word old new
 HasReadCause words Done old new = HasOpenedAll (length words) old new

@@ -1,23 +1,22 @@
 //! A command line over files, an output, and a place where the program tells how it ended.
 
 ghost use Rattle.std.specs.Prelude.{◌≡◌, ◌≢◌, IfOk, OnErr};
-ghost use Rattle.route_run.specs.Edge.{IsEnd, IsReplyBy, IsTelling, args_in, told_line};
-ghost use Rattle.route_run.specs.Outcome.{reach};
-ghost use Rattle.run_stages.specs.Status.{number_of_status};
 ghost use Rattle.command_words.specs.Help.{told_of};
 ghost use Rattle.command_words.specs.Refusals.{texts_of};
+ghost use Rattle.route_run.specs.Edge.{IsEnd, IsReplyBy, IsTelling, args_in, told_line};
+ghost use Rattle.route_run.specs.Outcome.{reach};
+ghost use Rattle.run_files.specs.Status.{number_of_status};
 
 use crate::sending::send;
 use crate::top::run;
 use command_words::told_text;
 use edge_io::{Files, Hub, Sink, send_all};
 use item_list::append_bytes;
-use run_answers::Output;
-use run_stages::Status;
+use run_files::Status;
 use std::alloc::{AllocError, Global};
 
-/// Does what a command line asks for, tells on `err` how it ended, and gives the exit status. A command line
-/// that could not be read is the status that says why.
+/// Does what a command line asks for, tells on `err` how it ended, and gives the exit status. A
+/// command line that could not be read is the status that says why.
 pub fn edge<F: Files, O: Sink, H: Hub, E: Sink>(
     alloc: Global,
     args: Result<Vec<String>, Status>,
@@ -26,7 +25,8 @@ pub fn edge<F: Files, O: Sink, H: Hub, E: Sink>(
     hub: &mut H,
     err: &mut E,
 ) -> u8
-    ensures outcome { IsEnd (args_in args) (reach (F.seen files.old) (O.seen out.old) (H.seen hub.old))
+    ensures outcome { IsEnd (args_in args)
+        (reach (F.seen files.old) (O.seen out.old) (H.seen hub.old))
         (reach (F.seen files.new) (O.seen out.new) (H.seen hub.new)) (E.seen err.old) (E.seen err.new) result }
 {
     let status = match args {
@@ -44,11 +44,12 @@ fn reply<F: Files, O: Sink, H: Hub>(
     out: &mut O,
     hub: &mut H,
 ) -> Status
-    ensures exact { IsReplyBy (texts_of words.now) (told_of (texts_of words.now)) (reach (F.seen files.old) (O.seen out.old) (H.seen hub.old))
+    ensures exact { IsReplyBy (texts_of words.now) (told_of (texts_of words.now))
+        (reach (F.seen files.old) (O.seen out.old) (H.seen hub.old))
         (reach (F.seen files.new) (O.seen out.new) (H.seen hub.new)) result }
 {
     match told_text(alloc, words) {
-        Ok(Some(text)) => send(out, Ok(Output::Bytes(text))),
+        Ok(Some(text)) => send(out, Ok(text)),
         Ok(None) => run(alloc, words, files, out, hub),
         Err(_) => Status::NoMemory,
     }

@@ -1,34 +1,34 @@
 //! How an answer ends over a sink.
 
-ghost use Rattle.std.specs.Prelude.{◌≡◌, ◌≤◌, Ok, vec_capacity};
+ghost use Rattle.std.specs.Prelude.{◌≤◌, Ok, vec_capacity};
 ghost use Rattle.grid_map.specs.MapText.{overpass_text};
 ghost use Rattle.route_run.specs.Ends.{Ends};
 ghost use Rattle.run_answers.specs.Outputs.{output_in};
-ghost use Rattle.run_stages.specs.Chain.{bytes_in};
+ghost use Rattle.run_files.specs.Chain.{bytes_in};
 
 use edge_io::{Sink, send_all};
 use grid_map::Grid;
 use run_answers::{MapOutput, Output};
-use run_stages::Status;
+use run_files::Status;
 
-/// An answer that has its bytes at hand.
-pub fn at_hand(answer: Result<Vec<u8>, Status>) -> Result<Output, Status>
-    ensures same { output_in result ≡ bytes_in answer }
+/// Writes what an answer has to write, if it has something, and gives the status in which it ends.
+pub fn send<O: Sink>(out: &mut O, answer: Result<Vec<u8>, Status>) -> Status
+    ensures ends { Ends (bytes_in answer) result (O.seen out.old) (O.seen out.new) }
 {
     match answer {
-        Ok(bytes) => Ok(Output::Bytes(bytes)),
-        Err(refusal) => Err(refusal),
+        Ok(bytes) => send_bytes(out, bytes.as_slice()),
+        Err(refusal) => refusal,
     }
 }
 
-/// Writes what an answer has to write, if it has something, and gives the status in which it ends.
-pub fn send<O: Sink>(out: &mut O, answer: Result<Output, Status>) -> Status
+/// The same of an answer that may be a map.
+pub fn send_output<O: Sink>(out: &mut O, answer: Result<Output, Status>) -> Status
     ensures ends { Ends (output_in answer) result (O.seen out.old) (O.seen out.new) }
 {
     match answer {
         Ok(Output::Bytes(bytes)) => send_bytes(out, bytes.as_slice()),
         Ok(Output::Map(MapOutput { grid, piece })) => send_map(out, &grid, piece),
-        Err(refusal) => refusal,
+        Err(status) => status,
     }
 }
 

@@ -1,17 +1,18 @@
 //! The program over the system that runs it.
 
-ghost use Rattle.std.specs.Prelude.{◌≡◌};
 ghost use Rattle.std.specs.IoError.{error_kind};
+ghost use Rattle.std.specs.Prelude.{◌≡◌};
 ghost use Rattle.route_run.specs.Program.{fault_of};
 
 use crate::reply::edge;
 use edge_io::{DirFiles, StdSink, TcpHub, WriteSink};
-use run_stages::Status;
+use run_files::Status;
 use std::io::ErrorKind;
 use std::process::ExitCode;
 use std::{env, io};
 
-/// The words of the command line over the system's files, its two outputs and its network, and the exit status.
+/// The words of the command line over the system's files, its two outputs and its network, and the
+/// exit status.
 pub fn program(rt: &HostRuntime) -> ExitCode {
     let args = match words_of(rt) {
         Ok(words) => Ok(words),
@@ -34,7 +35,8 @@ fn words_of(rt: &HostRuntime) -> io::Result<Vec<String>> {
     Ok(words)
 }
 
-/// The status of a command line that the system could not give: want of memory, or words that are no text.
+/// The status of a command line that the system could not give: want of memory, or words that are
+/// no text.
 fn fault_of(error: &io::Error) -> Status
     ensures exact { result ≡ fault_of (error_kind error.now) }
 {

@@ -1,21 +1,20 @@
 //! The top call.
 
-ghost use Rattle.std.specs.Prelude.{◌≡◌, Ok, IfOk, MatchOption};
+ghost use Rattle.std.specs.Prelude.{◌≡◌, Ok, IfOk};
 ghost use Rattle.command_words.specs.Command.{command_of};
 ghost use Rattle.command_words.specs.Fit.{IsFit};
 ghost use Rattle.command_words.specs.Refusals.{texts_of};
 ghost use Rattle.command_words.specs.declared.command.Command.{Command as TheCommand};
 ghost use Rattle.edge_io.specs.Faults.{CountRose};
 ghost use Rattle.item_list.specs.Answer.{Answers};
-ghost use Rattle.route_run.specs.Outcome.{HasCause, HasHubCause, HasReadCause, IsCommandAnswer, IsComplete, IsDone, IsOutcome, Writes, command_in, file_words, reach};
-ghost use Rattle.run_answers.specs.Outputs.{output_in};
+ghost use Rattle.route_run.specs.Outcome.{HasCause, HasHubCause, HasReadCause, IsComplete, IsDone, IsOutcome, command_in, file_words, reach};
 
-use crate::sending::{at_hand, send};
-use command_words::{Command, Refusal, ServeCommand, command_of};
+use crate::sending::{send, send_output};
+use crate::server::serve_answer;
+use command_words::{Command, Refusal, command_of};
 use edge_io::{Files, Hub, Sink};
-use run_answers::{Output, code_answer, grid_answer, hills_answer, make_answer, route_answer};
-use run_server::serve_answer;
-use run_stages::Status;
+use run_answers::{code_answer, grid_answer, hills_answer, make_answer, route_answer};
+use run_files::Status;
 use std::alloc::Global;
 
 /// Does what the words ask for over `files` and `hub`, and writes what it prints to `out`.
@@ -26,7 +25,8 @@ pub fn run<F: Files, O: Sink, H: Hub>(
     out: &mut O,
     hub: &mut H,
 ) -> Status
-    ensures outcome { IsOutcome (texts_of words.now) (reach (F.seen files.old) (O.seen out.old) (H.seen hub.old))
+    ensures outcome { IsOutcome (texts_of words.now)
+        (reach (F.seen files.old) (O.seen out.old) (H.seen hub.old))
         (reach (F.seen files.new) (O.seen out.new) (H.seen hub.new)) result }
     ensures cause { HasCause result (O.seen out.old).faults (O.seen out.new).faults }
     ensures read_cause { HasReadCause (file_words (command_of (texts_of words.now))) result
@@ -45,7 +45,8 @@ pub fn run<F: Files, O: Sink, H: Hub>(
 
 /// The command of the words, or the status of the word at fault.
 fn command_in(alloc: Global, words: &[String]) -> Result<Command<'_>, Status>
-    ensures exact { Answers (λ (c : TheCommand). c) (command_in (texts_of words.now)) Status.NoMemory result }
+    ensures exact { Answers (λ (c : TheCommand). c) (command_in (texts_of words.now))
+        Status.NoMemory result }
     ensures fit { IfOk result IsFit }
 {
     match command_of(alloc, words) {
@@ -55,7 +56,7 @@ fn command_in(alloc: Global, words: &[String]) -> Result<Command<'_>, Status>
     }
 }
 
-/// Does a command: it serves, or its answer is written.
+/// Does a command: its answer is written, or it serves.
 fn command_run<F: Files, O: Sink, H: Hub>(
     alloc: Global,
     command: &Command,
@@ -67,38 +68,12 @@ fn command_run<F: Files, O: Sink, H: Hub>(
     ensures exact { IsDone command.now (reach (F.seen files.old) (O.seen out.old) (H.seen hub.old))
         (reach (F.seen files.new) (O.seen out.new) (H.seen hub.new)) result }
 {
-    match serve_in(command) {
-        Some(serve) => serve_answer(alloc, serve, files, hub),
-        None => send(out, command_answer(alloc, command, files)),
-    }
-}
-
-/// The command `serve`, where a command is that one.
-fn serve_in<'c, 'a>(command: &'c Command<'a>) -> Option<&'c ServeCommand<'a>>
-    ensures exact { MatchOption result (Writes command.now) (λ serve. command.now ≡ Command.Serve serve.now) }
-{
     match command {
-        Command::Serve(serve) => Some(serve),
-        _ => None,
-    }
-}
-
-/// What is answered of a command that has something to write: that, or a status.
-fn command_answer<F: Files>(
-    alloc: Global,
-    command: &Command,
-    files: &mut F,
-) -> Result<Output, Status>
-    requires fit { IsFit command.now }
-    requires writes { Writes command.now }
-    ensures exact { IsCommandAnswer command.now (F.seen files.old) (F.seen files.new) (output_in result) }
-{
-    match command {
-        Command::Grid(command) => at_hand(grid_answer(alloc, command, files)),
-        Command::Make(command) => make_answer(alloc, command),
-        Command::Code(command) => at_hand(code_answer(alloc, command, files)),
-        Command::Route(command) => at_hand(route_answer(alloc, command, files)),
-        Command::Hills(command) => at_hand(hills_answer(alloc, command)),
-        Command::Serve(_) => unreachable!(),
+        Command::Grid(command) => send(out, grid_answer(alloc, command, files)),
+        Command::Make(command) => send_output(out, make_answer(alloc, command)),
+        Command::Code(command) => send(out, code_answer(alloc, command, files)),
+        Command::Route(command) => send(out, route_answer(alloc, command, files)),
+        Command::Hills(command) => send(out, hills_answer(alloc, command)),
+        Command::Serve(command) => serve_answer(alloc, command, files, hub),
     }
 }

@@ -4,112 +4,69 @@ use Rattle.item_list.specs.Answer.{Answers}
 use Rattle.grid_map.specs.MapText.{overpass_text}
 use Rattle.grid_map.specs.declared.plan.Plan.{Plan}
 use Rattle.made_routes.specs.Hills.{IsHillsFound, IsHillsRefusal}
-use Rattle.made_routes.specs.Made.{HasTextFault, Makes}
+use Rattle.made_routes.specs.Made.{Makes}
 use Rattle.made_routes.specs.Walks.{HasNoPricedWalk, IsProfileRefused, IsWalkAnswer, WalkQuestion}
 use Rattle.made_routes.specs.declared.error.MadeError.{MadeError}
 use Rattle.made_routes.specs.declared.error.MadeError.TheVariants as made
 use Rattle.made_routes.specs.declared.priced.PricedWalk.{PricedWalk}
 use Rattle.made_routes.specs.declared.summary.Hills.{Hills}
 use Rattle.profile_text.specs.Tree.{Sections}
-use Rattle.route_ready.specs.Lines.{route_line}
 use Rattle.route_ready.specs.declared.error.RouteError.{RouteError}
 use Rattle.route_ready.specs.declared.error.RouteError.TheVariants.{NoTrack}
 use Rattle.run_answers.specs.Grid.{IsPricedAnswer, IsPricedRefusal}
 use Rattle.run_answers.specs.Hills.{IsHillsAnswerOver}
 use Rattle.run_answers.specs.Lines.{hills_lines, priced_lines}
-use Rattle.run_answers.specs.Refused.{IsMadeRefusal, IsMadeRefusedAs, IsRefusedAs}
-use Rattle.run_stages.specs.declared.status.Status.{Status}
-use Rattle.run_stages.specs.declared.status.Status.TheVariants.{Done, Usage, Query, TooLong, Lookup, Text, Check, Map, Tile, Route, NotFound, ReadFault, WriteFault, TurnsSpent, HubFault, NoMemory}
+use Rattle.run_answers.specs.Refused.{IsMadeRefusal, IsMadeRefusedAs, IsRefusal, IsRefusedAs}
+use Rattle.run_files.specs.declared.status.Status.{Status}
+use Rattle.run_files.specs.declared.status.Status.TheVariants.{NoMemory}
 
 -- a question over another grid, between other cells
 abbrev pub question_over : WalkQuestion → Plan → ℕ → ℕ → WalkQuestion
 question_over question plan from to = record { plan = plan; from = from; to = to; table = question.table; sections = question.sections }
 
-module _ (text : List ℕ) (Refuses : RouteError → Type 0) (profile : Option Sections)
-  where
-    -- the refusal of a request is told with its line
-    pub request-refused : (error : RouteError) (status : Status) → Refuses error → IsRefusedAs error profile status →
-        IsMadeRefusal text Refuses profile status
-    request-refused error Done because is = absurd is
-    request-refused error (Usage word) because is = absurd is
-    request-refused error (Query fault) because is = absurd is
-    request-refused error (TooLong word) because is = absurd is
-    request-refused error (Lookup word fault) because is = absurd is
-    request-refused error (Text word fault) because is = absurd is
-    request-refused error (Check word fault) because is = absurd is
-    request-refused error (Map word fault) because is = absurd is
-    request-refused error (Tile word fault) because is = absurd is
-    request-refused error (Route told line) because is =
-        (subst Refuses (sym is.0) because, is.2 ∙ ap (route_line profile) (sym is.0))
-    request-refused error (NotFound word) because is = absurd is
-    request-refused error (ReadFault word) because is = absurd is
-    request-refused error WriteFault because is = absurd is
-    request-refused error TurnsSpent because is = absurd is
-    request-refused error HubFault because is = absurd is
-    request-refused error NoMemory because is = tt
+-- the refusal of a request is told with its line
+pub request-refused : (Refuses : RouteError → Type 0) (profile : Option Sections) (error : RouteError) (status : Status) → Refuses error →
+    IsRefusedAs error profile status → IsRefusal Refuses profile status
+request-refused Refuses profile error status because (inl none) = inl none
+request-refused Refuses profile error status because (inr told) = inr (record { error = error; because = because; is = told.1 })
 
-    -- a refusal over the map of the text is told by its status
-    pub made-refused : {T : Type 0} (Is : T → Type 0) (Was : RouteError → Type 0) (error : MadeError) (status : Status) →
-        ((error : RouteError) → Was error → Refuses error) → Makes {T = T} text Is Was (Err error) → IsMadeRefusedAs error profile status →
-        IsMadeRefusal text Refuses profile status
-    made-refused Is Was (made.Route error) status becomes cause is = request-refused error status (becomes error cause) is
-    made-refused Is Was (made.Map fault) Done becomes cause is = absurd is
-    made-refused Is Was (made.Map fault) (Usage word) becomes cause is = absurd is
-    made-refused Is Was (made.Map fault) (Query error) becomes cause is = absurd is
-    made-refused Is Was (made.Map fault) (TooLong word) becomes cause is = absurd is
-    made-refused Is Was (made.Map fault) (Lookup word error) becomes cause is = absurd is
-    made-refused Is Was (made.Map fault) (Text word error) becomes cause is = absurd is
-    made-refused Is Was (made.Map fault) (Check word error) becomes cause is = absurd is
-    made-refused Is Was (made.Map fault) (Map word told) becomes cause is = (is.0, subst (HasTextFault text) (sym is.1) cause)
-    made-refused Is Was (made.Map fault) (Tile word error) becomes cause is = absurd is
-    made-refused Is Was (made.Map fault) (Route error line) becomes cause is = absurd is
-    made-refused Is Was (made.Map fault) (NotFound word) becomes cause is = absurd is
-    made-refused Is Was (made.Map fault) (ReadFault word) becomes cause is = absurd is
-    made-refused Is Was (made.Map fault) WriteFault becomes cause is = absurd is
-    made-refused Is Was (made.Map fault) TurnsSpent becomes cause is = absurd is
-    made-refused Is Was (made.Map fault) HubFault becomes cause is = absurd is
-    made-refused Is Was (made.Map fault) NoMemory becomes cause is = absurd is
-    made-refused Is Was made.NoMemory Done becomes cause is = absurd is
-    made-refused Is Was made.NoMemory (Usage word) becomes cause is = absurd is
-    made-refused Is Was made.NoMemory (Query error) becomes cause is = absurd is
-    made-refused Is Was made.NoMemory (TooLong word) becomes cause is = absurd is
-    made-refused Is Was made.NoMemory (Lookup word error) becomes cause is = absurd is
-    made-refused Is Was made.NoMemory (Text word error) becomes cause is = absurd is
-    made-refused Is Was made.NoMemory (Check word error) becomes cause is = absurd is
-    made-refused Is Was made.NoMemory (Map word told) becomes cause is = absurd is
-    made-refused Is Was made.NoMemory (Tile word error) becomes cause is = absurd is
-    made-refused Is Was made.NoMemory (Route error line) becomes cause is = absurd is
-    made-refused Is Was made.NoMemory (NotFound word) becomes cause is = absurd is
-    made-refused Is Was made.NoMemory (ReadFault word) becomes cause is = absurd is
-    made-refused Is Was made.NoMemory WriteFault becomes cause is = absurd is
-    made-refused Is Was made.NoMemory TurnsSpent becomes cause is = absurd is
-    made-refused Is Was made.NoMemory HubFault becomes cause is = absurd is
-    made-refused Is Was made.NoMemory NoMemory becomes cause is = tt
+-- a refusal over the map of a text is told by its status
+made-refused : {T : Type 0} (text : List ℕ) (Refuses : RouteError → Type 0) (profile : Option Sections) (Is : T →
+    Type 0) (Was : RouteError → Type 0)
+    (error : MadeError) (status : Status) → ((error : RouteError) → Was error → Refuses error) → Makes {T = T} text Is Was (Err error) →
+    IsMadeRefusedAs error profile status → IsMadeRefusal text Refuses profile status
+made-refused text Refuses profile Is Was (made.Route error) status becomes cause is =
+    inl (request-refused Refuses profile error status (becomes error cause) is)
+made-refused text Refuses profile Is Was (made.Map fault) status becomes cause is = inr (record { fault = fault; has = cause; is = is })
+made-refused text Refuses profile Is Was made.NoMemory status becomes cause is = inl (inl is)
 
 -- ---- Walks
 
 -- what is answered over the grid of a question, between its cells, is answered to the question
 pub walk-over : (question : WalkQuestion) (grid : Plan) (from to : ℕ) (result : Result (Option PricedWalk) MadeError) →
     grid ≡ question.plan → from ≡ question.from → to ≡ question.to →
-    Makes (overpass_text grid) (IsWalkAnswer (question_over question grid from to)) (IsProfileRefused (question_over question grid from to)) result →
+    Makes (overpass_text grid) (IsWalkAnswer (question_over question grid from to)) (IsProfileRefused (question_over question grid from to))
+    result →
     Makes (overpass_text question.plan) (IsWalkAnswer question) (IsProfileRefused question) result
 walk-over question grid from to result plan starts ends is =
     subst (λ (t : ℕ). Makes (overpass_text question.plan) (IsWalkAnswer (question_over question question.plan question.from t))
     (IsProfileRefused (question_over question question.plan question.from t)) result) ends
     (subst (λ (f : ℕ). Makes (overpass_text question.plan) (IsWalkAnswer (question_over question question.plan f to))
     (IsProfileRefused (question_over question question.plan f to)) result) starts
-    (subst (λ (p : Plan). Makes (overpass_text p) (IsWalkAnswer (question_over question p from to)) (IsProfileRefused (question_over question p from to)) result)
+    (subst (λ (p : Plan). Makes (overpass_text p) (IsWalkAnswer (question_over question p from to))
+    (IsProfileRefused (question_over question p from to)) result)
     plan is))
 
 -- the lines of a walk that answers a question, or want of memory
 pub walk-shown : (question : WalkQuestion) (grid : Plan) (walk : PricedWalk) (result : Result (List ℕ) Status) → grid ≡ question.plan →
-    IsWalkAnswer question (Some walk) → Answers (λ (b : List ℕ). b) (Ok (priced_lines grid walk)) NoMemory result → IsPricedAnswer question result
+    IsWalkAnswer question (Some walk) → Answers (λ (b : List ℕ). b) (Ok (priced_lines grid walk)) NoMemory result →
+    IsPricedAnswer question result
 walk-shown question grid walk (Ok lines) plan is gives =
     let are : priced_lines grid walk ≡ lines = cc in
     record { walk = walk; is = is; are = sym are ∙ ap (λ (p : Plan). priced_lines p walk) plan }
 walk-shown question grid walk (Err status) plan is gives =
     elim gives [
-      | inl none ↦ subst (λ (s : Status). IsPricedAnswer question (Err s)) (sym none) tt
+      | inl none ↦ inl (inl none)
       | inr is ↦ cc
     ]
 
@@ -122,10 +79,11 @@ walk-refused question error status cause is =
     (IsProfileRefused question) error status (λ error refused. inl refused) cause is
 
 -- that there is no walk by a profile is told
-pub walk-none : (question : WalkQuestion) (status : Status) → HasNoPricedWalk question → IsRefusedAs (NoTrack 0) (Some question.sections) status →
+pub walk-none : (question : WalkQuestion) (status : Status) → HasNoPricedWalk question →
+    IsRefusedAs (NoTrack 0) (Some question.sections) status →
     IsPricedAnswer question (Err status)
 walk-none question status none is =
-    request-refused (overpass_text question.plan) (IsPricedRefusal question) (Some question.sections) (NoTrack 0) status (inr (none, refl)) is
+    inl (request-refused (IsPricedRefusal question) (Some question.sections) (NoTrack 0) status (inr (none, refl)) is)
 
 -- ---- Hills
 
@@ -135,7 +93,7 @@ pub hills-shown : (plan : Plan) (found : Hills) (result : Result (List ℕ) Stat
 hills-shown plan found (Ok lines) is gives = let are : hills_lines found ≡ lines = cc in record { found = found; is = is; are = sym are }
 hills-shown plan found (Err status) is gives =
     elim gives [
-      | inl none ↦ subst (λ (s : Status). IsHillsAnswerOver plan (Err s)) (sym none) tt
+      | inl none ↦ inl (inl none)
       | inr is ↦ cc
     ]
 

@@ -1,38 +1,49 @@
--- What is answered to a request over all that was taken in.
-use Rattle.std.proofs.Common.{◌≡◌, ℕ, inr, true, List, Result, Ok, Err, subst}
-use Rattle.hgt_tiles.specs.declared.tile_set.Tiles.{Tiles}
-use Rattle.request_reply.specs.Replies.{question_of}
+-- What is answered to a request over what is offered.
+use Rattle.std.proofs.Common.{◌≡◌, ◌⊎◌, ℕ, inl, inr, List, Option, Some, None, Result, Err, refl, ap, sym, ◌∙◌, subst}
+use Rattle.std.specs.Prelude.{slice_get}
+use Rattle.lookup_table.specs.Tag.{name_place}
+use Rattle.profile_text.specs.Tree.{Sections}
+use Rattle.route_engine.specs.Replies.{question_of}
+use Rattle.route_ready.specs.Entries.{names_of, profiles_of}
 use Rattle.route_http.specs.Asked.{Asked}
-use Rattle.route_ready.specs.Worlds.{WorldValue}
-use Rattle.run_answers.specs.Route.{Inputs, IsRouted, RepliesAs, is_named, world_by}
-use Rattle.run_stages.specs.Tiles.{AreTilesOf}
-use Rattle.command_words.specs.declared.command.RouteCommand.{RouteCommand}
-use Rattle.run_stages.specs.declared.status.Status.{Status}
-use Rattle.run_stages.specs.declared.status.Status.TheVariants.{Done, Usage, Query, TooLong, Lookup, Text, Check, Map, Tile, Route, NotFound, ReadFault, WriteFault, TurnsSpent, HubFault, NoMemory}
+use Rattle.route_engine.specs.Answers.{IsAnswer}
+use Rattle.route_engine.specs.Settings.{Question}
+use Rattle.route_ready.specs.declared.error.RouteError.{RouteError}
+use Rattle.route_ready.specs.declared.error.RouteError.TheVariants as reason
+use Rattle.route_ready.specs.declared.error.RouteError.TheVariants.{UnknownProfile}
+use Rattle.run_answers.proofs.MadeLemmas.{request-refused}
+use Rattle.run_answers.specs.Refused.{IsRefusedAs}
+use Rattle.run_answers.specs.Route.{IsReplied, IsRouted, IsRoutedBy}
+use Rattle.run_files.specs.Profiles.{profile_at, profile_named}
+use Rattle.run_files.specs.World.{OfferedValue}
+use Rattle.run_files.specs.declared.status.Status.{Status}
 
--- what is replied over the world of all that was taken in
-pub routed-as :
-    (command : RouteCommand) (asked : Asked) (inputs : Inputs) (tiles : Tiles) (world : WorldValue) (result : Result (List ℕ) Status) →
-    is_named command asked ≡ true → AreTilesOf inputs.reliefs tiles → world ≡ world_by inputs tiles →
-    RepliesAs (question_of world inputs.sections asked) inputs.sections result → IsRouted command asked inputs result
-routed-as command asked inputs tiles world result named are is replies =
-    go result (subst (λ w. RepliesAs (question_of w inputs.sections asked) inputs.sections result) is replies)
+module _ (offered : OfferedValue) (asked : Asked) (name : List ℕ) (same : name ≡ asked.profile)
   where
-    go : (r : Result (List ℕ) Status) → RepliesAs (question_of (world_by inputs tiles) inputs.sections asked) inputs.sections r → IsRouted command asked inputs r
-    go (Ok bytes) reply = record { named = named; tiles = tiles; are = are; reply = reply }
-    go (Err (Route error line)) told = (inr (record { named = named; tiles = tiles; are = are; answer = told.0 }), told.1)
-    go (Err NoMemory) told = tt
-    go (Err Done) told = absurd told
-    go (Err (Usage word)) told = absurd told
-    go (Err (Query error)) told = absurd told
-    go (Err (TooLong word)) told = absurd told
-    go (Err (Lookup word error)) told = absurd told
-    go (Err (Text word error)) told = absurd told
-    go (Err (Check word error)) told = absurd told
-    go (Err (Map word error)) told = absurd told
-    go (Err (Tile word error)) told = absurd told
-    go (Err (NotFound word)) told = absurd told
-    go (Err (ReadFault word)) told = absurd told
-    go (Err WriteFault) told = absurd told
-    go (Err TurnsSpent) told = absurd told
-    go (Err HubFault) told = absurd told
+    -- what is found by the name is what is asked for
+    found : (place : Option ℕ) → place ≡ name_place (names_of offered.profiles) name →
+        profile_at offered.profiles place ≡ profile_named offered.profiles asked.profile
+    found place is = ap (profile_at offered.profiles) is ∙ ap (profile_named offered.profiles) same
+
+    -- a request is answered by the profile that is found
+    pub routed-named : (place : ℕ) (sections : Sections) (result : Result (List ℕ) Status) →
+        Some place ≡ name_place (names_of offered.profiles) name →
+        slice_get (profiles_of offered.profiles) place ≡ Some sections → IsReplied (question_of offered.world sections asked) result →
+        IsRouted offered asked result
+    routed-named place sections result is there replied =
+        subst (λ (s : Option Sections). IsRoutedBy s offered.world asked result) (sym there ∙ found (Some place) is) replied
+
+    -- a request is refused that names another profile
+    pub routed-unnamed : (status : Status) → None ≡ name_place (names_of offered.profiles) name → IsRefusedAs UnknownProfile None status →
+        IsRouted offered asked (Err status)
+    routed-unnamed status is refused =
+        subst (λ (s : Option Sections). IsRoutedBy s offered.world asked (Err status)) (found None is)
+        (request-refused (λ error. error ≡ UnknownProfile) None UnknownProfile status refl refused)
+
+-- a question that is refused, unless memory ran out
+pub replied-refused : (question : Question) (error : RouteError) (status : Status) →
+    (error ≡ reason.NoMemory) ⊎ IsAnswer question (Err error) →
+    IsRefusedAs error (Some question.binding.subject.sections) status → IsReplied question (Err status)
+replied-refused question error status was (inl none) = inl none
+replied-refused question error status (inl lost) (inr told) = absurd (told.0 lost)
+replied-refused question error status (inr answer) (inr told) = inr (record { error = error; because = answer; is = told.1 })

@@ -35,7 +35,8 @@ rest-text rest below =
     let whole : rest / 1000000 ≡ 0 = omega (arith, below) in
     let same : rest % 1000000 ≡ rest = omega (arith, below) in
     plain-text rest ∙ ap (λ (q : ℕ). decimal q ++ (46 ∷ last_digits 6 (rest % 1000000))) whole
-    ∙ ap (λ (r : ℕ). decimal 0 ++ (46 ∷ last_digits 6 r)) same ∙ ap (λ (d : List ℕ). d ++ (46 ∷ last_digits 6 rest)) (decimal_digit 0 (omega arith))
+    ∙ ap (λ (r : ℕ). decimal 0 ++ (46 ∷ last_digits 6 r)) same
+    ∙ ap (λ (d : List ℕ). d ++ (46 ∷ last_digits 6 rest)) (decimal_digit 0 (omega arith))
 
 -- what is printed of the millionths beyond a whole number
 rest-is : (rest : List ℕ) (n : ℕ) → rest ≡ mil6 (to_z w128 (n % 1000000)) → rest ≡ 48 ∷ (46 ∷ last_digits 6 (n % 1000000))

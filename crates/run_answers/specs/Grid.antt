@@ -1,10 +1,9 @@
--- What the command `grid` answers: a walk across its grid, a shortest one, or a cheapest one by a profile. This project's own
--- rule.
+-- What the command `grid` answers: a walk across its grid, a shortest one, or a cheapest one by a profile.
+-- This project's own rule.
 use Rattle.std.specs.Prelude.{ℕ, ◌≡◌, ◌⊎◌, ◌+◌, ◌*◌, List, Option, Some, None, Result, Ok, Err}
 use Rattle.command_words.specs.declared.command.CodeCommand.{CodeCommand}
 use Rattle.command_words.specs.declared.command.GridCommand.{GridCommand}
 use Rattle.command_words.specs.declared.value.Place.{Place}
-use Rattle.edge_io.specs.Files.{FilesSeen}
 use Rattle.grid_map.specs.Costs.{length_costs}
 use Rattle.grid_map.specs.MapText.{overpass_text}
 use Rattle.grid_map.specs.declared.plan.Plan.{Plan}
@@ -14,16 +13,14 @@ use Rattle.lookup_table.specs.First.{TagTable}
 use Rattle.made_routes.specs.Walks.{HasNoPricedWalk, IsPricedWalk, IsProfileRefused, WalkQuestion}
 use Rattle.made_routes.specs.declared.priced.PricedWalk.{PricedWalk}
 use Rattle.profile_text.specs.Tree.{Sections}
-use Rattle.route_ready.specs.Lines.{route_line}
 use Rattle.route_ready.specs.declared.error.RouteError.{RouteError}
 use Rattle.route_ready.specs.declared.error.RouteError.TheVariants.{NoTrack}
 use Rattle.run_answers.specs.Lines.{grid_lines, priced_lines}
-use Rattle.run_answers.specs.Refused.{IsMadeRefusal}
-use Rattle.run_stages.specs.Chain.{Then}
-use Rattle.run_stages.specs.Checked.{TakesChecked}
-use Rattle.run_stages.specs.TagTable.{TakesTable}
-use Rattle.run_stages.specs.declared.status.Status.{Status}
-use Rattle.run_stages.specs.declared.status.Status.TheVariants.{Route, NoMemory}
+use Rattle.run_answers.specs.Refused.{IsMadeRefusal, IsRefusal}
+use Rattle.run_files.specs.Chain.{Leaves, Stage, Then}
+use Rattle.run_files.specs.Checked.{TakesChecked}
+use Rattle.run_files.specs.TagTable.{TakesTable}
+use Rattle.run_files.specs.declared.status.Status.{Status}
 
 -- the plan of a command's grid
 abbrev pub plan_by : GridCommand → Plan
@@ -53,9 +50,8 @@ HasNoWalk command =
 -- what is answered without a profile: the lines of a shortest walk; that there is none; or want of memory
 abbrev pub IsShortestAnswer : GridCommand → Result (List ℕ) Status → Type 0
 IsShortestAnswer command (Ok lines) = ShowsWalk command lines
-IsShortestAnswer command (Err (Route error line)) = HasNoWalk command × (error ≡ NoTrack 0) × (line ≡ route_line None (NoTrack 0))
-IsShortestAnswer command (Err NoMemory) = Unit {0}
-IsShortestAnswer command (Err status) = ⊥
+IsShortestAnswer command (Err status) =
+    IsRefusal (λ error. HasNoWalk command × (error ≡ NoTrack 0)) None status
 
 -- ---- Cheapest walks
 
@@ -77,7 +73,8 @@ pub record ShowsPricedWalk (question : WalkQuestion) (lines : List ℕ) : Type 0
 
 -- why there is none: the profile is refused on the grid's own map, or no walk is permitted
 abbrev pub IsPricedRefusal : WalkQuestion → RouteError → Type 0
-IsPricedRefusal question error = IsProfileRefused question error ⊎ (HasNoPricedWalk question × (error ≡ NoTrack 0))
+IsPricedRefusal question error = IsProfileRefused question error ⊎
+    (HasNoPricedWalk question × (error ≡ NoTrack 0))
 
 -- what is answered by a profile: the lines of a cheapest walk, or why there is none
 abbrev pub IsPricedAnswer : WalkQuestion → Result (List ℕ) Status → Type 0
@@ -85,26 +82,22 @@ IsPricedAnswer question (Ok lines) = ShowsPricedWalk question lines
 IsPricedAnswer question (Err status) =
     IsMadeRefusal (overpass_text question.plan) (IsPricedRefusal question) (Some question.sections) status
 
--- the walk is answered, and the files are left
-abbrev pub Prices : GridCommand → TagTable → Sections → FilesSeen → FilesSeen → Result (List ℕ) Status → Type 0
-Prices command table sections old new result = IsPricedAnswer (question_by command table sections) result × (new ≡ old)
-
--- the profile is taken in and checked before that
-abbrev pub PricesByProfile : GridCommand → CodeCommand → TagTable → FilesSeen → FilesSeen → Result (List ℕ) Status → Type 0
-PricesByProfile command words table = Then (TakesChecked words.profile.word words.profile.name table) (Prices command table)
-
--- the tag table is taken in before that
-abbrev pub PricesByTable : GridCommand → CodeCommand → FilesSeen → FilesSeen → Result (List ℕ) Status → Type 0
-PricesByTable command words = Then (TakesTable words.lookups.word words.lookups.name) (PricesByProfile command words)
+-- the files of the tag table and of the profile are taken in, which is checked; then the walk is answered
+abbrev pub IsPricedBy : CodeCommand → GridCommand → Stage (List ℕ)
+IsPricedBy words command =
+    Then (TakesTable words.lookups) (λ table.
+    Then (TakesChecked table words.profile) (λ sections.
+    Leaves (IsPricedAnswer (question_by command table sections))))
 
 -- ---- The command
 
 -- what is answered with these files of a profile, or with none
-abbrev pub IsGridAnswerBy : Option CodeCommand → GridCommand → FilesSeen → FilesSeen → Result (List ℕ) Status → Type 0
-IsGridAnswerBy None command old new result = IsShortestAnswer command result × (new ≡ old)
-IsGridAnswerBy (Some words) command old new result = PricesByTable command words old new result
+abbrev pub IsGridAnswerBy : Option CodeCommand → GridCommand → Stage (List ℕ)
+IsGridAnswerBy None command = Leaves (IsShortestAnswer command)
+IsGridAnswerBy (Some words) command = IsPricedBy words command
 
--- what the command `grid` answers: a shortest walk, and no file is touched; or, where it names the files of a profile, a
--- cheapest one: the files of the tag table and of the profile are taken in one after the other before that
-abbrev pub IsGridAnswer : GridCommand → FilesSeen → FilesSeen → Result (List ℕ) Status → Type 0
+-- what the command `grid` answers: a shortest walk, and no file is touched; or, where it names the files of a
+-- profile, a cheapest one: the files of the tag table and of the profile are taken in one after the other
+-- before that
+abbrev pub IsGridAnswer : GridCommand → Stage (List ℕ)
 IsGridAnswer command = IsGridAnswerBy command.files command

@@ -1,4 +1,5 @@
--- What the command `hills` answers: what the route costs between the opposite corners of its grid. This project's own rule.
+-- What the command `hills` answers: what the route costs between the opposite corners of its grid. This
+-- project's own rule.
 use Rattle.std.specs.Prelude.{ℕ, ◌≡◌, List, None, Result, Ok, Err}
 use Rattle.command_words.specs.declared.command.HillsCommand.{HillsCommand}
 use Rattle.grid_map.specs.MapText.{overpass_text}
@@ -8,7 +9,7 @@ use Rattle.made_routes.specs.Hills.{IsHillsFound, IsHillsRefusal}
 use Rattle.made_routes.specs.declared.summary.Hills.{Hills}
 use Rattle.run_answers.specs.Lines.{hills_lines}
 use Rattle.run_answers.specs.Refused.{IsMadeRefusal}
-use Rattle.run_stages.specs.declared.status.Status.{Status}
+use Rattle.run_files.specs.declared.status.Status.{Status}
 
 -- the plan of a command's grid
 abbrev pub hills_plan : HillsCommand → Plan

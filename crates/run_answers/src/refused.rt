@@ -8,10 +8,11 @@ use item_list::Items;
 use made_routes::MadeError;
 use profile_text::Profile;
 use route_ready::{RouteError, line};
-use run_stages::Status;
+use run_files::Status;
 use std::alloc::Global;
 
-/// The status of a request that has no track, with its line, in which variables have their names in the profile.
+/// The status of a request that has no track, with its line, in which variables have their names in
+/// the profile.
 pub fn refused(alloc: Global, error: RouteError, profile: Option<&Profile>) -> Status
     ensures exact { IsRefusedAs error (option_map (λ p. sections_in p.now) profile.entry) result }
 {
@@ -29,7 +30,8 @@ pub fn refused(alloc: Global, error: RouteError, profile: Option<&Profile>) -> S
 
 /// The status of a refusal over a map that is made; a fault of its text stands at the first word.
 pub fn made_refused(alloc: Global, error: MadeError, profile: Option<&Profile>) -> Status
-    ensures exact { IsMadeRefusedAs error (option_map (λ p. sections_in p.now) profile.entry) result }
+    ensures exact { IsMadeRefusedAs error (option_map (λ p. sections_in p.now) profile.entry)
+        result }
 {
     match error {
         MadeError::Map(error) => Status::Map { word: 0, error },

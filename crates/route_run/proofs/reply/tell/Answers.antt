@@ -1,10 +1,11 @@
 use Rattle.std.proofs.Common.{inr, refl, codes}
 use Rattle.route_run.proofs.EdgeLemmas.{telling}
-use Rattle.run_stages.specs.declared.status.Status.TheVariants.{NoMemory}
+use Rattle.run_files.specs.declared.status.Status.TheVariants.{NoMemory}
 use Rattle.route_run.proofs.reply.tell.Goals as goal
 
 pub returns : goal.returns
 returns g c = record {
-  exact = telling c.send_all-in-Err.result c.args.status NoMemory (codes "out of memory\n") (g.E.Sink.seen c.args.err.now) (g.E.Sink.seen c.send_all-in-Err.new.out) c.number-in-Err.result
+  exact = telling c.send_all-in-Err.result c.args.status NoMemory (codes "out of memory\n") (g.E.Sink.seen c.args.err.now)
+      (g.E.Sink.seen c.send_all-in-Err.new.out) c.number-in-Err.result
       (inr (refl, c.in-Err.ensures.only)) refl c.send_all-in-Err.ensures.value c.send_all-in-Err.ensures.kept c.number-in-Err.ensures.value;
 }

@@ -18,10 +18,12 @@ pieces-init g c =
 
 pub returns-in-Err : goal.returns-in-Err
 returns-in-Err g c =
-    let made : c.append_parts-next.new.piece.items ++ text_from c.args.grid.now c.append_parts-next.result ≡ text_from c.args.grid.now c.pieces.next =
+    let made : c.append_parts-next.new.piece.items ++
+    text_from c.args.grid.now c.append_parts-next.result ≡ text_from c.args.grid.now c.pieces.next =
     c.append_parts-next.ensures.value ∙ ap (λ (l : List ℕ). l ++ text_from c.args.grid.now c.pieces.next) c.clear.ensures.items in
     record {
-      ends = BreaksOff-then (g.O.Sink.seen c.args.out.now) (g.O.Sink.seen c.pieces.out) (g.O.Sink.seen c.send_all.new.out) c.pieces.invariant.sent
+      ends = BreaksOff-then (g.O.Sink.seen c.args.out.now) (g.O.Sink.seen c.pieces.out) (g.O.Sink.seen c.send_all.new.out)
+          c.pieces.invariant.sent
           c.append_parts-next.new.piece.items (text_from c.args.grid.now c.append_parts-next.result) (overpass_text c.args.grid.now)
           c.pieces.invariant.grows
           (subst (BreaksOff (g.O.Sink.seen c.pieces.out) (g.O.Sink.seen c.send_all.new.out)) c.as_slice.ensures.value c.in-Err.ensures.kept)
@@ -30,16 +32,19 @@ returns-in-Err g c =
 
 pub pieces-preserved : goal.pieces-preserved
 pieces-preserved g c =
-    let made : c.append_parts-next.new.piece.items ++ text_from c.args.grid.now c.append_parts-next.result ≡ text_from c.args.grid.now c.pieces.next =
+    let made : c.append_parts-next.new.piece.items ++
+    text_from c.args.grid.now c.append_parts-next.result ≡ text_from c.args.grid.now c.pieces.next =
     c.append_parts-next.ensures.value ∙ ap (λ (l : List ℕ). l ++ text_from c.args.grid.now c.pieces.next) c.clear.ensures.items in
     record {
       within = c.append_parts-next.ensures.within;
       room = omega (arith, c.pieces.invariant.room, c.clear.ensures.capacity, c.append_parts-next.ensures.kept);
       sent = c.pieces.invariant.sent ++ c.append_parts-next.new.piece.items;
-      grows = Grows-then (g.O.Sink.seen c.args.out.now) (g.O.Sink.seen c.pieces.out) (g.O.Sink.seen c.send_all.new.out) c.pieces.invariant.sent
+      grows = Grows-then (g.O.Sink.seen c.args.out.now) (g.O.Sink.seen c.pieces.out) (g.O.Sink.seen c.send_all.new.out)
+          c.pieces.invariant.sent
           c.append_parts-next.new.piece.items c.pieces.invariant.grows
           (subst (Grows (g.O.Sink.seen c.pieces.out) (g.O.Sink.seen c.send_all.new.out)) c.as_slice.ensures.value c.in-Ok.ensures.value);
-      whole = text_from-piece c.args.grid.now c.pieces.next c.append_parts-next.result c.pieces.invariant.sent c.append_parts-next.new.piece.items
+      whole = text_from-piece c.args.grid.now c.pieces.next c.append_parts-next.result c.pieces.invariant.sent
+          c.append_parts-next.new.piece.items
           (overpass_text c.args.grid.now) made c.pieces.invariant.whole;
     }
 

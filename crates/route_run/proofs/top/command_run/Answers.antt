@@ -1,10 +1,48 @@
-use Rattle.std.proofs.Common.{refl}
+use Rattle.std.proofs.Common.{◌≡◌, List, ℕ, Result, refl, subst, sym}
+use Rattle.command_words.specs.declared.command.Command.{Command}
+use Rattle.route_run.specs.Ends.{Ends}
+use Rattle.route_run.specs.Outcome.{IsCommandAnswer, IsDone, Reach}
 use Rattle.route_run.specs.Outcome.{IsDone as done}
 use Rattle.run_answers.specs.Outputs.{output_in}
+use Rattle.run_files.specs.Chain.{bytes_in}
+use Rattle.run_files.specs.declared.status.Status.{Status}
 use Rattle.route_run.proofs.top.command_run.Goals as goal
 
-pub returns-in-Some : goal.returns-in-Some
-returns-in-Some g c = record { exact = done.serves c.in-Some.serve.now c.in-Some.ensures.exact c.serve_answer.ensures.exact refl }
+-- a command that is this one is done where its answer ends over the output
+written : (command this : Command) (old new : Reach) (answer : Result (List ℕ) Status) (status : Status) → command ≡ this →
+    IsCommandAnswer this old.files new.files answer → Ends answer status old.out new.out → new.hub ≡ old.hub → IsDone command old new status
+written command this old new answer status is given ends hub =
+    done.writes answer (subst (λ (c : Command). IsCommandAnswer c old.files new.files answer) (sym is) given) ends hub
 
-pub returns-in-None : goal.returns-in-None
-returns-in-None g c = record { exact = done.writes (output_in c.command_answer.result) c.command_answer.ensures.exact c.send.ensures.ends refl }
+pub returns-in-Grid : goal.returns-in-Grid
+returns-in-Grid g c = record {
+  exact =
+      written _ _ _ _ (bytes_in c.grid_answer.result) _ c.in-Grid.is c.grid_answer.ensures.exact c.send.ensures.ends refl;
+}
+
+pub returns-in-Make : goal.returns-in-Make
+returns-in-Make g c = record {
+  exact = written _ _ _ _ (output_in c.make_answer.result) _ c.in-Make.is (record { gives = c.make_answer.ensures.exact; same = refl })
+      c.send_output.ensures.ends refl;
+}
+
+pub returns-in-Code : goal.returns-in-Code
+returns-in-Code g c = record {
+  exact =
+      written _ _ _ _ (bytes_in c.code_answer.result) _ c.in-Code.is c.code_answer.ensures.exact c.send-in-Code.ensures.ends refl;
+}
+
+pub returns-in-Route : goal.returns-in-Route
+returns-in-Route g c = record {
+  exact =
+      written _ _ _ _ (bytes_in c.route_answer.result) _ c.in-Route.is c.route_answer.ensures.exact c.send-in-Route.ensures.ends refl;
+}
+
+pub returns-in-Hills : goal.returns-in-Hills
+returns-in-Hills g c = record {
+  exact = written _ _ _ _ (bytes_in c.hills_answer.result) _ c.in-Hills.is (c.hills_answer.ensures.exact, refl) c.send-in-Hills.ensures.ends
+      refl;
+}
+
+pub returns-in-Serve : goal.returns-in-Serve
+returns-in-Serve g c = record { exact = done.serves c.in-Serve.command c.in-Serve.is c.serve_answer.ensures.exact refl }

@@ -1,5 +1,5 @@
 use Rattle.command_words.specs.Refusals.{texts_of}
-use Rattle.route_run.proofs.ServeLemmas.{outcome-cause, outcome-complete, outcome-done, outcome-hub, outcome-read, outcome-refused}
+use Rattle.route_run.proofs.SaidLemmas.{outcome-done, outcome-refused, outcome-said}
 use Rattle.route_run.specs.Outcome.{IsOutcome, reach}
 use Rattle.route_run.proofs.top.run.Goals as goal
 
@@ -10,23 +10,13 @@ returns-in-Ok g c =
     let new = reach (g.F.Files.seen c.command_run.new.files) (g.O.Sink.seen c.command_run.new.out) (g.H.Hub.seen c.command_run.new.hub) in
     let is : IsOutcome words old new c.command_run.result =
     outcome-done words old new c.command_run.result c.in-Ok.command c.in-Ok.ensures.exact c.command_run.ensures.exact in
-    record {
-      outcome = is;
-      cause = outcome-cause words old new c.command_run.result is;
-      read_cause = outcome-read words old new c.command_run.result is;
-      hub_cause = outcome-hub words old new c.command_run.result is;
-      complete = outcome-complete words old new c.command_run.result is;
-    }
+    let said = outcome-said words old new c.command_run.result is in
+    record { outcome = is; cause = said.written; read_cause = said.read; hub_cause = said.hub; complete = said.complete }
 
 pub returns-in-Err : goal.returns-in-Err
 returns-in-Err g c =
     let words = texts_of c.args.words.now in
     let at = reach (g.F.Files.seen c.args.files.now) (g.O.Sink.seen c.args.out.now) (g.H.Hub.seen c.args.hub.now) in
     let is : IsOutcome words at at c.in-Err.status = outcome-refused words at c.in-Err.status c.in-Err.ensures.exact in
-    record {
-      outcome = is;
-      cause = outcome-cause words at at c.in-Err.status is;
-      read_cause = outcome-read words at at c.in-Err.status is;
-      hub_cause = outcome-hub words at at c.in-Err.status is;
-      complete = outcome-complete words at at c.in-Err.status is;
-    }
+    let said = outcome-said words at at c.in-Err.status is in
+    record { outcome = is; cause = said.written; read_cause = said.read; hub_cause = said.hub; complete = said.complete }

@@ -1,31 +1,43 @@
-use Rattle.std.proofs.Common.{◌≡◌, ◌∙◌, ◌⊎◌, Ok, Err, refl, subst}
+use Rattle.std.proofs.Common.{◌≡◌, ◌∙◌, ◌⊎◌, [], Ok, Err, ap, refl, subst, sym}
+use Rattle.std.proofs.lemmas.Result.{err_from_is_err_and}
+use Rattle.command_words.specs.Fit.{AreOnceAfter}
 use Rattle.route_http.specs.Seen.{asked}
-use Rattle.run_answers.specs.Route.{RoutesByTable}
-use Rattle.run_stages.specs.Chain.{bytes_in}
-use Rattle.run_stages.specs.Chain.{Settles}
-use Rattle.run_stages.specs.Query.{query_in}
-use Rattle.run_stages.specs.declared.status.Status.TheVariants.{NoMemory}
-use Rattle.run_stages.proofs.StageLemmas.{then-goes, then-stops}
+use Rattle.run_answers.specs.Route.{route_files}
+use Rattle.run_files.proofs.StageLemmas.{then-goes, then-stops}
+use Rattle.run_files.proofs.WorldLemmas.{world-of}
+use Rattle.run_files.specs.Chain.{bytes_in}
+use Rattle.run_files.specs.Query.{query_in}
+use Rattle.run_files.specs.declared.status.Status.TheVariants.{NoMemory}
 use Rattle.run_answers.proofs.route.route_answer.Goals as goal
 
-pub returns-in-Ok : goal.returns-in-Ok
-returns-in-Ok g c =
-    let command = c.args.command.now in
-    let old = g.F.Files.seen c.args.files.now in
-    let read = c.as_bytes.ensures.value ∙ c.name.ensures.exact in
-    let gives = subst (λ text. query_in text ≡ Ok (asked c.in-Ok.request)) read c.in-Ok.ensures.exact in
+pub take_world-requires : goal.take_world-requires
+take_world-requires g c = record { once = subst (AreOnceAfter []) (sym c.from_ref-profiles.ensures.value) (refl, tt) }
+
+pub returns-in_err-request : goal.returns-in_err-request
+returns-in_err-request g c =
+    let refused = err_from_is_err_and c.from_residual.result c.from_residual.ensures.1 in
+    let status = c.in_err-request.field-0.0 in
+    let gives = subst (λ text. (status ≡ NoMemory) ⊎ (query_in text ≡ Err status)) (c.as_bytes.ensures.value ∙ c.name.ensures.exact)
+    c.in_err-request.ensures.exact in
+    record { exact = then-stops _ _ _ _ _ status (record { gives = gives; same = refl }) (ap bytes_in (refused.1 ∙ ap Err refused.2)) }
+
+pub returns-in_err-offered : goal.returns-in_err-offered
+returns-in_err-offered g c =
+    let refused = err_from_is_err_and c.from_residual-in_err-offered.result c.from_residual-in_err-offered.ensures.1 in
+    let asks = asked c.in_ok-request.request in
+    let gives = subst (λ text. query_in text ≡ Ok asks) (c.as_bytes.ensures.value ∙ c.name.ensures.exact) c.in_ok-request.ensures.exact in
     record {
-      exact = then-goes (Settles (query_in command.query.name)) (RoutesByTable command) old old (g.F.Files.seen c.by_table.new.files)
-          (bytes_in c.by_table.result) (asked c.in-Ok.request) (record { gives = gives; same = refl }) c.by_table.ensures.exact;
+      exact = then-goes _ _ _ (g.F.Files.seen c.args.files.now) _ _ asks (record { gives = gives; same = refl })
+          (then-stops _ _ _ _ _ _ (world-of (route_files c.args.command.now) _ _ _ _ _ c.from_ref-profiles.ensures.value
+          c.as_slice-tiles.ensures.value c.in_err-offered.ensures.taken) (ap bytes_in (refused.1 ∙ ap Err refused.2)));
     }
 
-pub returns-in-Err : goal.returns-in-Err
-returns-in-Err g c =
-    let command = c.args.command.now in
-    let old = g.F.Files.seen c.args.files.now in
-    let read = c.as_bytes.ensures.value ∙ c.name.ensures.exact in
-    let gives = subst (λ text. (c.in-Err.status ≡ NoMemory) ⊎ (query_in text ≡ Err c.in-Err.status)) read c.in-Err.ensures.exact in
+pub returns : goal.returns
+returns g c =
+    let asks = asked c.in_ok-request.request in
+    let gives = subst (λ text. query_in text ≡ Ok asks) (c.as_bytes.ensures.value ∙ c.name.ensures.exact) c.in_ok-request.ensures.exact in
     record {
-      exact = then-stops (Settles (query_in command.query.name)) (RoutesByTable command) old old (Err c.in-Err.status) c.in-Err.status
-          (record { gives = gives; same = refl }) refl;
+      exact = then-goes _ _ _ (g.F.Files.seen c.args.files.now) _ _ asks (record { gives = gives; same = refl })
+          (then-goes _ _ _ _ _ _ _ (world-of (route_files c.args.command.now) _ _ _ _ _ c.from_ref-profiles.ensures.value
+          c.as_slice-tiles.ensures.value c.in_ok-offered.ensures.taken) (c.routed.ensures.exact, refl));
     }

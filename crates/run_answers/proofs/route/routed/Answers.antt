@@ -1,19 +1,20 @@
-use Rattle.std.proofs.Common.{◌≡◌, ◌∙◌, true, sym}
 use Rattle.profile_text.specs.Expr.{sections_in}
 use Rattle.route_http.specs.Seen.{asked}
-use Rattle.route_ready.specs.World.{world_of}
-use Rattle.run_answers.specs.Route.{Inputs, is_named}
-use Rattle.run_stages.specs.Chain.{bytes_in}
-use Rattle.run_answers.proofs.RoutedLemmas.{routed-as}
+use Rattle.run_answers.proofs.RoutedLemmas.{routed-named, routed-unnamed}
+use Rattle.run_files.specs.Chain.{bytes_in}
+use Rattle.run_files.specs.World.{offered_of}
 use Rattle.run_answers.proofs.route.routed.Goals as goal
 
-pub returns-in-Ok : goal.returns-in-Ok
-returns-in-Ok c =
-    let named : is_named c.args.command.now (asked c.args.request) ≡ true = sym c.is_named.ensures.exact ∙ c.if-not-is_named.false in
-    record {
-      exact = λ reliefs are.
-          let inputs : Inputs =
-          record { table = c.args.table; sections = sections_in c.args.profile.now; map = c.args.map; reliefs = reliefs } in
-          routed-as c.args.command.now (asked c.args.request) inputs c.args.tiles (world_of c.in-Ok.world) (bytes_in c.replied.result) named are
-          c.in-Ok.ensures.value c.replied.ensures.exact;
-    }
+pub returns-in-Some : goal.returns-in-Some
+returns-in-Some c = record {
+  exact = routed-named (offered_of c.args.offered.now) (asked c.args.request) c.as_slice.result.now c.as_slice.ensures.value c.in-Some.place
+      (sections_in c.profile.result.now) (bytes_in c.replied.result) c.in-Some.ensures.exact c.profile.ensures.value
+      c.replied.ensures.exact;
+}
+
+pub returns-in-None : goal.returns-in-None
+returns-in-None c = record {
+  exact = routed-unnamed (offered_of c.args.offered.now) (asked c.args.request) c.as_slice.result.now c.as_slice.ensures.value
+      c.refused.result
+      c.in-None.ensures.exact c.refused.ensures.exact;
+}

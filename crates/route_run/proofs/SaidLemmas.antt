@@ -1,0 +1,190 @@
+-- What the statuses of the whole program say: of the files, of the output, of the hub, and without a fault of the outside.
+use Rattle.std.proofs.Common.{◌≡◌, ℕ, inl, inr, List, length, Result, Ok, Err, refl, sym, ap, ◌∙◌, subst}
+use Rattle.command_words.specs.Command.{command_of}
+use Rattle.command_words.specs.declared.command.Command.{Command}
+use Rattle.command_words.specs.declared.command.Command as Form
+use Rattle.command_words.specs.declared.command.ServeCommand.{ServeCommand}
+use Rattle.edge_io.specs.Faults.{CountRose}
+use Rattle.edge_io.specs.Files.{FilesSeen}
+use Rattle.edge_io.specs.Hub.{HubSeen}
+use Rattle.edge_io.specs.Sink.{SinkSeen}
+use Rattle.item_list.specs.Answer.{Answers, answer_map}
+use Rattle.route_run.proofs.CauseLemmas.{Cause, RefusalCause, opened-none}
+use Rattle.route_run.proofs.CommandLemmas.{command-cause, offers-cause}
+use Rattle.route_run.specs.Ends.{Ends}
+use Rattle.route_run.specs.Offer.{Offer}
+use Rattle.route_run.specs.Outcome.{IsDone as done}
+use Rattle.route_run.specs.Outcome.{HasCause, HasHubCause, HasOpenedAll, HasReadCause, IsAnswer, IsComplete, IsDone, IsOutcome, Reach, command_in, file_words}
+use Rattle.route_run.specs.Serving.{IsServeOutcome as outcome}
+use Rattle.route_run.specs.Serving.{Serves as serves}
+use Rattle.route_run.specs.Serving.{IsServeOutcome, Serves, status_of_end}
+use Rattle.run_files.specs.declared.status.Status.{Status}
+use Rattle.run_files.specs.declared.status.Status.TheVariants.{Done, Usage, Query, TooLong, Lookup, Text, Check, Map, Tile, Route, NotFound, ReadFault, WriteFault, TurnsSpent, HubFault, NoMemory}
+use Rattle.hall.specs.Served.{EndsBy}
+use Rattle.hall.specs.declared.serve_end.ServeEnd.{ServeEnd}
+use Rattle.hall.specs.declared.serve_end.ServeEnd.TheVariants as end
+
+-- all that is said of the status of words that are this command, or are at fault here
+pub record Said (named : Result Command ℕ) (old new : Reach) (status : Status) : Type 0 where
+  pub read : HasReadCause (file_words named) status old.files new.files
+  pub written : HasCause status old.out.faults new.out.faults
+  pub hub : HasHubCause status old.hub.faults new.hub.faults
+  pub complete :
+      (command : Command) → named ≡ Ok command → (CountRose old.out.faults new.out.faults → ⊥) →
+      (CountRose old.files.faults new.files.faults → ⊥) →
+      (CountRose old.hub.faults new.hub.faults → ⊥) → IsComplete status
+
+module _ (named : Result Command ℕ) (old new : Reach)
+  where
+    -- of a refusal with its cause, where the output and the hub have the faults that they had
+    refusal-said : (status : Status) → RefusalCause (file_words named) old.files new.files status → new.out.faults ≡ old.out.faults →
+        new.hub.faults ≡ old.hub.faults → Said named old new status
+    refusal-said (ReadFault word) c out hub =
+        record { read = c; written = out; hub = hub; complete = λ command is still calm quiet. absurd (calm c.rose) }
+    refusal-said (Usage word) c out hub = absurd c
+    refusal-said Done c out hub = absurd c
+    refusal-said WriteFault c out hub = absurd c
+    refusal-said TurnsSpent c out hub = absurd c
+    refusal-said HubFault c out hub = absurd c
+    refusal-said (Query error) c out hub = record { read = c; written = out; hub = hub; complete = λ command is still calm quiet. tt }
+    refusal-said (TooLong word) c out hub = record { read = c; written = out; hub = hub; complete = λ command is still calm quiet. tt }
+    refusal-said (Lookup word error) c out hub = record { read = c; written = out; hub = hub; complete = λ command is still calm quiet. tt }
+    refusal-said (Text word error) c out hub = record { read = c; written = out; hub = hub; complete = λ command is still calm quiet. tt }
+    refusal-said (Check word error) c out hub = record { read = c; written = out; hub = hub; complete = λ command is still calm quiet. tt }
+    refusal-said (Map word error) c out hub = record { read = c; written = out; hub = hub; complete = λ command is still calm quiet. tt }
+    refusal-said (Tile word error) c out hub = record { read = c; written = out; hub = hub; complete = λ command is still calm quiet. tt }
+    refusal-said (Route error line) c out hub = record { read = c; written = out; hub = hub; complete = λ command is still calm quiet. tt }
+    refusal-said (NotFound word) c out hub = record { read = c; written = out; hub = hub; complete = λ command is still calm quiet. tt }
+    refusal-said NoMemory c out hub = record { read = c; written = out; hub = hub; complete = λ command is still calm quiet. tt }
+
+    -- of an answer that ends over the output, where the hub has the faults that it had
+    answer-said : (answer : Result (List ℕ) Status) (status : Status) → Cause (file_words named) old.files new.files answer →
+        Ends answer status old.out new.out → new.hub.faults ≡ old.hub.faults → Said named old new status
+    answer-said (Err refusal) status cause ends hub =
+        subst (Said named old new) (sym ends.0) (refusal-said refusal cause (ap (λ (s : SinkSeen). s.faults) ends.1) hub)
+    answer-said (Ok bytes) Done all ends hub =
+        record { read = all; written = ends.faults; hub = hub; complete = λ command is still calm quiet. tt }
+    answer-said (Ok bytes) WriteFault all ends hub =
+        record { read = all; written = ends.rose; hub = hub; complete = λ command is still calm quiet. absurd (still ends.rose) }
+    answer-said (Ok bytes) TurnsSpent all ends hub = absurd ends
+    answer-said (Ok bytes) HubFault all ends hub = absurd ends
+    answer-said (Ok bytes) (Usage word) all ends hub = absurd ends
+    answer-said (Ok bytes) (Query error) all ends hub = absurd ends
+    answer-said (Ok bytes) (TooLong word) all ends hub = absurd ends
+    answer-said (Ok bytes) (Lookup word error) all ends hub = absurd ends
+    answer-said (Ok bytes) (Text word error) all ends hub = absurd ends
+    answer-said (Ok bytes) (Check word error) all ends hub = absurd ends
+    answer-said (Ok bytes) (Map word error) all ends hub = absurd ends
+    answer-said (Ok bytes) (Tile word error) all ends hub = absurd ends
+    answer-said (Ok bytes) (Route error line) all ends hub = absurd ends
+    answer-said (Ok bytes) (NotFound word) all ends hub = absurd ends
+    answer-said (Ok bytes) (ReadFault word) all ends hub = absurd ends
+    answer-said (Ok bytes) NoMemory all ends hub = absurd ends
+
+    -- of the end of a server, where the output has the faults that it had
+    served-said : (turns : ℕ) (offer : Offer) (status : Status) → HasOpenedAll (length (file_words named)) old.files new.files →
+        Serves turns offer old.hub new.hub status → new.out.faults ≡ old.out.faults → Said named old new status
+    served-said turns offer _ all (serves.shut fails) out =
+        record { read = all; written = out; hub = fails.rose; complete = λ command is still calm quiet. absurd (quiet fails.rose) }
+    served-said turns offer _ all (serves.served {opened = opened} {end = how} does to) out = go how to.served.ends
+      where
+        go : (how : ServeEnd) → EndsBy how turns to.served.n to.served.over opened new.hub → Said named old new (status_of_end how)
+        go end.Over ends = record { read = all; written = out; hub = ends.2 ∙ does.faults; complete = λ command is still calm quiet. tt }
+        go end.TurnsSpent ends = record {
+          read = all;
+          written = out;
+          hub = ends.2
+              ∙ does.faults;
+          complete = λ command is still calm quiet. tt;
+        }
+        go end.HubFault ends =
+            let rose : CountRose old.hub.faults new.hub.faults = subst (λ (n : ℕ). CountRose n new.hub.faults) does.faults ends.2 in
+            record { read = all; written = out; hub = rose; complete = λ command is still calm quiet. absurd (quiet rose) }
+
+-- of the command `serve`
+serve-said : (command : ServeCommand) (old new : Reach) (status : Status) →
+    IsServeOutcome command old.files new.files old.hub new.hub status →
+    new.out.faults ≡ old.out.faults → Said (Ok (Form.TheVariants.Serve command)) old new status
+serve-said command old new status (outcome.refused offers same) out =
+    refusal-said (Ok (Form.TheVariants.Serve command)) old new status (offers-cause command old.files new.files (Err status) offers) out
+    (ap (λ (s : HubSeen). s.faults) same)
+serve-said command old new status (outcome.served {offer = offer} offers to) out =
+    served-said (Ok (Form.TheVariants.Serve command)) old new command.turns offer status
+    (offers-cause command old.files new.files (Ok offer) offers) to out
+
+-- of words that are at fault, where nothing is done
+words-said : (named : Result Command ℕ) (old new : Reach) (status : Status) → answer_map (λ (c : Command). c) Usage named ≡ Err status →
+    new.files ≡ old.files → new.out.faults ≡ old.out.faults → new.hub.faults ≡ old.hub.faults → Said named old new status
+words-said (Ok command) old new status is files out hub = cc
+words-said (Err fault) old new status is files out hub =
+    let same : Usage fault ≡ status = cc in
+    subst (Said (Err fault) old new) same
+    (record { read = opened-none 0 old.files new.files files; written = out; hub = hub; complete = λ command named still calm quiet. cc })
+
+-- a value of the words is their command
+mapped-ok : {A E : Type 0} (told : E → Status) (r : Result A E) (a : A) → answer_map (λ (x : A). x) told r ≡ Ok a → r ≡ Ok a
+mapped-ok told (Ok x) a is = let same : x ≡ a = cc in ap Ok same
+mapped-ok told (Err e) a is = cc
+
+-- of words that are answered over the output, where the hub has the faults that it had
+written-said : (words : List (List ℕ)) (old new : Reach) (answer : Result (List ℕ) Status) (status : Status) →
+    IsAnswer words old.files new.files answer →
+    Ends answer status old.out new.out → new.hub.faults ≡ old.hub.faults → Said (command_of words) old new status
+written-said words old new answer status (inl stops) ends hub =
+    let ended : Ends (Err stops.status) status old.out new.out =
+    subst (λ (a : Result (List ℕ) Status). Ends a status old.out new.out) stops.answer ends in
+    let out : new.out.faults ≡ old.out.faults = ap (λ (s : SinkSeen). s.faults) ended.1 in
+    let none : Said (command_of words) old new NoMemory =
+    refusal-said (command_of words) old new NoMemory
+    (opened-none (length (file_words (command_of words))) old.files new.files stops.refused.same) out hub in
+    subst (Said (command_of words) old new) (sym ended.0)
+    (elim stops.refused.gives [
+      | inl is ↦ subst (Said (command_of words) old new) (sym is) none
+      | inr is ↦ words-said (command_of words) old new stops.status is stops.refused.same out hub
+    ])
+written-said words old new answer status (inr goes) ends hub =
+    let named : command_of words ≡ Ok goes.value = mapped-ok Usage (command_of words) goes.value goes.given.gives in
+    let cause : Cause (file_words (Ok goes.value)) old.files new.files answer =
+    subst (λ (s : FilesSeen). Cause (file_words (Ok goes.value)) s new.files answer) goes.given.same
+    (command-cause goes.value goes.between new.files answer goes.rest) in
+    subst (λ (c : Result Command ℕ). Said c old new status) (sym named) (answer-said (Ok goes.value) old new answer status cause ends hub)
+
+-- of all words
+pub outcome-said : (words : List (List ℕ)) (old new : Reach) (status : Status) → IsOutcome words old new status →
+    Said (command_of words) old new status
+outcome-said words old new status (inl is) =
+    written-said words old new is.answer status is.given is.ends (ap (λ (s : HubSeen). s.faults) is.hub)
+outcome-said words old new status (inr is) =
+    subst (λ (c : Result Command ℕ). Said c old new status) (sym is.named)
+    (serve-said is.command old new status is.serves (ap (λ (s : SinkSeen). s.faults) is.out))
+
+-- ---- What is done to words
+
+-- words that are a command, which was done
+pub outcome-done : (words : List (List ℕ)) (old new : Reach) (status : Status) (command : Command) →
+    Answers (λ (c : Command). c) (command_in words) NoMemory (Ok command) → IsDone command old new status → IsOutcome words old new status
+outcome-done words old new status command read (done.writes answer given ends hub) =
+    inl (record {
+      answer = answer;
+      given = inr (record { value = command; between = old.files; given = record { gives = read; same = refl }; rest = given });
+      ends = ends;
+      hub = hub;
+    })
+outcome-done words old new status command read (done.serves serve is serves out) =
+    inr (record {
+      command = serve;
+      named = mapped-ok Usage (command_of words) (Form.TheVariants.Serve serve) (read ∙ ap Ok is);
+      serves = serves;
+      out = out;
+    })
+
+-- words that are refused
+pub outcome-refused : (words : List (List ℕ)) (at : Reach) (status : Status) →
+    Answers (λ (c : Command). c) (command_in words) NoMemory (Err status) → IsOutcome words at at status
+outcome-refused words at status gives =
+    inl (record {
+      answer = Err status;
+      given = inl (record { status = status; refused = record { gives = gives; same = refl }; answer = refl });
+      ends = (refl, refl);
+      hub = refl;
+    })

@@ -1,0 +1,5 @@
+use Rattle.route_run.specs.Serving.{IsServeOutcome as outcome}
+use Rattle.route_run.proofs.server.serve_answer.Goals as goal
+
+pub returns-in-Ok : goal.returns-in-Ok
+returns-in-Ok g c = record { exact = outcome.served c.in-Ok.ensures.exact c.serve_at.ensures.exact }

@@ -1,0 +1,47 @@
+-- What the command `serve` does: what it offers is served over a hub. This project's own rule.
+use Rattle.std.specs.Prelude.{ℕ, ◌≡◌, List, [], Some, Ok, Err}
+use Rattle.command_words.specs.declared.command.ServeCommand.{ServeCommand}
+use Rattle.edge_io.specs.Acts.{Act}
+use Rattle.edge_io.specs.Files.{FilesSeen}
+use Rattle.edge_io.specs.Hub.{Does, Fails, HubSeen}
+use Rattle.hall.specs.State.{State}
+use Rattle.route_run.specs.Offer.{Offer, Offers}
+use Rattle.run_files.specs.declared.status.Status.{Status}
+use Rattle.run_files.specs.declared.status.Status.TheVariants as status
+use Rattle.hall.specs.Law.{GetsOwn}
+use Rattle.hall.specs.Served.{Served}
+use Rattle.hall.specs.declared.serve_end.ServeEnd.{ServeEnd}
+use Rattle.hall.specs.declared.serve_end.ServeEnd.TheVariants.{Over, TurnsSpent, HubFault}
+
+-- the status in which a server ends
+abbrev pub status_of_end : ServeEnd → Status
+status_of_end Over = status.Done
+status_of_end TurnsSpent = status.TurnsSpent
+status_of_end HubFault = status.HubFault
+
+-- an offer was served to so many turns from an opened hub on: all that the hub told since is a run of turns;
+-- and where it tells, each connection got its own
+pub record IsServedTo (turns : ℕ) (offer : Offer) (opened : HubSeen) (end : ServeEnd) (new : HubSeen) :
+    Type 0 where
+  pub left : State
+  pub served : Served offer.0 turns offer.1 opened end left new
+  pub own :
+      (before : List Act) → opened.acts ≡ Some before → (id : ℕ) →
+      GetsOwn offer.0 offer.1.stored left.stored id served.acts
+
+-- an offer is served: the hub couldn't be opened; or it was, and then turns were taken
+pub data Serves (turns : ℕ) (offer : Offer) (old new : HubSeen) : Status → Type 0 where
+  shut : Fails old new → Serves turns offer old new status.HubFault
+  served :
+      {opened : HubSeen} {end : ServeEnd} → Does old opened [] → IsServedTo turns offer opened end new →
+      Serves turns offer old new (status_of_end end)
+
+-- what the command `serve` does: what it offers is refused, and the hub is left; or it is served
+pub data IsServeOutcome (command : ServeCommand) (old new : FilesSeen) (hub_old hub_new : HubSeen) (status :
+    Status) : Type 0 where
+  refused : Offers command old new (Err status) → hub_new ≡ hub_old →
+      IsServeOutcome command old new hub_old hub_new status
+  served :
+      {offer : Offer} → Offers command old new (Ok offer) →
+      Serves command.turns offer hub_old hub_new status →
+      IsServeOutcome command old new hub_old hub_new status

@@ -1,0 +1,64 @@
+//! What the command `serve` does.
+
+ghost use Rattle.std.specs.Prelude.{◌≡◌};
+ghost use Rattle.command_words.specs.Fit.{IsServeFit};
+ghost use Rattle.route_run.specs.Offer.{IsNew, offer_of};
+ghost use Rattle.route_run.specs.Serving.{IsServeOutcome, IsServedTo, Serves, status_of_end};
+
+use crate::offer::take_offer;
+use command_words::ServeCommand;
+use edge_io::{Files, Hub};
+use hall::{Hall, ServeEnd, connections_keep_apart, serve};
+use run_files::Status;
+use std::alloc::Global;
+
+/// Takes in the command's files, and then serves connections until the hub is over or all turns are
+/// spent.
+pub fn serve_answer<F: Files, H: Hub>(
+    alloc: Global,
+    command: &ServeCommand,
+    files: &mut F,
+    hub: &mut H,
+) -> Status
+    requires fit { IsServeFit command.now }
+    ensures exact { IsServeOutcome command.now (F.seen files.old) (F.seen files.new)
+        (H.seen hub.old) (H.seen hub.new) result }
+{
+    match take_offer(alloc, command, files) {
+        Ok(hall) => serve_at(hall, command, hub),
+        Err(status) => status,
+    }
+}
+
+/// Opens the hub at the command's address, and serves.
+fn serve_at<H: Hub>(hall: Hall, command: &ServeCommand, hub: &mut H) -> Status
+    requires empty { IsNew (offer_of hall) }
+    ensures exact { Serves command.now.turns (offer_of hall) (H.seen hub.old) (H.seen hub.new)
+        result }
+{
+    match hub.open(command.address()) {
+        Ok(()) => status_of_end(served(hall, command.turns, hub)),
+        Err(_) => Status::HubFault,
+    }
+}
+
+/// Serves from an opened hub.
+fn served<H: Hub>(hall: Hall, turns: u64, hub: &mut H) -> ServeEnd
+    requires empty { IsNew (offer_of hall) }
+    ensures exact { IsServedTo turns (offer_of hall) (H.seen hub.old) result (H.seen hub.new) }
+{
+    let mut hall = hall;
+    connections_keep_apart();
+    serve(&mut hall, hub, turns)
+}
+
+/// The status in which a server ends.
+fn status_of_end(end: ServeEnd) -> Status
+    ensures exact { result ≡ status_of_end end }
+{
+    match end {
+        ServeEnd::Over => Status::Done,
+        ServeEnd::TurnsSpent => Status::TurnsSpent,
+        ServeEnd::HubFault => Status::HubFault,
+    }
+}

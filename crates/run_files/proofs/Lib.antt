@@ -1,0 +1,6 @@
+pub mod EachLemmas
+mod MapReadingLemmas
+pub mod ProfileLemmas
+pub mod StageLemmas
+pub mod TileLemmas
+pub mod WorldLemmas

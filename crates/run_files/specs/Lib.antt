@@ -1,0 +1,15 @@
+pub mod Chain
+pub mod Checked
+pub mod File
+pub mod Limits
+pub mod Lines
+pub mod Map
+pub mod MapReading
+pub mod Profile
+pub mod Profiles
+pub mod Query
+pub mod Status
+pub mod TagTable
+pub mod TileSets
+pub mod Tiles
+pub mod World

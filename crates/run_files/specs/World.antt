@@ -1,0 +1,48 @@
+-- The world of a command's files, with profiles. This project's own rule.
+use Rattle.std.specs.Prelude.{List, Ok}
+use Rattle.command_words.specs.Given.{Named}
+use Rattle.hgt_tiles.specs.declared.tile_set.Tiles.{Tiles}
+use Rattle.lookup_table.specs.First.{TagTable}
+use Rattle.overpass_graph.specs.Maps.{MapValue}
+use Rattle.route_ready.specs.Shelves.{shelf_of}
+use Rattle.route_ready.specs.World.{world_of}
+use Rattle.route_ready.specs.Worlds.{WorldValue}
+use Rattle.run_files.specs.Chain.{Settles, Stage, Then}
+use Rattle.run_files.specs.Map.{TakesMap}
+use Rattle.run_files.specs.Profiles.{NamedProfile, TakesProfiles}
+use Rattle.run_files.specs.TagTable.{TakesTable}
+use Rattle.run_files.specs.Tiles.{TakesTiles}
+use Rattle.run_files.specs.declared.world.Offered.{Offered}
+
+-- the files of a world with profiles, as words name them
+pub record WorldFiles : Type 0 where
+  pub lookups : Named
+  pub profiles : List Named
+  pub map : Named
+  pub tiles : List Named
+
+-- what is offered to requests: a world, and profiles by their names
+pub record OfferedValue : Type 0 where
+  pub world : WorldValue
+  pub profiles : List NamedProfile
+
+-- the world of a tag table, a map and tiles, with profiles
+abbrev pub offered_with : TagTable → List NamedProfile → MapValue → Tiles → OfferedValue
+offered_with table profiles map tiles = record {
+  world = record { table = table; map = map; tiles = tiles };
+  profiles = profiles;
+}
+
+-- the files of the tag table, of the profiles, of the map and of the tiles are taken in one after the other;
+-- the first refusal is the answer
+abbrev pub TakesWorld : WorldFiles → Stage OfferedValue
+TakesWorld files =
+    Then (TakesTable files.lookups) (λ table.
+    Then (TakesProfiles table files.profiles) (λ profiles.
+    Then (TakesMap files.map) (λ map.
+    Then (TakesTiles files.tiles) (λ tiles.
+    Settles (Ok (offered_with table profiles map tiles))))))
+
+-- what stands for what is offered
+abbrev pub offered_of : Offered → OfferedValue
+offered_of offered = record { world = world_of offered.world; profiles = shelf_of offered.shelf }

@@ -1,0 +1,33 @@
+//! The stage of a map.
+
+ghost use Rattle.run_files.specs.Map.{TakesMap};
+
+use crate::map_error::MapFileError;
+use crate::map_reading::read_map;
+use crate::status::Status;
+use command_words::FileWord;
+use edge_io::Files;
+use overpass_graph::Map;
+use std::alloc::Global;
+
+/// The most bytes of a map's file.
+const MOST_MAP: u64 = 8_589_934_592;
+
+/// The map of a file that a word names, which is read piece by piece; a refusal names the word.
+pub fn take_map<F: Files>(alloc: Global, file: &FileWord, files: &mut F) -> Result<Map, Status>
+    ensures taken { TakesMap file.now (F.seen files.old) (F.seen files.new) result }
+{
+    let word = file.word();
+    match files.open(file.name()) {
+        Ok(true) => {}
+        Ok(false) => return Err(Status::NotFound { word }),
+        Err(_) => return Err(Status::ReadFault { word }),
+    }
+    match read_map(alloc, files, MOST_MAP) {
+        Ok(map) => Ok(map),
+        Err(MapFileError::Fault) => Err(Status::ReadFault { word }),
+        Err(MapFileError::TooLong) => Err(Status::TooLong { word }),
+        Err(MapFileError::Map(error)) => Err(Status::Map { word, error }),
+        Err(MapFileError::NoMemory) => Err(Status::NoMemory),
+    }
+}

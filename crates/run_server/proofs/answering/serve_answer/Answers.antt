@@ -1,5 +1,0 @@
-use Rattle.run_server.specs.Serving.{IsServeOutcome as outcome}
-use Rattle.run_server.proofs.answering.serve_answer.Goals as goal
-
-pub returns-in-Ok : goal.returns-in-Ok
-returns-in-Ok g c = record { exact = outcome.served c.in-Ok.ensures.exact c.serve_at.ensures.exact }

@@ -1,3 +1,0 @@
-pub mod Offer
-pub mod Profiles
-pub mod Serving
