@@ -1,8 +1,6 @@
 -- The space of a lawful search on a leg keeps the laws of a space.
-use Rattle.std.proofs.Common.{◌≡◌, ℕ, ℤ, ◌+◌, ◌-◌, ◌<◌, ◌≤◌, ◌≤ℤ◌, ◌^◌, Bool, true, false, ◌&&◌, nat_eq, nat_lt, int_le, cond, List, length, Option, Some, None, IsTrue, refl, sym, ap, ◌∙◌, subst, arith}
-use Rattle.std.specs.Option.{is_some}
+use Rattle.std.proofs.Common.{◌≡◌, ℕ, ◌+◌, ◌-◌, ◌<◌, ◌≤◌, ◌^◌, nat_eq, List, length, Option, Some, None, IsTrue, refl, sym, ap, ◌∙◌, subst, arith}
 use Rattle.std.proofs.lemmas.Bool.Decides.{nat_tests}
-use Rattle.std.proofs.lemmas.Int.{ints}
 use Rattle.std.proofs.Math.Logic.{∥∥₁_elim}
 use Rattle.std.proofs.Props.{props}
 use Rattle.elev_buffer.specs.Covers.{covers_label}
@@ -10,7 +8,6 @@ use Rattle.elev_buffer.specs.declared.labels.Pair.{Pair}
 use Rattle.cost_model.specs.Labels.{label_of}
 use Rattle.cost_model.specs.Modes.{AllowsFacts, modes_before}
 use Rattle.cost_model.specs.Parts.{IsHeld, least_price}
-use Rattle.cost_model.specs.Prices.{Prices}
 use Rattle.cost_model.specs.Walks.{empty_pair, pair_of}
 use Rattle.cost_model.specs.declared.facts.LinkFacts.{LinkFacts}
 use Rattle.cost_model.specs.declared.parts.Carry.{Carry}
@@ -20,111 +17,13 @@ use Rattle.overpass_graph.specs.Roads.{out_links}
 use Rattle.overpass_graph.proofs.CallerLemmas.{out-sound}
 use Rattle.space_search.specs.Laws.{HasBound, HasCovering, HasEvenBound, HasMoves, CoveredAlike, IsDearest, IsSpace, KeepsCovering}
 use Rattle.space_search.specs.Runs.{Walks, rests, steps}
-use Rattle.bike_space.specs.Legs.{Leg}
 use Rattle.bike_space.specs.Spent.{terms_of}
 use Rattle.bike_space.specs.Remaining.{IsRemaining, rest_price}
-use Rattle.bike_space.specs.Tasks.{Task, chosen, covers_carry, entered, is_carried, is_within, may_take, rules_of}
+use Rattle.bike_space.specs.Tasks.{Task, chosen, covers_carry, entered, is_carried, may_take, rules_of}
 use Rattle.bike_space.specs.Lawful.{IsTask}
 use Rattle.bike_space.proofs.WalkLemmas.{take-follows}
-
--- ---- What is carried
-
--- both of two tests
-both : (a b : Bool) → IsTrue (a && b) → IsTrue a × IsTrue b
-both true true h = (refl, refl)
-both true false h = absurd (cc)
-both false b h = absurd (cc)
-
--- two tests at once
-at-once : (a b : Bool) → IsTrue a → IsTrue b → IsTrue (a && b)
-at-once a b p q = rw (p, q) refl
-
--- a number that is at most another by its test
-le-test : (x y : ℤ) → IsTrue (int_le x y) → x ≤ℤ y
-le-test x y h = grind (arith, ints)
-
--- the test of a number that is at most another
-test-le : (x y : ℤ) → x ≤ℤ y → IsTrue (int_le x y)
-test-le x y h = grind (arith, ints)
-
--- buffers within their bounds are held
-within-held : (prices : Prices) (pair : Pair) → IsTrue (is_within prices pair) → IsHeld prices pair
-within-held prices pair h =
-    let two = both _ _ h in
-    let down = both _ _ two.0 in
-    let up = both _ _ two.1 in
-    record {
-      down_low = le-test _ _ down.0;
-      down_high = le-test _ _ down.1;
-      up_low = le-test _ _ up.0;
-      up_high = le-test _ _ up.1;
-    }
-
--- what is carried has a link of the leg, and held buffers
-pub carried-is : (leg : Leg) (carry : Carry) → IsTrue (is_carried leg carry) →
-    (carry.link < leg.roads.links) × IsHeld leg.prices (pair_of carry)
-unfolding is_carried
-carried-is leg carry h =
-    let two = both _ _ h in
-    let below : IsTrue (nat_lt carry.link leg.roads.links) = two.0 in
-    (grind (arith, nat_tests), within-held leg.prices (pair_of carry) two.1)
-
--- a link of the leg with held buffers is what may be carried
-pub is-carried : (leg : Leg) (carry : Carry) → carry.link < leg.roads.links → IsHeld leg.prices (pair_of carry) →
-    IsTrue (is_carried leg carry)
-unfolding is_carried
-is-carried leg carry below held =
-    let inside : IsTrue (nat_lt carry.link leg.roads.links) = grind (arith, nat_tests) in
-    at-once _ _ inside
-    (at-once _ _ (at-once _ _ (test-le _ _ held.down_low) (test-le _ _ held.down_high))
-    (at-once _ _ (test-le _ _ held.up_low) (test-le _ _ held.up_high)))
-
--- what covers ends in the same link, and its label covers the other
-pub covers-parts : (leg : Leg) (a b : Carry) (ca cb : ℕ) → IsTrue (covers_carry leg a ca b cb) →
-    (a.link ≡ b.link) × IsTrue (covers_label (terms_of leg) (label_of a ca) (label_of b cb))
-unfolding covers_carry
-covers-parts leg a b ca cb h =
-    let two = both _ _ h in
-    let same : IsTrue (nat_eq a.link b.link) = two.0 in
-    (grind (arith, nat_tests), two.1)
-
--- a label of the same link that covers another is what covers
-pub parts-cover : (leg : Leg) (a b : Carry) (ca cb : ℕ) → a.link ≡ b.link →
-    IsTrue (covers_label (terms_of leg) (label_of a ca) (label_of b cb)) → IsTrue (covers_carry leg a ca b cb)
-unfolding covers_carry
-parts-cover leg a b ca cb same covers =
-    let one : IsTrue (nat_eq a.link b.link) = grind (arith, nat_tests) in
-    at-once _ _ one covers
-
--- ---- Starts and steps
-
--- what is there passed its test
-pub passed : (t : Bool) (x y : Carry × ℕ) → cond t (Some x) None ≡ Some y → (t ≡ true) × (x ≡ y)
-passed true x y h = (refl, cc)
-passed false x y h = absurd (cc)
-
--- whether it is there is its test
-some-is : (t : Bool) (x : Carry × ℕ) → is_some (cond t (Some x) None) ≡ t
-some-is true x = refl
-some-is false x = refl
-
--- a step from a state whose link is this
-pub record IsStep (task : Task) (last : ℕ) (pair : Pair) (number : ℕ) (next : Carry) (cost : ℕ) : Type 0 where
-  pub within : chosen task.leg.roads (task.leg.roads.to last) number < task.leg.roads.links
-  pub leaves : task.leg.roads.from (chosen task.leg.roads (task.leg.roads.to last) number) ≡ task.leg.roads.to last
-  pub taken : may_take task.leg last (chosen task.leg.roads (task.leg.roads.to last) number) ≡ true
-  pub is : entered task (Some (task.leg.facts last)) (chosen task.leg.roads (task.leg.roads.to last) number) pair ≡
-      (next, cost)
-
--- a permitted step is one
-pub step-is : (task : Task) (carry : Carry) (last number : ℕ) (next : Carry) (cost : ℕ) → carry.link ≡ last →
-    number < (rules_of task).steps carry → (rules_of task).step carry number ≡ Some (next, cost) →
-    IsStep task last (pair_of carry) number next cost
-step-is task carry last number next cost same within step =
-    let P : ℕ → Type 0 = λ l. IsStep task l (pair_of carry) number next cost in
-    let out = out-sound task.leg.roads (task.leg.roads.to carry.link) number within in
-    let p = passed _ _ _ step in
-    subst P same (record { within = out.0; leaves = out.1; taken = p.0; is = p.1 })
+use Rattle.bike_space.proofs.CarryLemmas.{carried-is, is-carried, covers-parts, parts-cover, some-is, step-is}
+use Rattle.std.proofs.lemmas.Option.{cond_some}
 
 module _ (task : Task) (lawful : IsTask task) where
   -- what is carried from a link that is entered is a state, and entering it costs below 2^81
@@ -144,7 +43,7 @@ module _ (task : Task) (lawful : IsTask task) where
       (rules_of task).start number ≡ Some (state, cost) → IsTrue (is_carried task.leg state) × (cost < 2 ^ 81)
   start-move number state cost within is =
       let out = out-sound task.leg.roads task.leg.start number within in
-      let p = passed _ _ _ is in
+      let p = cond_some _ _ _ is in
       let P : Carry × ℕ → Type 0 = λ e. IsTrue (is_carried task.leg e.0) × (e.1 < 2 ^ 81) in
       subst P p.1 (entered-move None _ empty_pair out.0 (empty-held task.leg.prices lawful.prices))
 

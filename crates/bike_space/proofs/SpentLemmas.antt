@@ -1,5 +1,5 @@
 -- The evidence of a spent limit, from what a search shows to the walks of a leg.
-use Rattle.std.proofs.Common.{◌≡◌, ◌≢◌, ℕ, pos, zero, suc, ◌+◌, ◌<◌, ◌≤◌, Bool, false, List, [], ◌∷◌, length, map, Some, IsTrue, refl, sym, ap, ◌∙◌, subst, arith}
+use Rattle.std.proofs.Common.{Option, ◌≡◌, ◌≢◌, ℕ, pos, zero, suc, ◌+◌, ◌<◌, ◌≤◌, Bool, false, List, [], ◌∷◌, length, map, Some, IsTrue, refl, sym, ap, ◌∙◌, subst, arith}
 use Rattle.std.proofs.lemmas.Int.{ints}
 use Rattle.std.proofs.lemmas.List.{length-map}
 use Rattle.std.specs.List.{slice_get}
@@ -18,89 +18,102 @@ use Rattle.bike_space.specs.Remaining.{IsRemaining}
 use Rattle.bike_space.specs.Tasks.{Task, covers_carry, rules_of, walk_by}
 use Rattle.bike_space.specs.Runs.{IsWalkWith}
 use Rattle.bike_space.specs.Lawful.{IsTask}
-use Rattle.bike_space.proofs.LawLemmas.{carried-is, parts-cover}
+use Rattle.bike_space.proofs.CarryLemmas.{carried-is, parts-cover}
 use Rattle.bike_space.proofs.LeastLemmas.{end-carried, least-below}
 use Rattle.bike_space.proofs.RunLemmas.{run-walk, goal-is}
+use Rattle.item_list.proofs.ListLemmas.{slice_get-there}
+use Rattle.space_search.specs.Rules.{Rules}
+use Rattle.space_search.specs.Runs.{IsRun, Reaches}
 
--- the walk of a label that a search shows
-abbrev pub walk_of : Task → Reached Carry → List ℕ
-walk_of task label = walk_by task.leg label.choices
+-- ---- A space whose starts and steps are others
 
--- at each place below its length a list has an element
-there : {X : Type 0} (xs : List X) (n : ℕ) → n < length xs → (x : X) × (slice_get xs n ≡ Some x)
-there [] n below = absurd (omega arith)
-there (x ∷ xs) zero below = (x, refl)
-there (x ∷ xs) (suc n) below = there xs n (omega arith)
+-- the space of the states of a search on a leg, with these starts and steps
+abbrev pub space_by : (task : Task) (start : ℕ → Option (Carry × ℕ)) (step : Carry → ℕ → Option (Carry × ℕ)) → Rules Carry
+space_by task start step = record (rules_of task) { start = start; step = step }
+
+-- its runs, written so, are runs of the search's own space, and it reaches what that one reaches
+pub record IsWritten (task : Task) (start : ℕ → Option (Carry × ℕ)) (step : Carry → ℕ → Option (Carry × ℕ))
+    (written : List ℕ → List ℕ) : Type 0 where
+  pub runs : (choices : List ℕ) (end : Carry) (cost : ℕ) → IsRun (space_by task start step) choices end cost →
+      IsRun (rules_of task) (written choices) end cost
+  pub reached : (choices : List ℕ) (cost : ℕ) → Reaches (rules_of task) choices cost →
+      (others : List ℕ) × Reaches (space_by task start step) others cost
+
+-- the walk of a label whose choices are written so
+abbrev pub walk_as : (written : List ℕ → List ℕ) → Task → Reached Carry → List ℕ
+walk_as written task label = walk_by task.leg (written label.choices)
 
 -- the walk at the place of a label
-nth-at : (task : Task) (shown : List (Reached Carry)) (k : ℕ) (one : Reached Carry) → slice_get shown k ≡ Some one →
-    nth_walk (map (walk_of task) shown) k ≡ walk_of task one
-nth-at task [] k one at = absurd (cc)
-nth-at task (x ∷ xs) zero one at = let same : x ≡ one = cc in ap (walk_of task) same
-nth-at task (x ∷ xs) (suc k) one at = nth-at task xs k one at
+pub nth-at : (written : List ℕ → List ℕ) (task : Task) (shown : List (Reached Carry)) (k : ℕ) (one : Reached Carry) →
+    slice_get shown k ≡ Some one → nth_walk (map (walk_as written task) shown) k ≡ walk_as written task one
+nth-at written task [] k one at = absurd (cc)
+nth-at written task (x ∷ xs) zero one at = let same : x ≡ one = cc in ap (walk_as written task) same
+nth-at written task (x ∷ xs) (suc k) one at = nth-at written task xs k one at
 
 -- what is known of a label that a search shows, at its place
-record IsShownAt (task : Task) (shown : List (Reached Carry)) (k : ℕ) : Type 0 where
+record IsShownAt (written : List ℕ → List ℕ) (task : Task) (shown : List (Reached Carry)) (k : ℕ) : Type 0 where
   one : Reached Carry
   at : slice_get shown k ≡ Some one
-  walk : nth_walk (map (walk_of task) shown) k ≡ walk_of task one
+  walk : nth_walk (map (walk_as written task) shown) k ≡ walk_as written task one
   valid : IsTrue ((rules_of task).is_valid one.state)
-  with : IsWalkWith task (walk_of task one) one.state one.cost
+  with : IsWalkWith task (walk_as written task one) one.state one.cost
   no_goal : (rules_of task).is_goal one.state ≡ false
   low : ℕ
   bound : (rules_of task).low one.state ≡ Some low
 
-module _ (task : Task) (lawful : IsTask task) (limit : ℕ) (shown : List (Reached Carry))
-    (spent : IsSpent (rules_of task) limit shown)
-    (differ : task.leg.start ≢ task.leg.target) where
+module _ (task : Task) (lawful : IsTask task) (start : ℕ → Option (Carry × ℕ)) (step : Carry → ℕ → Option (Carry × ℕ))
+    (written : List ℕ → List ℕ) (by : IsWritten task start step written) (limit : ℕ) (shown : List (Reached Carry))
+    (spent : IsSpent (space_by task start step) limit shown) (differ : task.leg.start ≢ task.leg.target) where
   -- the walks that are shown
   abbrev walks : List (List ℕ)
-  walks = map (walk_of task) shown
+  walks = map (walk_as written task) shown
 
   -- a label at each place
-  shown-at : (k : ℕ) → k < length walks → IsShownAt task shown k
+  shown-at : (k : ℕ) → k < length walks → IsShownAt written task shown k
   shown-at k below =
-      let t = there shown k (omega (arith, length-map shown (walk_of task))) in
+      let t = slice_get-there shown k (omega (arith, length-map shown (walk_as written task))) in
       let p = spent.ordered.each k t.0 t.1 in
       record {
         one = t.0;
         at = t.1;
-        walk = nth-at task shown k t.0 t.1;
+        walk = nth-at written task shown k t.0 t.1;
         valid = p.valid;
-        with = run-walk task t.0.choices t.0.state t.0.cost p.run.run;
+        with = run-walk task (written t.0.choices) t.0.state t.0.cost (by.runs t.0.choices t.0.state t.0.cost p.run.run);
         no_goal = p.no_goal;
         low = p.ranked.low;
         bound = p.ranked.is;
       }
 
   -- its rank
-  ranked-at : (k : ℕ) (s : IsShownAt task shown k) → HasRank (rules_of task) s.one.state s.one.cost (s.one.cost + s.low)
+  ranked-at : (k : ℕ) (s : IsShownAt written task shown k) → HasRank (space_by task start step) s.one.state s.one.cost (s.one.cost + s.low)
   ranked-at k s = record { low = s.low; is = s.bound; sum = refl }
 
   -- the last link of its walk
-  end-at : (k : ℕ) (s : IsShownAt task shown k) → end_link (nth_walk walks k) ≡ s.one.state.link
-  end-at k s = ap end_link s.walk ∙ end-carried task (walk_of task s.one) s.one.state s.one.cost s.with
+  end-at : (k : ℕ) (s : IsShownAt written task shown k) → end_link (nth_walk walks k) ≡ s.one.state.link
+  end-at k s = ap end_link s.walk ∙ end-carried task (walk_as written task s.one) s.one.state s.one.cost s.with
 
   -- the rank of its walk
-  rank-at : (k : ℕ) (s : IsShownAt task shown k) → leg_rank task.leg task.used (nth_walk walks k) ≡ s.one.cost
+  rank-at : (k : ℕ) (s : IsShownAt written task shown k) → leg_rank task.leg task.used (nth_walk walks k) ≡ s.one.cost
   rank-at k s = ap (leg_rank task.leg task.used) s.walk ∙ s.with.ranks
 
   -- the buffers after its walk
-  buffers-at : (k : ℕ) (s : IsShownAt task shown k) → walk_buffers task.leg (nth_walk walks k) ≡ pair_of s.one.state
+  buffers-at : (k : ℕ) (s : IsShownAt written task shown k) → walk_buffers task.leg (nth_walk walks k) ≡ pair_of s.one.state
   buffers-at k s = ap (walk_buffers task.leg) s.walk ∙ s.with.carried.buffers
 
   -- no walk of the leg ranks below its rank
-  below-at : (k : ℕ) (s : IsShownAt task shown k) (other : List ℕ) → IsLegWalk task.leg other →
+  below-at : (k : ℕ) (s : IsShownAt written task shown k) (other : List ℕ) → IsLegWalk task.leg other →
       s.one.cost + s.low ≤ leg_rank task.leg task.used other
   below-at k s other is =
       least-below task (s.one.cost + s.low) differ
-      (λ others cost reaches. spent.below k s.one (s.one.cost + s.low) s.at (ranked-at k s) others cost reaches)
+      (λ others cost reaches.
+      let reached = by.reached others cost reaches in
+      spent.below k s.one (s.one.cost + s.low) s.at (ranked-at k s) reached.0 cost reached.1)
       other is
 
   -- what is shown is what evidence is
   are-shown : AreShown task.leg task.used limit walks
   are-shown = record {
-    count = length-map shown (walk_of task) ∙ spent.count;
+    count = length-map shown (walk_as written task) ∙ spent.count;
     each = λ k below.
         let s = shown-at k below in
         let led : task.leg.roads.to s.one.state.link ≡ task.leg.roads.to (end_link (nth_walk walks k)) =
@@ -161,8 +174,8 @@ module _ (task : Task) (lawful : IsTask task) (limit : ℕ) (shown : List (Reach
       never
 
   -- a spent limit has its evidence, with the bound
-  pub spent-bounded : IsSpentBounded task.leg task.used limit walks
-  spent-bounded = record {
+  pub spent-written : IsSpentBounded task.leg task.used limit walks
+  spent-written = record {
     strong = record { shown = are-shown; rising = rising-at; apart = apart-at };
     bounded = λ k below.
         let s = shown-at k below in
@@ -177,6 +190,23 @@ module _ (task : Task) (lawful : IsTask task) (limit : ℕ) (shown : List (Reach
           below = λ other is. omega (arith, rank-at k s, below-at k s other is);
         };
   }
+
+-- ---- The space itself
+
+-- the walk of a label that a search shows
+abbrev pub walk_of : Task → Reached Carry → List ℕ
+walk_of task label = walk_by task.leg label.choices
+
+-- its runs are written as they are
+own-written : (task : Task) → IsWritten task (rules_of task).start (rules_of task).step (λ choices. choices)
+own-written task = record { runs = λ choices end cost run. run; reached = λ choices cost reaches. (choices, reaches) }
+
+-- a spent limit has its evidence, with the bound
+pub spent-bounded : (task : Task) (lawful : IsTask task) (limit : ℕ) (shown : List (Reached Carry)) →
+    IsSpent (rules_of task) limit shown → task.leg.start ≢ task.leg.target →
+    IsSpentBounded task.leg task.used limit (map (walk_of task) shown)
+spent-bounded task lawful limit shown spent differ =
+    spent-written task lawful (rules_of task).start (rules_of task).step (λ choices. choices) (own-written task) limit shown spent differ
 
 -- the strong form has the plain one
 pub strong-plain : (leg : Leg) (used : ℕ → Bool) (limit : ℕ) (walks : List (List ℕ)) →

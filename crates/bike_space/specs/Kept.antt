@@ -24,8 +24,8 @@ task_of map links prices kept = record {
   low = sum_of kept.low;
 }
 
--- what is kept fits a map, the facts of its links and the prices of a profile: its lists have an entry for each link,
--- its modes are those of the facts, and the search is lawful and keeps the laws of a space
+-- what is kept fits a map, the facts of its links and the prices of a profile: its lists have an entry for
+-- each link, its modes are those of the facts, and the search is lawful and keeps the laws of a space
 pub record Wakes (map : MapValue) (links : Links) (prices : Prices) (kept : Rested) : Type 0 where
   pub counted : links.count ≡ length map.links
   pub cut : length kept.cut.items ≡ length map.links

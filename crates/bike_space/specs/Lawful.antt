@@ -1,5 +1,5 @@
--- A search on a leg that is lawful: its numbers keep their bounds, and what still has to be paid is the least (this
--- project's own rule).
+-- A search on a leg that is lawful: its numbers keep their bounds, and what still has to be paid is the least
+-- (this project's own rule).
 use Rattle.std.specs.Prelude.{◌≡◌, ℕ, ◌<◌, ◌^◌, Some}
 use Rattle.cost_model.specs.Facts.{AreFacts}
 use Rattle.cost_model.specs.Prices.{IsPrices}

@@ -1,5 +1,5 @@
--- What still has to be paid from a node to the target of a leg at least: the least sum of the low forms of distance and
--- the charges over links that join, turning back allowed (this project's own rule).
+-- What still has to be paid from a node to the target of a leg at least: the least sum of the low forms of
+-- distance and the charges over links that join, turning back allowed (this project's own rule).
 use Rattle.std.specs.Prelude.{ℕ, Bool, if◌then◌else◌, List, Option, Some, None}
 use Rattle.cost_model.specs.Facts.{Links}
 use Rattle.cost_model.specs.Parts.{least_price}
@@ -9,8 +9,8 @@ use Rattle.least_sums.specs.Sums.{IsLeastSum}
 use Rattle.cost_model.specs.OpenLinks.{open_by}
 use Rattle.bike_space.specs.Legs.{Leg, is_marked}
 
--- what a link adds to what still has to be paid at least, where it is open and its segment was used; none where it is
--- closed
+-- what a link adds to what still has to be paid at least, where it is open and its segment was used; none
+-- where it is closed
 abbrev pub rest_by : Bool → Bool → LinkFacts → Option ℕ
 rest_by «open» used facts = if «open» then Some (least_price used facts) else None
 
@@ -25,7 +25,7 @@ priced_by links cut used = record {
   price = λ link. rest_by (open_by links.facts cut link) (is_marked used link) (links.facts link);
 }
 
--- this has to be paid at least from a node to the target of the leg, where the segments of these links were used; none
--- where the target isn't reached from there
-abbrev pub IsRemaining : Leg → (ℕ → Bool) → ℕ → Option ℕ → Type 0
+-- this has to be paid at least from a node to the target of the leg, where the segments of these links were
+-- used; none where the target isn't reached from there
+abbrev pub IsRemaining : (leg : Leg) (used : ℕ → Bool) (node : ℕ) (low : Option ℕ) → Type 0
 IsRemaining leg used node low = ∥ IsLeastSum leg.roads (rest_price leg used) leg.target node low ∥₁

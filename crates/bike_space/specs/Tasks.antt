@@ -1,5 +1,5 @@
--- What is searched on a leg: states are what a walk carries from link to link, starts and steps are choices among the
--- links that leave a node, and their prices are those of a rank (this project's own rule).
+-- What is searched on a leg: states are what a walk carries from link to link, starts and steps are choices
+-- among the links that leave a node, and their prices are those of a rank (this project's own rule).
 use Rattle.std.specs.Prelude.{ℕ, pos, Bool, not, ◌&&◌, nat_eq, nat_lt, int_le, if◌then◌else◌, List, [], ◌∷◌, length, get_or, Option, Some, None}
 use Rattle.cost_model.specs.Labels.{label_of}
 use Rattle.cost_model.specs.Parts.{entry_cost}
@@ -14,8 +14,8 @@ use Rattle.space_search.specs.Rules.{Rules}
 use Rattle.bike_space.specs.Legs.{Leg}
 use Rattle.bike_space.specs.Spent.{terms_of}
 
--- a search on a leg: the links whose segments were used, and for each node what still has to be paid from there at
--- least
+-- a search on a leg: the links whose segments were used, and for each node what still has to be paid from
+-- there at least
 pub record Task : Type 0 where
   pub leg : Leg
   pub used : ℕ → Bool
@@ -54,11 +54,12 @@ unfoldable pub entered : Task → Option LinkFacts → ℕ → Pair → Carry ×
 entered task before link pair =
     (carry_after task.leg.prices link (task.leg.facts link) pair, price_of task before link pair)
 
--- a walk may go on by a link after its last link, which leaves the node where that arrives: it is open, doesn't go back
--- and isn't forbidden
+-- a walk may go on by a link after its last link, which leaves the node where that arrives: it is open,
+-- doesn't go back and isn't forbidden
 unfoldable pub may_take : Leg → ℕ → ℕ → Bool
 may_take leg last link =
-    leg.is_open link && (not (nat_eq (leg.roads.to link) (leg.roads.from last)) && not (leg.forbids last link))
+    leg.is_open link && (not (nat_eq (leg.roads.to link) (leg.roads.from last)) &&
+    not (leg.forbids last link))
 
 -- the start of a link that is open
 abbrev pub start_by : Task → ℕ → Option (Carry × ℕ)
@@ -70,11 +71,11 @@ step_by task carry link =
     if may_take task.leg carry.link link
     then Some (entered task (Some (task.leg.facts carry.link)) link (pair_of carry)) else None
 
--- what is carried makes something else that is carried needless: they end in one link, and the one label covers the
--- other
-unfoldable pub covers_carry : Leg → Carry → ℕ → Carry → ℕ → Bool
-covers_carry leg a ca b cb =
-    nat_eq a.link b.link && covers_label (terms_of leg) (label_of a ca) (label_of b cb)
+-- what is carried makes something else that is carried needless: they end in one link, and the one label
+-- covers the other
+unfoldable pub covers_carry : (leg : Leg) (a : Carry) (a_cost : ℕ) (b : Carry) (b_cost : ℕ) → Bool
+covers_carry leg a a_cost b b_cost =
+    nat_eq a.link b.link && covers_label (terms_of leg) (label_of a a_cost) (label_of b b_cost)
 
 -- the space that is searched
 abbrev pub rules_of : Task → Rules Carry

@@ -22,8 +22,8 @@ pub enum Walked {
     Budget,
 }
 
-/// A walk of least rank of a leg whose nodes differ, or that it has none, or that `limit` labels are
-/// settled and one more would be.
+/// A walk of least rank of a leg whose nodes differ, or that it has none, or that `limit` labels
+/// are settled and one more would be.
 pub fn least_walk<F: FactsOf>(
     alloc: Global,
     space: &BikeSpace<F>,
@@ -35,8 +35,8 @@ pub fn least_walk<F: FactsOf>(
         (F.links space.now.facts.now) space.now.rates.now space.now.kept in
         AnswersLeg task.leg task.used limit walked) }
 
-    // So many labels are enough: as many as links where climbing costs nothing, and as many as links
-    // times pairs of buffers always.
+    // So many labels are enough: as many as links where climbing costs nothing, and as many as
+    // links times pairs of buffers always.
     ensures enough { IsFlat (task_of space.now.map.now (F.links space.now.facts.now)
         space.now.rates.now space.now.kept).leg → length space.now.map.now.links ≤ limit →
         IfOk result IsUnspentWalk }

@@ -12,7 +12,8 @@ fn slope_row(alloc: Global) -> Result<Vec<u8>, AllocError> {
     Ok(bytes)
 }
 
-/// The bytes of a tile of 1,201 such rows: it slopes up to the east by 24 millimetres a microdegree.
+/// The bytes of a tile of 1,201 such rows: it slopes up to the east by 24 millimetres a
+/// microdegree.
 fn slope(alloc: Global) -> Result<Vec<u8>, AllocError> {
     let row = slope_row(alloc)?;
     let mut bytes = Vec::new(alloc);
@@ -22,7 +23,8 @@ fn slope(alloc: Global) -> Result<Vec<u8>, AllocError> {
     Ok(bytes)
 }
 
-/// A sample of a tile that is flat up to column 480 and climbs by a metre a column from there; one sample is void.
+/// A sample of a tile that is flat up to column 480 and climbs by a metre a column from there; one
+/// sample is void.
 fn bank_sample(row: u16, column: i16) -> i16 {
     if row == 1198 && column == 484 {
         i16::MIN
@@ -50,8 +52,8 @@ fn add(alloc: Global, tiles: &mut Tiles, name: &[u8], bytes: &[u8]) -> Result<()
     }
 }
 
-/// The tiles that a word names: `slope`, which lies at the equator; `bank`, which lies at 49 degrees north and 8 degrees
-/// east; or none.
+/// The tiles that a word names: `slope`, which lies at the equator; `bank`, which lies at 49
+/// degrees north and 8 degrees east; or none.
 pub fn tiles_of(alloc: Global, word: &[u8]) -> Result<Tiles, AllocError> {
     let mut tiles = Tiles::new(alloc);
     if word == b"slope".as_slice() {

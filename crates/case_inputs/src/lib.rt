@@ -1,4 +1,5 @@
-//! What the words of a case come to: a tag table, a profile and its code, a map, and tiles of heights.
+//! What the words of a case come to: a tag table, a profile and its code, a map, and tiles of
+//! heights.
 #![tactic(auto)]
 
 mod ground;

@@ -3,7 +3,8 @@
 ghost use Rattle.std.specs.Prelude.{◌≡◌, length};
 ghost use Rattle.case_rows.specs.Words.{word_at};
 
-/// A case: where it stands, its words, of which the first names the call, and the answer that is wanted.
+/// A case: where it stands, its words, of which the first names the call, and the answer that is
+/// wanted.
 pub struct Case {
     /// Its line in the table, from 1.
     pub line: u64,

@@ -15,8 +15,9 @@ enum Part {
     Low { high: u8 },
 }
 
-/// The bytes that a word stands for: `\s` is a space, `\n`, `\r` and `\t` are the usual ones, `\e` is nothing, `\\` a
-/// backslash, and `\xHH` the byte of two digits in base 16. A backslash before anything else stands for itself.
+/// The bytes that a word stands for: `\s` is a space, `\n`, `\r` and `\t` are the usual ones, `\e`
+/// is nothing, `\\` a backslash, and `\xHH` the byte of two digits in base 16. A backslash before
+/// anything else stands for itself.
 pub(crate) fn unescaped(alloc: Global, word: &[u8]) -> Result<Vec<u8>, AllocError> {
     let mut out = Vec::new(alloc);
     let mut part = Part::Plain;

@@ -28,7 +28,8 @@ impl Report {
         }
     }
 
-    /// Counts a case, and gives the line to be printed where the answer isn't the one that is wanted.
+    /// Counts a case, and gives the line to be printed where the answer isn't the one that is
+    /// wanted.
     pub fn compare(
         &mut self,
         alloc: Global,

@@ -13,10 +13,11 @@ struct Text {
 
 /// What was read of a table so far: its line, and its texts.
 ///
-/// An empty line and one that begins with `#` say nothing. `text NAME` begins a text, which the next lines add to: `|REST`
-/// adds REST and a line feed, `+REST` adds REST, and `*N REST` adds it N times, each `%` in it being the number of the
-/// time, from 0. Any other line is a case: words parted by one space, ` => `, and the answer that is wanted. In a word and
-/// an answer `@NAME` alone stands for a text, and some bytes are written by escapes: `\s` (space), `\n`, `\r`, `\t`,
+/// An empty line and one that begins with `#` say nothing. `text NAME` begins a text, which the
+/// next lines add to: `|REST` adds REST and a line feed, `+REST` adds REST, and `*N REST` adds it N
+/// times, each `%` in it being the number of the time, from 0. Any other line is a case: words
+/// parted by one space, ` => `, and the answer that is wanted. In a word and an answer `@NAME`
+/// alone stands for a text, and some bytes are written by escapes: `\s` (space), `\n`, `\r`, `\t`,
 /// `\e` (nothing), `\\`, `\xHH`.
 pub struct Table {
     alloc: Global,

@@ -1,4 +1,5 @@
--- States of a place and what is due there, as the spaces that are searched have them. This project's own rule.
+-- States of a place and what is due there, as the spaces that are searched have them. This project's own
+-- rule.
 use Rattle.std.specs.Prelude.{ℕ, Bool, true, false, cond, ◌==◌, nat_lt}
 
 -- the same place with no more due, at no greater cost

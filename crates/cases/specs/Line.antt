@@ -1,5 +1,5 @@
--- The line of cells that is searched: a state is a cell and what is due there, and a step leads to the cell ahead or
--- to the one behind. This project's own rule.
+-- The line of cells that is searched: a state is a cell and what is due there, and a step leads to the cell
+-- ahead or to the one behind. This project's own rule.
 use Rattle.std.specs.Prelude.{ℕ, ◌+◌, ◌-◌, cond, ◌==◌, nat_lt, Option, Some, None}
 use Rattle.cases.specs.Due.{due_covers}
 use Rattle.space_search.specs.Rules.{Rules}
@@ -21,8 +21,8 @@ abbrev pub step_to : ℕ → ℕ → Option ℕ → Option ((ℕ × ℕ) × ℕ)
 step_to due number None = None
 step_to due number (Some place) = Some ((place, due), number + 1)
 
--- the space of so many cells, with its goal, so many starts in the first cell and so many steps of a state. The more is
--- due at a start the less it costs, so that no start covers another
+-- the space of so many cells, with its goal, so many starts in the first cell and so many steps of a state.
+-- The more is due at a start the less it costs, so that no start covers another
 abbrev pub line_rules : ℕ → ℕ → ℕ → ℕ → Rules (ℕ × ℕ)
 line_rules cells goal starts steps =
     record {

@@ -25,7 +25,8 @@ pub(crate) fn answer(alloc: Global, case: &Case) -> Result<String, AllocError> {
     }
 }
 
-/// What a step from a buffer leaves, pays and weighs: the buffer, what is added, the reduction, the penalty, the most.
+/// What a step from a buffer leaves, pays and weighs: the buffer, what is added, the reduction, the
+/// penalty, the most.
 fn stepped(alloc: Global, case: &Case) -> Result<String, AllocError> {
     let (e, a, r) = (case.signed(1), case.signed(2), case.signed(3));
     let (penalty, most) = (case.signed(4), case.signed(5));
@@ -58,7 +59,8 @@ fn mode_of(word: &[u8]) -> Mode {
     }
 }
 
-/// Whether a label covers another, or supersedes it: the buffers and the cost of both, the two rates, the two modes.
+/// Whether a label covers another, or supersedes it: the buffers and the cost of both, the two
+/// rates, the two modes.
 fn comparing(alloc: Global, case: &Case, superseding: bool) -> Result<String, AllocError> {
     let first = pair_of(case.signed(1), case.signed(2));
     let second = pair_of(case.signed(4), case.signed(5));

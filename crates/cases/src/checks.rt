@@ -39,7 +39,8 @@ fn of_profile(
     outcome(alloc, case, table, profile, &overrides)
 }
 
-/// That the profile is accepted under a table and overrides, or the line of its refusal; of `checked`, what is kept.
+/// That the profile is accepted under a table and overrides, or the line of its refusal; of
+/// `checked`, what is kept.
 fn outcome(
     alloc: Global,
     case: &Case,
@@ -53,7 +54,8 @@ fn outcome(
     }
 }
 
-/// How many assignments of ways, tags of ways and overrides are kept of a profile that is accepted, or its refusal.
+/// How many assignments of ways, tags of ways and overrides are kept of a profile that is accepted,
+/// or its refusal.
 fn kept(
     alloc: Global,
     table: &Table,

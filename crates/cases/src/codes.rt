@@ -15,8 +15,8 @@ use profile_code::{
 };
 use std::alloc::{AllocError, Global};
 
-/// The calls on code. The words are a table and a profile, and then tag numbers for the first three, and overrides for
-/// the others, of the last behind a name.
+/// The calls on code. The words are a table and a profile, and then tag numbers for the first
+/// three, and overrides for the others, of the last behind a name.
 pub(crate) const CALLS: [&str; 7] = [
     "way",
     "node",

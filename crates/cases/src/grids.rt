@@ -57,7 +57,7 @@ fn between(
 
 /// The place of a cell.
 fn cell(alloc: Global, grid: &Grid, at: u32) -> Result<String, AllocError>
-    requires { at < cells_of grid.now }
+    requires fits { at < cells_of grid.now }
 {
     let spot = grid.spot(at);
     format!(in alloc; "{} {}", spot.lon(), spot.lat())
@@ -104,7 +104,8 @@ fn shortest(alloc: Global, grid: &Grid, from: u32, to: u32) -> Result<String, Al
     walk_text(alloc, &walk)
 }
 
-/// A least walk over the only segment of a grid, which may not be walked forward and costs 7 backward.
+/// A least walk over the only segment of a grid, which may not be walked forward and costs 7
+/// backward.
 fn one_way(alloc: Global, grid: &Grid, from: u32, to: u32) -> Result<String, AllocError>
     requires from { from < cells_of grid.now }
     requires to { to < cells_of grid.now }

@@ -2,15 +2,16 @@
 
 use crate::texts::{OUTSIDE, shown};
 use case_rows::{Case, place_of};
-use edge_io::{Event, Failed, Hub, MemHub, Script, can_play};
+use edge_io::{Event, Failed, Hub};
+use edge_memory::{MemHub, Script, can_play};
 use item_list::{Items, bytes_of};
 use std::alloc::{AllocError, Global};
 
 /// The one call on a hub.
 pub(crate) const CALLS: [&str; 1] = ["hub"];
 
-/// What a hub in memory tells: its room, the most of one call, the failing call, its script and the calls on it. At the
-/// end stands whether connection 1 was closed, and the bytes sent to it.
+/// What a hub in memory tells: its room, the most of one call, the failing call, its script and the
+/// calls on it. At the end stands whether connection 1 was closed, and the bytes sent to it.
 pub(crate) fn answer(alloc: Global, case: &Case) -> Result<String, AllocError> {
     let room = case.count(1).min(1000) as usize;
     let piece = case.count(2).min(1000) as usize;
@@ -94,7 +95,8 @@ fn bytes_entry(alloc: Global, id: u64, bytes: &[u8]) -> Result<Script, AllocErro
     Ok(Script::Bytes { id, bytes })
 }
 
-/// What one call comes to: `n` with the length of the buffer, `s` and `c` with a connection, or an opening.
+/// What one call comes to: `n` with the length of the buffer, `s` and `c` with a connection, or an
+/// opening.
 fn called(alloc: Global, hub: &mut MemHub, word: &[u8]) -> Result<String, AllocError> {
     let id = digit(word, 1) as u64;
     match place_of(&["n", "s", "c"], letter_of(word)) {

@@ -120,7 +120,8 @@ fn scanned_by_sizes(alloc: Global, text: &[u8]) -> Result<String, AllocError> {
     text_of(alloc, whole.as_slice())
 }
 
-/// What is told after each of the pieces that the words are, the last of which is the end of the text if it is `end`.
+/// What is told after each of the pieces that the words are, the last of which is the end of the
+/// text if it is `end`.
 fn scanned_by_words(alloc: Global, case: &Case) -> Result<String, AllocError> {
     let mut scanner = Scanner::new(alloc);
     let mut told = Vec::new(alloc);

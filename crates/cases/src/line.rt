@@ -6,9 +6,10 @@ ghost use Rattle.cases.specs.Line.{neighbour};
 use space_search::Space;
 use std::cell::Cell;
 
-/// Cells one behind the other, each with so many steps: 0 leads a cell ahead, any other a cell back. So many starts lie in
-/// the first cell, each with more due and at less cost than the one before, and the last at no cost. The goal may lie behind
-/// the last cell. Where it is `superseding`, a label makes those needless in the covering test that have as much due in its
+/// Cells one behind the other, each with so many steps: 0 leads a cell ahead, any other a cell
+/// back. So many starts lie in the first cell, each with more due and at less cost than the one
+/// before, and the last at no cost. The goal may lie behind the last cell. Where it is
+/// `superseding`, a label makes those needless in the covering test that have as much due in its
 /// cell; else it never does. It counts the calls of `step`.
 #[derive(Drop)]
 pub(crate) struct Line {

@@ -49,7 +49,8 @@ fn name(alloc: Global, bytes: &[u8]) -> Result<Name, AllocError> {
     Ok(Items::from_vec(bytes_of(alloc, bytes)?))
 }
 
-/// The words behind the call pushed one by one, cloned, and given back as a vector: how many, and each.
+/// The words behind the call pushed one by one, cloned, and given back as a vector: how many, and
+/// each.
 fn copied(alloc: Global, case: &Case) -> Result<String, AllocError> {
     let list = pushed(alloc, case)?;
     let vector = list.try_clone(alloc)?.into_vec();
@@ -75,7 +76,8 @@ fn tell(text: &mut String, items: &[(Name, i64)]) -> Result<(), AllocError> {
     Ok(())
 }
 
-/// The place of the first word among those behind it, in a map whose keys they are; of equal ones the last.
+/// The place of the first word among those behind it, in a map whose keys they are; of equal ones
+/// the last.
 fn looked_up(alloc: Global, case: &Case) -> Result<String, AllocError> {
     let mut places = HashMap::new(alloc);
     for place in 2..case.len() {

@@ -1,4 +1,5 @@
-//! Runs tables of cases on the public calls of the ground, of the profile language, of prices and of searches.
+//! Runs tables of cases on the public calls of the ground, of the profile language, of prices and
+//! of searches.
 #![tactic(auto)]
 
 mod buffers;

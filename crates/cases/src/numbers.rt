@@ -79,7 +79,8 @@ fn outcome(alloc: Global, outcome: Result<Num, Arith>) -> Result<String, AllocEr
     }
 }
 
-/// The line `xx..x` with the text of the millionths put in at its third byte, and where the text ends.
+/// The line `xx..x` with the text of the millionths put in at its third byte, and where the text
+/// ends.
 fn appended(alloc: Global, millionths: i128) -> Result<String, AllocError> {
     let mut line = [b'x'; 60];
     let end = append_mil6(&mut line, 2, millionths);

@@ -2,7 +2,8 @@
 
 use crate::texts::{NO_CALL, OUTSIDE, shown};
 use case_rows::{Case, place_of};
-use edge_io::{Failed, Files, MemFiles, MemSink, WholeError, read_whole, send_all};
+use edge_io::{Failed, Files, WholeError, read_whole, send_all};
+use edge_memory::{MemFiles, MemSink};
 use item_list::{Items, Name, bytes_of};
 use std::alloc::{AllocError, Global};
 
@@ -19,7 +20,8 @@ pub(crate) fn answer(alloc: Global, case: &Case) -> Result<String, AllocError> {
     }
 }
 
-/// What comes of sending a text to a sink: its room, the most of one call, the failing call, the text.
+/// What comes of sending a text to a sink: its room, the most of one call, the failing call, the
+/// text.
 fn sent(alloc: Global, case: &Case) -> Result<String, AllocError> {
     let room = case.count(1).min(1000) as usize;
     let piece = case.count(2).min(1000) as usize;
@@ -57,7 +59,8 @@ fn some_files(alloc: Global) -> Result<Vec<(Name, Vec<u8>)>, AllocError> {
     Ok(files)
 }
 
-/// What comes of reading a file whole: the most bytes of a read, the failing call, the name, the limit.
+/// What comes of reading a file whole: the most bytes of a read, the failing call, the name, the
+/// limit.
 fn read(alloc: Global, case: &Case) -> Result<String, AllocError> {
     let piece = case.count(1).min(1000) as usize;
     if piece == 0 {
@@ -83,7 +86,8 @@ fn whole(alloc: Global, outcome: &Result<Vec<u8>, WholeError>) -> Result<String,
     }
 }
 
-/// A file is opened, the next opening fails, and what is left of the file is read: how often was opened, and the text.
+/// A file is opened, the next opening fails, and what is left of the file is read: how often was
+/// opened, and the text.
 fn opened_again(alloc: Global) -> Result<String, AllocError> {
     let failing = vec![in alloc; 1u64]?;
     let mut files = MemFiles::new(alloc, some_files(alloc)?, 9, failing);

@@ -41,7 +41,7 @@ fn root(alloc: Global, square: u128) -> Result<String, AllocError> {
 
 /// The spot of two words; none where they tell none.
 fn spot_at(case: &Case, place: usize) -> Option<Spot>
-    requires { place < 100 }
+    requires fits { place < 100 }
 {
     Spot::new(case.signed(place), case.signed(place + 1))
 }

@@ -57,8 +57,8 @@ fn rates(alloc: Global, case: &Case) -> Result<String, AllocError> {
     }
 }
 
-/// The facts of a link along the equator of so many microdegrees, up a slope of 24 millimetres for each, with these factors
-/// and this charge.
+/// The facts of a link along the equator of so many microdegrees, up a slope of 24 millimetres for
+/// each, with these factors and this charge.
 fn facts_of(
     lon: i64,
     costfactor: i64,
@@ -124,7 +124,8 @@ fn weighed(alloc: Global, facts: &LinkFacts, down: i64, up: i64) -> Result<Strin
     format!(in alloc; "{part}")
 }
 
-/// What a link costs at least: microdegrees, the three factors, the charge, and whether its segment was used.
+/// What a link costs at least: microdegrees, the three factors, the charge, and whether its segment
+/// was used.
 fn least(alloc: Global, case: &Case) -> Result<String, AllocError> {
     let used = place_of(&["used"], case.word(6)) == 0;
     match facts_from(case, case.signed(5)) {
@@ -141,8 +142,8 @@ fn priced(alloc: Global, facts: &LinkFacts, used: bool) -> Result<String, AllocE
     format!(in alloc; "{price}")
 }
 
-/// A walk of three links up the slope, of so many microdegrees each, by the rates of seven values: the elevation part and the
-/// buffer of climbing behind each link, and the cost of the walk.
+/// A walk of three links up the slope, of so many microdegrees each, by the rates of seven values:
+/// the elevation part and the buffer of climbing behind each link, and the cost of the walk.
 fn climb(alloc: Global, case: &Case) -> Result<String, AllocError> {
     let Some(globals) = globals(case) else {
         return String::from_str(alloc, OUTSIDE);

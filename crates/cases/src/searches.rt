@@ -45,7 +45,8 @@ fn number(case: &Case, place: usize) -> u32
     case.count(place).clamp(1, MOST) as u32
 }
 
-/// The answer of a whole search over a line: cells, goal, limit => the choices and the cost of a run, or `none`, or `spent`.
+/// The answer of a whole search over a line: cells, goal, limit => the choices and the cost of a
+/// run, or `none`, or `spent`.
 fn whole(alloc: Global, case: &Case) -> Result<String, AllocError> {
     let line = Line::new(number(case, 1), number(case, 2));
     match least(alloc, &line, u64::from(number(case, 3)))? {
@@ -72,8 +73,9 @@ fn tolls_of(case: &Case) -> Toll {
     }
 }
 
-/// Two turns over the tolls, the first of a quota that is the limit too, the second of one more label => the answer of the
-/// first and the labels behind it, the answer of the second and its goal.
+/// Two turns over the tolls, the first of a quota that is the limit too, the second of one more
+/// label => the answer of the first and the labels behind it, the answer of the second and its
+/// goal.
 fn tolls(alloc: Global, case: &Case) -> Result<String, AllocError> {
     let toll = tolls_of(case);
     let quota = number(case, 2);
@@ -131,8 +133,9 @@ fn tell_label(
     write!(text, " {place} {due} {cost} {:?},", choices.as_slice())
 }
 
-/// Turns of one label each over a line: cells, goal, how many turns, the most calls of `step` => whether no turn makes more,
-/// and whether the labels are the first cells, each at its distance; after one more turn its answer, and whether they are.
+/// Turns of one label each over a line: cells, goal, how many turns, the most calls of `step` =>
+/// whether no turn makes more, and whether the labels are the first cells, each at its distance;
+/// after one more turn its answer, and whether they are.
 fn turns(alloc: Global, case: &Case) -> Result<String, AllocError> {
     let line = Line::new(number(case, 1), number(case, 2));
     let mut search: Search<(u32, u32)> = Search::new(alloc, MOST);
@@ -190,8 +193,8 @@ fn settled_tolls(alloc: Global, case: &Case) -> Result<String, AllocError> {
     format!(in alloc; "{} {}", search.labels(), word_of(turn))
 }
 
-/// A search over a line with steps both ways: cells, starts, and `superseding` or any other word => how many labels it
-/// settles, and its answer.
+/// A search over a line with steps both ways: cells, starts, and `superseding` or any other word =>
+/// how many labels it settles, and its answer.
 fn both_ways(alloc: Global, case: &Case) -> Result<String, AllocError> {
     let superseding = place_of(&["superseding"], case.word(3)) == 0;
     let line = Line::both_ways(number(case, 1), number(case, 2), superseding);

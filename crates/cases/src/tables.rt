@@ -52,7 +52,8 @@ fn of_table(alloc: Global, case: &Case, call: usize, table: &Table) -> Result<St
     }
 }
 
-/// The number of the value in the fourth word of the tag in the third; none where one of them isn't listed.
+/// The number of the value in the fourth word of the tag in the third; none where one of them isn't
+/// listed.
 fn value_number(table: &Table, part: Part, case: &Case) -> Option<u16> {
     let place = table.tag_place(part, case.word(3))?;
     table.value_number(part, place, case.word(4))

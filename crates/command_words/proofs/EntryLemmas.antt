@@ -41,7 +41,8 @@ abbrev number_or : Option Value → ℕ
 number_or None = 0
 number_or (Some value) = number_in value
 
-number-fit : (low high : ℕ) (r : Option ℕ) (value : Value) → number_value (within low high r) ≡ Some value → (low ≤ number_in value) × (number_in value ≤ high)
+number-fit : (low high : ℕ) (r : Option ℕ) (value : Value) → number_value (within low high r) ≡ Some value →
+    (low ≤ number_in value) × (number_in value ≤ high)
 number-fit low high None value e = cc
 number-fit low high (Some number) value e = go (nat_le low number && nat_le number high) refl e where
   go :
@@ -70,23 +71,29 @@ value-fit Want.Address text value e = tt
 abbrev pub FitEntry : List KeyRow → Given → Type 0
 FitEntry keys entry = FitRow (row_for keys entry.key) entry.text (number_in entry.value)
 
-by-fit : (keys : List KeyRow) (word : ℕ) (key : Key) (text : List ℕ) (r : Option Value) (entry : Given) → ((value : Value) → r ≡ Some value → FitRow (row_for keys key) text (number_in value)) → given_by word key text r ≡ Some entry → FitEntry keys entry
+by-fit : (keys : List KeyRow) (word : ℕ) (key : Key) (text : List ℕ) (r : Option Value) (entry : Given) →
+    ((value : Value) → r ≡ Some value → FitRow (row_for keys key) text (number_in value)) → given_by word key text r ≡ Some entry →
+    FitEntry keys entry
 by-fit keys word key text None entry fit e = cc
 by-fit keys word key text (Some value) entry fit e =
     let made : Given = record { text = text; value = value; word = word; key = key } in
     let same : made ≡ entry = cc in
     subst (FitEntry keys) same (fit value refl)
 
-for-fit : (keys : List KeyRow) (word : ℕ) (key : Key) (text : List ℕ) (r : Option KeyRow) (entry : Given) → row_for keys key ≡ r → given_for word key text r ≡ Some entry → FitEntry keys entry
+for-fit : (keys : List KeyRow) (word : ℕ) (key : Key) (text : List ℕ) (r : Option KeyRow) (entry : Given) → row_for keys key ≡ r →
+    given_for word key text r ≡ Some entry → FitEntry keys entry
 for-fit keys word key text None entry is e = cc
 for-fit keys word key text (Some row) entry is e =
-    by-fit keys word key text (value_of row.form text) entry (λ value v. subst (λ r. FitRow r text (number_in value)) (sym is) (value-fit row.form text value v)) e
+    by-fit keys word key text (value_of row.form text) entry
+    (λ value v. subst (λ r. FitRow r text (number_in value)) (sym is) (value-fit row.form text value v)) e
 
-in-fit : (keys : List KeyRow) (word : ℕ) (text : List ℕ) (r : Option Key) (entry : Given) → given_in keys word text r ≡ Some entry → FitEntry keys entry
+in-fit : (keys : List KeyRow) (word : ℕ) (text : List ℕ) (r : Option Key) (entry : Given) → given_in keys word text r ≡ Some entry →
+    FitEntry keys entry
 in-fit keys word text None entry e = cc
 in-fit keys word text (Some key) entry e = for-fit keys word key text (row_for keys key) entry refl e
 
-cut-fit : (keys : List KeyRow) (word : ℕ) (r : Option (List ℕ × List ℕ)) (entry : Given) → given_cut keys word r ≡ Some entry → FitEntry keys entry
+cut-fit : (keys : List KeyRow) (word : ℕ) (r : Option (List ℕ × List ℕ)) (entry : Given) → given_cut keys word r ≡ Some entry →
+    FitEntry keys entry
 cut-fit keys word None entry e = cc
 cut-fit keys word (Some parts) entry e = in-fit keys word parts.1 (key_of parts.0) entry e
 
@@ -99,7 +106,8 @@ abbrev pub AllFit : List KeyRow → List Given → Type 0
 AllFit keys [] = Unit {0}
 AllFit keys (entry ∷ entries) = FitEntry keys entry × AllFit keys entries
 
-all-push : (keys : List KeyRow) (entries : List Given) (entry : Given) → AllFit keys entries → FitEntry keys entry → AllFit keys (entries ++ entry ∷ [])
+all-push : (keys : List KeyRow) (entries : List Given) (entry : Given) → AllFit keys entries → FitEntry keys entry →
+    AllFit keys (entries ++ entry ∷ [])
 all-push keys [] entry all fit = (fit, tt)
 all-push keys (first ∷ rest) entry all fit = (all.0, all-push keys rest entry all.1 fit)
 
@@ -109,7 +117,8 @@ err-not_ok n x h = cc
 
 -- what each step of the reading keeps holds of what is read
 pub after-keeps : (keys : List KeyRow) (P : List Given → Type 0) →
-    ((word : ℕ) (text : List ℕ) (before : List Given) (entry : Given) → entry_of keys word text ≡ Some entry → may_follow keys before entry ≡ true → P before → P (before ++ entry ∷ [])) →
+    ((word : ℕ) (text : List ℕ) (before : List Given) (entry : Given) → entry_of keys word text ≡ Some entry →
+    may_follow keys before entry ≡ true → P before → P (before ++ entry ∷ [])) →
     (texts : List (List ℕ)) (before entries : List Given) → P before → entries_after keys before texts ≡ Ok entries → P entries
 after-keeps keys P keeps [] before entries held e =
     let same : before ≡ entries = cc in subst P same held
@@ -126,7 +135,8 @@ after-keeps keys P keeps (text ∷ texts) before entries held e =
     (Ok entries) → P entries) [
       | None ↦ λ is f. absurd (err-not_ok (length before + 1) entries f)
       | Some entry ↦ λ is f.
-          elim (split (may_follow keys before entry) (entries_after keys (before ++ entry ∷ []) texts) (Err (length before + 1)) (Ok entries) f) [
+          elim (split (may_follow keys before entry) (entries_after keys (before ++ entry ∷ []) texts) (Err (length before + 1))
+          (Ok entries) f) [
             | inl (free, h) ↦
                 after-keeps keys P keeps texts (before ++ entry ∷ []) entries
                 (keeps (length before + 1) text before entry is free held) h
@@ -135,13 +145,16 @@ after-keeps keys P keeps (text ∷ texts) before entries held e =
     ] refl e
 
 -- what is read fits
-pub after-fit : (keys : List KeyRow) (texts : List (List ℕ)) (entries : List Given) → entries_after keys [] texts ≡ Ok entries → AllFit keys entries
+pub after-fit : (keys : List KeyRow) (texts : List (List ℕ)) (entries : List Given) → entries_after keys [] texts ≡ Ok entries →
+    AllFit keys entries
 after-fit keys texts entries e =
-    after-keeps keys (AllFit keys) (λ word text before entry is free all. all-push keys before entry all (entry-fit keys word text entry is))
+    after-keeps keys (AllFit keys) (λ word text before entry is free all.
+    all-push keys before entry all (entry-fit keys word text entry is))
     texts [] entries tt e
 
 -- entries of which none is missing are those that were read
-pub whole-read : (keys : List KeyRow) (after : ℕ) (r : Result (List Given) ℕ) (entries : List Given) → whole_by keys after r ≡ Ok entries → r ≡ Ok entries
+pub whole-read : (keys : List KeyRow) (after : ℕ) (r : Result (List Given) ℕ) (entries : List Given) → whole_by keys after r ≡ Ok entries →
+    r ≡ Ok entries
 whole-read keys after (Err word) entries e = absurd (err-not_ok word entries e)
 whole-read keys after (Ok all) entries e =
     elim (split (has_all keys all) (Ok all) (Err after) (Ok entries) e) [
@@ -150,7 +163,8 @@ whole-read keys after (Ok all) entries e =
     ]
 
 -- the entry that is found fits the row of its key
-pub with-fit : (keys : List KeyRow) (key : Key) (entries : List Given) (entry : Given) → AllFit keys entries → entry_with key entries ≡ Some entry → FitRow (row_for keys key) entry.text (number_in entry.value)
+pub with-fit : (keys : List KeyRow) (key : Key) (entries : List Given) (entry : Given) → AllFit keys entries →
+    entry_with key entries ≡ Some entry → FitRow (row_for keys key) entry.text (number_in entry.value)
 with-fit keys key [] entry all e = cc
 with-fit keys key (first ∷ rest) entry all e =
     elim (split (same_key first.key key) (Some first) (find (λ (x : Given). same_key x.key key) rest) (Some entry) e) [

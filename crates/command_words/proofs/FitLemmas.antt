@@ -38,7 +38,15 @@ grid_by-fit seed w h from to files command fit_seed fit_w fit_h e =
           elim (split (lies_in w h (place_in to.value)) _ (Err to.word) (Ok command) f) [
             | inr (out, f') ↦ cc
             | inl (inside_to, f') ↦
-                let made : GridCommand = record { from = place_in from.value; to = place_in to.value; seed = seed; w = w; h = h; files = files } in
+                let made : GridCommand = record {
+                  from = place_in from.value;
+                  to = place_in to.value;
+                  seed = seed;
+                  w = w;
+                  h = h;
+                  files =
+                      files;
+                } in
                 let same : Form.TheVariants.Grid made ≡ command = cc in
                 let a = in_grid w h (place_in from.value) inside_from in
                 let b = in_grid w h (place_in to.value) inside_to in
@@ -89,7 +97,13 @@ make_with-fit : (after : ℕ) (seed w h what : Option Given) (command : Command)
     ((e : Given) → h ≡ Some e → (1 ≤ number_in e.value) × (number_in e.value ≤ 1000)) →
     make_with after seed w h what ≡ Ok command → IsFit command
 make_with-fit after (Some seed) (Some w) (Some h) (Some what) command a b c e =
-    let made : MakeCommand = record { seed = number_in seed.value; w = number_in w.value; h = number_in h.value; what = product_in what.value } in
+    let made : MakeCommand = record {
+      seed = number_in seed.value;
+      w = number_in w.value;
+      h = number_in h.value;
+      what =
+          product_in what.value;
+    } in
     let same : Form.TheVariants.Make made ≡ command = cc in
     let wide = b w refl in
     let high = c h refl in
@@ -99,7 +113,8 @@ make_with-fit after (Some seed) None h what command a b c e = absurd (err-not_ok
 make_with-fit after (Some seed) (Some w) None what command a b c e = absurd (err-not_ok after command e)
 make_with-fit after (Some seed) (Some w) (Some h) None command a b c e = absurd (err-not_ok after command e)
 
-code_with-fit : (after : ℕ) (lookups profile : Option Given) (command : Command) → code_with after lookups profile ≡ Ok command → IsFit command
+code_with-fit : (after : ℕ) (lookups profile : Option Given) (command : Command) → code_with after lookups profile ≡ Ok command →
+    IsFit command
 code_with-fit after (Some lookups) (Some profile) command e =
     let made : CodeCommand = record { lookups = file_in lookups; profile = file_in profile } in
     let same : Form.TheVariants.Code made ≡ command = cc in
@@ -120,7 +135,8 @@ route_with-fit after (Some lookups) (Some profile) None query tiles command e = 
 route_with-fit after (Some lookups) (Some profile) (Some roads) None tiles command e = absurd (err-not_ok after command e)
 
 -- a server takes a number of events within its limits
-turns-fit : (turns : Option Given) → ((e : Given) → turns ≡ Some e → (1 ≤ number_in e.value) × (number_in e.value ≤ most_turns)) → (1 ≤ turns_in turns) × (turns_in turns ≤ most_turns)
+turns-fit : (turns : Option Given) → ((e : Given) → turns ≡ Some e → (1 ≤ number_in e.value) × (number_in e.value ≤ most_turns)) →
+    (1 ≤ turns_in turns) × (turns_in turns ≤ most_turns)
 unfolding turns_in
 turns-fit None fit = (omega arith, omega arith)
 turns-fit (Some turns) fit = fit turns refl
@@ -142,7 +158,8 @@ hills_with-fit after (Some seed) None h command a b c e = absurd (err-not_ok aft
 hills_with-fit after (Some seed) (Some w) None command a b c e = absurd (err-not_ok after command e)
 
 -- a server takes as many events as may be, and its profiles have names of their own
-serve_with-fit : (after : ℕ) (lookups roads : Option Given) (profiles tiles : List Named) (listen turns : Option Given) (command : Command) →
+serve_with-fit : (after : ℕ) (lookups roads : Option Given) (profiles tiles : List Named) (listen turns : Option Given) (command :
+    Command) →
     AreProfileFiles profiles → AreOnceAfter [] profiles →
     ((e : Given) → turns ≡ Some e → (1 ≤ number_in e.value) × (number_in e.value ≤ most_turns)) →
     serve_with after lookups roads profiles tiles listen turns ≡ Ok command → IsFit command
@@ -161,7 +178,8 @@ serve_with-fit after (Some lookups) (Some roads) profiles tiles listen turns com
 serve_with-fit after None roads profiles tiles listen turns command named once a e = absurd (err-not_ok after command e)
 serve_with-fit after (Some lookups) None profiles tiles listen turns command named once a e = absurd (err-not_ok after command e)
 
-complete-fit : (name : CommandName) (entries : List Given) (after : ℕ) (command : Command) → AllFit (keys_of name) entries → AreOnceAfter [] (files_in Profile entries) → complete name entries after ≡ Ok command → IsFit command
+complete-fit : (name : CommandName) (entries : List Given) (after : ℕ) (command : Command) → AllFit (keys_of name) entries →
+    AreOnceAfter [] (files_in Profile entries) → complete name entries after ≡ Ok command → IsFit command
 unfolding complete keys_of
 complete-fit Name.Grid entries after command all once e =
     grid_with-fit after (entry_with Seed entries) (entry_with Width entries) (entry_with Height entries)
@@ -176,7 +194,8 @@ complete-fit Name.Hills entries after command all once e =
     hills_with-fit after (entry_with Seed entries) (entry_with Width entries) (entry_with Height entries) command
     (λ x is. (with-fit (keys_of Name.Hills) Seed entries x all is).1) (λ x is. with-fit (keys_of Name.Hills) Width entries x all is)
     (λ x is. with-fit (keys_of Name.Hills) Height entries x all is) e
-complete-fit Name.Code entries after command all once e = code_with-fit after (entry_with Lookups entries) (entry_with Profile entries) command e
+complete-fit Name.Code entries after command all once e =
+    code_with-fit after (entry_with Lookups entries) (entry_with Profile entries) command e
 complete-fit Name.Route entries after command all once e =
     route_with-fit after (entry_with Lookups entries) (entry_with Profile entries) (entry_with Map entries) (entry_with Query entries)
     (files_in Tile entries) command e
@@ -201,6 +220,7 @@ with_words-fit name texts command e =
 -- what is read of the words after a command's name fits
 pub read-is_fit :
     (name : CommandName) (texts : List (List ℕ)) (r : Result Command Refusal) →
-    MatchResult r (λ command. command_with name texts ≡ Ok command) (λ refusal. OnUsage refusal (λ word. command_with name texts ≡ Err word)) → IfOk r IsFit
+    MatchResult r (λ command. command_with name texts ≡ Ok command)
+    (λ refusal. OnUsage refusal (λ word. command_with name texts ≡ Err word)) → IfOk r IsFit
 read-is_fit name texts (Ok command) is = with_words-fit name texts command is
 read-is_fit name texts (Err refusal) is = tt

@@ -25,23 +25,27 @@ plain-begin path =
     }
 
 -- one byte more
-pub plain-more : (path : List ℕ) (start : ℕ) → 0 < start → get_or path (start - 1) 0 ≢ 47 → IsPlainFrom path start → IsPlainFrom path (start - 1)
+pub plain-more : (path : List ℕ) (start : ℕ) → 0 < start → get_or path (start - 1) 0 ≢ 47 → IsPlainFrom path start →
+    IsPlainFrom path (start - 1)
 plain-more path start some byte plain =
     let test : is_plain (get_or path (start - 1) 0) ≡ true = grind (arith, nat_tests) in
     let more = suffix_len-take_yes is_plain path start 0 some plain.within test in
     record { within = omega (arith, plain.within); counted = omega (arith, more, plain.counted, plain.within) }
 
 -- what follows is the base, where a slash stands before it or nothing does
-rest : (path : List ℕ) (start : ℕ) → IsPlainFrom path start → suffix_len is_plain (take start path) ≡ 0 → take (length path - start) (drop start path) ≡ base_name path
+rest : (path : List ℕ) (start : ℕ) → IsPlainFrom path start → suffix_len is_plain (take start path) ≡ 0 →
+    take (length path - start) (drop start path) ≡ base_name path
 rest path start plain none =
     let place : length path - suffix_len is_plain path ≡ start = omega (arith, plain.within, plain.counted, none) in
     let long : length (drop start path) ≤ length path - start = omega (arith, length-drop start path) in
     take_all (length path - start) (drop start path) long ∙ sym (ap (λ k. drop k path) place)
 
-pub base-after_slash : (path : List ℕ) (start : ℕ) → 0 < start → get_or path (start - 1) 0 ≡ 47 → IsPlainFrom path start → take (length path - start) (drop start path) ≡ base_name path
+pub base-after_slash : (path : List ℕ) (start : ℕ) → 0 < start → get_or path (start - 1) 0 ≡ 47 → IsPlainFrom path start →
+    take (length path - start) (drop start path) ≡ base_name path
 base-after_slash path start some byte plain =
     let test : is_plain (get_or path (start - 1) 0) ≡ false = grind (arith, nat_tests) in
     rest path start plain (suffix_len-take_no is_plain path start 0 some plain.within test)
 
-pub base-whole : (path : List ℕ) (start : ℕ) → start ≡ 0 → IsPlainFrom path start → take (length path - start) (drop start path) ≡ base_name path
+pub base-whole : (path : List ℕ) (start : ℕ) → start ≡ 0 → IsPlainFrom path start →
+    take (length path - start) (drop start path) ≡ base_name path
 base-whole path start none plain = rest path start plain (ap (λ k. suffix_len is_plain (take k path)) none)

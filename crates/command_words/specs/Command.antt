@@ -22,34 +22,48 @@ lies_in w h place = nat_lt place.x w && nat_lt place.y h
 abbrev pub file_in : Given → Named
 file_in entry = record { name = entry.text; word = entry.word }
 
--- the two files of a profile, none where neither is there, or the place after the last word where one is missing
+-- the two files of a profile, none where neither is there, or the place after the last word where one is
+-- missing
 abbrev pub files_with : ℕ → Option Given → Option Given → Result (Option CodeCommand) ℕ
-files_with after (Some lookups) (Some profile) = Ok (Some (record { lookups = file_in lookups; profile = file_in profile }))
+files_with after (Some lookups) (Some profile) =
+    Ok (Some (record { lookups = file_in lookups; profile = file_in profile }))
 files_with after None None = Ok None
 files_with after lookups profile = Err after
 
--- the command of a seed, sizes, two places with their words, and files, or the word of the first place outside the grid
-abbrev pub grid_by : ℕ → ℕ → ℕ → Given → Given → Option CodeCommand → Result Command ℕ
+-- the command of a seed, sizes, two places with their words, and files, or the word of the first place
+-- outside the grid
+abbrev pub grid_by : (seed w h : ℕ) (from to : Given) (files : Option CodeCommand) → Result Command ℕ
 grid_by seed w h from to files =
     cond (lies_in w h (place_in from.value))
     (cond (lies_in w h (place_in to.value))
-    (Ok (Form.TheVariants.Grid (record { from = place_in from.value; to = place_in to.value; seed = seed; w = w; h = h; files = files })))
+    (Ok (Form.TheVariants.Grid
+    (record {
+      from = place_in from.value;
+      to = place_in to.value;
+      seed = seed;
+      w = w;
+      h = h;
+      files =
+          files;
+    })))
     (Err to.word))
     (Err from.word)
 
 -- the same where the files may be wanting
-abbrev pub grid_over : ℕ → ℕ → ℕ → Given → Given → Result (Option CodeCommand) ℕ → Result Command ℕ
+abbrev pub grid_over : (seed w h : ℕ) (from to : Given) (files : Result (Option CodeCommand) ℕ)
+    → Result Command ℕ
 grid_over seed w h from to (Ok files) = grid_by seed w h from to files
 grid_over seed w h from to (Err word) = Err word
 
 -- the command of the entries that are there, or the place after the last word where one is missing
-abbrev pub grid_with : ℕ → Option Given → Option Given → Option Given → Option Given → Option Given → Result (Option CodeCommand) ℕ → Result Command ℕ
+abbrev pub grid_with : (after : ℕ) (seed w h from to : Option Given)
+    (files : Result (Option CodeCommand) ℕ) → Result Command ℕ
 grid_with after (Some seed) (Some w) (Some h) (Some from) (Some to) files =
     grid_over (number_in seed.value) (number_in w.value) (number_in h.value) from to files
 grid_with after seed w h from to files = Err after
 
 -- the command of what is to be made of a grid, or the place after the last word where one is missing
-abbrev pub make_with : ℕ → Option Given → Option Given → Option Given → Option Given → Result Command ℕ
+abbrev pub make_with : (after : ℕ) (seed w h what : Option Given) → Result Command ℕ
 make_with after (Some seed) (Some w) (Some h) (Some what) =
     Ok (Form.TheVariants.Make (record {
       seed = number_in seed.value;
@@ -69,8 +83,10 @@ code_with after lookups profile = Err after
 abbrev pub files_in : Key → List Given → List Named
 files_in key entries = map file_in (entries_with key entries)
 
--- the command of a query and the files that it is answered over, or the place after the last word where one is missing
-abbrev pub route_with : ℕ → Option Given → Option Given → Option Given → Option Given → List Named → Result Command ℕ
+-- the command of a query and the files that it is answered over, or the place after the last word where one
+-- is missing
+abbrev pub route_with : (after : ℕ) (lookups profile roads query : Option Given) (tiles : List Named)
+    → Result Command ℕ
 route_with after (Some lookups) (Some profile) (Some roads) (Some query) tiles =
     Ok (Form.TheVariants.Route (record {
       lookups = file_in lookups;
@@ -84,7 +100,8 @@ route_with after lookups profile roads query tiles = Err after
 -- the command of a hilly grid, or the place after the last word where an entry is missing
 abbrev pub hills_with : ℕ → Option Given → Option Given → Option Given → Result Command ℕ
 hills_with after (Some seed) (Some w) (Some h) =
-    Ok (Form.TheVariants.Hills (record { seed = number_in seed.value; w = number_in w.value; h = number_in h.value }))
+    Ok (Form.TheVariants.Hills
+    (record { seed = number_in seed.value; w = number_in w.value; h = number_in h.value }))
 hills_with after seed w h = Err after
 
 -- how many events a server takes at most by an entry that may be missing
@@ -98,7 +115,8 @@ address_of None = codes "127.0.0.1:17777"
 address_of (Some word) = word.name
 
 -- the command of a server, or the place after the last word where the tag table or the map is missing
-abbrev pub serve_with : ℕ → Option Given → Option Given → List Named → List Named → Option Given → Option Given → Result Command ℕ
+abbrev pub serve_with : (after : ℕ) (lookups roads : Option Given) (profiles tiles : List Named)
+    (listen turns : Option Given) → Result Command ℕ
 serve_with after (Some lookups) (Some roads) profiles tiles listen turns =
     Ok (Form.TheVariants.Serve (record {
       lookups = file_in lookups;
@@ -114,14 +132,17 @@ serve_with after lookups roads profiles tiles listen turns = Err after
 unfoldable pub complete : CommandName → List Given → ℕ → Result Command ℕ
 complete Grid entries after =
     grid_with after (entry_with Seed entries) (entry_with Width entries) (entry_with Height entries)
-    (entry_with From entries) (entry_with To entries) (files_with after (entry_with Lookups entries) (entry_with Profile entries))
+    (entry_with From entries) (entry_with To entries)
+    (files_with after (entry_with Lookups entries) (entry_with Profile entries))
 complete Make entries after =
-    make_with after (entry_with Seed entries) (entry_with Width entries) (entry_with Height entries) (entry_with What entries)
+    make_with after (entry_with Seed entries) (entry_with Width entries) (entry_with Height entries)
+    (entry_with What entries)
 complete Code entries after = code_with after (entry_with Lookups entries) (entry_with Profile entries)
 complete Route entries after =
     route_with after (entry_with Lookups entries) (entry_with Profile entries) (entry_with Map entries)
     (entry_with Query entries) (files_in Tile entries)
-complete Hills entries after = hills_with after (entry_with Seed entries) (entry_with Width entries) (entry_with Height entries)
+complete Hills entries after =
+    hills_with after (entry_with Seed entries) (entry_with Width entries) (entry_with Height entries)
 complete Serve entries after =
     serve_with after (entry_with Lookups entries) (entry_with Map entries) (files_in Profile entries)
     (files_in Tile entries) (entry_with Listen entries) (entry_with Turns entries)
@@ -143,9 +164,9 @@ abbrev pub command_by : Option CommandName → List (List ℕ) → Result Comman
 command_by None texts = Err 0
 command_by (Some command) texts = command_with command texts
 
--- the command of words: its name, and then its keys with their values, each as often as its row wants it; else the place
--- of the first word at fault; where none is, the place after the last, if a key is missing; else the word of a place
--- outside the grid
+-- the command of words: its name, and then its keys with their values, each as often as its row wants it;
+-- else the place of the first word at fault; where none is, the place after the last, if a key is missing;
+-- else the word of a place outside the grid
 abbrev pub command_of : List (List ℕ) → Result Command ℕ
 command_of [] = Err 0
 command_of (name ∷ texts) = command_by (command_named name) texts

@@ -22,12 +22,14 @@ stem name = cond (ends_with nat_eq name (codes ".brf")) (take (length name - 4) 
 abbrev pub is_name_byte : ℕ → Bool
 is_name_byte byte =
     (nat_le 48 byte && nat_le byte 57)
-    || ((nat_le 65 byte && nat_le byte 90) || ((nat_le 97 byte && nat_le byte 122) || ((byte == 95) || (byte == 45))))
+    || ((nat_le 65 byte && nat_le byte 90) ||
+    ((nat_le 97 byte && nat_le byte 122) || ((byte == 95) || (byte == 45))))
 
 -- a name for a profile: 1 to 64 such bytes, which don't begin like the names of uploaded ones
 abbrev pub is_profile_name : List ℕ → Bool
 is_profile_name name =
-    nat_lt 0 (length name) && (nat_le (length name) 64 && (list_all is_name_byte name && not (starts_with nat_eq name (codes "custom_"))))
+    nat_lt 0 (length name) && (nat_le (length name) 64 &&
+    (list_all is_name_byte name && not (starts_with nat_eq name (codes "custom_"))))
 
 -- the name of the profile of a file: its last part, without a last `.brf`
 abbrev pub profile_name : List ℕ → List ℕ

@@ -1,5 +1,5 @@
--- The numbers of a command are within their limits, its places in its grid, and its profiles have names of their own.
--- This project's own rule.
+-- The numbers of a command are within their limits, its places in its grid, and its profiles have names of
+-- their own. This project's own rule.
 use Rattle.std.specs.List.{list_any}
 use Rattle.std.specs.Prelude.{◌≡◌, ℕ, ◌≤◌, ◌<◌, Bool, true, false, List, [], ◌∷◌, ◌++◌}
 use Rattle.command_words.specs.FileNames.{is_profile_file, profile_name}
@@ -40,7 +40,8 @@ is_among names name = list_any (λ other. same_text other name) names
 abbrev pub AreOnceAfter : List (List ℕ) → List Named → Type 0
 AreOnceAfter before [] = Unit {0}
 AreOnceAfter before (file ∷ files) =
-    (is_among before (profile_name file.name) ≡ false) × AreOnceAfter (before ++ profile_name file.name ∷ []) files
+    (is_among before (profile_name file.name) ≡ false) ×
+    AreOnceAfter (before ++ profile_name file.name ∷ []) files
 
 -- the events that a server takes are within their limits, and its profiles have names, each its own
 pub record IsServeFit (command : ServeCommand) : Type 0 where
@@ -49,7 +50,8 @@ pub record IsServeFit (command : ServeCommand) : Type 0 where
   pub named : AreProfileFiles command.profiles
   pub once : AreOnceAfter [] command.profiles
 
--- the numbers of a command are within their limits, its places in its grid, and its profiles have names of their own
+-- the numbers of a command are within their limits, its places in its grid, and its profiles have names of
+-- their own
 abbrev pub IsFit : Command → Type 0
 IsFit (Form.TheVariants.Grid command) = IsGridFit command
 IsFit (Form.TheVariants.Make command) = IsSized command.seed command.w command.h

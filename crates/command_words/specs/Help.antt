@@ -20,7 +20,8 @@ form_text Address = codes "ADDRESS"
 -- a key with the form of its value, in brackets where it isn't wanted
 abbrev pub key_text : KeyRow → List ℕ
 key_text row =
-    cond (row.least == 0) (codes " [") (codes " ") ++ (key_name row.key ++ (61 ∷ (form_text row.form ++ cond (row.least == 0) (codes "]") [])))
+    cond (row.least == 0) (codes " [") (codes " ") ++
+    (key_name row.key ++ (61 ∷ (form_text row.form ++ cond (row.least == 0) (codes "]") [])))
 
 -- keys, one after the other
 abbrev pub keys_text : List KeyRow → List ℕ

@@ -18,7 +18,8 @@ same_key a b = sameb the_type a b
 
 -- all keys
 abbrev pub all_keys : List Key
-all_keys = Seed ∷ Width ∷ Height ∷ From ∷ To ∷ What ∷ Lookups ∷ Profile ∷ Map ∷ Query ∷ Tile ∷ Listen ∷ Turns ∷ []
+all_keys =
+    Seed ∷ Width ∷ Height ∷ From ∷ To ∷ What ∷ Lookups ∷ Profile ∷ Map ∷ Query ∷ Tile ∷ Listen ∷ Turns ∷ []
 
 -- the key that a text names
 unfoldable pub key_of : List ℕ → Option Key
@@ -80,20 +81,21 @@ has_all keys entries = list_all (λ r. nat_le r.least (count_of r.key entries)) 
 -- both name profiles, of one name
 abbrev pub same_profile : Given → Given → Bool
 same_profile a b =
-    same_key a.key Profile && (same_key b.key Profile && same_text (profile_name a.text) (profile_name b.text))
+    same_key a.key Profile && (same_key b.key Profile &&
+    same_text (profile_name a.text) (profile_name b.text))
 
 -- one of these names a profile of the same name
 abbrev pub has_profile_of : Given → List Given → Bool
 has_profile_of entry entries = list_any (λ other. same_profile other entry) entries
 
--- what a word gives may follow what others give: its key is wanted once more, and none of them names a profile of the
--- same name
+-- what a word gives may follow what others give: its key is wanted once more, and none of them names a
+-- profile of the same name
 unfoldable pub may_follow : List KeyRow → List Given → Given → Bool
 may_follow keys before entry =
     nat_lt (count_of entry.key before) (most_of keys entry.key) && not (has_profile_of entry before)
 
--- what words give that follow others, or the place of the first word at fault: one that gives nothing, or what may not
--- follow
+-- what words give that follow others, or the place of the first word at fault: one that gives nothing, or
+-- what may not follow
 abbrev pub entries_after : List KeyRow → List Given → List (List ℕ) → Result (List Given) ℕ
 entries_after keys before [] = Ok before
 entries_after keys before (text ∷ texts) =
@@ -109,7 +111,7 @@ abbrev pub whole_by : List KeyRow → ℕ → Result (List Given) ℕ → Result
 whole_by keys after (Err word) = Err word
 whole_by keys after (Ok entries) = cond (has_all keys entries) (Ok entries) (Err after)
 
--- what the words after a command give over the rows of its keys, or the place of the first word at fault; where none
--- is, the place after the last, if a key is missing
+-- what the words after a command give over the rows of its keys, or the place of the first word at fault;
+-- where none is, the place after the last, if a key is missing
 abbrev pub entries_of : List KeyRow → List (List ℕ) → Result (List Given) ℕ
 entries_of keys texts = whole_by keys (length texts + 1) (entries_after keys [] texts)

@@ -48,25 +48,33 @@ most_turns = 2 ^ 63
 -- the keys of a command
 unfoldable pub keys_of : CommandName → List KeyRow
 keys_of Grid =
-    once Seed (form.Number 0 65535) ∷ once Width (form.Number 1 1000) ∷ once Height (form.Number 1 1000) ∷ once From form.Place ∷ once To form.Place
+    once Seed (form.Number 0 65535) ∷ once Width (form.Number 1 1000) ∷ once Height
+    (form.Number 1 1000) ∷ once From form.Place ∷ once To form.Place
     ∷ up_to 1 Lookups form.File ∷ up_to 1 Profile form.ProfileFile ∷ []
 keys_of Make =
-    once Seed (form.Number 0 65535) ∷ once Width (form.Number 1 1000) ∷ once Height (form.Number 1 1000) ∷ once What form.Product ∷ []
+    once Seed (form.Number 0 65535) ∷ once Width (form.Number 1 1000) ∷ once Height
+    (form.Number 1 1000) ∷ once What form.Product ∷ []
 keys_of Code = once Lookups form.File ∷ once Profile form.ProfileFile ∷ []
 keys_of Route =
-    once Lookups form.File ∷ once Profile form.ProfileFile ∷ once Map form.File ∷ once Query form.Query ∷ up_to 64 Tile form.File ∷ []
-keys_of Hills = once Seed (form.Number 0 65535) ∷ once Width (form.Number 1 1000) ∷ once Height (form.Number 1 1000) ∷ []
+    once Lookups form.File ∷ once Profile form.ProfileFile ∷ once Map form.File ∷ once Query
+    form.Query ∷ up_to 64 Tile form.File ∷ []
+keys_of Hills = once Seed (form.Number 0 65535) ∷ once Width (form.Number 1 1000) ∷ once Height
+    (form.Number 1 1000) ∷ []
 keys_of Serve =
     once Lookups form.File ∷ once Map form.File ∷ up_to 64 Profile form.ProfileFile ∷ up_to 64 Tile form.File
     ∷ up_to 1 Listen form.Address ∷ up_to 1 Turns (form.Number 1 most_turns) ∷ []
 
 -- what a command does
 unfoldable pub about_of : CommandName → List ℕ
-about_of Grid = codes "prints a shortest walk across the grid of w by h cells of a seed, or a cheapest one by a profile"
-about_of Make = codes "writes the map of the grid of w by h cells of a seed, or the tile of heights of the seed"
+about_of Grid =
+    codes "prints a shortest walk across the grid of w by h cells of a seed, or a cheapest one by a profile"
+about_of Make =
+    codes "writes the map of the grid of w by h cells of a seed, or the tile of heights of the seed"
 about_of Code = codes "prints the flat code of a profile under a tag table"
 about_of Route = codes "answers a query over a map by a profile, with heights from tiles"
-about_of Hills = codes "prints what the cheapest track costs from corner to corner of the hilly grid of w by h cells of a seed"
+about_of Hills =
+    codes
+    "prints what the cheapest track costs from corner to corner of the hilly grid of w by h cells of a seed"
 about_of Serve = codes "answers routes over HTTP, and takes profiles"
 
 -- the commands that are built

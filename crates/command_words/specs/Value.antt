@@ -1,4 +1,5 @@
--- The values of keys: numbers, places, what is made, names of files, queries and addresses. This project's own rule.
+-- The values of keys: numbers, places, what is made, names of files, queries and addresses. This project's
+-- own rule.
 use Rattle.std.specs.List.{before_first, after_first, position_or_len}
 use Rattle.std.specs.Prelude.{ℕ, ◌+◌, ◌-◌, ◌*◌, ◌==◌, Bool, true, false, cond, ◌&&◌, nat_lt, nat_le, nat_eq, Option, Some, None, List, [], ◌∷◌, length, take, drop, position, codes}
 use lib.Pointwise.{pointwise}
@@ -29,7 +30,8 @@ all_digits (byte ∷ bytes) = is_digit byte && all_digits bytes
 -- the number of a text of 1 to 19 digits, which may begin with zeros
 unfoldable pub number_of : List ℕ → Option ℕ
 number_of text =
-    cond (nat_le 1 (length text) && nat_le (length text) 19 && all_digits text) (Some (number_from 0 text)) None
+    cond (nat_le 1 (length text) && nat_le (length text) 19 && all_digits text) (Some (number_from 0 text))
+    None
 
 -- the number, where it lies between these two
 abbrev pub within : ℕ → ℕ → Option ℕ → Option ℕ
@@ -67,7 +69,8 @@ place_value (Some place) = Some (At place)
 
 -- what a text names to be made
 unfoldable pub product_of : List ℕ → Option Product
-product_of text = cond (same_text text (codes "map")) (Some Map) (cond (same_text text (codes "hgt")) (Some Hgt) None)
+product_of text = cond (same_text text (codes "map")) (Some Map)
+    (cond (same_text text (codes "hgt")) (Some Hgt) None)
 
 -- what is made as a value
 abbrev pub product_value : Option Product → Option Value

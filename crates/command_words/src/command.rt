@@ -13,8 +13,8 @@ use crate::value::{Place, Product};
 use item_list::Items;
 use std::alloc::{AllocError, Global};
 
-/// The command `grid`: the grid of a seed with `w` cells in a row and `h` rows, two places in it, and the files of a
-/// profile, if it is to go by one.
+/// The command `grid`: the grid of a seed with `w` cells in a row and `h` rows, two places in it,
+/// and the files of a profile, if it is to go by one.
 #[derive(Drop)]
 pub struct GridCommand<'a> {
     pub from: Place,
@@ -25,7 +25,8 @@ pub struct GridCommand<'a> {
     pub files: Option<CodeCommand<'a>>,
 }
 
-/// The command `make`: the grid of a seed with `w` cells in a row and `h` rows, and what is made of it.
+/// The command `make`: the grid of a seed with `w` cells in a row and `h` rows, and what is made of
+/// it.
 #[derive(Clone, Copy)]
 pub struct MakeCommand {
     pub seed: u64,
@@ -41,7 +42,8 @@ pub struct CodeCommand<'a> {
     pub profile: FileWord<'a>,
 }
 
-/// The command `route`: the files of the tag table, of the profile, of the map and of the tiles, and a query.
+/// The command `route`: the files of the tag table, of the profile, of the map and of the tiles,
+/// and a query.
 #[derive(Drop)]
 pub struct RouteCommand<'a> {
     pub lookups: FileWord<'a>,
@@ -59,8 +61,8 @@ pub struct HillsCommand {
     pub h: u64,
 }
 
-/// The command `serve`: the files of the tag table, of the map, of the profiles and of the tiles, where to listen, if
-/// that is told, and how many events are taken at most.
+/// The command `serve`: the files of the tag table, of the map, of the profiles and of the tiles,
+/// where to listen, if that is told, and how many events are taken at most.
 pub struct ServeCommand<'a> {
     pub lookups: FileWord<'a>,
     pub map: FileWord<'a>,

@@ -15,7 +15,8 @@ use crate::rows::{CommandName, Key, MOST_TURNS};
 use crate::value::Place;
 use item_list::Items;
 
-/// The command of this name and these entries, which name these profiles and tiles, before the word at the place
+/// The command of this name and these entries, which name these profiles and tiles, before the word
+/// at the place
 /// `after`.
 #[tactic(auto, unfolding(crate::specs::Command::complete))]
 pub fn complete<'a>(
@@ -57,13 +58,15 @@ fn complete_grid<'a>(entries: &[Entry<'a>], after: u64) -> Result<Command<'a>, u
     grid_by(seed.number(), w.number(), h.number(), from, to, files)
 }
 
-/// The files of a profile, where both are there or neither is, before the word at the place `after`.
+/// The files of a profile, where both are there or neither is, before the word at the place
+/// `after`.
 fn files_with<'a>(
     lookups: Option<&Entry<'a>>,
     profile: Option<&Entry<'a>>,
     after: u64,
 ) -> Result<Option<CodeCommand<'a>>, u64>
-    ensures exact { result ≡ files_with after (option_map now_of lookups.entry) (option_map now_of profile.entry) }
+    ensures exact { result ≡
+        files_with after (option_map now_of lookups.entry) (option_map now_of profile.entry) }
 {
     match lookups {
         Some(lookups) => match profile {
@@ -137,7 +140,8 @@ fn complete_code<'a>(entries: &[Entry<'a>], after: u64) -> Result<Command<'a>, u
     }))
 }
 
-/// The command `route` of these entries, which name these tiles, before the word at the place `after`.
+/// The command `route` of these entries, which name these tiles, before the word at the place
+/// `after`.
 #[tactic(auto, unfolding(crate::specs::Command::complete))]
 fn complete_route<'a>(
     entries: &[Entry<'a>],
@@ -175,7 +179,8 @@ fn complete_hills<'a>(entries: &[Entry<'a>], after: u64) -> Result<Command<'a>, 
     }))
 }
 
-/// The command `serve` of these entries, which name these profiles and tiles, before the word at the place `after`.
+/// The command `serve` of these entries, which name these profiles and tiles, before the word at
+/// the place `after`.
 #[tactic(auto, unfolding(crate::specs::Command::complete))]
 fn complete_serve<'a>(
     entries: &[Entry<'a>],

@@ -4,7 +4,8 @@ ghost use Rattle.std.specs.List.{list_all};
 ghost use Rattle.std.specs.Prelude.{◌≡◌};
 ghost use Rattle.command_words.specs.FileNames.{base_name, is_name_byte, is_profile_file, is_profile_name, profile_name, stem};
 
-/// Whether a text is a path of a profile's file: its last part, without `.brf`, is 1 to 64 letters, digits,
+/// Whether a text is a path of a profile's file: its last part, without `.brf`, is 1 to 64 letters,
+/// digits,
 /// `_` or `-`, and doesn't begin with `custom_`, as the names of uploaded profiles do.
 #[tactic(auto, unfolding(crate::specs::FileNames::is_profile_file))]
 pub fn is_profile_file(path: &[u8]) -> bool

@@ -13,9 +13,11 @@ use std::alloc::{AllocError, Global};
 /// What `--version` tells.
 const VERSION: &str = "route_serve 0.1.0\n";
 
-/// What the words ask to be told instead of a command, as a lone `--help` and a lone `--version` do.
+/// What the words ask to be told instead of a command, as a lone `--help` and a lone `--version`
+/// do.
 pub fn told_text(alloc: Global, words: &[String]) -> Result<Option<Vec<u8>>, AllocError>
-    ensures exact { GivesAny (λ (v : Vec ℕ TheGlobal). v.items) (told_of (texts_of words.now)) result }
+    ensures exact { GivesAny (λ (v : Vec ℕ TheGlobal). v.items) (told_of (texts_of words.now))
+        result }
 {
     match words {
         [word] => told_by(alloc, word.as_bytes()),

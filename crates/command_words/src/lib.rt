@@ -1,4 +1,5 @@
-//! The words of a command line: which command they are, what they give it, and what the program tells of itself.
+//! The words of a command line: which command they are, what they give it, and what the program
+//! tells of itself.
 #![tactic(auto)]
 
 mod command;
@@ -6,6 +7,7 @@ mod completing;
 mod entry;
 mod file_names;
 mod help;
+mod keys;
 mod reader;
 mod rows;
 mod value;

@@ -17,7 +17,8 @@ pub enum Refusal {
     NoMemory,
 }
 
-/// What the words after a command give, each key as often as its row wants it, and no profile's name twice.
+/// What the words after a command give, each key as often as its row wants it, and no profile's
+/// name twice.
 pub fn entries_of<'a>(
     alloc: Global,
     keys: &[KeyRow],
@@ -35,7 +36,8 @@ pub fn entries_of<'a>(
     }
 }
 
-/// What the words after a command give, each key no more often than its row wants it, and no profile's name twice.
+/// What the words after a command give, each key no more often than its row wants it, and no
+/// profile's name twice.
 fn read_entries<'a>(
     alloc: Global,
     keys: &[KeyRow],
@@ -62,8 +64,8 @@ fn read_entries<'a>(
     Ok(entries)
 }
 
-/// Whether what a word gives may follow these: its key is wanted once more, and none of them names a profile of the
-/// same name.
+/// Whether what a word gives may follow these: its key is wanted once more, and none of them names
+/// a profile of the same name.
 #[tactic(auto, unfolding(crate::specs::Reader::may_follow))]
 fn may_follow(keys: &[KeyRow], before: &[Entry], entry: &Entry) -> bool
     ensures exact { result ≡ may_follow keys.now before.now entry.now }

@@ -1,7 +1,9 @@
-//! The commands as rows: their names, and their keys with the form of each value and how often it is wanted.
+//! The commands as rows: their names, and what a key with the form of its value is.
 
 ghost use Rattle.std.specs.Prelude.{◌≡◌};
 ghost use Rattle.command_words.specs.Rows.{about_of, command_name, key_name, keys_of};
+
+use crate::keys::{CODE_KEYS, GRID_KEYS, HILLS_KEYS, MAKE_KEYS, ROUTE_KEYS, SERVE_KEYS};
 
 /// The keys of the words after a command.
 #[derive(Clone, Copy)]
@@ -60,10 +62,8 @@ pub enum CommandName {
     Serve,
 }
 
-/// The most files of a kind of which there may be several.
-const MOST_FILES: usize = 64;
-
-/// The most events that a server may be told to take, and how many it takes at most where it isn't told: 2^63.
+/// The most events that a server may be told to take, and how many it takes at most where it isn't
+/// told: 2^63.
 pub const MOST_TURNS: u64 = 1 << 63;
 
 /// The commands that are built.
@@ -74,204 +74,6 @@ pub const COMMANDS: [CommandName; 6] = [
     CommandName::Route,
     CommandName::Hills,
     CommandName::Serve,
-];
-
-/// The keys of the command `grid`.
-const GRID_KEYS: [KeyRow; 7] = [
-    KeyRow {
-        form: Form::Number {
-            low: 0,
-            high: 65535,
-        },
-        least: 1,
-        most: 1,
-        key: Key::Seed,
-    },
-    KeyRow {
-        form: Form::Number { low: 1, high: 1000 },
-        least: 1,
-        most: 1,
-        key: Key::Width,
-    },
-    KeyRow {
-        form: Form::Number { low: 1, high: 1000 },
-        least: 1,
-        most: 1,
-        key: Key::Height,
-    },
-    KeyRow {
-        form: Form::Place,
-        least: 1,
-        most: 1,
-        key: Key::From,
-    },
-    KeyRow {
-        form: Form::Place,
-        least: 1,
-        most: 1,
-        key: Key::To,
-    },
-    KeyRow {
-        form: Form::File,
-        least: 0,
-        most: 1,
-        key: Key::Lookups,
-    },
-    KeyRow {
-        form: Form::ProfileFile,
-        least: 0,
-        most: 1,
-        key: Key::Profile,
-    },
-];
-
-/// The keys of the command `make`.
-const MAKE_KEYS: [KeyRow; 4] = [
-    KeyRow {
-        form: Form::Number {
-            low: 0,
-            high: 65535,
-        },
-        least: 1,
-        most: 1,
-        key: Key::Seed,
-    },
-    KeyRow {
-        form: Form::Number { low: 1, high: 1000 },
-        least: 1,
-        most: 1,
-        key: Key::Width,
-    },
-    KeyRow {
-        form: Form::Number { low: 1, high: 1000 },
-        least: 1,
-        most: 1,
-        key: Key::Height,
-    },
-    KeyRow {
-        form: Form::Product,
-        least: 1,
-        most: 1,
-        key: Key::What,
-    },
-];
-
-/// The keys of the command `code`.
-const CODE_KEYS: [KeyRow; 2] = [
-    KeyRow {
-        form: Form::File,
-        least: 1,
-        most: 1,
-        key: Key::Lookups,
-    },
-    KeyRow {
-        form: Form::ProfileFile,
-        least: 1,
-        most: 1,
-        key: Key::Profile,
-    },
-];
-
-/// The keys of the command `route`.
-const ROUTE_KEYS: [KeyRow; 5] = [
-    KeyRow {
-        form: Form::File,
-        least: 1,
-        most: 1,
-        key: Key::Lookups,
-    },
-    KeyRow {
-        form: Form::ProfileFile,
-        least: 1,
-        most: 1,
-        key: Key::Profile,
-    },
-    KeyRow {
-        form: Form::File,
-        least: 1,
-        most: 1,
-        key: Key::Map,
-    },
-    KeyRow {
-        form: Form::Query,
-        least: 1,
-        most: 1,
-        key: Key::Query,
-    },
-    KeyRow {
-        form: Form::File,
-        least: 0,
-        most: MOST_FILES,
-        key: Key::Tile,
-    },
-];
-
-/// The keys of the command `hills`.
-const HILLS_KEYS: [KeyRow; 3] = [
-    KeyRow {
-        form: Form::Number {
-            low: 0,
-            high: 65535,
-        },
-        least: 1,
-        most: 1,
-        key: Key::Seed,
-    },
-    KeyRow {
-        form: Form::Number { low: 1, high: 1000 },
-        least: 1,
-        most: 1,
-        key: Key::Width,
-    },
-    KeyRow {
-        form: Form::Number { low: 1, high: 1000 },
-        least: 1,
-        most: 1,
-        key: Key::Height,
-    },
-];
-
-/// The keys of the command `serve`.
-const SERVE_KEYS: [KeyRow; 6] = [
-    KeyRow {
-        form: Form::File,
-        least: 1,
-        most: 1,
-        key: Key::Lookups,
-    },
-    KeyRow {
-        form: Form::File,
-        least: 1,
-        most: 1,
-        key: Key::Map,
-    },
-    KeyRow {
-        form: Form::ProfileFile,
-        least: 0,
-        most: MOST_FILES,
-        key: Key::Profile,
-    },
-    KeyRow {
-        form: Form::File,
-        least: 0,
-        most: MOST_FILES,
-        key: Key::Tile,
-    },
-    KeyRow {
-        form: Form::Address,
-        least: 0,
-        most: 1,
-        key: Key::Listen,
-    },
-    KeyRow {
-        form: Form::Number {
-            low: 1,
-            high: MOST_TURNS,
-        },
-        least: 0,
-        most: 1,
-        key: Key::Turns,
-    },
 ];
 
 impl Key {

@@ -3,8 +3,8 @@ use Rattle.std.proofs.Common.{◌≡◌, None}
 use Rattle.context_check.specs.Checked.{HaveKnownNames, IsAccepted, IsDefined, Subject}
 use Rattle.context_check.specs.Refusal.{names_in, override_refusal, refusal_of, sections_refusal}
 use Rattle.context_check.proofs.DefinedLemmas.{IsDefined-accepted, SectionsPass, or_else-none, sections_pass}
--- two refusals, of which neither comes; names and overrides; the values of a section, and the names that they have
-pub use Rattle.context_check.proofs.DefinedLemmas.{or_else-none, overridden_refusal, SectionsPass}
+-- what arithmetic gives; two refusals, of which neither comes; names and overrides; the values of a section, and the names that they have
+pub use Rattle.context_check.proofs.DefinedLemmas.{IsKnown-arithmetic, or_else-none, overridden_refusal, SectionsPass}
 pub use Rattle.context_check.proofs.NameLemmas.{names_of, names_more, replaced_name, overridden_name, overridden_names, values_names, global_values_names}
 
 -- neither the overrides nor the sections of an accepted profile are at fault

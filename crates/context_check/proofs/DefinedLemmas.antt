@@ -42,7 +42,7 @@ IsKnown-and_then (Ok a) go is next = next a
 IsKnown-and_then (Err fault) go is next = is
 
 -- so is what arithmetic gives
-IsKnown-arithmetic : (r : Result ℤ Arith) → IsKnown (arithmetic r)
+pub IsKnown-arithmetic : (r : Result ℤ Arith) → IsKnown (arithmetic r)
 IsKnown-arithmetic (Ok n) = tt
 IsKnown-arithmetic (Err kind) = tt
 

@@ -2,18 +2,8 @@
 use Rattle.std.proofs.Common.{◌≡◌, ◌∙◌, ◌+◌, ◌<◌, ◌^◌, ℕ, Bool, true, false, cond, List, [], ◌∷◌, ◌++◌, length, length-append, ℤ, Some, None, is_some, refl, sym, ap, subst, arith}
 use Rattle.std.specs.Map.{lookup}
 use Rattle.std.specs.Str.{bytes_eq}
-use Rattle.std.proofs.lemmas.Slice.Eq.{bytes_eq-Decides}
 use Rattle.context_check.specs.Overrides.{is_overridden, HaveDistinctNames, AreOverrides}
-
--- bytes differ both ways
-bytes_eq-turned : (x y : List ℕ) → bytes_eq x y ≡ false → bytes_eq y x ≡ false
-bytes_eq-turned x y test = by_test (bytes_eq y x) refl
-  where
-    by_test : (b : Bool) → bytes_eq y x ≡ b → b ≡ false
-    by_test true same =
-        let e : y ≡ x = (bytes_eq-Decides y x).0 same in
-        let wrong : bytes_eq x y ≡ true = (bytes_eq-Decides x y).1 (sym e) in cc
-    by_test false same = refl
+use Rattle.item_list.proofs.TestLemmas.{bytes_eq-turned}
 
 -- a name without an override differs from the first one's name, and has none further behind
 new_parts : (o : List ℕ × ℤ) (os : List (List ℕ × ℤ)) (name : List ℕ) → is_overridden (o ∷ os) name ≡ false →

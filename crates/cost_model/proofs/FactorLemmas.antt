@@ -9,6 +9,7 @@ use Rattle.cost_model.specs.Facts.{IsCost, AreFacts}
 use Rattle.cost_model.specs.Parts.{IsWeight, MovesWithWeights, moved_of, factor_of, least_factor, least_distance, distance_of}
 use Rattle.cost_model.specs.declared.facts.LinkFacts.{LinkFacts}
 use Rattle.cost_model.proofs.NumberLemmas.{pull_fits, per_metre-grows, cost-fits, cost-wide, pull-wide}
+use Rattle.elev_buffer.proofs.CallerLemmas.{mul-grows}
 
 -- a division rounded down does not fall where what is divided grows
 pub div-grows : (x y : ℤ) → x ≤ℤ y → int_div_euclid x (pos 1000000) ≤ℤ int_div_euclid y (pos 1000000)
@@ -33,14 +34,6 @@ div-exact (negsuc n) low = absurd (omega (arith, ints))
 pub div-within : (x : ℤ) → unsigned_abs x ≤ 3000000000000000000000 → unsigned_abs (int_div_euclid x (pos 1000000)) ≤ 3000000000000000
 div-within (pos a) h = omega (arith, ints, div_below a 1000000 3000000000000001 (omega arith) (omega (arith, ints)))
 div-within (negsuc a) h = omega (arith, ints, div_below a 1000000 3000000000000000 (omega arith) (omega (arith, ints)))
-
--- a product grows with its factor
-pub mul-grows : (k x y : ℤ) → pos 0 ≤ℤ k → x ≤ℤ y → (k *ℤ x) ≤ℤ (k *ℤ y)
-mul-grows (pos k) (pos m) (pos n) low h = omega (arith, ints, mul-le k m k n (omega arith) (omega (arith, ints)))
-mul-grows (pos k) (pos m) (negsuc n) low h = absurd (omega (arith, ints))
-mul-grows (pos k) (negsuc m) (pos n) low h = omega (arith, ints)
-mul-grows (pos k) (negsuc m) (negsuc n) low h = omega (arith, ints, mul-le k (suc n) k (suc m) (omega arith) (omega (arith, ints)))
-mul-grows (negsuc k) x y low h = absurd (omega (arith, ints))
 
 -- a number that is not pulled at all
 pub no_pull : (a b w : ℤ) → a ≡ b → (a -ℤ b) *ℤ w ≡ pos 0
@@ -99,7 +92,8 @@ pub factor-flat : (facts : LinkFacts) (dw uw : ℤ) → IsCost facts.costfactor 
 unfolding moved_of
 factor-flat facts dw uw is d u =
     let low = is.low in
-    let sum : facts.costfactor *ℤ pos 1000000 +ℤ (facts.downfactor -ℤ facts.costfactor) *ℤ dw +ℤ (facts.upfactor -ℤ facts.costfactor) *ℤ uw ≡
+    let sum : facts.costfactor *ℤ pos 1000000 +ℤ (facts.downfactor -ℤ facts.costfactor) *ℤ dw +ℤ (facts.upfactor -ℤ facts.costfactor) *ℤ
+    uw ≡
     facts.costfactor *ℤ pos 1000000 =
     rw (no_pull _ _ dw d, no_pull _ _ uw u) (omega (arith, ints)) in
     let same : moved_of facts dw uw ≡ facts.costfactor = ap (λ x. int_div_euclid x (pos 1000000)) sum ∙ div-exact facts.costfactor low in
@@ -160,7 +154,8 @@ unfolding moved_of least_factor
 least-factor facts dw uw d u =
     let down = pull-least (facts.downfactor -ℤ facts.costfactor) dw d in
     let up = pull-least (facts.upfactor -ℤ facts.costfactor) uw u in
-    let whole = least-div (facts.costfactor +ℤ int_min (pos 0) (facts.downfactor -ℤ facts.costfactor) +ℤ int_min (pos 0) (facts.upfactor -ℤ facts.costfactor))
+    let whole = least-div (facts.costfactor +ℤ int_min (pos 0) (facts.downfactor -ℤ facts.costfactor) +ℤ int_min (pos 0)
+    (facts.upfactor -ℤ facts.costfactor))
     (facts.costfactor *ℤ pos 1000000 +ℤ (facts.downfactor -ℤ facts.costfactor) *ℤ dw +ℤ (facts.upfactor -ℤ facts.costfactor) *ℤ uw)
     (omega (arith, ints)) in
     omega (arith, ints, clamps)

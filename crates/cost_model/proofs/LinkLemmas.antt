@@ -46,11 +46,16 @@ pub record PriceFits (turncost cosine : ℤ) : Type 0 where
   pub quotient : SFits w128 (int_div_euclid (turncost *ℤ (pos 1000000 -ℤ cosine)) (pos 1000000))
 
 -- fit
-pub price_fits : (turncost cosine : ℤ) → unsigned_abs turncost ≤ 1000000000000000 → unsigned_abs cosine ≤ 1000000 → PriceFits turncost cosine
+pub price_fits : (turncost cosine : ℤ) → unsigned_abs turncost ≤ 1000000000000000 → unsigned_abs cosine ≤ 1000000 →
+    PriceFits turncost cosine
 price_fits turncost cosine t k =
     let rest : unsigned_abs (pos 1000000 -ℤ cosine) ≤ 2000000 = omega (arith, ints) in
     let p : unsigned_abs (turncost *ℤ (pos 1000000 -ℤ cosine)) ≤ 1000000000000000 * 2000000 =
-    omega (arith, unsigned_abs-mul turncost (pos 1000000 -ℤ cosine), mul-le (unsigned_abs turncost) (unsigned_abs (pos 1000000 -ℤ cosine)) 1000000000000000 2000000 t rest) in
+    omega (
+      arith,
+      unsigned_abs-mul turncost (pos 1000000 -ℤ cosine),
+      mul-le (unsigned_abs turncost) (unsigned_abs (pos 1000000 -ℤ cosine)) 1000000000000000 2000000 t rest,
+    ) in
     let q = div-within (turncost *ℤ (pos 1000000 -ℤ cosine)) (omega arith) in
     record {
       cost = fits_signed_from_abs w128 _ (omega arith);
@@ -74,7 +79,8 @@ pub added_fits : (rise slope : ℤ) → unsigned_abs rise ≤ 100000000000 → p
 added_fits rise slope r low high = fits_signed_from_abs w64 _ (omega (arith, ints))
 
 -- a rise fits, and so does a fall
-pub rise-fits : (rise : ℤ) → unsigned_abs rise ≤ 100000000000 → SFits w64 rise × SFits w64 (pos 0 -ℤ rise) × (unsigned_abs (pos 0 -ℤ rise) ≤ 100000000000)
+pub rise-fits : (rise : ℤ) → unsigned_abs rise ≤ 100000000000 →
+    SFits w64 rise × SFits w64 (pos 0 -ℤ rise) × (unsigned_abs (pos 0 -ℤ rise) ≤ 100000000000)
 rise-fits rise r = (fits_signed_from_abs w64 _ (omega arith), fits_signed_from_abs w64 _ (omega (arith, ints)), omega (arith, ints))
 
 -- the bounds of what a step gives
@@ -168,18 +174,21 @@ module _ (p : Prices) (facts : LinkFacts) (pair : Pair) (is : IsPrices p) (f : A
   pub descent_fits : StepFits p (down_step (climb_of p facts) pair)
   unfolding climb_of
   descent_fits =
-      step_fits p _ _ pair.down is (slope-low p.reduction is.reduction) (omega (arith, ints, slope-low p.down_cutoff is.down_cutoff, f.rise)) held.down_high
+      step_fits p _ _ pair.down is (slope-low p.reduction is.reduction)
+      (omega (arith, ints, slope-low p.down_cutoff is.down_cutoff, f.rise)) held.down_high
 
   -- so does that of the buffer of climbing
   pub ascent_fits : StepFits p (up_step (climb_of p facts) pair)
   unfolding climb_of
   ascent_fits =
-      step_fits p _ _ pair.up is (slope-low p.reduction is.reduction) (omega (arith, ints, slope-low p.up_cutoff is.up_cutoff, f.rise)) held.up_high
+      step_fits p _ _ pair.up is (slope-low p.reduction is.reduction) (omega (arith, ints, slope-low p.up_cutoff is.up_cutoff, f.rise))
+      held.up_high
 
   -- both steps are those that are computed
   pub steps_are : (d u : Stepped) →
       d ≡ step_of p.limits (climb_of p facts).down_added (climb_of p facts).reduction (to_z w64 (of_z w64 pair.down)) →
-      u ≡ step_of p.limits (climb_of p facts).up_added (climb_of p facts).reduction (to_z w64 (of_z w64 pair.up)) → StepsAre p facts pair d u
+      u ≡ step_of p.limits (climb_of p facts).up_added (climb_of p facts).reduction (to_z w64 (of_z w64 pair.up)) →
+      StepsAre p facts pair d u
   unfolding climb_of
   steps_are d u de ue =
       let dl = held.down_low in
@@ -189,8 +198,10 @@ module _ (p : Prices) (facts : LinkFacts) (pair : Pair) (is : IsPrices p) (f : A
       let most = is.limits.most in
       let narrow : SFits w64 pair.down = fits_signed_from_abs w64 _ (omega (arith, ints)) in
       let also : SFits w64 pair.up = fits_signed_from_abs w64 _ (omega (arith, ints)) in
-      let down : d ≡ down_step (climb_of p facts) pair = de ∙ ap (λ e. step_of p.limits (climb_of p facts).down_added (climb_of p facts).reduction e) (to_z-of_z w64 pair.down narrow) in
-      let up : u ≡ up_step (climb_of p facts) pair = ue ∙ ap (λ e. step_of p.limits (climb_of p facts).up_added (climb_of p facts).reduction e) (to_z-of_z w64 pair.up also) in
+      let down : d ≡ down_step (climb_of p facts) pair = de
+      ∙ ap (λ e. step_of p.limits (climb_of p facts).down_added (climb_of p facts).reduction e) (to_z-of_z w64 pair.down narrow) in
+      let up : u ≡ up_step (climb_of p facts) pair = ue
+      ∙ ap (λ e. step_of p.limits (climb_of p facts).up_added (climb_of p facts).reduction e) (to_z-of_z w64 pair.up also) in
       let df : StepFits p d = rw down (descent_fits) in
       let uf : StepFits p u = rw up (ascent_fits) in
       record {

@@ -53,7 +53,8 @@ pub modes-allow : (f : ℕ → LinkFacts) (n k : ℕ) → k < n → AllowsFacts 
 unfolding modes_before
 modes-allow f n k h =
     record {
-      down = allows-by _ _ (f k).downfactor (f k).costfactor (every-at (λ l. is_down_same (f l)) n k h) (every-at (λ l. is_down_above (f l)) n k h);
+      down = allows-by _ _ (f k).downfactor (f k).costfactor (every-at (λ l. is_down_same (f l)) n k h)
+          (every-at (λ l. is_down_above (f l)) n k h);
       up = allows-by _ _ (f k).upfactor (f k).costfactor (every-at (λ l. is_up_same (f l)) n k h) (every-at (λ l. is_up_above (f l)) n k h);
     }
 
@@ -64,7 +65,8 @@ Joins mode x c r = (same above : Bool) → (IsTrue same → IsTrue above) → mo
 
 -- the modes by one link more
 pub modes-step : (f : ℕ → LinkFacts) (n m : ℕ) (found : Modes) (facts : LinkFacts) (d u : Mode) → AreFacts facts → m ≡ suc n →
-    facts ≡ f n → found ≡ modes_before f n → Joins found.down (to_z w64 (of_z w64 facts.downfactor)) (to_z w64 (of_z w64 facts.costfactor)) d →
+    facts ≡ f n → found ≡ modes_before f n →
+    Joins found.down (to_z w64 (of_z w64 facts.downfactor)) (to_z w64 (of_z w64 facts.costfactor)) d →
     Joins found.up (to_z w64 (of_z w64 facts.upfactor)) (to_z w64 (of_z w64 facts.costfactor)) u →
     ◌≡◌ {A = Modes} (record { down = d; up = u }) (modes_before f m)
 unfolding modes_before
@@ -73,9 +75,11 @@ modes-step f n m found facts d u is em ef e jd ju =
     let down = cost-fits _ is.downfactor in
     let up = cost-fits _ is.upfactor in
     let at_down = jd (every (λ l. is_down_same (f l)) n) (every (λ l. is_down_above (f l)) n)
-    (every-implies (λ l. is_down_same (f l)) (λ l. is_down_above (f l)) n (λ k. same-above (f k).downfactor (f k).costfactor)) (ap (λ (x : Modes). x.down) e) in
+    (every-implies (λ l. is_down_same (f l)) (λ l. is_down_above (f l)) n (λ k. same-above (f k).downfactor (f k).costfactor))
+    (ap (λ (x : Modes). x.down) e) in
     let at_up = ju (every (λ l. is_up_same (f l)) n) (every (λ l. is_up_above (f l)) n)
-    (every-implies (λ l. is_up_same (f l)) (λ l. is_up_above (f l)) n (λ k. same-above (f k).upfactor (f k).costfactor)) (ap (λ (x : Modes). x.up) e) in
+    (every-implies (λ l. is_up_same (f l)) (λ l. is_up_above (f l)) n (λ k. same-above (f k).upfactor (f k).costfactor))
+    (ap (λ (x : Modes). x.up) e) in
     let is_down = simp (to_z-of_z, cost, down) at at_down in
     let is_up = simp (to_z-of_z, cost, up) at at_up in
     rw (em, is_down, is_up, ef) refl

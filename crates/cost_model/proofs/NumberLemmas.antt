@@ -24,7 +24,8 @@ along-narrow length (negsuc n) fits short low high = absurd (omega (arith, ints)
 
 -- what is computed in 128 bits for a large rate
 pub along-wide : (length : ℕ) (rate : ℤ) → SFits w64 rate → length ≤ 100000000 → pos 0 ≤ℤ rate → rate ≤ℤ pos 3000000000000000 →
-    to_z w128 (of_z w128 (int_div (to_z w128 (of_z w128 (to_z w128 length *ℤ to_z w128 (of_z w128 (to_z w64 (of_z w64 rate)))))) (pos 1000)))
+    to_z w128 (of_z w128 (int_div (to_z w128 (of_z w128 (to_z w128 length *ℤ to_z w128 (of_z w128 (to_z w64 (of_z w64 rate))))))
+    (pos 1000)))
     ≡ per_metre length rate
 along-wide length (pos n) fits short low high =
     let small : length * n ≤ 100000000 * 3000000000000000 = mul-le length n 100000000 3000000000000000 short (omega (arith, ints)) in
@@ -91,7 +92,11 @@ pull_fits factor costfactor w f c is =
     let d : unsigned_abs (factor -ℤ costfactor) ≤ 1000000000000000 = omega (arith, ints, f.low, f.high, c.low, c.high) in
     let u : unsigned_abs w ≤ 1000000 = omega (arith, ints, is.low, is.high) in
     let p : unsigned_abs ((factor -ℤ costfactor) *ℤ w) ≤ 1000000000000000 * 1000000 =
-    omega (arith, unsigned_abs-mul (factor -ℤ costfactor) w, mul-le (unsigned_abs (factor -ℤ costfactor)) (unsigned_abs w) 1000000000000000 1000000 d u) in
+    omega (
+      arith,
+      unsigned_abs-mul (factor -ℤ costfactor) w,
+      mul-le (unsigned_abs (factor -ℤ costfactor)) (unsigned_abs w) 1000000000000000 1000000 d u,
+    ) in
     record {
       difference = fits_signed_from_abs w64 _ (omega arith);
       wide = fits_signed_from_abs w128 _ (omega arith);

@@ -48,7 +48,8 @@ millionth-small (pos n) low h =
 millionth-small (negsuc n) low h = absurd (omega (arith, ints))
 
 -- the price of a turn is small
-price-small : (turncost cosine : ℤ) → IsCost turncost → negsuc 999999 ≤ℤ cosine → cosine ≤ℤ pos 1000000 → IsSmall (turn_price turncost cosine)
+price-small : (turncost cosine : ℤ) → IsCost turncost → negsuc 999999 ≤ℤ cosine → cosine ≤ℤ pos 1000000 →
+    IsSmall (turn_price turncost cosine)
 unfolding turn_price
 price-small turncost cosine is low high =
     let cl = is.low in
@@ -56,7 +57,11 @@ price-small turncost cosine is low high =
     let rest : unsigned_abs (pos 1000000 -ℤ cosine) ≤ 2000000 = omega (arith, ints) in
     let cost : unsigned_abs turncost ≤ 1000000000000000 = omega (arith, ints) in
     let p : unsigned_abs (turncost *ℤ (pos 1000000 -ℤ cosine)) ≤ 1000000000000000 * 2000000 =
-    omega (arith, unsigned_abs-mul turncost (pos 1000000 -ℤ cosine), mul-le (unsigned_abs turncost) (unsigned_abs (pos 1000000 -ℤ cosine)) 1000000000000000 2000000 cost rest) in
+    omega (
+      arith,
+      unsigned_abs-mul turncost (pos 1000000 -ℤ cosine),
+      mul-le (unsigned_abs turncost) (unsigned_abs (pos 1000000 -ℤ cosine)) 1000000000000000 2000000 cost rest,
+    ) in
     millionth-small _ (product-low turncost (pos 1000000 -ℤ cosine) cl (omega (arith, ints))) (omega arith)
 
 -- the turn part is small
@@ -115,6 +120,7 @@ parts-hold p facts pair turn initial is f held ts ns =
     let up = un.price in
     record {
       paid = sizes-paid _ turn initial _ _ low (omega (arith, ints)) ts ns f.charge (omega (arith, ints)) (omega (arith, ints));
-      twice = sizes-paid _ turn initial _ _ (omega (arith, ints)) (omega (arith, ints)) ts ns f.charge (omega (arith, ints)) (omega (arith, ints));
+      twice = sizes-paid _ turn initial _ _ (omega (arith, ints)) (omega (arith, ints)) ts ns f.charge (omega (arith, ints))
+          (omega (arith, ints));
       least = least-distance facts _ _ d.weight u.weight;
     }

@@ -1,5 +1,5 @@
 -- What a walk costs when it goes on by one link.
-use Rattle.std.proofs.Common.{◌≡◌, ℕ, zero, suc, ◌+◌, ◌<◌, ◌≤◌, List, [], ◌∷◌, ◌++◌, length, take, Some, refl, ap, ◌∙◌, arith, length-append}
+use Rattle.std.proofs.Common.{◌≡◌, ℕ, zero, suc, ◌+◌, ◌<◌, ◌≤◌, List, [], ◌∷◌, ◌++◌, length, Some, refl, ap, ◌∙◌, arith, length-append}
 use Rattle.std.proofs.lemmas.List.{get_or_append_left, take-append-le}
 use Rattle.elev_buffer.specs.Covers.{after}
 use Rattle.elev_buffer.specs.declared.labels.Pair.{Pair}
@@ -9,6 +9,7 @@ use Rattle.cost_model.specs.Walks.{empty_pair, buffers_along, buffers_after, lin
 use Rattle.cost_model.specs.declared.facts.LinkFacts.{LinkFacts}
 use Rattle.cost_model.specs.declared.parts.Parts.{Parts}
 use Rattle.cost_model.specs.declared.parts.Carry.{Carry}
+use Rattle.std.proofs.Math.Seq.{take-append_seam}
 
 -- the buffers after one link more
 buffers-push : (p : Prices) (f : ℕ → LinkFacts) (pair : Pair) (w : List ℕ) (link : ℕ) →
@@ -24,11 +25,6 @@ length-push w link = omega (arith, length-append w (link ∷ []))
 at-end : (w : List ℕ) (link : ℕ) → link_at (w ++ (link ∷ [])) (length w) ≡ link
 at-end [] link = refl
 at-end (x ∷ w) link = at-end w link
-
--- and those before it are the walk
-take-whole : (w ys : List ℕ) → take (length w) (w ++ ys) ≡ w
-take-whole [] ys = grind arith
-take-whole (x ∷ w) ys = ap (λ xs. x ∷ xs) (take-whole w ys)
 
 -- the link before a position that is not the first
 before-suc : (w : List ℕ) (n m : ℕ) → n ≡ suc m → link_before w n ≡ Some (link_at w m)
@@ -46,7 +42,7 @@ parts-push p f w ys n h =
     rw (before-push w ys n (omega arith), get_or_append_left w ys 0 n h, take-append-le n w ys (omega arith)) refl
 
 -- sums of the same counts
-sum-same : (f g : ℕ → ℕ) (n : ℕ) → ((k : ℕ) → k < n → f k ≡ g k) → sum_before f n ≡ sum_before g n
+pub sum-same : (f g : ℕ → ℕ) (n : ℕ) → ((k : ℕ) → k < n → f k ≡ g k) → sum_before f n ≡ sum_before g n
 sum-same f g zero h = refl
 sum-same f g (suc n) h = rw (sum-same f g n (λ k below. h k (omega arith)), h n (omega arith)) refl
 
@@ -58,11 +54,12 @@ sum-push f g n m last e h is = rw (e, sum-same f g m h, is) refl
 parts-last : (p : Prices) (f : ℕ → LinkFacts) (w : List ℕ) (link : ℕ) →
     parts_at p f (w ++ (link ∷ [])) (length w) ≡ parts_after p (facts_of f (last_link w)) (f link) (buffers_after p f w)
 unfolding parts_at
-parts-last p f w link = rw (before-push w (link ∷ []) (length w) (omega arith), at-end w link, take-whole w (link ∷ [])) refl
+parts-last p f w link = rw (before-push w (link ∷ []) (length w) (omega arith), at-end w link, take-append_seam w (link ∷ [])) refl
 
 -- a walk goes on by any link
 goes : (p : Prices) (f : ℕ → LinkFacts) (w : List ℕ) (link : ℕ) →
-    GoesOn p f w (carry_after p link (f link) (buffers_after p f w)) (parts_after p (facts_of f (last_link w)) (f link) (buffers_after p f w))
+    GoesOn p f w (carry_after p link (f link) (buffers_after p f w))
+    (parts_after p (facts_of f (last_link w)) (f link) (buffers_after p f w))
 goes p f w link =
     record {
       carried = record {

@@ -2,7 +2,8 @@
 use Rattle.std.specs.Prelude.{ℕ, pos, int_lt, Bool, false, not, ◌&&◌, List, get_or}
 use Rattle.cost_model.specs.declared.facts.LinkFacts.{LinkFacts}
 
--- whether the facts of a link let a rider take it: its costfactor is below 10000, and the charge at its end below 1000000
+-- whether the facts of a link let a rider take it: its costfactor is below 10000, and the charge at its end
+-- below 1000000
 unfoldable pub is_passable : LinkFacts → Bool
 is_passable facts = int_lt facts.costfactor (pos 10000000000) && int_lt facts.charge (pos 1000000000000)
 
@@ -15,7 +16,7 @@ abbrev pub open_by : (ℕ → LinkFacts) → List Bool → ℕ → Bool
 open_by facts cut link = is_passable (facts link) && not (is_cut cut link)
 
 -- the second link is forbidden after the first, where turn restrictions count
-abbrev pub forbids_where : Bool → (ℕ → ℕ → Bool) → ℕ → ℕ → Bool
+abbrev pub forbids_where : (turns : Bool) (forbids : ℕ → ℕ → Bool) (first second : ℕ) → Bool
 forbids_where turns forbids first second = turns && forbids first second
 
 -- how many links there are, and which of them are open

@@ -108,9 +108,10 @@ ranked false parts = parts
 abbrev pub cost_of : Parts → ℕ
 cost_of parts = unsigned_abs (sum_of parts)
 
--- what it costs to enter a link after another or as the first, with these buffers, as a count of millionths; the
--- distance is counted twice where the link's segment was used
-abbrev pub entry_cost : Prices → Bool → Option LinkFacts → LinkFacts → Pair → ℕ
+-- what it costs to enter a link after another or as the first, with these buffers, as a count of millionths;
+-- the distance is counted twice where the link's segment was used
+abbrev pub entry_cost : (prices : Prices) (used : Bool) (before : Option LinkFacts) (facts : LinkFacts)
+    (pair : Pair) → ℕ
 entry_cost prices used before facts pair = cost_of (ranked used (parts_after prices before facts pair))
 
 -- a distance part, counted twice where this is asked for
@@ -118,8 +119,8 @@ abbrev pub counted : Bool → ℤ → ℤ
 counted true distance = distance +ℤ distance
 counted false distance = distance
 
--- the low form of what it costs to enter a link, as a count of millionths: the low form of its distance part, counted
--- twice where its segment was used, and the charge of its end
+-- the low form of what it costs to enter a link, as a count of millionths: the low form of its distance part,
+-- counted twice where its segment was used, and the charge of its end
 unfoldable pub least_price : Bool → LinkFacts → ℕ
 least_price used facts = unsigned_abs (counted used (least_distance facts) +ℤ facts.charge)
 

@@ -61,7 +61,8 @@ walk_cost prices facts links = sum_before (cost_at prices facts links) (length l
 
 -- the rank at a position of a walk: the cost, with the distance counted twice where the link's segment
 -- was used
-abbrev pub rank_at : (prices : Prices) (facts : ℕ → LinkFacts) (used : ℕ → Bool) (links : List ℕ) (position : ℕ) → ℕ
+abbrev pub rank_at : (prices : Prices) (facts : ℕ → LinkFacts) (used : ℕ →
+    Bool) (links : List ℕ) (position : ℕ) → ℕ
 rank_at prices facts used links position =
     cost_of (ranked (used (link_at links position)) (parts_at prices facts links position))
 
@@ -83,7 +84,8 @@ carry_after prices link facts pair = let left = after (climb_of prices facts) pa
     record { link = link; down = left.down; up = left.up }
 
 -- this is what a walk carries at its end: its last link and its buffers
-pub record IsCarriedBy (prices : Prices) (facts : ℕ → LinkFacts) (links : List ℕ) (carry : Carry) : Type 0 where
+pub record IsCarriedBy (prices : Prices) (facts : ℕ → LinkFacts) (links : List ℕ) (carry : Carry) :
+    Type 0 where
   pub last : last_link links ≡ Some carry.link
   pub buffers : buffers_after prices facts links ≡ pair_of carry
 
@@ -93,6 +95,7 @@ pub record GoesOn (prices : Prices) (facts : ℕ → LinkFacts) (links : List �
     : Type 0 where
   pub carried : IsCarriedBy prices facts (links ++ (carry.link ∷ [])) carry
   pub parts : parts_at prices facts (links ++ (carry.link ∷ [])) (length links) ≡ added
-  pub cost : walk_cost prices facts (links ++ (carry.link ∷ [])) ≡ walk_cost prices facts links + cost_of added
+  pub cost : walk_cost prices facts (links ++ (carry.link ∷ [])) ≡
+      walk_cost prices facts links + cost_of added
   pub rank : (used : ℕ → Bool) → walk_rank prices facts used (links ++ (carry.link ∷ []))
       ≡ walk_rank prices facts used links + cost_of (ranked (used carry.link) added)

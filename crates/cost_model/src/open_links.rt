@@ -42,7 +42,8 @@ impl<'a, F: FactsOf> OpenLinks for Passages<'a, F> {
     }
 }
 
-/// Whether the facts of a link let a rider take it: its `costfactor` is below 10000, and the charge at its end below
+/// Whether the facts of a link let a rider take it: its `costfactor` is below 10000, and the charge
+/// at its end below
 /// 1000000.
 #[tactic(auto, unfolding(crate::specs::OpenLinks::is_passable))]
 pub fn is_passable(facts: &LinkFacts) -> bool

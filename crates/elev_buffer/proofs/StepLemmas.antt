@@ -87,7 +87,15 @@ pub left-grows : (l : Limits) (r full more : ℤ) → IsLimits l → pos 0 ≤�
 left-grows l r full more is positive grows =
     by_lt_z l.penalty full
     (λ h. by_lt_z l.penalty more
-    (λ k. omega (arith, ints, clamps, left_of-above l r full h, left_of-above l r more k, paid_of-above l r full h, paid_of-above l r more k))
+    (λ k. omega (
+      arith,
+      ints,
+      clamps,
+      left_of-above l r full h,
+      left_of-above l r more k,
+      paid_of-above l r full h,
+      paid_of-above l r more k,
+    ))
     (λ k. absurd (omega (arith, ints))))
     (λ h. by_lt_z l.penalty more
     (λ k. omega (arith, ints, clamps, left_of-below l r full h, left_of-above l r more k, paid_of-above l r more k, is.penalty, is.order))

@@ -141,12 +141,14 @@ rate_by Compensated rate = rate
 rate_by Ordered rate = pos 0
 rate_by Equal rate = pos 0
 
--- whatever the second label makes needless of labels that cost no less than the first, the first makes needless too
+-- whatever the second label makes needless of labels that cost no less than the first, the first makes
+-- needless too
 abbrev pub SupersedesLabel : Terms → Label → Label → Type 0
-SupersedesLabel by a b = (later : Label) → a.cost ≤ℤ later.cost → CoversLabel by b later → CoversLabel by a later
+SupersedesLabel by a b = (later : Label) → a.cost ≤ℤ later.cost → CoversLabel by b later →
+    CoversLabel by a later
 
--- at these prices the first label is no more in each of the three sums of the cost with the price of descent, of climb,
--- and of both; a sum is asked for only where its prices are above 0
+-- at these prices the first label is no more in each of the three sums of the cost with the price of descent,
+-- of climb, and of both; a sum is asked for only where its prices are above 0
 pub record AreSumsBelow (down_rate up_rate : ℤ) (a b : Label) : Type 0 where
   pub down : pos 0 <ℤ down_rate →
       (a.cost +ℤ down_rate *ℤ a.buffers.down) ≤ℤ (b.cost +ℤ down_rate *ℤ b.buffers.down)
@@ -156,8 +158,8 @@ pub record AreSumsBelow (down_rate up_rate : ℤ) (a b : Label) : Type 0 where
       (a.cost +ℤ down_rate *ℤ a.buffers.down +ℤ up_rate *ℤ a.buffers.up)
       ≤ℤ (b.cost +ℤ down_rate *ℤ b.buffers.down +ℤ up_rate *ℤ b.buffers.up)
 
--- both buffers have the order that their modes ask for, and the first label is no more in the three sums at the prices
--- that money can make up for
+-- both buffers have the order that their modes ask for, and the first label is no more in the three sums at
+-- the prices that money can make up for
 pub record IsBelowWherePriced (by : Terms) (a b : Label) : Type 0 where
   pub down : IsInOrder by.modes.down a.buffers.down b.buffers.down
   pub up : IsInOrder by.modes.up a.buffers.up b.buffers.up

@@ -1,4 +1,5 @@
-//! Climbing buffers: what a step pays and keeps, and when one label makes another needless or supersedes it.
+//! Climbing buffers: what a step pays and keeps, and when one label makes another needless or
+//! supersedes it.
 #![tactic(auto)]
 
 mod labels;

@@ -20,7 +20,8 @@ pub fn supersedes(a: &Pair, ca: u128, b: &Pair, cb: u128, kd: i64, ku: i64, mode
         IsBelowWherePriced (terms modes.now kd ku) (label a.now (pos ca)) (label b.now (pos cb)) }
     ensures sound { IsTrue result →
         SupersedesLabel (terms modes.now kd ku) (label a.now (pos ca)) (label b.now (pos cb)) }
-    ensures whole { SupersedesLabel (terms modes.now kd ku) (label a.now (pos ca)) (label b.now (pos cb)) →
+    ensures whole { SupersedesLabel (terms modes.now kd ku) (label a.now (pos ca))
+        (label b.now (pos cb)) →
         IsTrue result }
     ensures reflexive { a.now ≡ b.now → ca ≤ cb → IsTrue result }
 {

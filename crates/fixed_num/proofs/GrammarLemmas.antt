@@ -1,12 +1,13 @@
 -- The parts of a text and the grammar of decimal texts agree.
 use Rattle.std.proofs.Common.{◌≡◌, ℕ, suc, ◌+◌, ◌<◌, Bool, true, false, cond, ◌&&◌, List, [], ◌∷◌, ◌++◌, length, take, drop, nat_eq, refl, sym, ap, ◌∙◌, subst, arith, Option, Some, None}
-use Rattle.std.proofs.lemmas.Bool.{and_parts}
+use Rattle.std.proofs.lemmas.Bool.{and_parts, eqb-true}
 use Rattle.std.proofs.lemmas.Bool.Decides.{nat_tests}
 use Rattle.std.proofs.lemmas.List.{take-append-drop}
 use Rattle.std.proofs.Math.Seq.{take-append_seam, drop-append_seam}
 use Rattle.std.specs.Char.{is_ascii_digit}
 use Rattle.std.specs.Str.{all_ascii_digits}
 use Rattle.fixed_num.specs.Decimal.{Decimal, leading_digits, is_fraction, tail_of, parts_from, unsigned_parts, parts_of, sign_text, fraction_text, IsDecimal, Spells}
+use Rattle.std.proofs.lemmas.Option.{cond_some}
 
 -- ---- Digits at the front
 
@@ -72,19 +73,10 @@ tail_of-fraction_text : (f : List ℕ) → all_ascii_digits f ≡ true → tail_
 tail_of-fraction_text [] digits = refl
 tail_of-fraction_text (c ∷ cs) digits = ap (λ v. cond v (Some (c ∷ cs)) None) digits
 
--- what a test let through passed it
-chosen : (v : Bool) (xs f : List ℕ) → cond v (Some xs) None ≡ Some f → (v ≡ true) × (xs ≡ f)
-chosen true xs f found = (refl, cc)
-chosen false xs f found = (cc, cc)
-
--- a test of equality that holds says that the numbers are equal
-same_number : (m n : ℕ) → nat_eq m n ≡ true → m ≡ n
-same_number m n same = grind (arith, nat_tests)
-
 -- a point with digits is what their text says
 point_text : (c : ℕ) (cs : List ℕ) → nat_eq c 46 ≡ true → is_fraction cs ≡ true → (c ∷ cs ≡ fraction_text cs) × (all_ascii_digits cs ≡ true)
 point_text c [] point digits = (cc, cc)
-point_text c (d ∷ ds) point digits = (ap (λ x. x ∷ d ∷ ds) (same_number c 46 point), digits)
+point_text c (d ∷ ds) point digits = (ap (λ x. x ∷ d ∷ ds) (eqb-true c 46 point), digits)
 
 -- what is found after the digits before the point is written there, and is digits
 pub tail_of_sound : (tail f : List ℕ) → tail_of tail ≡ Some f → (tail ≡ fraction_text f) × (all_ascii_digits f ≡ true)
@@ -92,7 +84,7 @@ tail_of_sound [] f found =
     let none : ◌≡◌ {A = List ℕ} [] f = cc in
     subst (λ (f : List ℕ). (◌≡◌ {A = List ℕ} [] (fraction_text f)) × (all_ascii_digits f ≡ true)) none (refl, refl)
 tail_of_sound (c ∷ cs) f found =
-    let passed : ((nat_eq c 46 && is_fraction cs) ≡ true) × (cs ≡ f) = chosen (nat_eq c 46 && is_fraction cs) cs f found in
+    let passed : ((nat_eq c 46 && is_fraction cs) ≡ true) × (cs ≡ f) = cond_some (nat_eq c 46 && is_fraction cs) cs f found in
     let tests : (nat_eq c 46 ≡ true) × (is_fraction cs ≡ true) = and_parts _ _ passed.0 in
     subst (λ (f : List ℕ). (c ∷ cs ≡ fraction_text f) × (all_ascii_digits f ≡ true)) passed.1 (point_text c cs tests.0 tests.1)
 
@@ -173,7 +165,7 @@ parts_of_sound (c ∷ cs) d found = sound_at (nat_eq c 45) refl found
         record {
           valid = parts.0;
           text_is =
-              ap (λ x. x ∷ cs) (same_number c 45 minus) ∙ ap (λ t. 45 ∷ t) parts.1
+              ap (λ x. x ∷ cs) (eqb-true c 45 minus) ∙ ap (λ t. 45 ∷ t) parts.1
               ∙ ap (λ s. sign_text s ++ (d.whole ++ fraction_text d.fraction)) (sym parts.2);
         }
     sound_at false plain found =

@@ -10,6 +10,8 @@ use Rattle.geo_int.proofs.ArrowLemmas.{arrow_of-IsArrow, length_between-is}
 pub use Rattle.geo_int.proofs.TurnLemmas.{east_le, north_le}
 use Rattle.geo_int.specs.declared.offsets.Arrow.{Arrow}
 use Rattle.geo_int.specs.declared.spots.Spot.{Spot}
+pub use Rattle.geo_int.proofs.ProductLemmas.{unsigned_abs-add}
+pub use Rattle.geo_int.proofs.RootLemmas.{root_up_to-below}
 
 -- a spot's place is on the globe
 pub place_of-IsOnGlobe : (spot : Spot) → IsOnGlobe (place_of spot)

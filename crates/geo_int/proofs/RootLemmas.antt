@@ -36,7 +36,7 @@ step_below : (n k x : ℕ) → x * x ≤ n → cond (nat_le (k * k) n) k x * con
 step_below n k x below = grind (arith, nat_tests)
 
 -- what the search finds has a square within
-root_up_to-below : (n most : ℕ) → root_up_to n most * root_up_to n most ≤ n
+pub root_up_to-below : (n most : ℕ) → root_up_to n most * root_up_to n most ≤ n
 unfolding root_up_to
 root_up_to-below n zero = omega arith
 root_up_to-below n (suc most) = step_below n (suc most) (root_up_to n most) (root_up_to-below n most)

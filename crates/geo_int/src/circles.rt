@@ -17,7 +17,7 @@ pub(crate) struct Offset {
 /// Whether the circle of this centre and radius in millimetres touches the straight way between `a`
 /// and `b`. One with an end more than 300 kilometres from the centre in either part is not touched.
 pub fn touches(a: Spot, b: Spot, centre: Spot, radius: u64) -> bool
-    requires { radius ≤ 100000000 }
+    requires fits { radius ≤ 100000000 }
     ensures exact { result ≡ circle_touches (place_of a) (place_of b) (place_of centre) radius }
 
     // What follows from the definition: the way back is touched too, and so is it by every larger

@@ -40,7 +40,7 @@ pub fn ele(text: &mut Vec<u8>, height: i64) -> Result<(), AllocError>
 
 /// A sign, and hundredths with two decimals.
 fn append_hundredths(text: &mut Vec<u8>, sign: &[u8], size: u64) -> Result<(), AllocError>
-    requires { length sign.now ≤ 1 }
+    requires fits { length sign.now ≤ 1 }
     ensures exact { OnOk result
         (text.new.items ≡ text.old.items ++ (sign.now ++ hundredths_text size)) }
     ensures kept { OnErr result (text.new.items ≡ text.old.items) }
@@ -70,7 +70,7 @@ fn append(text: &mut Vec<u8>, sign: &[u8], whole: &[u8], decimals: &[u8]) -> Res
 
 /// The digit of a number below ten.
 fn digit(n: u16) -> u8
-    requires { n < 10 }
+    requires fits { n < 10 }
     ensures exact { result ≡ 48 + n }
 {
     b'0' + n as u8

@@ -16,5 +16,6 @@ text_from-piece plan from next before piece all is whole =
     append_assoc before piece (text_from plan next) ∙ ap (λ (l : List ℕ). before ++ l) is ∙ whole
 
 -- behind the last part the whole was made
-pub text_from-whole : (plan : Plan) (from : ℕ) (before all : List ℕ) → length (parts_of plan) ≤ from → before ++ text_from plan from ≡ all → before ≡ all
+pub text_from-whole : (plan : Plan) (from : ℕ) (before all : List ℕ) → length (parts_of plan) ≤ from → before ++ text_from plan from ≡ all →
+    before ≡ all
 text_from-whole plan from before all end is = text_from-end plan from before all end is

@@ -1,6 +1,6 @@
 -- The segments of a grid are short.
-use Rattle.std.proofs.Common.{ℕ, zero, suc, ◌≡◌, ◌+◌, ◌*◌, ◌/◌, ◌%◌, ◌<◌, ◌≤◌, Bool, true, false, inl, inr, cond, ℤ, pos, ◌-ℤ◌, ◌*ℤ◌, unsigned_abs, refl, ap, ◌∙◌, arith}
-use Rattle.std.proofs.lemmas.Bool.{cases_lt, ltb-true, leb-true}
+use Rattle.std.proofs.Common.{ℕ, ◌≡◌, ◌+◌, ◌*◌, ◌/◌, ◌%◌, ◌<◌, ◌≤◌, true, inl, inr, ℤ, pos, ◌-ℤ◌, ◌*ℤ◌, unsigned_abs, ap, ◌∙◌, arith}
+use Rattle.std.proofs.lemmas.Bool.{cases_lt, ltb-true}
 use Rattle.std.proofs.lemmas.Int.{ints, unsigned_abs-mul}
 use Rattle.std.proofs.lemmas.Nat.{mul-le, mod-mul-add, mod_below, div-mul-add, div-add-mod'}
 use Rattle.geo_int.specs.Root.{root_up_to, whole_root}
@@ -12,18 +12,7 @@ use Rattle.grid_map.specs.declared.plan.Plan.{Plan}
 use Rattle.grid_map.specs.Plan.{column_of, row_of, is_east, start_of, end_of, has_room, is_there}
 use Rattle.grid_map.specs.Lengths.{cell_place, segment_length}
 use Rattle.grid_map.proofs.StepLemmas.{holds-either, is_there-parts}
-
--- of two numbers the one that a test chooses has a square within
-chosen-square : (b : Bool) (n k rest : ℕ) → (b ≡ true → k * k ≤ n) → rest * rest ≤ n → cond b k rest * cond b k rest ≤ n
-chosen-square true n k rest first second = first refl
-chosen-square false n k rest first second = second
-
--- the square of the root that is found is within
-root_up_to-square : (n most : ℕ) → root_up_to n most * root_up_to n most ≤ n
-unfolding root_up_to
-root_up_to-square n zero = omega arith
-root_up_to-square n (suc most) =
-    chosen-square _ n (suc most) (root_up_to n most) (leb-true (suc most * suc most) n) (root_up_to-square n most)
+use Rattle.geo_int.proofs.CallerLemmas.{root_up_to-below}
 
 -- a root is no greater than a number whose next one's square is above
 whole_root-le : (n most : ℕ) → n < (most + 1) * (most + 1) → whole_root n ≤ most
@@ -31,7 +20,7 @@ unfolding whole_root
 whole_root-le n most above =
     elim (cases_lt most (root_up_to n n)) [
       | inl more ↦ absurd
-          (omega (arith, root_up_to-square n n, mul-le (most + 1) (most + 1) (root_up_to n n) (root_up_to n n) (omega arith) (omega arith)))
+          (omega (arith, root_up_to-below n n, mul-le (most + 1) (most + 1) (root_up_to n n) (root_up_to n n) (omega arith) (omega arith)))
       | inr within ↦ within
     ]
 

@@ -1,5 +1,5 @@
 -- The list of the lengths of a grid's segments.
-use Rattle.std.proofs.Common.{ℕ, ◌≡◌, ◌+◌, ◌*◌, ◌<◌, Bool, true, false, cond, List, [], ◌∷◌, ◌++◌, length, take, get_or, Option, Some, None, option_map, slice_get, unwrap_or, refl, sym, ap, ◌∙◌, subst, arith}
+use Rattle.std.proofs.Common.{ℕ, ◌≡◌, ◌+◌, ◌*◌, ◌<◌, Bool, true, false, cond, List, [], ◌∷◌, ◌++◌, length, take, get_or, Option, Some, None, option_map, slice_get, unwrap_or, sym, ap, ◌∙◌, subst, arith}
 use Rattle.std.proofs.lemmas.List.{length-map, take_more}
 use Rattle.std.proofs.lemmas.Option.{slice_get-map, slice_get_within, get_or_from_slice_get}
 use Rattle.geo_int.specs.Place.{Place}
@@ -15,11 +15,7 @@ use Rattle.grid_map.specs.Walks.{Joins, forth, back, IsGridWalk, stays, goes, Ha
 use Rattle.grid_map.proofs.NumberLemmas.{IsNumber, numbers_of-within, place_of-is}
 use Rattle.grid_map.proofs.StepLemmas.{is_there-parts}
 use Rattle.grid_map.proofs.LengthLemmas.{segment_length-short}
-
--- what a list made from another has at a place comes from what the other has there
-mapped-some : {X Y : Type 0} (f : X → Y) (y : Y) (found : Option X) → option_map f found ≡ Some y → (x : X) × (found ≡ Some x) × (f x ≡ y)
-mapped-some f y None is = cc
-mapped-some f y (Some x) is = (x, refl, cc)
+use Rattle.item_list.proofs.TestLemmas.{option_map-some}
 
 -- the segment at a place, and its number
 pub record IsSegmentAt (plan : Plan) (i : ℕ) (segment : GridSegment) : Type 0 where
@@ -33,7 +29,7 @@ pub segments_of-at :
     (plan : Plan) (i : ℕ) (segment : GridSegment) → slice_get (segments_of plan) i ≡ Some segment → IsSegmentAt plan i segment
 segments_of-at plan i segment read =
     let found =
-    mapped-some (segment_of plan) segment (slice_get (numbers_of plan) i)
+    option_map-some (segment_of plan) segment (slice_get (numbers_of plan) i)
     (sym (slice_get-map (segment_of plan) (numbers_of plan) i) ∙ read) in
     record { k = found.0; at = found.1; is = found.2; number = numbers_of-within plan i found.0 found.1 }
 
@@ -100,7 +96,7 @@ length_list-more costs pushed all i next are at is =
 -- no length reaches the bound of a search
 pub length_list-cheap : (plan : Plan) → 0 < plan.width → AreCheap (length_list plan)
 length_list-cheap plan some place cost at =
-    let found = mapped-some (λ k. Some (segment_length plan k)) (Some cost) (slice_get (numbers_of plan) place)
+    let found = option_map-some (λ k. Some (segment_length plan k)) (Some cost) (slice_get (numbers_of plan) place)
     (sym (slice_get-map (λ k. Some (segment_length plan k)) (numbers_of plan) place) ∙ at) in
     let same : segment_length plan found.0 ≡ cost = cc (found.2) in
     let short = segment_length-short plan found.0 some (numbers_of-within plan place found.0 found.1).there in

@@ -44,14 +44,16 @@ pub part-node : (plan : Plan) (part : ℕ) → part < cells_of plan → get_or (
 part-node plan part within =
     let short : part < length (map (node_part plan) (range_with_len 0 (cells_of plan))) =
     omega (arith, within, length-map-range_with_len (node_part plan) 0 (cells_of plan)) in
-    get_or_append_left (map (node_part plan) (range_with_len 0 (cells_of plan))) (map (way_part plan) (numbers_of plan) ++ last_part ∷ []) [] part short
+    get_or_append_left (map (node_part plan) (range_with_len 0 (cells_of plan))) (map (way_part plan) (numbers_of plan) ++ last_part ∷ [])
+    [] part short
     ∙ get_or-map-range_with_len (node_part plan) 0 (cells_of plan) part part [] within (omega arith)
 
 -- a part behind those of the cells
 part-behind : (plan : Plan) (part : ℕ) → cells_of plan ≤ part →
     get_or (parts_of plan) part [] ≡ get_or (map (way_part plan) (numbers_of plan) ++ last_part ∷ []) (part - cells_of plan) []
 part-behind plan part behind =
-    get_or-append_right (map (node_part plan) (range_with_len 0 (cells_of plan))) (map (way_part plan) (numbers_of plan) ++ last_part ∷ []) (cells_of plan) part []
+    get_or-append_right (map (node_part plan) (range_with_len 0 (cells_of plan))) (map (way_part plan) (numbers_of plan) ++ last_part ∷ [])
+    (cells_of plan) part []
     (length-map-range_with_len (node_part plan) 0 (cells_of plan)) behind
 
 -- the part of the segment at a place
@@ -62,7 +64,8 @@ part-way plan part place segment behind is read =
     let at = segments_of-at plan place segment read in
     let number : at.k ≡ segment.k = ap (λ (s : GridSegment). s.k) at.is in
     let within : place < length (numbers_of plan) = slice_get_within (numbers_of plan) place at.k at.at in
-    let short : place < length (map (way_part plan) (numbers_of plan)) = omega (arith, within, length-map (numbers_of plan) (way_part plan)) in (
+    let short : place < length (map (way_part plan) (numbers_of plan)) =
+    omega (arith, within, length-map (numbers_of plan) (way_part plan)) in (
       sym at.is ∙ ap (segment_of plan) number,
       part-behind plan part behind
           ∙ ap (λ (i : ℕ). get_or (map (way_part plan) (numbers_of plan) ++ last_part ∷ []) i []) (sym is)
@@ -77,7 +80,8 @@ part-last plan part is =
     let count : length (map (way_part plan) (numbers_of plan)) ≡ part - cells_of plan =
     omega (arith, is, length-map (numbers_of plan) (way_part plan), length-map (numbers_of plan) (segment_of plan)) in
     part-behind plan part (omega (arith, is))
-    ∙ get_or-append_right (map (way_part plan) (numbers_of plan)) (last_part ∷ []) (part - cells_of plan) (part - cells_of plan) [] count (omega arith)
+    ∙ get_or-append_right (map (way_part plan) (numbers_of plan)) (last_part ∷ []) (part - cells_of plan) (part - cells_of plan) [] count
+    (omega arith)
     ∙ ap (λ (i : ℕ). get_or (last_part ∷ []) i []) (let e : part - cells_of plan - (part - cells_of plan) ≡ 0 = omega arith in e)
 
 -- what was appended and what is still to come, one part further
@@ -91,7 +95,8 @@ text_from-more plan part old new all within is before =
     ∙ before
 
 -- nothing comes behind the last part
-pub text_from-end : (plan : Plan) (part : ℕ) (old all : List ℕ) → length (parts_of plan) ≤ part → old ++ text_from plan part ≡ all → old ≡ all
+pub text_from-end : (plan : Plan) (part : ℕ) (old all : List ℕ) → length (parts_of plan) ≤ part → old ++ text_from plan part ≡ all →
+    old ≡ all
 unfolding text_from
 text_from-end plan part old all end is =
     sym (append-nil old) ∙ ap (λ (xs : List (List ℕ)). old ++ concat xs) (sym (drop_all part (parts_of plan) end)) ∙ is
@@ -109,9 +114,11 @@ all_below f most n first items low high is =
 
 -- a row after its last sample
 pub row_bytes-whole : (seed row n : ℕ) (first items : List ℕ) → 1201 ≤ n → n ≤ 1201 →
-    items ≡ first ++ concat (map (λ column. sample_bytes (sample_of seed row column)) (range_with_len 0 n)) → items ≡ first ++ row_bytes seed row
+    items ≡ first ++ concat (map (λ column. sample_bytes (sample_of seed row column)) (range_with_len 0 n)) →
+    items ≡ first ++ row_bytes seed row
 unfolding row_bytes
-row_bytes-whole seed row n first items low high is = all_below (λ column. sample_bytes (sample_of seed row column)) 1201 n first items low high is
+row_bytes-whole seed row n first items low high is =
+    all_below (λ column. sample_bytes (sample_of seed row column)) 1201 n first items low high is
 
 -- a tile after its last row
 pub hgt_bytes-whole : (seed n : ℕ) (items : List ℕ) → 1201 ≤ n → n ≤ 1201 →

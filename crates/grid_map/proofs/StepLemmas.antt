@@ -1,6 +1,6 @@
 -- The steps of a cell are the segments that join it to its neighbours.
-use Rattle.std.proofs.Common.{ℕ, zero, suc, ◌≡◌, ◌+◌, ◌*◌, ◌-◌, ◌/◌, ◌%◌, ◌<◌, ◌≤◌, ◌⊎◌, Bool, true, false, ◌&&◌, nat_eq, nat_le, cond, Option, Some, None, refl, sym, ap, ◌∙◌, inl, inr, arith}
-use Rattle.std.proofs.lemmas.Bool.{cases_lt, ltb-true, leb-true, le-leb}
+use Rattle.std.proofs.Common.{ℕ, zero, suc, ◌≡◌, ◌+◌, ◌*◌, ◌-◌, ◌/◌, ◌%◌, ◌<◌, ◌≤◌, ◌⊎◌, Bool, true, false, nat_eq, nat_le, cond, Option, Some, None, refl, sym, ap, ◌∙◌, inl, inr, arith}
+use Rattle.std.proofs.lemmas.Bool.{cases_lt, ltb-true, leb-true, le-leb, and_parts, cond-false}
 use Rattle.std.proofs.lemmas.Bool.Decides.{nat_tests}
 use Rattle.std.proofs.Math.Nat.{div-add-mod, mul-div-le, lt-mul-div-succ, lt_of_mul-lt-mul_left, mul-le-mul_left}
 use Rattle.grid_map.specs.declared.plan.Plan.{Plan}
@@ -94,11 +94,6 @@ pub record IsWithin (plan : Plan) (k : ℕ) : Type 0 where
   pub start : start_of k < cells_of plan
   pub end : end_of plan k < cells_of plan
 
--- the three tests of a segment that is there
-and-true : (a b : Bool) → (a && b) ≡ true → (a ≡ true) × (b ≡ true)
-and-true true b is = (refl, is)
-and-true false b is = cc
-
 -- what holds of either choice under its own test holds of the one that is taken
 pub holds-either : (P : ℕ → Type 0) (b east north : Bool) (m n : ℕ) → (east ≡ true → P m) → (north ≡ true → P n) →
     cond b east north ≡ true → P (cond b m n)
@@ -118,7 +113,7 @@ end_of-within plan k some inside room =
 pub is_there-parts : (plan : Plan) (k : ℕ) → is_there plan k ≡ true → (start_of k < cells_of plan) × (has_room plan k ≡ true)
 unfolding is_there
 is_there-parts plan k there =
-    let parts = and-true _ _ (and-true _ _ there).0 in
+    let parts = and_parts _ _ (and_parts _ _ there).0 in
     (ltb-true _ _ parts.0, parts.1)
 
 -- both cells of a segment that is there lie in the grid
@@ -151,11 +146,6 @@ step_backward-joins plan costs k cell next cost from is =
     let goes = step_backward-goes plan costs k next cost is in
     back k (record { there = goes.there; start = goes.start; end = from; permitted = goes.permitted })
 
--- a choice by a test that fails
-cond-no : {X : Type 0} (b : Bool) (x y : X) → b ≡ false → cond b x y ≡ y
-cond-no true x y is = cc
-cond-no false x y is = refl
-
 -- two different numbers don't pass the test of equality
 nat_eq-no : (m n : ℕ) → n < m → nat_eq m n ≡ false
 nat_eq-no m n above = grind (arith, nat_tests)
@@ -165,9 +155,9 @@ pub step_of-south : (plan : Plan) (costs : Costs) (cell number : ℕ) → 2 < nu
     step_of plan costs cell number ≡ cond (nat_le plan.width cell) (step_backward plan costs (2 * (cell - plan.width) + 1)) None
 unfolding step_of
 step_of-south plan costs cell number last =
-    cond-no _ _ _ (nat_eq-no number 0 (omega arith))
-    ∙ cond-no _ _ _ (nat_eq-no number 1 (omega arith))
-    ∙ cond-no _ _ _ (nat_eq-no number 2 last)
+    cond-false _ _ _ (nat_eq-no number 0 (omega arith))
+    ∙ cond-false _ _ _ (nat_eq-no number 1 (omega arith))
+    ∙ cond-false _ _ _ (nat_eq-no number 2 last)
 
 -- each step of a cell goes along a segment that joins it to where the step leads
 pub step_of-joins : (plan : Plan) (costs : Costs) (cell number next cost : ℕ) →

@@ -6,7 +6,8 @@ use Rattle.grid_map.specs.declared.plan.Plan.{Plan}
 use Rattle.grid_map.specs.Plan.{cells_of, column_of, row_of, start_of, end_of, class_of}
 use Rattle.grid_map.specs.Segments.{numbers_of}
 
--- the element of a cell: a node with degrees of six decimals, a thousandth of a degree for each row and column
+-- the element of a cell: a node with degrees of six decimals, a thousandth of a degree for each row and
+-- column
 unfoldable pub node_text : Plan → ℕ → List ℕ
 node_text plan cell =
     codes "{\"type\":\"node\",\"id\":" ++ (decimal (cell + 1)
@@ -27,7 +28,8 @@ way_text plan k =
     ++ (codes "," ++ (decimal (end_of plan k + 1)
     ++ (codes "],\"tags\":{\"highway\":\"" ++ (class_name (class_of plan.seed k) ++ codes "\"}}")))))))
 
--- what stands before the element of a cell: before the first the first line, before each other the end of a line
+-- what stands before the element of a cell: before the first the first line, before each other the end of a
+-- line
 unfoldable pub front_of : ℕ → List ℕ
 front_of zero = codes "{\"elements\":[\n"
 front_of (suc cell) = codes ",\n"
@@ -44,7 +46,8 @@ way_part plan k = codes ",\n" ++ way_text plan k
 unfoldable pub last_part : List ℕ
 last_part = codes "\n]}\n"
 
--- the parts of the text: the elements of the cells, of the segments in the order of their numbers, and the end
+-- the parts of the text: the elements of the cells, of the segments in the order of their numbers, and the
+-- end
 abbrev pub parts_of : Plan → List (List ℕ)
 parts_of plan =
     map (node_part plan) (range_with_len 0 (cells_of plan))

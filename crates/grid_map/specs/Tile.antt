@@ -3,7 +3,8 @@ use Rattle.std.specs.Prelude.{ℕ, ◌+◌, ◌-◌, ◌*◌, ◌/◌, ◌%◌, 
 use Rattle.std.specs.List.{range_with_len, concat}
 use Rattle.grid_map.specs.Plan.{draw_of}
 
--- the height in whole metres in a row, counted from the south, and a column; three by three of them are the same
+-- the height in whole metres in a row, counted from the south, and a column; three by three of them are the
+-- same
 unfoldable pub sample_of : ℕ → ℕ → ℕ → ℕ
 sample_of seed row column = draw_of seed (row / 3 * 401 + column / 3) / 40
 

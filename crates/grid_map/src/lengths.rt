@@ -28,8 +28,8 @@ pub fn segment_lengths(alloc: Global, grid: &Grid) -> Result<Items<Option<u128>>
 
 /// The length of the segment at this place.
 fn length_at(grid: &Grid, i: u32) -> u128
-    requires { i < length (segments_of grid.now) }
-    ensures { slice_get (length_list grid.now) i ≡ Some (Some result) }
+    requires fits { i < length (segments_of grid.now) }
+    ensures exact { slice_get (length_list grid.now) i ≡ Some (Some result) }
 {
     let segment = grid.segment(i);
     match arrow(grid.spot(segment.a), grid.spot(segment.b)) {

@@ -1,4 +1,5 @@
-//! Grids that a number makes, their segments, the search space of their cells, their maps and their tiles.
+//! Grids that a number makes, their segments, the search space of their cells, their maps and their
+//! tiles.
 #![tactic(auto)]
 
 mod grid;

@@ -40,12 +40,13 @@ impl Grid {
         self.cells() + self.segments() + 1
     }
 
-    /// Appends parts from this one on, as many as the first 65,536 bytes have room for, and gives the number of the
-    /// next part. It takes no memory.
+    /// Appends parts from this one on, as many as the first 65,536 bytes have room for, and gives
+    /// the number of the next part. It takes no memory.
     pub fn append_parts(&self, from: u32, piece: &mut Vec<u8>) -> u32
         requires within { from ≤ length (parts_of self.now) }
         requires room { vec_len piece.old + 65536 ≤ vec_capacity piece.old }
-        ensures value { piece.new.items ++ text_from self.now result ≡ piece.old.items ++ text_from self.now from }
+        ensures value { piece.new.items ++ text_from self.now result ≡ piece.old.items ++
+            text_from self.now from }
         ensures within { result ≤ length (parts_of self.now) }
         ensures some { from < length (parts_of self.now) → from < result }
         ensures kept { vec_capacity piece.old ≤ vec_capacity piece.new }

@@ -65,8 +65,8 @@ impl<'a> GridSpace<'a> {
 
     /// The step along the segment of this number.
     fn forward_step(&self, k: u32) -> Option<(u32, u128)>
-        requires { k < 2 * cells_of self.now.grid.now }
-        ensures { result ≡ step_forward self.now.grid.now (costs_of self.now) k }
+        requires fits { k < 2 * cells_of self.now.grid.now }
+        ensures exact { result ≡ step_forward self.now.grid.now (costs_of self.now) k }
     {
         let cost = self.cost_in(self.forward, k)?;
         Some((self.grid.end(k), cost))
@@ -74,8 +74,8 @@ impl<'a> GridSpace<'a> {
 
     /// The step back along the segment of this number.
     fn backward_step(&self, k: u32) -> Option<(u32, u128)>
-        requires { k < 2 * cells_of self.now.grid.now }
-        ensures { result ≡ step_backward self.now.grid.now (costs_of self.now) k }
+        requires fits { k < 2 * cells_of self.now.grid.now }
+        ensures exact { result ≡ step_backward self.now.grid.now (costs_of self.now) k }
     {
         let cost = self.cost_in(self.backward, k)?;
         Some((k / 2, cost))

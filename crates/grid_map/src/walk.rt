@@ -33,7 +33,7 @@ impl<'a> GridSpace<'a> {
     fn next(&self, cell: u32, number: u32) -> u32
         requires valid { IsTrue ((rules_of self.now).is_valid cell) }
         requires within { number < 4 }
-        ensures { result ≡ state_or ((rules_of self.now).step cell number) cell }
+        ensures exact { result ≡ state_or ((rules_of self.now).step cell number) cell }
     {
         match self.step(&cell, number) {
             Some(found) => found.0,

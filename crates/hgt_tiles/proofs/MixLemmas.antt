@@ -5,14 +5,11 @@ use Rattle.std.proofs.lemmas.Nat.{mul-le}
 use Rattle.std.proofs.lemmas.Int.{ints, unsigned_abs-mul}
 use Rattle.hgt_tiles.specs.Height.{between, has_void, height_around}
 use Rattle.hgt_tiles.specs.declared.heights.Cell.{Cell}
+use Rattle.geo_int.proofs.CallerLemmas.{unsigned_abs-add}
 
 -- a weight times a number within a bound
 weighed : (weight : ℕ) (x : ℤ) (most : ℕ) → unsigned_abs x ≤ most → unsigned_abs (pos weight *ℤ x) ≤ weight * most
 weighed weight x most h = rw (unsigned_abs-mul (pos weight) x) (mul-le weight (unsigned_abs x) weight most (omega arith) h)
-
--- the magnitude of a sum is within the sum of the magnitudes
-unsigned_abs-add : (x y : ℤ) → unsigned_abs (x +ℤ y) ≤ unsigned_abs x + unsigned_abs y
-unsigned_abs-add x y = omega (arith, ints)
 
 -- what the two weighed numbers and their sum stay within
 pub record MixFits (share : ℕ) (x y : ℤ) (most : ℕ) : Type 0 where

@@ -50,7 +50,7 @@ fn spells_corner(part: &[u8]) -> bool
 
 /// Whether the letters and the ending are there.
 fn are_letters(part: &[u8]) -> bool
-    requires { length part.now ≡ 11 }
+    requires fits { length part.now ≡ 11 }
     ensures exact { result ≡ letters_are_there part.now }
 {
     (is_either(part[0], b'N') || is_either(part[0], b'S'))
@@ -63,7 +63,7 @@ fn are_letters(part: &[u8]) -> bool
 
 /// Whether the digits are there.
 fn are_digits(part: &[u8]) -> bool
-    requires { length part.now ≡ 11 }
+    requires fits { length part.now ≡ 11 }
     ensures exact { result ≡ digits_are_there part.now }
 {
     is_digit(part[1])
@@ -75,7 +75,7 @@ fn are_digits(part: &[u8]) -> bool
 
 /// A letter in either case, by its capital.
 fn is_either(byte: u8, capital: u8) -> bool
-    requires { capital ≤ 90 }
+    requires fits { capital ≤ 90 }
     ensures exact { result ≡ is_letter capital byte }
 {
     byte == capital || byte == capital + 32
@@ -83,7 +83,7 @@ fn is_either(byte: u8, capital: u8) -> bool
 
 /// The degrees that the digits of the latitude tell.
 fn degrees_of_latitude(part: &[u8]) -> u16
-    requires { length part.now ≡ 11 }
+    requires fits { length part.now ≡ 11 }
     ensures exact { result ≡ lat_digits part.now }
 {
     digit(part[1]) * 10 + digit(part[2])
@@ -91,7 +91,7 @@ fn degrees_of_latitude(part: &[u8]) -> u16
 
 /// The degrees that the digits of the longitude tell.
 fn degrees_of_longitude(part: &[u8]) -> u16
-    requires { length part.now ≡ 11 }
+    requires fits { length part.now ≡ 11 }
     ensures exact { result ≡ lon_digits part.now }
 {
     digit(part[4]) * 100 + digit(part[5]) * 10 + digit(part[6])

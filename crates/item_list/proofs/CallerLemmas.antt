@@ -31,7 +31,8 @@ EndsWithFront-first old first more new held = record {
 }
 
 -- where the first bytes were appended whole and then a front of more, that is a front of all
-pub EndsWithFront-then : (old first more mid new : List ℕ) → mid ≡ old ++ first → EndsWithFront mid more new → EndsWithFront old (first ++ more) new
+pub EndsWithFront-then : (old first more mid new : List ℕ) → mid ≡ old ++ first → EndsWithFront mid more new →
+    EndsWithFront old (first ++ more) new
 EndsWithFront-then old first more mid new held front = record {
   taken = length first + front.taken;
   held = front.held ∙ ap (λ bytes. bytes ++ take front.taken more) held
@@ -40,6 +41,7 @@ EndsWithFront-then old first more mid new held front = record {
 }
 
 -- the same, where a call that appends the next bytes met want of memory and appended nothing
-pub EndsWithFront-call : {T E : Type 0} (result : Result T E) (old first more mid new : List ℕ) → mid ≡ old ++ first → OnErr result (new ≡ mid) → OnErr result (EndsWithFront old (first ++ more) new)
+pub EndsWithFront-call : {T E : Type 0} (result : Result T E) (old first more mid new : List ℕ) → mid ≡ old ++ first →
+    OnErr result (new ≡ mid) → OnErr result (EndsWithFront old (first ++ more) new)
 EndsWithFront-call result old first more mid new held same =
     on_err_weaker result (λ (e : new ≡ mid). EndsWithFront-first old first more new (e ∙ held)) same

@@ -1,2 +1,3 @@
 pub mod CallerLemmas
 pub mod ListLemmas
+pub mod TestLemmas

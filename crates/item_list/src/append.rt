@@ -40,8 +40,8 @@ pub fn append_wide(text: &mut Vec<u8>, number: u128) -> Result<(), AllocError>
     text.extend_from_slice(buffer.format(number).as_bytes())
 }
 
-/// Appends a signed number in decimal digits, with `-` before one below zero. Where memory runs out, nothing
-/// is appended.
+/// Appends a signed number in decimal digits, with `-` before one below zero. Where memory runs
+/// out, nothing is appended.
 pub fn append_signed(text: &mut Vec<u8>, number: i64) -> Result<(), AllocError>
     ensures exact { OnOk result (text.new.items ≡ text.old.items ++ signed_decimal number) }
     ensures kept { OnErr result (text.new.items ≡ text.old.items) }
@@ -50,10 +50,12 @@ pub fn append_signed(text: &mut Vec<u8>, number: i64) -> Result<(), AllocError>
     text.extend_from_slice(buffer.format(number).as_bytes())
 }
 
-/// Appends a word and a number in decimal digits. Where memory runs out, a front of them may be appended.
+/// Appends a word and a number in decimal digits. Where memory runs out, a front of them may be
+/// appended.
 pub fn append_named(text: &mut Vec<u8>, word: &[u8], number: u64) -> Result<(), AllocError>
     ensures exact { OnOk result (text.new.items ≡ text.old.items ++ (word.now ++ decimal number)) }
-    ensures kept { OnErr result (EndsWithFront text.old.items (word.now ++ decimal number) text.new.items) }
+    ensures kept { OnErr result
+        (EndsWithFront text.old.items (word.now ++ decimal number) text.new.items) }
 {
     append_bytes(text, word)?;
     append_number(text, number)

@@ -1,4 +1,5 @@
-//! One list type for every public field and result that contracts see as a list, names, and what all replies are built of.
+//! One list type for every public field and result that contracts see as a list, names, and what
+//! all replies are built of.
 #![tactic(auto)]
 
 mod append;

@@ -72,7 +72,8 @@ is_verdict step_.False said verdict e v = absurd (none_some e)
 is_verdict step_.Null said verdict e v = absurd (none_some e)
 
 -- what was told is the answer
-pub told_answers : (mid new : Scanner) (bytes : List ℕ) (ended : Bool) (steps : List Step) (answer : JsonStep) → IsAlike mid new → mid.ended ≡ ended → new.failed ≡ false
+pub told_answers : (mid new : Scanner) (bytes : List ℕ) (ended : Bool) (steps : List Step) (answer : JsonStep) → IsAlike mid new →
+    mid.ended ≡ ended → new.failed ≡ false
     → Told answer mid bytes steps → Answers answer new bytes ended steps
 told_answers mid new bytes ended steps answer a t f (told_step step e h) =
     let k = alike_holds mid new bytes (steps ++ (step ∷ [])) a h in
@@ -89,10 +90,12 @@ told_answers mid new bytes ended steps answer a t f (told_verdict said e h r) =
     })
 
 -- where all fixed steps were given, the verdict is told
-pub told_exact : (mid : Scanner) (bytes : List ℕ) (ended : Bool) (steps : List Step) (answer : JsonStep) (verdict : Verdict) → mid.ended ≡ ended
+pub told_exact : (mid : Scanner) (bytes : List ℕ) (ended : Bool) (steps : List Step) (answer : JsonStep) (verdict : Verdict) →
+    mid.ended ≡ ended
     → Told answer mid bytes steps → Reads bytes ended steps verdict → IsVerdict answer verdict
 told_exact mid bytes ended steps answer verdict t (told_step step e h) r =
-    let g : Begins (steps ++ (step ∷ [])) steps = holds_fixed mid bytes (steps ++ (step ∷ [])) h steps verdict (subst (λ z. Reads bytes z steps verdict) (sym t) r) in
+    let g : Begins (steps ++ (step ∷ [])) steps =
+    holds_fixed mid bytes (steps ++ (step ∷ [])) h steps verdict (subst (λ z. Reads bytes z steps verdict) (sym t) r) in
     absurd (no_cons (sym (nothing_more steps (step ∷ g.rest) (g.same ∙ append_assoc steps (step ∷ []) g.rest))))
 told_exact mid bytes ended steps answer verdict t (told_verdict said e h r) q =
     is_verdict answer said verdict e (unique bytes ended steps steps verdict said q (subst (λ z. Reads bytes z steps said) t r)).1

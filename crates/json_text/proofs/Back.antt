@@ -23,7 +23,8 @@ byte_first_back room [] content b marks g = elim (sides (is_space b) _ _ marks g
 byte_first_back room (bracket ∷ opens) content b marks g = first_back bracket (keeping room opens content) b marks g
 
 -- at any place, by a byte
-byte_back : (mode : Mode) (kept : Kept) (b : ℕ) (marks : List Mark) → Goes (byte_move mode kept b) marks → Rest mode kept (Seen (Byte b) ∷ marks)
+byte_back : (mode : Mode) (kept : Kept) (b : ℕ) (marks : List Mark) → Goes (byte_move mode kept b) marks →
+    Rest mode kept (Seen (Byte b) ∷ marks)
 byte_back mode_.Value kept b marks g = elim (sides (is_space b) _ _ marks g) [
   | inl f ↦ value_back kept.room kept.opens b marks f.0 (out_reads f.1)
   | inr f ↦ value_found kept.room kept.opens _ (found_at kept b marks f.1)
@@ -40,7 +41,8 @@ byte_back (mode_.Number part) kept b marks g = number_back part (part_after part
 byte_back (mode_.Text role place) kept b marks g = place_back role place kept b marks g
 
 -- behind a value, by the end of the text
-end_after_back : (room : ℕ) (opens : List Bracket) (marks : List Mark) → Goes (finish_move opens) marks → After room opens (Seen End ∷ marks)
+end_after_back : (room : ℕ) (opens : List Bracket) (marks : List Mark) → Goes (finish_move opens) marks →
+    After room opens (Seen End ∷ marks)
 end_after_back room [] marks g = ([], tt, ap (λ m. Seen End ∷ m) (out_finishes g))
 end_after_back room (bracket ∷ opens) marks g = absurd (out_stuck g)
 

@@ -42,7 +42,8 @@ lead_back : (role : Role) (w : Option ℕ) (lead : Lead) (kept : Kept) (b : ℕ)
     → lead_of b ≡ lead → Goes (lead_move role w lead kept b) marks → InText role kept w (Seen (Byte b) ∷ marks)
 lead_back role w lead_.Quote kept b marks e g = quote_at (out_gives g)
   where
-    quote_at : (rest : List Mark) × (marks ≡ Given (text_step role (kept.content ++ lone w)) ∷ rest) × Rest (mode_behind role) (holding kept []) rest → InText role kept w (Seen (Byte b) ∷ marks)
+    quote_at : (rest : List Mark) × (marks ≡ Given (text_step role (kept.content ++ lone w)) ∷ rest) ×
+        Rest (mode_behind role) (holding kept []) rest → InText role kept w (Seen (Byte b) ∷ marks)
     quote_at (rest, p, k) = ([], rest, tt, cons (quote_is b e) p, behind_is role (holding kept []) rest k)
 lead_back role w lead_.Backslash kept b marks e g = escape_at (out_reads g)
   where
@@ -81,7 +82,19 @@ escape_back role w (escape_.Short y) kept b marks e g = short_at (out_reads g)
   where
     short_at : InText role (with_byte kept w y) None marks → InEscape role kept w (Seen (Byte b) ∷ marks)
     short_at (chars, rest, h, p, k) =
-        inl (y, b, (chars, rest, e, h, ap (λ m. Seen (Byte b) ∷ m) (p ∙ sym (moved_byte role kept.content (lone w) y [] (content_of None chars) chars rest)), k))
+        inl (
+          y,
+          b,
+          (
+            chars,
+            rest,
+            e,
+            h,
+            ap (λ m. Seen (Byte b) ∷ m) (p
+                ∙ sym (moved_byte role kept.content (lone w) y [] (content_of None chars) chars rest)),
+            k,
+          ),
+        )
 escape_back role w escape_.Coded kept b marks e g = coded_at (out_reads g)
   where
     coded_at : RestOfText role (place_.Hex1 w) kept marks → InEscape role kept w (Seen (Byte b) ∷ marks)
@@ -90,7 +103,8 @@ escape_back role w escape_.Coded kept b marks e g = coded_at (out_reads g)
 escape_back role w escape_.Nothing kept b marks e g = absurd (out_stuck g)
 
 -- inside a character of several bytes
-tail_join : (tail : Tail) (b : ℕ) (more : List ℕ) → fits_tail tail b ≡ true → OnTail (tail_after tail) more → AreIn (ranges_of tail) (b ∷ more)
+tail_join : (tail : Tail) (b : ℕ) (more : List ℕ) → fits_tail tail b ≡ true → OnTail (tail_after tail) more →
+    AreIn (ranges_of tail) (b ∷ more)
 tail_join tail_.One b more f t = (f, subst (λ m. AreIn [] m) (sym t) tt)
 tail_join tail_.Two b more f t = (f, t)
 tail_join tail_.Three b more f t = (f, t)
@@ -101,7 +115,8 @@ tail_join tail_.BehindF4 b more f t = (f, t)
 
 -- a byte more of a character
 tail_back : (role : Role) (tail : Tail) (next : Option Tail) (kept : Kept) (b : ℕ) (marks : List Mark)
-    → fits_tail tail b ≡ true → tail_after tail ≡ next → Goes (tail_move role next (holding kept (kept.content ++ (b ∷ [])))) marks → InBytes role kept tail (Seen (Byte b) ∷ marks)
+    → fits_tail tail b ≡ true → tail_after tail ≡ next → Goes (tail_move role next (holding kept (kept.content ++ (b ∷ [])))) marks →
+    InBytes role kept tail (Seen (Byte b) ∷ marks)
 tail_back role tail None kept b marks f e g = none_at (out_reads g)
   where
     none_at : InText role (holding kept (kept.content ++ (b ∷ []))) None marks → InBytes role kept tail (Seen (Byte b) ∷ marks)
@@ -123,7 +138,8 @@ tail_back role tail (Some next) kept b marks f e g = some_at (out_reads g)
       rest,
       tail_join tail b bytes f (subst (λ o. OnTail o bytes) (sym e) t),
       h,
-      ap (λ m. Seen (Byte b) ∷ m) (p ∙ ap (λ x. see bytes (print_chars chars (close_text role x rest))) (append_assoc kept.content (b ∷ []) (bytes ++ content_of None chars))),
+      ap (λ m. Seen (Byte b) ∷ m) (p ∙ ap (λ x. see bytes (print_chars chars (close_text role x rest)))
+          (append_assoc kept.content (b ∷ []) (bytes ++ content_of None chars))),
       k,
     )
 
@@ -144,23 +160,36 @@ place_back role (place_.Hex2 w x) kept b marks g = elim (sides (is_hex b) _ _ ma
   | inr f ↦ absurd (out_stuck f.1)
 ]
   where
-    hex_at : is_hex b ≡ true → RestOfText role (place_.Hex3 w x b) kept marks → RestOfText role (place_.Hex2 w x) kept (Seen (Byte b) ∷ marks)
+    hex_at : is_hex b ≡ true → RestOfText role (place_.Hex3 w x b) kept marks →
+        RestOfText role (place_.Hex2 w x) kept (Seen (Byte b) ∷ marks)
     hex_at e (z, v, (chars, rest, d, h, p, k)) = (b, z, v, (chars, rest, (e, d), h, ap (λ m. Seen (Byte b) ∷ m) p, k))
 place_back role (place_.Hex3 w x y) kept b marks g = elim (sides (is_hex b) _ _ marks g) [
   | inl f ↦ hex_at f.0 (out_reads f.1)
   | inr f ↦ absurd (out_stuck f.1)
 ]
   where
-    hex_at : is_hex b ≡ true → RestOfText role (place_.Hex4 w x y b) kept marks → RestOfText role (place_.Hex3 w x y) kept (Seen (Byte b) ∷ marks)
+    hex_at : is_hex b ≡ true → RestOfText role (place_.Hex4 w x y b) kept marks →
+        RestOfText role (place_.Hex3 w x y) kept (Seen (Byte b) ∷ marks)
     hex_at e (v, (chars, rest, d, h, p, k)) = (b, v, (chars, rest, (e, d), h, ap (λ m. Seen (Byte b) ∷ m) p, k))
 place_back role (place_.Hex4 w x y z) kept b marks g = elim (sides (is_hex b) _ _ marks g) [
   | inl f ↦ hex_at f.0 (out_reads f.1)
   | inr f ↦ absurd (out_stuck f.1)
 ]
   where
-    hex_at : is_hex b ≡ true → InText role (holding kept (kept.content ++ unit_bytes w (unit_of x y z b))) (waits (unit_of x y z b)) marks → RestOfText role (place_.Hex4 w x y z) kept (Seen (Byte b) ∷ marks)
-    hex_at e (chars, rest, h, p, k) =
-        (b, (chars, rest, (e, tt), h, ap (λ m. Seen (Byte b) ∷ m) (p ∙ sym (moved role kept.content (unit_bytes w (unit_of x y z b)) [] chars (waits (unit_of x y z b)) rest)), k))
+    hex_at : is_hex b ≡ true → InText role (holding kept (kept.content ++ unit_bytes w (unit_of x y z b))) (waits (unit_of x y z b)) marks →
+        RestOfText role (place_.Hex4 w x y z) kept (Seen (Byte b) ∷ marks)
+    hex_at e (chars, rest, h, p, k) = (
+      b,
+      (
+        chars,
+        rest,
+        (e, tt),
+        h,
+        ap (λ m. Seen (Byte b) ∷ m) (p
+            ∙ sym (moved role kept.content (unit_bytes w (unit_of x y z b)) [] chars (waits (unit_of x y z b)) rest)),
+        k,
+      ),
+    )
 place_back role (place_.Tail tail) kept b marks g = elim (sides (fits_tail tail b) _ _ marks g) [
   | inl f ↦ tail_back role tail (tail_after tail) kept b marks f.0 refl f.1
   | inr f ↦ absurd (out_stuck f.1)

@@ -62,9 +62,16 @@ opened : (bracket : Bracket) (room : ℕ) (opens : List Bracket) (content : List
 opened bracket zero opens content b marks e g = absurd (out_stuck g)
 opened bracket (suc room) opens content b marks e g = opened_at (out_gives g)
   where
-    opened_at : (rest : List Mark) × (marks ≡ Given (Step.Opens bracket) ∷ rest) × BeforeFirst room (bracket ∷ opens) rest → Found (suc room) opens (Seen (Byte b) ∷ marks)
+    opened_at : (rest : List Mark) × (marks ≡ Given (Step.Opens bracket) ∷ rest) × BeforeFirst room (bracket ∷ opens) rest →
+        Found (suc room) opens (Seen (Byte b) ∷ marks)
     opened_at (inner, p, (entries, rest, h, q, a)) =
-        record { value = Group bracket entries; rest = rest; is = h; printed = cons e (p ∙ ap (λ m. Given (Step.Opens bracket) ∷ m) q); after = a }
+        record {
+          value = Group bracket entries;
+          rest = rest;
+          is = h;
+          printed = cons e (p ∙ ap (λ m. Given (Step.Opens bracket) ∷ m) q);
+          after = a;
+        }
 
 -- what a byte begins goes on to a value
 found : (start : Start) (kept : Kept) (b : ℕ) (marks : List Mark)
@@ -76,7 +83,8 @@ found start_.Quote kept b marks s g = text_at (out_reads g)
 found (start_.Open bracket) kept b marks s g = opened bracket kept.room kept.opens kept.content b marks s g
 found (start_.Word letters) kept b marks s g = word_at (out_reads g)
   where
-    word_at : (rest : List Mark) × (marks ≡ see (letters_left letters) (Given (Step.Word (word_of letters)) ∷ rest)) × After kept.room kept.opens rest → Found kept.room kept.opens (Seen (Byte b) ∷ marks)
+    word_at : (rest : List Mark) × (marks ≡ see (letters_left letters) (Given (Step.Word (word_of letters)) ∷ rest)) ×
+        After kept.room kept.opens rest → Found kept.room kept.opens (Seen (Byte b) ∷ marks)
     word_at (rest, p, a) = record {
       value = Word (word_of letters);
       rest = rest;
@@ -86,7 +94,9 @@ found (start_.Word letters) kept b marks s g = word_at (out_reads g)
     }
 found (start_.Number part) kept b marks s g = number_at (out_reads g)
   where
-    number_at : (bytes : List ℕ) × (rest : List Mark) × Completes bytes part × (marks ≡ see bytes (Given (Step.Number (b ∷ bytes)) ∷ rest)) × After kept.room kept.opens rest → Found kept.room kept.opens (Seen (Byte b) ∷ marks)
+    number_at : (bytes : List ℕ) × (rest : List Mark) × Completes bytes part ×
+        (marks ≡ see bytes (Given (Step.Number (b ∷ bytes)) ∷ rest)) × After kept.room kept.opens rest →
+        Found kept.room kept.opens (Seen (Byte b) ∷ marks)
     number_at (bytes, rest, c, p, a) = record {
       value = Number (b ∷ bytes);
       rest = rest;
@@ -111,26 +121,38 @@ others_spaced bracket room opens b marks e (Next space behind name value others,
 -- a space more in front of all entries
 entries_spaced : (bracket : Bracket) (room : ℕ) (opens : List Bracket) (b : ℕ) (marks : List Mark) → is_space b ≡ true
     → BeforeFirst room (bracket ∷ opens) marks → BeforeFirst room (bracket ∷ opens) (Seen (Byte b) ∷ marks)
-entries_spaced bracket room opens b marks e (Empty space, rest, h, p, a) = (Empty (b ∷ space), rest, (e, h), ap (λ m. Seen (Byte b) ∷ m) p, a)
+entries_spaced bracket room opens b marks e (Empty space, rest, h, p, a) =
+    (Empty (b ∷ space), rest, (e, h), ap (λ m. Seen (Byte b) ∷ m) p, a)
 entries_spaced bracket room opens b marks e (Entry space name value others, rest, h, p, a) =
     (Entry (b ∷ space) name value others, rest, ((e, h.0), h.1, h.2, h.3), ap (λ m. Seen (Byte b) ∷ m) p, a)
 
 -- an entry in front of others
 entry_others : (bracket : Bracket) (kept : Kept) (b : ℕ) (marks : List Mark)
-    → b ≡ 44 → Rest (entry_mode bracket) (keeping kept.room (bracket ∷ kept.opens) kept.content) marks → After kept.room (bracket ∷ kept.opens) (Seen (Byte b) ∷ marks)
+    → b ≡ 44 → Rest (entry_mode bracket) (keeping kept.room (bracket ∷ kept.opens) kept.content) marks →
+    After kept.room (bracket ∷ kept.opens) (Seen (Byte b) ∷ marks)
 entry_others bracket_.Square kept b marks e (space, value, r1, h, v, p, (others, rest, ho, q, a)) =
     (Next [] space NoName value others, rest, (tt, h, tt, v, ho), cons e (p ∙ ap (λ r. see space (print_value value r)) q), a)
-entry_others bracket_.Curly kept b marks e (space, chars, r1, h, hc, p, (c, r2, hs, q, (d, value, r3, hd, v, r, (others, rest, ho, s, a)))) = (
+entry_others bracket_.Curly kept b marks e (
+  space,
+  chars,
+  r1,
+  h,
+  hc,
+  p,
+  (c, r2, hs, q, (d, value, r3, hd, v, r, (others, rest, ho, s, a))),
+) = (
   Next [] space (Named chars c d) value others,
   rest,
   (tt, h, (hc, hs, hd), v, ho),
-  cons e (p ∙ ap (λ x. see space (print_text role_.Name chars x)) (q ∙ ap (λ x. see c (Seen (Byte 58) ∷ x)) (r ∙ ap (λ x. see d (print_value value x)) s))),
+  cons e (p ∙ ap (λ x. see space (print_text role_.Name chars x)) (q
+      ∙ ap (λ x. see c (Seen (Byte 58) ∷ x)) (r ∙ ap (λ x. see d (print_value value x)) s))),
   a,
 )
 
 -- behind an entry
 others_back : (bracket : Bracket) (kept : Kept) (b : ℕ) (marks : List Mark)
-    → Goes (byte_move mode_.After (keeping kept.room (bracket ∷ kept.opens) kept.content) b) marks → After kept.room (bracket ∷ kept.opens) (Seen (Byte b) ∷ marks)
+    → Goes (byte_move mode_.After (keeping kept.room (bracket ∷ kept.opens) kept.content) b) marks →
+    After kept.room (bracket ∷ kept.opens) (Seen (Byte b) ∷ marks)
 others_back bracket kept b marks g = elim (sides (is_space b) _ _ marks g) [
   | inl f ↦ others_spaced bracket kept.room kept.opens b marks f.0 (out_reads f.1)
   | inr f ↦ elim (sides (eqb b (closing bracket)) _ _ marks f.1) [
@@ -142,11 +164,13 @@ others_back bracket kept b marks g = elim (sides (is_space b) _ _ marks g) [
   ]
 ]
   where
-    closed : b ≡ closing bracket → (rest : List Mark) × (marks ≡ Given (Step.Closes bracket) ∷ rest) × After (suc kept.room) kept.opens rest → After kept.room (bracket ∷ kept.opens) (Seen (Byte b) ∷ marks)
+    closed : b ≡ closing bracket → (rest : List Mark) × (marks ≡ Given (Step.Closes bracket) ∷ rest) ×
+        After (suc kept.room) kept.opens rest → After kept.room (bracket ∷ kept.opens) (Seen (Byte b) ∷ marks)
     closed e (rest, p, a) = (Last [], rest, tt, cons e p, a)
 
 -- before a value
-pub value_back : (room : ℕ) (opens : List Bracket) (b : ℕ) (marks : List Mark) → is_space b ≡ true → BeforeValue room opens marks → BeforeValue room opens (Seen (Byte b) ∷ marks)
+pub value_back : (room : ℕ) (opens : List Bracket) (b : ℕ) (marks : List Mark) → is_space b ≡ true → BeforeValue room opens marks →
+    BeforeValue room opens (Seen (Byte b) ∷ marks)
 value_back room opens b marks e (space, value, rest, h, v, p, a) = (b ∷ space, value, rest, (e, h), v, ap (λ m. Seen (Byte b) ∷ m) p, a)
 
 -- a value that is found stands behind no space
@@ -166,29 +190,36 @@ named kept b marks g = elim (sides (eqb b 34) _ _ marks g) [
 
 -- the first entry
 first_entry : (bracket : Bracket) (kept : Kept) (b : ℕ) (marks : List Mark)
-    → Goes (entry_move bracket (keeping kept.room (bracket ∷ kept.opens) kept.content) b) marks → BeforeFirst kept.room (bracket ∷ kept.opens) (Seen (Byte b) ∷ marks)
+    → Goes (entry_move bracket (keeping kept.room (bracket ∷ kept.opens) kept.content) b) marks →
+    BeforeFirst kept.room (bracket ∷ kept.opens) (Seen (Byte b) ∷ marks)
 first_entry bracket_.Square kept b marks g = item (found_at (keeping kept.room (bracket_.Square ∷ kept.opens) kept.content) b marks g)
   where
-    item_at : (value : Value) (r1 : List Mark) → IsValue value kept.room → Seen (Byte b) ∷ marks ≡ print_value value r1 → After kept.room (bracket_.Square ∷ kept.opens) r1
+    item_at : (value : Value) (r1 : List Mark) → IsValue value kept.room → Seen (Byte b) ∷ marks ≡ print_value value r1 →
+        After kept.room (bracket_.Square ∷ kept.opens) r1
         → BeforeFirst kept.room (bracket_.Square ∷ kept.opens) (Seen (Byte b) ∷ marks)
-    item_at value r1 v p (others, rest, ho, q, a) = (Entry [] NoName value others, rest, (tt, tt, v, ho), p ∙ ap (λ r. print_value value r) q, a)
+    item_at value r1 v p (others, rest, ho, q, a) =
+        (Entry [] NoName value others, rest, (tt, tt, v, ho), p ∙ ap (λ r. print_value value r) q, a)
 
-    item : Found kept.room (bracket_.Square ∷ kept.opens) (Seen (Byte b) ∷ marks) → BeforeFirst kept.room (bracket_.Square ∷ kept.opens) (Seen (Byte b) ∷ marks)
+    item : Found kept.room (bracket_.Square ∷ kept.opens) (Seen (Byte b) ∷ marks) →
+        BeforeFirst kept.room (bracket_.Square ∷ kept.opens) (Seen (Byte b) ∷ marks)
     item f = item_at f.value f.rest f.is f.printed f.after
 first_entry bracket_.Curly kept b marks g = member (named (keeping kept.room (bracket_.Curly ∷ kept.opens) kept.content) b marks g)
   where
-    member : BeforeName kept.room (bracket_.Curly ∷ kept.opens) (Seen (Byte b) ∷ marks) → BeforeFirst kept.room (bracket_.Curly ∷ kept.opens) (Seen (Byte b) ∷ marks)
+    member : BeforeName kept.room (bracket_.Curly ∷ kept.opens) (Seen (Byte b) ∷ marks) →
+        BeforeFirst kept.room (bracket_.Curly ∷ kept.opens) (Seen (Byte b) ∷ marks)
     member (space, chars, r1, h, hc, p, (c, r2, hs, q, (d, value, r3, hd, v, r, (others, rest, ho, s, a)))) = (
       Entry space (Named chars c d) value others,
       rest,
       (h, (hc, hs, hd), v, ho),
-      p ∙ ap (λ x. see space (print_text role_.Name chars x)) (q ∙ ap (λ x. see c (Seen (Byte 58) ∷ x)) (r ∙ ap (λ x. see d (print_value value x)) s)),
+      p ∙ ap (λ x. see space (print_text role_.Name chars x)) (q
+          ∙ ap (λ x. see c (Seen (Byte 58) ∷ x)) (r ∙ ap (λ x. see d (print_value value x)) s)),
       a,
     )
 
 -- behind a bracket that opened
 pub first_back : (bracket : Bracket) (kept : Kept) (b : ℕ) (marks : List Mark)
-    → Goes (byte_move mode_.First (keeping kept.room (bracket ∷ kept.opens) kept.content) b) marks → BeforeFirst kept.room (bracket ∷ kept.opens) (Seen (Byte b) ∷ marks)
+    → Goes (byte_move mode_.First (keeping kept.room (bracket ∷ kept.opens) kept.content) b) marks →
+    BeforeFirst kept.room (bracket ∷ kept.opens) (Seen (Byte b) ∷ marks)
 first_back bracket kept b marks g = elim (sides (is_space b) _ _ marks g) [
   | inl f ↦ entries_spaced bracket kept.room kept.opens b marks f.0 (out_reads f.1)
   | inr f ↦ elim (sides (eqb b (closing bracket)) _ _ marks f.1) [
@@ -197,7 +228,8 @@ first_back bracket kept b marks g = elim (sides (is_space b) _ _ marks g) [
   ]
 ]
   where
-    closed : b ≡ closing bracket → (rest : List Mark) × (marks ≡ Given (Step.Closes bracket) ∷ rest) × After (suc kept.room) kept.opens rest → BeforeFirst kept.room (bracket ∷ kept.opens) (Seen (Byte b) ∷ marks)
+    closed : b ≡ closing bracket → (rest : List Mark) × (marks ≡ Given (Step.Closes bracket) ∷ rest) ×
+        After (suc kept.room) kept.opens rest → BeforeFirst kept.room (bracket ∷ kept.opens) (Seen (Byte b) ∷ marks)
     closed e (rest, p, a) = (Empty [], rest, tt, cons e p, a)
 
 -- behind the name of a member
@@ -264,7 +296,8 @@ pub number_back : (part : Part) (next : Option Part) (kept : Kept) (b : ℕ) (ma
 number_back part None kept b marks e g = absurd (no_end part kept marks g)
 number_back part (Some next) kept b marks e g = digit_at (out_reads g)
   where
-    digit_at : Rest (mode_.Number next) (holding kept (kept.content ++ (b ∷ []))) marks → Rest (mode_.Number part) kept (Seen (Byte b) ∷ marks)
+    digit_at : Rest (mode_.Number next) (holding kept (kept.content ++ (b ∷ []))) marks →
+        Rest (mode_.Number part) kept (Seen (Byte b) ∷ marks)
     digit_at (bytes, rest, c, p, a) = (
       b ∷ bytes,
       rest,

@@ -20,7 +20,8 @@ use Rattle.json_text.proofs.ByteTests.{begins_number}
 use Rattle.json_text.proofs.RunLemmas.{Runs, RunsFrom, plain_run, number_run, Onward, run_of, reads_to}
 
 -- a run begins with the byte that comes
-run_cons : (items : List ℕ) (i n : ℕ) → i < n → i < length items → take (n - i) (drop i items) ≡ get_or items i 0 ∷ take (n - (i + 1)) (drop (i + 1) items)
+run_cons : (items : List ℕ) (i n : ℕ) → i < n → i < length items →
+    take (n - i) (drop i items) ≡ get_or items i 0 ∷ take (n - (i + 1)) (drop (i + 1) items)
 run_cons items i n l h =
     let e : n - i ≡ suc (n - (i + 1)) = omega (arith, l) in
     let next : suc i ≡ i + 1 = omega arith in
@@ -59,14 +60,16 @@ behind old new = take (new.read - (old.read + 1)) (drop (old.read + 1) old.input
 
 -- a byte of a number begins one behind a bracket that opened
 digit_first : (room : ℕ) (opens : List Bracket) (content : List ℕ) (b : ℕ) (part : Part) → MayQuote role_.Value mode_.First opens
-    → part_after part_.Nothing (kind_of b) ≡ Some part → byte_move mode_.First (keeping room opens content) b ≡ Reads (mode_.Number part) (keeping room opens (b ∷ []))
+    → part_after part_.Nothing (kind_of b) ≡ Some part →
+    byte_move mode_.First (keeping room opens content) b ≡ Reads (mode_.Number part) (keeping room opens (b ∷ []))
 digit_first room [] content b part m e = absurd cc
 digit_first room (bracket_.Square ∷ opens) content b part m e =
     let n = begins_number b part e in
     let here = keeping room (bracket_.Square ∷ opens) content in
     let entry = start_move (start_of b) here b in
     let closed = Gives (Step.Closes bracket_.Square) mode_.After (keeping (suc room) opens content) in
-    ap (λ t. cond t (Reads mode_.First here) (cond (eqb b 93) closed entry)) n.1 ∙ ap (λ t. cond t closed entry) n.2 ∙ ap (λ s. start_move s here b) n.0
+    ap (λ t. cond t (Reads mode_.First here) (cond (eqb b 93) closed entry)) n.1 ∙ ap (λ t. cond t closed entry) n.2
+    ∙ ap (λ s. start_move s here b) n.0
 digit_first room (bracket_.Curly ∷ opens) content b part m e = absurd cc
 
 -- a byte of a number begins one
@@ -83,7 +86,8 @@ number_begins : (mode : Mode) (kept : Kept) (b : ℕ) (run : List ℕ) (last : P
     → PartsGo part_.Nothing (b ∷ run) last → Runs mode kept (b ∷ run) (mode_.Number last) (b ∷ run)
 number_begins mode kept b run last m g = on (part_after part_.Nothing (kind_of b)) refl g
   where
-    on : (o : Option Part) → part_after part_.Nothing (kind_of b) ≡ o → OnPart o (λ z. PartsGo z run last) → Runs mode kept (b ∷ run) (mode_.Number last) (b ∷ run)
+    on : (o : Option Part) → part_after part_.Nothing (kind_of b) ≡ o → OnPart o (λ z. PartsGo z run last) →
+        Runs mode kept (b ∷ run) (mode_.Number last) (b ∷ run)
     on None e k = absurd k
     on (Some next) e k = (mode_.Number next, b ∷ [], digit_move mode kept b next m e, number_run next (holding kept (b ∷ [])) run last k)
 
@@ -98,7 +102,8 @@ module _ (old new : Scanner) (o : Onward old new) (n : old.read < new.read) wher
       → new.machine.content.items ≡ old.machine.content.items → ReadsOn old new
   pass_on e m c =
       reads_to old new new.machine.mode old.machine.content.items o refl c
-      (subst (λ run. RunsFrom old run new.machine.mode old.machine.content.items) (sym (run_one old.input.items old.read new.read e inside)) m)
+      (subst (λ run. RunsFrom old run new.machine.mode old.machine.content.items) (sym (run_one old.input.items old.read new.read e inside))
+      m)
 
   -- a text was begun, and plain bytes behind the mark were read
   pub quote_on : (role : Role) → MayQuote role old.machine.mode (opens_of old.machine)
@@ -113,7 +118,8 @@ module _ (old new : Scanner) (o : Onward old new) (n : old.read < new.read) wher
 
   -- a number was begun, and read on
   pub digits_on : (last : Part) → MayQuote role_.Value old.machine.mode (opens_of old.machine)
-      → new.machine.mode ≡ mode_.Number last → new.machine.content.items ≡ run_of old new → PartsGo part_.Nothing (run_of old new) last → ReadsOn old new
+      → new.machine.mode ≡ mode_.Number last → new.machine.content.items ≡ run_of old new → PartsGo part_.Nothing (run_of old new) last →
+      ReadsOn old new
   digits_on last m t c g =
       let b = get_or old.input.items old.read 0 in
       let run = behind old new in

@@ -42,7 +42,8 @@ answer_step step_.More old new bytes ended steps v a = absurd (some_none v)
 answer_step (step_.Bad at) old new bytes ended steps v a = absurd (some_none v)
 
 -- so fewer may come
-pub answer_nearer : (answer : JsonStep) (old new : Scanner) → verdict_for answer ≡ None → IsNearer answer old new → most_steps new < most_steps old
+pub answer_nearer : (answer : JsonStep) (old new : Scanner) → verdict_for answer ≡ None → IsNearer answer old new →
+    most_steps new < most_steps old
 answer_nearer step_.Open old new v n = n
 answer_nearer step_.Close old new v n = n
 answer_nearer step_.ListOpen old new v n = n
@@ -75,8 +76,10 @@ answer_verdict step_.False verdict new bytes ended steps v a = absurd (none_some
 answer_verdict step_.Null verdict new bytes ended steps v a = absurd (none_some v)
 
 -- a verdict, and what is read behind all steps
-pub answer_tells : (answer : JsonStep) (new : Scanner) (bytes : List ℕ) (ended : Bool) (steps : List Step) → is_some (verdict_for answer) ≡ true
-    → Answers answer new bytes ended steps → Stands new bytes ended steps × (verdict : Verdict) × IsVerdict answer verdict × Reads bytes ended steps verdict
+pub answer_tells : (answer : JsonStep) (new : Scanner) (bytes : List ℕ) (ended : Bool) (steps : List Step) →
+    is_some (verdict_for answer) ≡ true
+    → Answers answer new bytes ended steps →
+    Stands new bytes ended steps × (verdict : Verdict) × IsVerdict answer verdict × Reads bytes ended steps verdict
 answer_tells step_.Done new bytes ended steps v a = (a.stands, Whole, refl, a.reads)
 answer_tells step_.More new bytes ended steps v a = (a.stands, More, refl, a.reads)
 answer_tells (step_.Bad at) new bytes ended steps v a = (a.stands, BadAt at, refl, a.reads)
@@ -101,7 +104,8 @@ no_verdict answer e = none_by (verdict_for answer) e
 
 -- one more answer that is a step, kept in some form with its content
 pub seen_more : {A : Type 0} (view : A → JsonStep × List ℕ) (kept : List A) (one : A) (step : Step)
-    → step_for (view one).0 (view one).1 ≡ Some step → steps_seen (map view (kept ++ (one ∷ []))) ≡ steps_seen (map view kept) ++ (step ∷ [])
+    → step_for (view one).0 (view one).1 ≡ Some step →
+    steps_seen (map view (kept ++ (one ∷ []))) ≡ steps_seen (map view kept) ++ (step ∷ [])
 seen_more view [] one step e = ap (λ o. option_to_list o ++ []) e
 seen_more view (x ∷ kept) one step e =
     ap (λ s. option_to_list (step_for (view x).0 (view x).1) ++ s) (seen_more view kept one step e)
@@ -110,11 +114,13 @@ seen_more view (x ∷ kept) one step e =
 module _ {A : Type 0} (view : A → JsonStep × List ℕ) (kept : List A) (one : A) where
   -- so a caller that keeps each step with its content keeps the steps
   pub stands_more : (answer : JsonStep) (new : Scanner) (bytes : List ℕ) (ended : Bool)
-      → verdict_for answer ≡ None → Answers answer new bytes ended (steps_seen (map view kept)) → (view one).0 ≡ answer → (view one).1 ≡ content new
+      → verdict_for answer ≡ None → Answers answer new bytes ended (steps_seen (map view kept)) → (view one).0 ≡ answer →
+      (view one).1 ≡ content new
       → Stands new bytes ended (steps_seen (map view (kept ++ (one ∷ []))))
   stands_more answer new bytes ended v a e t =
       let s = answer_step answer new new bytes ended (steps_seen (map view kept)) v a in
-      let is : step_for (view one).0 (view one).1 ≡ Some s.step = ap (λ x. step_for x (view one).1) e ∙ ap (λ x. step_for answer x) t ∙ s.is in
+      let is : step_for (view one).0 (view one).1 ≡ Some s.step = ap (λ x. step_for x (view one).1) e ∙ ap (λ x. step_for answer x) t
+      ∙ s.is in
       subst (λ xs. Stands new bytes ended xs) (sym (seen_more view kept one s.step is)) s.gave.stands
 
 -- pieces of a text, one behind the other

@@ -122,7 +122,8 @@ length_seen bytes true = omega (arith, length-append (symbols bytes) (End ∷ []
 length_seen bytes false = omega (arith, length-append (symbols bytes) [], length_symbols bytes)
 
 -- a text has no more fixed steps than bytes
-pub few : (bytes : List ℕ) (ended : Bool) (steps : List Step) (verdict : Verdict) → Reads bytes ended steps verdict → length steps ≤ length bytes
+pub few : (bytes : List ℕ) (ended : Bool) (steps : List Step) (verdict : Verdict) → Reads bytes ended steps verdict →
+    length steps ≤ length bytes
 few bytes ended steps verdict r = few_by verdict r.fits
   where
     as_many : length (steps_of r.front) ≡ length steps

@@ -35,7 +35,8 @@ again {front} {next} {kept} first x f n s = again_by (move_by mode_.After kept x
     again_by (machine.Reads m k) e =
         goes (front ++ (Seen x ∷ [])) m k (reads_on f x n m k e) (symbols_append front (Seen x ∷ []) ∙ ap (λ z. z ++ (x ∷ [])) s)
     again_by (Gives step m k) e =
-        goes (front ++ (Seen x ∷ Given step ∷ [])) m k (gives_on f x n step m k e) (symbols_append front (Seen x ∷ Given step ∷ []) ∙ ap (λ z. z ++ (x ∷ [])) s)
+        goes (front ++ (Seen x ∷ Given step ∷ [])) m k (gives_on f x n step m k e) (symbols_append front (Seen x ∷ Given step ∷ [])
+        ∙ ap (λ z. z ++ (x ∷ [])) s)
     again_by (GivesFirst step m k) e =
         let d : Ended mode_.After kept step m k = subst (FirstSays mode_.After kept) e (first_says mode_.After kept x) in
         absurd (not_after d.part d.is_number)
@@ -67,7 +68,11 @@ Reading bytes ended = (steps : List Step) × (verdict : Verdict) × Reads bytes 
 
 -- a front behind which no text goes on gives a reading
 bad_reading : (bytes : List ℕ) (ended : Bool) (front : List Mark) → IsBad bytes ended front → Reading bytes ended
-bad_reading bytes ended front b = (steps_of front, BadAt (length (symbols_of front)), record { front = front; given = refl; fits = (refl, b) })
+bad_reading bytes ended front b = (
+  steps_of front,
+  BadAt (length (symbols_of front)),
+  record { front = front; given = refl; fits = (refl, b) },
+)
 
 -- no byte finishes a text
 no_finish : (mode : Mode) (kept : Kept) (b : ℕ) → move_by mode kept (Byte b) ≡ Finishes → ⊥
@@ -81,13 +86,17 @@ EndsBy move = (move ≡ Finishes) ⊎ (move ≡ Stuck)
 end_reading : {front : List Mark} {next : List Symbol} {mode : Mode} {kept : Kept} (bytes : List ℕ)
     → IsFrontOf front next mode kept → Begins next (End ∷ []) → symbols_of front ≡ symbols bytes
     → EndsBy (move_by mode kept End) → Reading bytes true
-end_reading {front} bytes f n s (inl e) =
-    (steps_of (front ++ (Seen End ∷ [])), Whole, record { front = front ++ (Seen End ∷ []); given = refl; fits = (refl, whole_at bytes f n s e) })
+end_reading {front} bytes f n s (inl e) = (
+  steps_of (front ++ (Seen End ∷ [])),
+  Whole,
+  record { front = front ++ (Seen End ∷ []); given = refl; fits = (refl, whole_at bytes f n s e) },
+)
 end_reading {front} bytes f n s (inr e) = bad_reading bytes true front (bad_at f End n bytes true [] (ap (λ z. z ++ (End ∷ [])) (sym s)) e)
 
 -- the end behind a value
 end_after : {front : List Mark} {next : List Symbol} {room : ℕ} {content : List ℕ} (opens : List Bracket) (bytes : List ℕ)
-    → IsFrontOf front next mode_.After (keeping room opens content) → Begins next (End ∷ []) → symbols_of front ≡ symbols bytes → Reading bytes true
+    → IsFrontOf front next mode_.After (keeping room opens content) → Begins next (End ∷ []) → symbols_of front ≡ symbols bytes →
+    Reading bytes true
 end_after [] bytes f n s = end_reading bytes f n s (inl refl)
 end_after (bracket ∷ opens) bytes f n s = end_reading bytes f n s (inr refl)
 
@@ -95,8 +104,10 @@ end_after (bracket ∷ opens) bytes f n s = end_reading bytes f n s (inr refl)
 end_number : {front : List Mark} {kept : Kept} (part : Part) (ends : Bool) (bytes : List ℕ)
     → may_end part ≡ ends → IsFrontOf front [] (mode_.Number part) kept → symbols_of front ≡ symbols bytes → Reading bytes true
 end_number {front} {kept} part true bytes m f s =
-    let e : move_by (mode_.Number part) kept End ≡ GivesFirst (Step.Number kept.content) mode_.After (holding kept []) = may_end_gives part kept m in
-    end_after kept.opens bytes (first_on f End (begins (End ∷ []) refl) (Step.Number kept.content) mode_.After (holding kept []) e) (begins_self (End ∷ []))
+    let e : move_by (mode_.Number part) kept End ≡ GivesFirst (Step.Number kept.content) mode_.After (holding kept []) =
+    may_end_gives part kept m in
+    end_after kept.opens bytes (first_on f End (begins (End ∷ []) refl) (Step.Number kept.content) mode_.After (holding kept []) e)
+    (begins_self (End ∷ []))
     (symbols_append front (Given (Step.Number kept.content) ∷ []) ∙ append_nil (symbols_of front) ∙ s)
 end_number {front} {kept} part false bytes m f s =
     end_reading bytes f (begins (End ∷ []) refl) s
@@ -122,14 +133,16 @@ ReadsLater bytes ended left =
     → symbols bytes ≡ symbols_of longer ++ symbols left → Reading bytes ended
 
 -- where some are left, by how it goes on behind the next
-one_left : {front : List Mark} (bytes : List ℕ) (ended : Bool) (b : ℕ) (left : List ℕ) → symbols bytes ≡ symbols_of front ++ (Byte b ∷ symbols left)
+one_left : {front : List Mark} (bytes : List ℕ) (ended : Bool) (b : ℕ) (left : List ℕ) →
+    symbols bytes ≡ symbols_of front ++ (Byte b ∷ symbols left)
     → ReadsLater bytes ended left → Comes front (Byte b) → Reading bytes ended
 one_left {front} bytes ended b left s go (goes longer mode kept g e) =
     go longer mode kept g (s ∙ sym (append_assoc (symbols_of front) (Byte b ∷ []) (symbols left)) ∙ ap (λ z. z ++ symbols left) (sym e))
 one_left bytes ended b left s go (stays longer next mode kept g n e (inl m)) = absurd (no_finish mode kept b m)
 one_left {front} bytes ended b left s go (stays longer next mode kept g n e (inr m)) =
     bad_reading bytes ended longer (bad_at g (Byte b) n bytes ended (symbols left ++ (if ended then End ∷ [] else []))
-    (ap (λ z. z ++ (if ended then End ∷ [] else [])) s ∙ append_assoc (symbols_of front) (Byte b ∷ symbols left) (if ended then End ∷ [] else [])
+    (ap (λ z. z ++ (if ended then End ∷ [] else [])) s
+    ∙ append_assoc (symbols_of front) (Byte b ∷ symbols left) (if ended then End ∷ [] else [])
     ∙ ap (λ z. z ++ (Byte b ∷ (symbols left ++ (if ended then End ∷ [] else [])))) (sym e)) m)
 
 -- where some are left

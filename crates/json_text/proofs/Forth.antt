@@ -23,7 +23,8 @@ use Rattle.json_text.proofs.Lists.{append_nil}
 use Rattle.json_text.proofs.ForthTexts.{at_place}
 
 -- behind a value, at the end of the text
-after_end : (room : ℕ) (content space : List ℕ) → AreAll is_space space → Follows mode_.After (keeping room [] content) (see space (Seen End ∷ []))
+after_end : (room : ℕ) (content space : List ℕ) → AreAll is_space space →
+    Follows mode_.After (keeping room [] content) (see space (Seen End ∷ []))
 after_end room content [] h = finishes
 after_end room content (b ∷ space) h = if_true _ h.0 (reads (space, h.1, refl))
 
@@ -35,12 +36,18 @@ behind_name c d value others rest = see c (Seen (Byte 58) ∷ see d (print_value
 named_value : (kept : Kept) (c d : List ℕ) (value : Value) (others : Others) (rest : List Mark) → AreAll is_space c → AreAll is_space d
     → IsValue value kept.room → After kept.room kept.opens (print_others others bracket_.Curly rest)
     → BeforeColon kept.room kept.opens (behind_name c d value others rest)
-named_value kept c d value others rest hc hd v a =
-    (c, see d (print_value value (print_others others bracket_.Curly rest)), hc, refl, (d, value, print_others others bracket_.Curly rest, hd, v, refl, a))
+named_value kept c d value others rest hc hd v a = (
+  c,
+  see d (print_value value (print_others others bracket_.Curly rest)),
+  hc,
+  refl,
+  (d, value, print_others others bracket_.Curly rest, hd, v, refl, a),
+)
 
 -- behind an entry
 after_entry : (bracket : Bracket) (kept : Kept) (others : Others) (rest : List Mark)
-    → AreOthers others bracket kept.room → After (suc kept.room) kept.opens rest → Follows mode_.After (keeping kept.room (bracket ∷ kept.opens) kept.content) (print_others others bracket rest)
+    → AreOthers others bracket kept.room → After (suc kept.room) kept.opens rest →
+    Follows mode_.After (keeping kept.room (bracket ∷ kept.opens) kept.content) (print_others others bracket rest)
 after_entry bracket_.Square kept (Last []) rest h a = gives a
 after_entry bracket_.Curly kept (Last []) rest h a = gives a
 after_entry bracket kept (Last (b ∷ space)) rest h a = if_true _ h.0 (reads (Last space, rest, h.1, refl, a))
@@ -56,7 +63,13 @@ after_entry bracket_.Curly kept (Next [] behind (Named chars c d) value others) 
       h.1,
       h.2.0,
       refl,
-      named_value (keeping kept.room (bracket_.Curly ∷ kept.opens) kept.content) c d value others rest h.2.1 h.2.2 h.3 (others, rest, h.4, refl, a),
+      named_value (keeping kept.room (bracket_.Curly ∷ kept.opens) kept.content) c d value others rest h.2.1 h.2.2 h.3 (
+        others,
+        rest,
+        h.4,
+        refl,
+        a,
+      ),
     )
 after_entry bracket kept (Next (b ∷ space) behind name value others) rest h a =
     if_true _ h.0.0 (reads (Next space behind name value others, rest, (h.0.1, h.1, h.2, h.3, h.4), refl, a))
@@ -83,7 +96,8 @@ number_starts kept b bytes rest (Some part) e c a =
       printed = refl;
       no_space = begins.1;
       no_close = begins.2;
-      goes = subst (λ s. Goes (start_move s kept b) (see bytes (Given (Step.Number (b ∷ bytes)) ∷ rest))) (sym begins.0) (reads (bytes, rest, c, refl, a));
+      goes = subst (λ s. Goes (start_move s kept b) (see bytes (Given (Step.Number (b ∷ bytes)) ∷ rest))) (sym begins.0)
+          (reads (bytes, rest, c, refl, a));
     }
 
 -- so do the bytes of a number
@@ -95,18 +109,25 @@ digits_start kept (b ∷ bytes) rest c a = number_starts kept b bytes rest _ ref
 -- each value begins so
 starts : (value : Value) (room : ℕ) (opens : List Bracket) (content : List ℕ) (rest : List Mark)
     → IsValue value room → After room opens rest → Starts (keeping room opens content) (print_value value rest)
-starts (Word Yes) room opens content rest v a = record { byte = 116; others = _; printed = refl; no_space = refl; no_close = refl; goes = reads (rest, refl, a) }
-starts (Word No) room opens content rest v a = record { byte = 102; others = _; printed = refl; no_space = refl; no_close = refl; goes = reads (rest, refl, a) }
-starts (Word Null) room opens content rest v a = record { byte = 110; others = _; printed = refl; no_space = refl; no_close = refl; goes = reads (rest, refl, a) }
+starts (Word Yes) room opens content rest v a =
+    record { byte = 116; others = _; printed = refl; no_space = refl; no_close = refl; goes = reads (rest, refl, a) }
+starts (Word No) room opens content rest v a =
+    record { byte = 102; others = _; printed = refl; no_space = refl; no_close = refl; goes = reads (rest, refl, a) }
+starts (Word Null) room opens content rest v a =
+    record { byte = 110; others = _; printed = refl; no_space = refl; no_close = refl; goes = reads (rest, refl, a) }
 starts (Number bytes) room opens content rest v a = digits_start (keeping room opens content) bytes rest (number_goes bytes v) a
-starts (Text chars) room opens content rest v a = record { byte = 34; others = _; printed = refl; no_space = refl; no_close = refl; goes = reads (chars, rest, v, refl, a) }
+starts (Text chars) room opens content rest v a =
+    record { byte = 34; others = _; printed = refl; no_space = refl; no_close = refl; goes = reads (chars, rest, v, refl, a) }
 starts (Group bracket entries) zero opens content rest v a = absurd v
-starts (Group bracket_.Square entries) (suc room) opens content rest v a = record { byte = 91; others = _; printed = refl; no_space = refl; no_close = refl; goes = gives (entries, rest, v, refl, a) }
-starts (Group bracket_.Curly entries) (suc room) opens content rest v a = record { byte = 123; others = _; printed = refl; no_space = refl; no_close = refl; goes = gives (entries, rest, v, refl, a) }
+starts (Group bracket_.Square entries) (suc room) opens content rest v a =
+    record { byte = 91; others = _; printed = refl; no_space = refl; no_close = refl; goes = gives (entries, rest, v, refl, a) }
+starts (Group bracket_.Curly entries) (suc room) opens content rest v a =
+    record { byte = 123; others = _; printed = refl; no_space = refl; no_close = refl; goes = gives (entries, rest, v, refl, a) }
 
 -- before a value
 at_value : (kept : Kept) (space : List ℕ) (value : Value) (rest : List Mark)
-    → AreAll is_space space → IsValue value kept.room → After kept.room kept.opens rest → Follows mode_.Value kept (see space (print_value value rest))
+    → AreAll is_space space → IsValue value kept.room → After kept.room kept.opens rest →
+    Follows mode_.Value kept (see space (print_value value rest))
 at_value kept [] value rest h v a =
     let s = starts value kept.room kept.opens kept.content rest v a in
     subst (λ m. Follows mode_.Value kept m) (sym s.printed) (if_false _ s.no_space s.goes)
@@ -114,7 +135,8 @@ at_value kept (b ∷ space) value rest h v a = if_true _ h.0 (reads (space, valu
 
 -- behind a bracket that opened, where none is open
 at_lone_first : (room : ℕ) (content space : List ℕ) (value : Value) (rest : List Mark)
-    → AreAll is_space space → IsValue value room → After room [] rest → Follows mode_.First (keeping room [] content) (see space (print_value value rest))
+    → AreAll is_space space → IsValue value room → After room [] rest →
+    Follows mode_.First (keeping room [] content) (see space (print_value value rest))
 at_lone_first room content [] value rest h v a =
     let s = starts value room [] content rest v a in
     subst (λ m. Follows mode_.First (keeping room [] content) m) (sym s.printed) (if_false _ s.no_space s.goes)
@@ -122,13 +144,21 @@ at_lone_first room content (b ∷ space) value rest h v a = if_true _ h.0 (reads
 
 -- behind a bracket that opened
 at_first : (bracket : Bracket) (kept : Kept) (entries : Entries) (rest : List Mark)
-    → AreEntries entries bracket kept.room → After (suc kept.room) kept.opens rest → Follows mode_.First (keeping kept.room (bracket ∷ kept.opens) kept.content) (print_entries entries bracket rest)
+    → AreEntries entries bracket kept.room → After (suc kept.room) kept.opens rest →
+    Follows mode_.First (keeping kept.room (bracket ∷ kept.opens) kept.content) (print_entries entries bracket rest)
 at_first bracket_.Square kept (Empty []) rest h a = gives a
 at_first bracket_.Curly kept (Empty []) rest h a = gives a
 at_first bracket kept (Empty (b ∷ space)) rest h a = if_true _ h.0 (reads (Empty space, rest, h.1, refl, a))
 at_first bracket_.Square kept (Entry [] NoName value others) rest h a =
-    let s = starts value kept.room (bracket_.Square ∷ kept.opens) kept.content (print_others others bracket_.Square rest) h.2 (others, rest, h.3, refl, a) in
-    subst (λ m. Follows mode_.First (keeping kept.room (bracket_.Square ∷ kept.opens) kept.content) m) (sym s.printed) (if_false _ s.no_space (if_false _ s.no_close s.goes))
+    let s = starts value kept.room (bracket_.Square ∷ kept.opens) kept.content (print_others others bracket_.Square rest) h.2 (
+      others,
+      rest,
+      h.3,
+      refl,
+      a,
+    ) in
+    subst (λ m. Follows mode_.First (keeping kept.room (bracket_.Square ∷ kept.opens) kept.content) m) (sym s.printed)
+    (if_false _ s.no_space (if_false _ s.no_close s.goes))
 at_first bracket_.Square kept (Entry [] (Named chars c d) value others) rest h a = absurd h.1
 at_first bracket_.Curly kept (Entry [] NoName value others) rest h a = absurd h.1
 at_first bracket_.Curly kept (Entry [] (Named chars c d) value others) rest h a =
@@ -137,14 +167,21 @@ at_first bracket_.Curly kept (Entry [] (Named chars c d) value others) rest h a 
       behind_name c d value others rest,
       h.1.0,
       refl,
-      named_value (keeping kept.room (bracket_.Curly ∷ kept.opens) kept.content) c d value others rest h.1.1 h.1.2 h.2 (others, rest, h.3, refl, a),
+      named_value (keeping kept.room (bracket_.Curly ∷ kept.opens) kept.content) c d value others rest h.1.1 h.1.2 h.2 (
+        others,
+        rest,
+        h.3,
+        refl,
+        a,
+      ),
     )
 at_first bracket kept (Entry (b ∷ space) name value others) rest h a =
     if_true _ h.0.0 (reads (Entry space name value others, rest, (h.0.1, h.1, h.2, h.3), refl, a))
 
 -- before the name of a member
 at_name : (kept : Kept) (space : List ℕ) (chars : List Char) (rest : List Mark)
-    → AreAll is_space space → AreChars chars → BeforeColon kept.room kept.opens rest → Follows mode_.Name kept (see space (print_text role_.Name chars rest))
+    → AreAll is_space space → AreChars chars → BeforeColon kept.room kept.opens rest →
+    Follows mode_.Name kept (see space (print_text role_.Name chars rest))
 at_name kept [] chars rest h c b = reads (chars, rest, c, refl, b)
 at_name kept (x ∷ space) chars rest h c b = if_true _ h.0 (reads (space, chars, rest, h.1, c, refl, b))
 
@@ -189,7 +226,8 @@ forth_first : (room : ℕ) (opens : List Bracket) (content : List ℕ) (marks : 
 forth_first room [] content marks (space, value, rest, h, v, p, a) =
     subst (λ m. Follows mode_.First (keeping room [] content) m) (sym p) (at_lone_first room content space value rest h v a)
 forth_first room (bracket ∷ opens) content marks (entries, rest, h, p, a) =
-    subst (λ m. Follows mode_.First (keeping room (bracket ∷ opens) content) m) (sym p) (at_first bracket (keeping room opens content) entries rest h a)
+    subst (λ m. Follows mode_.First (keeping room (bracket ∷ opens) content) m) (sym p)
+    (at_first bracket (keeping room opens content) entries rest h a)
 
 -- behind a value
 forth_after : (room : ℕ) (opens : List Bracket) (content : List ℕ) (marks : List Mark)
@@ -197,7 +235,8 @@ forth_after : (room : ℕ) (opens : List Bracket) (content : List ℕ) (marks : 
 forth_after room [] content marks (space, h, p) =
     subst (λ m. Follows mode_.After (keeping room [] content) m) (sym p) (after_end room content space h)
 forth_after room (bracket ∷ opens) content marks (others, rest, h, p, a) =
-    subst (λ m. Follows mode_.After (keeping room (bracket ∷ opens) content) m) (sym p) (after_entry bracket (keeping room opens content) others rest h a)
+    subst (λ m. Follows mode_.After (keeping room (bracket ∷ opens) content) m) (sym p)
+    (after_entry bracket (keeping room opens content) others rest h a)
 
 -- at any place
 pub forth : (mode : Mode) (kept : Kept) (marks : List Mark) → Rest mode kept marks → Follows mode kept marks

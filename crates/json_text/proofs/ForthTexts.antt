@@ -58,7 +58,8 @@ no_more (b ∷ bytes) h = absurd h
 
 -- bytes in ranges begin with one in the first range
 first_in : (tail : Tail) (r : Range) (ranges : List Range) → ((b : ℕ) → is_in r b ≡ true → fits_tail tail b ≡ true)
-    → ((more : List ℕ) → AreIn ranges more → OnTail (tail_after tail) more) → (bytes : List ℕ) → AreIn (r ∷ ranges) bytes → TailBytes tail bytes
+    → ((more : List ℕ) → AreIn ranges more → OnTail (tail_after tail) more) → (bytes : List ℕ) → AreIn (r ∷ ranges) bytes →
+    TailBytes tail bytes
 first_in tail r ranges f g [] h = absurd h
 first_in tail r ranges f g (b ∷ bytes) h = record { byte = b; more = bytes; same = refl; fits = f b h.0; others = g bytes h.1 }
 
@@ -72,7 +73,8 @@ tail_bytes tail_.BehindEd bytes h = first_in tail_.BehindEd To9F (ranges_of tail
 tail_bytes tail_.BehindF0 bytes h = first_in tail_.BehindF0 From90 (ranges_of tail_.Two) (λ b f. f) (λ more f. f) bytes h
 tail_bytes tail_.BehindF4 bytes h = first_in tail_.BehindF4 To8F (ranges_of tail_.Two) (λ b f. f) (λ more f. f) bytes h
 
-module _ (role : Role) (kept : Kept) (chars : List Char) (rest : List Mark) (h : AreChars chars) (k : Behind role kept.room kept.opens rest) where
+module _ (role : Role) (kept : Kept) (chars : List Char) (rest : List Mark) (h : AreChars chars) (k :
+    Behind role kept.room kept.opens rest) where
   -- where a character of its own bytes begins
   at_plain : (w : Option ℕ) (lead : Lead) (b : ℕ) (bytes : List ℕ) → Follow lead bytes → Goes (lead_move role w lead kept b)
       (see bytes (print_chars chars (close_text role (kept.content ++ (lone w ++ (b ∷ (bytes ++ content_of None chars)))) rest)))
@@ -89,11 +91,13 @@ module _ (role : Role) (kept : Kept) (chars : List Char) (rest : List Mark) (h :
   at_short : (w : Option ℕ) (b letter : ℕ) → escape_of letter ≡ escape_.Short b → Follows (mode_.Text role (place_.Escape w)) kept
       (see (letter ∷ []) (print_chars chars (close_text role (kept.content ++ content_of w (Short b letter ∷ chars)) rest)))
   at_short w b letter e =
-      subst (λ x. Goes (escape_move role w x kept) (print_chars chars (close_text role (kept.content ++ content_of w (Short b letter ∷ chars)) rest)))
+      subst (λ x. Goes (escape_move role w x kept)
+      (print_chars chars (close_text role (kept.content ++ content_of w (Short b letter ∷ chars)) rest)))
       (sym e) (reads (chars, rest, h, moved_byte role kept.content (lone w) b [] (content_of None chars) chars rest, k))
 
   -- behind a byte of a character
-  at_tail_byte : (next : Option Tail) (b : ℕ) (more : List ℕ) → OnTail next more → Goes (tail_move role next (holding kept (kept.content ++ (b ∷ []))))
+  at_tail_byte : (next : Option Tail) (b : ℕ) (more : List ℕ) → OnTail next more →
+      Goes (tail_move role next (holding kept (kept.content ++ (b ∷ []))))
       (see more (print_chars chars (close_text role (kept.content ++ (b ∷ (more ++ content_of None chars))) rest)))
   at_tail_byte None b [] t = reads (chars, rest, h, moved role kept.content (b ∷ []) [] chars None rest, k)
   at_tail_byte None b (x ∷ more) t = cc
@@ -104,7 +108,8 @@ module _ (role : Role) (kept : Kept) (chars : List Char) (rest : List Mark) (h :
         rest,
         t,
         h,
-        ap (λ x. see more (print_chars chars (close_text role x rest))) (sym (append_assoc kept.content (b ∷ []) (more ++ content_of None chars))),
+        ap (λ x. see more (print_chars chars (close_text role x rest)))
+            (sym (append_assoc kept.content (b ∷ []) (more ++ content_of None chars))),
         k,
       )
 
@@ -113,7 +118,8 @@ module _ (role : Role) (kept : Kept) (chars : List Char) (rest : List Mark) (h :
       (see bytes (print_chars chars (close_text role (kept.content ++ (bytes ++ content_of None chars)) rest)))
   at_tail tail bytes t =
       let s = tail_bytes tail bytes t in
-      subst (λ bs. Follows (mode_.Text role (place_.Tail tail)) kept (see bs (print_chars chars (close_text role (kept.content ++ (bs ++ content_of None chars)) rest))))
+      subst (λ bs. Follows (mode_.Text role (place_.Tail tail)) kept
+      (see bs (print_chars chars (close_text role (kept.content ++ (bs ++ content_of None chars)) rest))))
       (sym s.same) (if_true Stuck s.fits (at_tail_byte (tail_after tail) s.byte s.more s.others))
 
 -- where a character begins
@@ -152,6 +158,12 @@ at_place role (place_.Hex3 w a b) kept marks (c, d, (chars, rest, e, h, p, k)) =
     (if_true Stuck e.0 (reads (d, (chars, rest, e.1, h, refl, k))))
 at_place role (place_.Hex4 w a b c) kept marks (d, (chars, rest, e, h, p, k)) =
     subst (λ m. Follows (mode_.Text role (place_.Hex4 w a b c)) kept m) (sym p)
-    (if_true Stuck e.0 (reads (chars, rest, h, moved role kept.content (unit_bytes w (unit_of a b c d)) [] chars (waits (unit_of a b c d)) rest, k)))
+    (if_true Stuck e.0 (reads (
+      chars,
+      rest,
+      h,
+      moved role kept.content (unit_bytes w (unit_of a b c d)) [] chars (waits (unit_of a b c d)) rest,
+      k,
+    )))
 at_place role (place_.Tail tail) kept marks (bytes, chars, rest, t, h, p, k) =
     subst (λ m. Follows (mode_.Text role (place_.Tail tail)) kept m) (sym p) (at_tail role kept chars rest h k tail bytes t)

@@ -42,7 +42,8 @@ pub record GoesOn (front : List Mark) (x : Symbol) (more : List Symbol) (mode : 
 
 module _ {front : List Mark} {next : List Symbol} {mode : Mode} {kept : Kept} (f : IsFrontOf front next mode kept) where
   -- how a text goes on behind the front
-  pub on : (x : Symbol) → Begins next (x ∷ []) → (text : List Mark) → IsText text → (b : Begins (symbols_of front ++ (x ∷ [])) (symbols_of text))
+  pub on : (x : Symbol) → Begins next (x ∷ []) → (text : List Mark) → IsText text →
+      (b : Begins (symbols_of front ++ (x ∷ [])) (symbols_of text))
       → GoesOn front x b.rest mode kept text
   on x n text t b = on_at (f.only text t (begins_trans (begins_more (symbols_of front) n) b))
     where
@@ -51,7 +52,8 @@ module _ {front : List Mark} {next : List Symbol} {mode : Mode} {kept : Kept} (f
         rest = g.rest;
         same = g.same;
         follows = forth mode kept g.rest (f.forth g.rest (subst IsText g.same t));
-        seen = cancel (symbols_of front) (sym (symbols_append front g.rest) ∙ sym (ap symbols_of g.same) ∙ b.same ∙ append_assoc (symbols_of front) (x ∷ []) b.rest);
+        seen = cancel (symbols_of front) (sym (symbols_append front g.rest) ∙ sym (ap symbols_of g.same) ∙ b.same
+            ∙ append_assoc (symbols_of front) (x ∷ []) b.rest);
       }
 
 -- a step that stands first is that of a number, and the symbol behind it ends the number
@@ -59,7 +61,8 @@ given_after : (room : ℕ) (opens : List Bracket) (x : Symbol) (more : List Symb
     → After room opens rest → symbols_of rest ≡ x ∷ more → (others : List Mark) × After room opens (Seen x ∷ others)
 given_after room opens x more rest a s = split rest a (forth mode_.After (keeping room opens []) rest a) s
   where
-    split : (rest : List Mark) → After room opens rest → Follows mode_.After (keeping room opens []) rest → symbols_of rest ≡ x ∷ more → (others : List Mark) × After room opens (Seen x ∷ others)
+    split : (rest : List Mark) → After room opens rest → Follows mode_.After (keeping room opens []) rest → symbols_of rest ≡ x ∷ more →
+        (others : List Mark) × After room opens (Seen x ∷ others)
     split [] a f s = absurd f
     split (Seen y ∷ others) a f s = (others, subst (λ z. After room opens (Seen z ∷ others)) (head_of s) a)
     split (Given step ∷ others) a f s = absurd f
@@ -108,7 +111,8 @@ module _ {front : List Mark} {next : List Symbol} {mode : Mode} {kept : Kept} (f
   with_next : (added : List Mark) → symbols_of added ≡ x ∷ [] → (text : List Mark)
       → Begins (symbols_of (front ++ added) ++ []) (symbols_of text) → Begins (symbols_of front ++ (x ∷ [])) (symbols_of text)
   with_next added e text b =
-      subst (λ s. Begins s (symbols_of text)) (append_nil (symbols_of (front ++ added)) ∙ symbols_append front added ∙ ap (λ s. symbols_of front ++ s) e) b
+      subst (λ s. Begins s (symbols_of text)) (append_nil (symbols_of (front ++ added)) ∙ symbols_append front added
+      ∙ ap (λ s. symbols_of front ++ s) e) b
 
   -- a move that reads
   pub reads_on : (to : Mode) (kept_to : Kept)
@@ -126,7 +130,8 @@ module _ {front : List Mark} {next : List Symbol} {mode : Mode} {kept : Kept} (f
           let g : Goes (move_by mode kept x) rest = subst (λ v. Goes v rest) (sym e) (reads r) in
           subst IsText (sym (append_assoc front (Seen x ∷ []) rest)) (f.back (Seen x ∷ rest) (back mode kept (Seen x ∷ rest) g))
 
-      only_to : (text : List Mark) → IsText text → Begins (symbols_of (front ++ (Seen x ∷ [])) ++ []) (symbols_of text) → Begins (front ++ (Seen x ∷ [])) text
+      only_to : (text : List Mark) → IsText text → Begins (symbols_of (front ++ (Seen x ∷ [])) ++ []) (symbols_of text) →
+          Begins (front ++ (Seen x ∷ [])) text
       only_to text t b =
           let c = with_next (Seen x ∷ []) refl text b in
           let o = on f x n text t c in
@@ -136,7 +141,13 @@ module _ {front : List Mark} {next : List Symbol} {mode : Mode} {kept : Kept} (f
   -- a move that reads and gives a step
   pub gives_on : (step : Step) (to : Mode) (kept_to : Kept)
       → move_by mode kept x ≡ Gives step to kept_to → IsFrontOf (front ++ (Seen x ∷ Given step ∷ [])) [] to kept_to
-  gives_on step to kept_to e = record { forth = forth_to; back = back_to; only = only_to; kin = kin_of (front ++ (Seen x ∷ Given step ∷ [])) only_to }
+  gives_on step to kept_to e = record {
+    forth = forth_to;
+    back = back_to;
+    only = only_to;
+    kin =
+        kin_of (front ++ (Seen x ∷ Given step ∷ [])) only_to;
+  }
     where
       forth_to : (rest : List Mark) → IsText ((front ++ (Seen x ∷ Given step ∷ [])) ++ rest) → Rest to kept_to rest
       forth_to rest t =
@@ -152,34 +163,40 @@ module _ {front : List Mark} {next : List Symbol} {mode : Mode} {kept : Kept} (f
           subst IsText (sym (append_assoc front (Seen x ∷ Given step ∷ []) rest))
           (f.back (Seen x ∷ Given step ∷ rest) (back mode kept (Seen x ∷ Given step ∷ rest) g))
 
-      only_to : (text : List Mark) → IsText text → Begins (symbols_of (front ++ (Seen x ∷ Given step ∷ [])) ++ []) (symbols_of text) → Begins (front ++ (Seen x ∷ Given step ∷ [])) text
+      only_to : (text : List Mark) → IsText text → Begins (symbols_of (front ++ (Seen x ∷ Given step ∷ [])) ++ []) (symbols_of text) →
+          Begins (front ++ (Seen x ∷ Given step ∷ [])) text
       only_to text t b =
           let c = with_next (Seen x ∷ Given step ∷ []) refl text b in
           let o = on f x n text t c in
           let s = shown mode kept x c.rest o.rest (subst ReadsFirst (sym e) tt) o.follows o.seen in
           let g = out_gives (subst (λ v. Goes v s.0) e s.2) in
-          begins g.0 (o.same ∙ ap (λ r. front ++ r) (s.1 ∙ ap (λ r. Seen x ∷ r) g.1) ∙ sym (append_assoc front (Seen x ∷ Given step ∷ []) g.0))
+          begins g.0 (o.same ∙ ap (λ r. front ++ r) (s.1 ∙ ap (λ r. Seen x ∷ r) g.1)
+          ∙ sym (append_assoc front (Seen x ∷ Given step ∷ []) g.0))
 
 -- marks with no symbol begin with a step, or are none
-no_symbols : (marks : List Mark) → symbols_of marks ≡ [] → (marks ≡ []) ⊎ ((step : Step) × (others : List Mark) × (marks ≡ Given step ∷ others))
+no_symbols : (marks : List Mark) → symbols_of marks ≡ [] →
+    (marks ≡ []) ⊎ ((step : Step) × (others : List Mark) × (marks ≡ Given step ∷ others))
 no_symbols [] e = inl refl
 no_symbols (Seen x ∷ marks) e = absurd (no_cons (sym e))
 no_symbols (Given step ∷ marks) e = inr (step, marks, refl)
 
 -- a front as long as another by symbols has a step more, or is the same
-pub longer_by : (front other : List Mark) (g : Begins front other) → symbols_of other ≡ symbols_of front → (other ≡ front) ⊎ ((step : Step) × (others : List Mark) × (other ≡ front ++ (Given step ∷ others)))
+pub longer_by : (front other : List Mark) (g : Begins front other) → symbols_of other ≡ symbols_of front →
+    (other ≡ front) ⊎ ((step : Step) × (others : List Mark) × (other ≡ front ++ (Given step ∷ others)))
 longer_by front other g e = elim (no_symbols g.rest none) [
   | inl h ↦ inl (g.same ∙ ap (λ r. front ++ r) h ∙ append_nil front)
   | inr (step, others, h) ↦ inr (step, others, g.same ∙ ap (λ r. front ++ r) h)
 ]
   where
     none : symbols_of g.rest ≡ []
-    none = cancel (symbols_of front) (sym (symbols_append front g.rest) ∙ sym (ap symbols_of g.same) ∙ e ∙ sym (append_nil (symbols_of front)))
+    none = cancel (symbols_of front) (sym (symbols_append front g.rest) ∙ sym (ap symbols_of g.same) ∙ e
+        ∙ sym (append_nil (symbols_of front)))
 
 module _ {front : List Mark} {next : List Symbol} {mode : Mode} {kept : Kept} (f : IsFrontOf front next mode kept)
     (x : Symbol) (n : Begins next (x ∷ [])) where
   -- the steps that may stand behind the front
-  pub stands : (step : Step) (others rest : List Mark) → IsText ((front ++ (Given step ∷ others)) ++ rest) → Ends mode kept step (others ++ rest)
+  pub stands : (step : Step) (others rest : List Mark) → IsText ((front ++ (Given step ∷ others)) ++ rest) →
+      Ends mode kept step (others ++ rest)
   stands step others rest t =
       forth mode kept (Given step ∷ (others ++ rest))
       (f.forth (Given step ∷ (others ++ rest)) (subst IsText (append_assoc front (Given step ∷ others) rest) t))
@@ -218,26 +235,32 @@ module _ {front : List Mark} {next : List Symbol} {mode : Mode} {kept : Kept} (f
           step_same : (other : Step) (rest : List Mark) → Ends mode kept other rest → other ≡ step
           step_same other rest h = (subst (λ m. Ends m kept other rest) d.is_number h).1 ∙ sym d.step_is
 
-          only_rest : (rest : List Mark) (more : List Symbol) → Follows mode kept rest → symbols_of rest ≡ x ∷ more → (others : List Mark) × (rest ≡ Given step ∷ others)
+          only_rest : (rest : List Mark) (more : List Symbol) → Follows mode kept rest → symbols_of rest ≡ x ∷ more →
+              (others : List Mark) × (rest ≡ Given step ∷ others)
           only_rest [] more h s = absurd h
           only_rest (Seen y ∷ others) more h s =
               absurd (out_first (subst (λ v. Goes v others) e (subst (λ z. Goes (move_by mode kept z) others) (head_of s) h)))
           only_rest (Given other ∷ others) more h s = (others, ap (λ z. Given z ∷ others) (step_same other others h))
 
-          only_to : (text : List Mark) → IsText text → Begins (symbols_of (front ++ (Given step ∷ [])) ++ (x ∷ [])) (symbols_of text) → Begins (front ++ (Given step ∷ [])) text
+          only_to : (text : List Mark) → IsText text → Begins (symbols_of (front ++ (Given step ∷ [])) ++ (x ∷ [])) (symbols_of text) →
+              Begins (front ++ (Given step ∷ [])) text
           only_to text t b =
               let c : Begins (symbols_of front ++ (x ∷ [])) (symbols_of text) =
-              subst (λ s. Begins (s ++ (x ∷ [])) (symbols_of text)) (symbols_append front (Given step ∷ []) ∙ append_nil (symbols_of front)) b in
+              subst (λ s. Begins (s ++ (x ∷ [])) (symbols_of text)) (symbols_append front (Given step ∷ [])
+              ∙ append_nil (symbols_of front)) b in
               let o = on f x n text t c in
               let s = only_rest o.rest c.rest o.follows o.seen in
               begins s.0 (o.same ∙ ap (λ r. front ++ r) s.1 ∙ sym (append_assoc front (Given step ∷ []) s.0))
 
-          kin_to : (other rest : List Mark) → IsText (other ++ rest) → symbols_of other ≡ symbols_of (front ++ (Given step ∷ [])) → Begins other (front ++ (Given step ∷ [])) ⊎ Begins (front ++ (Given step ∷ [])) other
+          kin_to : (other rest : List Mark) → IsText (other ++ rest) → symbols_of other ≡ symbols_of (front ++ (Given step ∷ [])) →
+              Begins other (front ++ (Given step ∷ [])) ⊎ Begins (front ++ (Given step ∷ [])) other
           kin_to other rest t s = elim (f.kin other rest t same) [
             | inl g ↦ inl (begins_trans g (begins_front front (Given step ∷ [])))
             | inr g ↦ elim (longer_by front other g same) [
               | inl h ↦ inl (begins (Given step ∷ []) (ap (λ r. r ++ (Given step ∷ [])) (sym h)))
-              | inr (y, others, h) ↦ inr (begins others (h ∙ ap (λ z. front ++ (Given z ∷ others)) (step_same y (others ++ rest) (stands y others rest (subst (λ r. IsText (r ++ rest)) h t)))
+              | inr (y, others, h) ↦ inr (begins others (h
+                  ∙ ap (λ z. front ++ (Given z ∷ others))
+                  (step_same y (others ++ rest) (stands y others rest (subst (λ r. IsText (r ++ rest)) h t)))
                   ∙ sym (append_assoc front (Given step ∷ []) others)))
             ]
           ]

@@ -34,7 +34,8 @@ pub if_false : {t : Bool} {y : Move} {marks : List Mark} (x : Move) → t ≡ fa
 if_false {t} {y} {marks} x e g = subst (λ v. Goes (cond v x y) marks) (sym e) g
 
 -- the side that a choice took
-pub sides : (t : Bool) (x y : Move) (marks : List Mark) → Goes (cond t x y) marks → ((t ≡ true) × Goes x marks) ⊎ ((t ≡ false) × Goes y marks)
+pub sides : (t : Bool) (x y : Move) (marks : List Mark) → Goes (cond t x y) marks →
+    ((t ≡ true) × Goes x marks) ⊎ ((t ≡ false) × Goes y marks)
 sides true x y marks g = inl (refl, g)
 sides false x y marks g = inr (refl, g)
 

@@ -7,9 +7,11 @@ use Rattle.json_text.proofs.Lists.{bytes_append, begins, begins_trans, begins_se
 use Rattle.json_text.proofs.Verdicts.{within, seen_more, goes_begin, bad_behind, unique}
 
 -- what was seen of a longer text
-seen_longer : (bytes more : List ℕ) (ended : Bool) → seen (bytes ++ more) ended ≡ symbols bytes ++ (symbols more ++ (if ended then End ∷ [] else []))
+seen_longer : (bytes more : List ℕ) (ended : Bool) →
+    seen (bytes ++ more) ended ≡ symbols bytes ++ (symbols more ++ (if ended then End ∷ [] else []))
 seen_longer bytes more ended =
-    ap (λ z. z ++ (if ended then End ∷ [] else [])) (bytes_append bytes more) ∙ append_assoc (symbols bytes) (symbols more) (if ended then End ∷ [] else [])
+    ap (λ z. z ++ (if ended then End ∷ [] else [])) (bytes_append bytes more)
+    ∙ append_assoc (symbols bytes) (symbols more) (if ended then End ∷ [] else [])
 
 -- no text goes on where more follows
 bad_stays : (bytes more : List ℕ) (ended : Bool) (front : List Mark) → IsBad bytes false front → IsBad (bytes ++ more) ended front
@@ -24,15 +26,18 @@ bad_stays bytes more ended front b = record {
 }
 
 -- what is bad stays bad at the same byte, behind the same steps
-pub stays : (bytes more : List ℕ) (ended : Bool) (steps : List Step) (at : ℕ) → Reads bytes false steps (BadAt at) → Reads (bytes ++ more) ended steps (BadAt at)
-stays bytes more ended steps at r = record { front = r.front; given = r.given; fits = (r.fits.0, bad_stays bytes more ended r.front r.fits.1) }
+pub stays : (bytes more : List ℕ) (ended : Bool) (steps : List Step) (at : ℕ) → Reads bytes false steps (BadAt at) →
+    Reads (bytes ++ more) ended steps (BadAt at)
+stays bytes more ended steps at r =
+    record { front = r.front; given = r.given; fits = (r.fits.0, bad_stays bytes more ended r.front r.fits.1) }
 
 module _ (bytes more : List ℕ) (ended : Bool) (front other : List Mark) (m : IsMore bytes front) where
   -- the front begins each longer text that goes on
   more_more : IsMore (bytes ++ more) other → Begins front other
   more_more c =
       within front other c.goes_on.1 c.goes_on.0
-      (m.only (other ++ (Seen c.goes_on.0 ∷ c.goes_on.1)) c.goes_on.2 (begins_trans (begins (symbols more) (bytes_append bytes more)) (goes_begin (bytes ++ more) other c)))
+      (m.only (other ++ (Seen c.goes_on.0 ∷ c.goes_on.1)) c.goes_on.2
+      (begins_trans (begins (symbols more) (bytes_append bytes more)) (goes_begin (bytes ++ more) other c)))
       (begins (symbols more) (c.same ∙ bytes_append bytes more ∙ ap (λ z. z ++ symbols more) (sym m.same)))
 
   -- and each that is whole
@@ -58,7 +63,9 @@ module _ (bytes more : List ℕ) (ended : Bool) (front other : List Mark) (m : I
 pub grows : (bytes more : List ℕ) (ended : Bool) (steps all : List Step) (verdict last : Verdict)
     → Reads bytes false steps verdict → Reads (bytes ++ more) ended all last → Begins steps all
 grows bytes more ended steps all More last r q =
-    subst (λ z. Begins z all) r.given (subst (λ z. Begins (steps_of r.front) z) q.given (steps_begin (longer bytes more ended r.front q.front r.fits.1 last q.fits)))
+    subst (λ z. Begins z all) r.given (subst (λ z. Begins (steps_of r.front) z) q.given
+    (steps_begin (longer bytes more ended r.front q.front r.fits.1 last q.fits)))
 grows bytes more ended steps all Whole last r q = absurd (false≢true r.fits.0)
 grows bytes more ended steps all (BadAt n) last r q =
-    subst (λ z. Begins steps z) (unique (bytes ++ more) ended steps all (BadAt n) last (stays bytes more ended steps n r) q).0 (begins_self steps)
+    subst (λ z. Begins steps z) (unique (bytes ++ more) ended steps all (BadAt n) last (stays bytes more ended steps n r) q).0
+    (begins_self steps)

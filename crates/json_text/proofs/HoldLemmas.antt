@@ -17,7 +17,13 @@ use Rattle.json_text.proofs.Lists.{append_nil, symbols_append, steps_append, byt
 -- a front with more symbols known behind it
 pub widen : {front : List Mark} {next : List Symbol} {mode : Mode} {kept : Kept} (wider : List Symbol)
     → IsFrontOf front next mode kept → Begins next wider → IsFrontOf front wider mode kept
-widen {front} wider f b = record { forth = f.forth; back = f.back; only = λ text t g. f.only text t (begins_trans (begins_more (symbols_of front) b) g); kin = f.kin }
+widen {front} wider f b = record {
+  forth = f.forth;
+  back = f.back;
+  only =
+      λ text t g. f.only text t (begins_trans (begins_more (symbols_of front) b) g);
+  kin = f.kin;
+}
 
 -- the first symbol stays the first where more follow
 first_grows : (xs ys : List Symbol) → Begins (first_of xs) (first_of (xs ++ ys))
@@ -42,15 +48,19 @@ new_holds scanner p n m o c = record {
         (subst (λ x. IsFrontOf [] [] mode_.Value (keeping 64 [] x)) (sym c) empty_front))
 
 -- more is known of the symbols to come
-pub keeps : (old new : Scanner) (bytes more : List ℕ) (steps : List Step) → pending new ≡ pending old ++ more → length (bytes ++ more) ≡ fed new
-    → new.machine ≡ old.machine → Begins (first_of (symbols_left old)) (first_of (symbols_left new)) → Holds old bytes steps → Holds new (bytes ++ more) steps
+pub keeps : (old new : Scanner) (bytes more : List ℕ) (steps : List Step) → pending new ≡ pending old ++ more →
+    length (bytes ++ more) ≡ fed new
+    → new.machine ≡ old.machine → Begins (first_of (symbols_left old)) (first_of (symbols_left new)) → Holds old bytes steps →
+    Holds new (bytes ++ more) steps
 keeps old new bytes more steps p n m b h = record {
   front = h.front;
   given = h.given;
-  split = bytes_append bytes more ∙ ap (λ x. x ++ symbols more) h.split ∙ append_assoc (symbols_of h.front) (symbols (pending old)) (symbols more)
+  split = bytes_append bytes more ∙ ap (λ x. x ++ symbols more) h.split
+      ∙ append_assoc (symbols_of h.front) (symbols (pending old)) (symbols more)
       ∙ ap (λ x. symbols_of h.front ++ x) (sym (bytes_append (pending old) more) ∙ ap symbols (sym p));
   count = n;
-  is_front = subst (λ x. IsFrontOf h.front (first_of (symbols_left new)) x.mode (kept_of x)) (sym m) (widen (first_of (symbols_left new)) h.is_front b);
+  is_front = subst (λ x. IsFrontOf h.front (first_of (symbols_left new)) x.mode (kept_of x)) (sym m)
+      (widen (first_of (symbols_left new)) h.is_front b);
 }
 
 -- the end is said
@@ -71,7 +81,8 @@ end_holds old new bytes steps p n m e h =
         (subst (λ ps. Begins (first_of (symbols_left old)) (first_of (symbols ps ++ (End ∷ [])))) (sym p) (longer old.ended (pending old)))
 
 -- a piece is fed
-pub feed_holds : (old new : Scanner) (bytes piece : List ℕ) (steps : List Step) → pending new ≡ pending old ++ piece → fed new ≡ fed old + length piece
+pub feed_holds : (old new : Scanner) (bytes piece : List ℕ) (steps : List Step) → pending new ≡ pending old ++ piece →
+    fed new ≡ fed old + length piece
     → new.machine ≡ old.machine → old.ended ≡ false → new.ended ≡ false → Holds old bytes steps → Holds new (bytes ++ piece) steps
 feed_holds old new bytes piece steps p n m e f h =
     keeps old new bytes piece steps p (length-append bytes piece ∙ ap (λ x. x + length piece) h.count ∙ sym n) m known h
@@ -82,7 +93,8 @@ feed_holds old new bytes piece steps p n m e f h =
     known : Begins (first_of (symbols_left old)) (first_of (symbols_left new))
     known =
         subst (λ x. Begins (first_of x) (first_of (symbols_left new))) (sym (left old e))
-        (subst (λ x. Begins (first_of (symbols (pending old))) (first_of x)) (sym (left new f ∙ ap symbols p ∙ bytes_append (pending old) piece))
+        (subst (λ x. Begins (first_of (symbols (pending old))) (first_of x))
+        (sym (left new f ∙ ap symbols p ∙ bytes_append (pending old) piece))
         (first_grows (symbols (pending old)) (symbols piece)))
 
 -- the move of a scanner by a symbol
@@ -96,14 +108,17 @@ pub record IsLeftSame (old new : Scanner) : Type 0 where
   pub ended_same : new.ended ≡ old.ended
 
 -- a byte is read
-module _ (old new : Scanner) (bytes : List ℕ) (steps : List Step) (b : ℕ) (h : Holds old bytes steps) (p : pending old ≡ b ∷ pending new) (n : fed new ≡ fed old) where
+module _ (old new : Scanner) (bytes : List ℕ) (steps : List Step) (b : ℕ) (h : Holds old bytes steps) (p : pending old ≡ b ∷ pending new)
+    (n : fed new ≡ fed old) where
   -- the byte is the next symbol
   next_is : Begins (first_of (symbols_left old)) (Byte b ∷ [])
-  next_is = begins [] (ap (λ ps. first_of (symbols ps ++ (if old.ended then End ∷ [] else []))) (sym p) ∙ sym (append_nil (first_of (symbols_left old))))
+  next_is = begins [] (ap (λ ps. first_of (symbols ps ++ (if old.ended then End ∷ [] else []))) (sym p)
+      ∙ sym (append_nil (first_of (symbols_left old))))
 
   split_by : (added : List Mark) → symbols_of added ≡ Byte b ∷ [] → symbols bytes ≡ symbols_of (h.front ++ added) ++ symbols (pending new)
   split_by added e =
-      h.split ∙ ap (λ ps. symbols_of h.front ++ symbols ps) p ∙ sym (append_assoc (symbols_of h.front) (Byte b ∷ []) (symbols (pending new)))
+      h.split ∙ ap (λ ps. symbols_of h.front ++ symbols ps) p
+      ∙ sym (append_assoc (symbols_of h.front) (Byte b ∷ []) (symbols (pending new)))
       ∙ ap (λ x. x ++ symbols (pending new)) (sym (symbols_append h.front added ∙ ap (λ x. symbols_of h.front ++ x) e))
 
   grown : (added : List Mark) (more : List Step) → symbols_of added ≡ Byte b ∷ [] → steps_of added ≡ more
@@ -133,7 +148,8 @@ pub first_holds : (old new : Scanner) (bytes : List ℕ) (steps : List Step) (x 
 first_holds old new bytes steps x others step h s l e = record {
   front = h.front ++ (Given step ∷ []);
   given = steps_append h.front (Given step ∷ []) ∙ ap (λ z. z ++ (step ∷ [])) h.given;
-  split = h.split ∙ ap (λ z. z ++ symbols (pending old)) (sym same) ∙ ap (λ ps. symbols_of (h.front ++ (Given step ∷ [])) ++ symbols ps) (sym s.pending_same);
+  split = h.split ∙ ap (λ z. z ++ symbols (pending old)) (sym same)
+      ∙ ap (λ ps. symbols_of (h.front ++ (Given step ∷ [])) ++ symbols ps) (sym s.pending_same);
   count = h.count ∙ sym s.fed_same;
   is_front = subst (λ z. IsFrontOf (h.front ++ (Given step ∷ [])) z new.machine.mode (kept_of new.machine)) (sym left)
       (first_on h.is_front x (begins [] (sym (ap first_of l) ∙ sym (append_nil (first_of (symbols_left old))))) step _ _ (sym e));
@@ -147,7 +163,8 @@ first_holds old new bytes steps x others step h s l e = record {
         ∙ ap (λ y. first_of (symbols (pending old) ++ (if y then End ∷ [] else []))) s.ended_same ∙ ap first_of l
 
 -- what was seen is the front and what is left
-pub seen_by : (scanner : Scanner) (bytes : List ℕ) (steps : List Step) (h : Holds scanner bytes steps) → seen bytes scanner.ended ≡ symbols_of h.front ++ symbols_left scanner
+pub seen_by : (scanner : Scanner) (bytes : List ℕ) (steps : List Step) (h : Holds scanner bytes steps) →
+    seen bytes scanner.ended ≡ symbols_of h.front ++ symbols_left scanner
 seen_by scanner bytes steps h =
     ap (λ x. x ++ (if scanner.ended then End ∷ [] else [])) h.split
     ∙ append_assoc (symbols_of h.front) (symbols (pending scanner)) (if scanner.ended then End ∷ [] else [])
@@ -155,10 +172,12 @@ seen_by scanner bytes steps h =
 -- all steps that were given are fixed
 pub holds_fixed : (scanner : Scanner) (bytes : List ℕ) (steps : List Step) → Holds scanner bytes steps → AreFixed bytes scanner.ended steps
 holds_fixed scanner bytes steps h =
-    subst (λ x. AreFixed bytes scanner.ended x) h.given (fixed (symbols_left scanner) bytes scanner.ended h.is_front (seen_by scanner bytes steps h))
+    subst (λ x. AreFixed bytes scanner.ended x) h.given
+    (fixed (symbols_left scanner) bytes scanner.ended h.is_front (seen_by scanner bytes steps h))
 
 -- nothing is left, and more may come
-pub holds_more : (scanner : Scanner) (bytes : List ℕ) (steps : List Step) → Holds scanner bytes steps → pending scanner ≡ [] → scanner.ended ≡ false → Reads bytes scanner.ended steps More
+pub holds_more : (scanner : Scanner) (bytes : List ℕ) (steps : List Step) → Holds scanner bytes steps → pending scanner ≡ [] →
+    scanner.ended ≡ false → Reads bytes scanner.ended steps More
 holds_more scanner bytes steps h p e = record { front = h.front; given = h.given; fits = (e, more_at bytes front_is same) }
   where
     same : symbols_of h.front ≡ symbols bytes
@@ -171,7 +190,8 @@ holds_more scanner bytes steps h p e = record { front = h.front; given = h.given
     front_is = subst (λ z. IsFrontOf h.front z scanner.machine.mode (kept_of scanner.machine)) none h.is_front
 
 -- the end finishes the text
-pub holds_whole : (scanner : Scanner) (bytes : List ℕ) (steps : List Step) → Holds scanner bytes steps → pending scanner ≡ [] → scanner.ended ≡ true
+pub holds_whole : (scanner : Scanner) (bytes : List ℕ) (steps : List Step) → Holds scanner bytes steps → pending scanner ≡ [] →
+    scanner.ended ≡ true
     → move_at scanner End ≡ Finishes → Reads bytes scanner.ended steps Whole
 holds_whole scanner bytes steps h p e m = record {
   front = h.front ++ (Seen End ∷ []);
@@ -184,10 +204,12 @@ holds_whole scanner bytes steps h p e m = record {
 
     next : End ∷ [] ≡ first_of (symbols_left scanner) ++ []
     next = sym (append_nil (first_of (symbols_left scanner))
-        ∙ ap (λ t. first_of (symbols (pending scanner) ++ (if t then End ∷ [] else []))) e ∙ ap (λ ps. first_of (symbols ps ++ (End ∷ []))) p)
+        ∙ ap (λ t. first_of (symbols (pending scanner) ++ (if t then End ∷ [] else []))) e
+        ∙ ap (λ ps. first_of (symbols ps ++ (End ∷ []))) p)
 
 -- the symbols of the front are the bytes that were scanned
-front_length : (scanner : Scanner) (bytes : List ℕ) (steps : List Step) (h : Holds scanner bytes steps) → scanner.read ≤ vec_len scanner.input
+front_length : (scanner : Scanner) (bytes : List ℕ) (steps : List Step) (h : Holds scanner bytes steps) →
+    scanner.read ≤ vec_len scanner.input
     → length (symbols_of h.front) ≡ scanner.before + scanner.read
 front_length scanner bytes steps h r =
     let total : length (symbols bytes) ≡ length (symbols_of h.front) + length (symbols (pending scanner)) =
@@ -196,7 +218,8 @@ front_length scanner bytes steps h r =
     omega (arith, total, rest, length_symbols bytes, length_symbols (pending scanner), h.count, scanner.input.ok.0, r)
 
 -- where a symbol is stuck, no text goes on
-pub holds_bad : (scanner : Scanner) (bytes : List ℕ) (steps : List Step) (x : Symbol) (others : List Symbol) → Holds scanner bytes steps → scanner.read ≤ vec_len scanner.input
+pub holds_bad : (scanner : Scanner) (bytes : List ℕ) (steps : List Step) (x : Symbol) (others : List Symbol) → Holds scanner bytes steps →
+    scanner.read ≤ vec_len scanner.input
     → symbols_left scanner ≡ x ∷ others
     → move_at scanner x ≡ Stuck
     → Reads bytes scanner.ended steps (BadAt (scanner.before + scanner.read))

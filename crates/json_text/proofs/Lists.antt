@@ -78,7 +78,8 @@ front_nil (x ∷ m) n e = absurd (no_cons (sym e))
 -- two lists that begin each other are equal
 pub begins_antisym : {A : Type 0} {a b : List A} → Begins a b → Begins b a → a ≡ b
 begins_antisym {A} {a} {b} f g =
-    let none : f.rest ++ g.rest ≡ [] = nothing_more a (f.rest ++ g.rest) (g.same ∙ ap (λ x. x ++ g.rest) f.same ∙ append_assoc a f.rest g.rest) in
+    let none : f.rest ++ g.rest ≡ [] =
+    nothing_more a (f.rest ++ g.rest) (g.same ∙ ap (λ x. x ++ g.rest) f.same ∙ append_assoc a f.rest g.rest) in
     let left : f.rest ≡ [] = front_nil f.rest g.rest none in
     sym (f.same ∙ ap (λ x. a ++ x) left ∙ append_nil a)
 

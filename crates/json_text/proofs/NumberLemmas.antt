@@ -25,20 +25,24 @@ takes_kind part next kind_.Minus t h = absurd (false≢true h)
 takes_kind part next kind_.Other t h = absurd (false≢true h)
 
 -- a byte of a kind leads on where the part behind it does
-pub goes_on : (part next : Part) (b : ℕ) (bytes : List ℕ) → part_after part (kind_of b) ≡ Some next → Completes bytes next → Completes (b ∷ bytes) part
+pub goes_on : (part next : Part) (b : ℕ) (bytes : List ℕ) → part_after part (kind_of b) ≡ Some next → Completes bytes next →
+    Completes (b ∷ bytes) part
 goes_on part next b bytes e c = subst (λ o. OnPart o (Completes bytes)) (sym e) c
 
 -- digits lead on
-digit_goes : (part next : Part) (b : ℕ) (bytes : List ℕ) → Takes part next → is_digit b ≡ true → Completes bytes next → Completes (b ∷ bytes) part
+digit_goes : (part next : Part) (b : ℕ) (bytes : List ℕ) → Takes part next → is_digit b ≡ true → Completes bytes next →
+    Completes (b ∷ bytes) part
 digit_goes part next b bytes t h c = goes_on part next b bytes (takes_kind part next (kind_of b) t h) c
 
 -- so do any digits, where they stay in their part
-digits_go : (part : Part) (digits bytes : List ℕ) → Takes part part → AreAll is_digit digits → Completes bytes part → Completes (digits ++ bytes) part
+digits_go : (part : Part) (digits bytes : List ℕ) → Takes part part → AreAll is_digit digits → Completes bytes part →
+    Completes (digits ++ bytes) part
 digits_go part [] bytes t h c = c
 digits_go part (d ∷ digits) bytes t h c = digit_goes part part d (digits ++ bytes) t h.0 (digits_go part digits bytes t h.1 c)
 
 -- and digits of which there is at least one
-run_goes : (part next : Part) (digits bytes : List ℕ) → Takes part next → Takes next next → IsRun digits → Completes bytes next → Completes (digits ++ bytes) part
+run_goes : (part next : Part) (digits bytes : List ℕ) → Takes part next → Takes next next → IsRun digits → Completes bytes next →
+    Completes (digits ++ bytes) part
 run_goes part next [] bytes t u h c = absurd h
 run_goes part next (d ∷ digits) bytes t u h c = digit_goes part next d (digits ++ bytes) t h.0 (digits_go next digits bytes u h.1 c)
 
@@ -56,7 +60,8 @@ digits_end : (part : Part) (digits : List ℕ) → Takes part part → may_end p
 digits_end part digits t m h = subst (λ xs. Completes xs part) (append_nil digits) (digits_go part digits [] t h m)
 
 -- digits of which there is at least one may end a number
-run_end : (part next : Part) (digits : List ℕ) → Takes part next → Takes next next → may_end next ≡ true → IsRun digits → Completes digits part
+run_end : (part next : Part) (digits : List ℕ) → Takes part next → Takes next next → may_end next ≡ true → IsRun digits →
+    Completes digits part
 run_end part next digits t u m h = subst (λ xs. Completes xs part) (append_nil digits) (run_goes part next digits [] t u h m)
 
 -- a sign may follow the letter of an exponent
@@ -78,17 +83,21 @@ signed_goes (b ∷ bytes) (inr h) =
     (run_end part_.Sign part_.Exponent bytes (takes _ _ refl refl) (takes _ _ refl refl) refl h.1)
 
 -- an exponent, or nothing, completes a number behind these parts
-exp_goes : (part : Part) → may_end part ≡ true → part_after part kind_.Letter ≡ Some part_.Letter → (exp : List ℕ) → IsExp exp → Completes exp part
+exp_goes : (part : Part) → may_end part ≡ true → part_after part kind_.Letter ≡ Some part_.Letter → (exp : List ℕ) → IsExp exp →
+    Completes exp part
 exp_goes part m e [] h = m
-exp_goes part m e (b ∷ bytes) h = goes_on part part_.Letter b bytes (subst (λ k. part_after part k ≡ Some part_.Letter) (sym h.0) e) (signed_goes bytes h.1)
+exp_goes part m e (b ∷ bytes) h = goes_on part part_.Letter b bytes (subst (λ k. part_after part k ≡ Some part_.Letter) (sym h.0) e)
+    (signed_goes bytes h.1)
 
 -- so does a fraction, or nothing, with an exponent, or nothing, behind it
-frac_goes : (part : Part) → may_end part ≡ true → part_after part kind_.Letter ≡ Some part_.Letter → part_after part kind_.Point ≡ Some part_.Point
+frac_goes : (part : Part) → may_end part ≡ true → part_after part kind_.Letter ≡ Some part_.Letter →
+    part_after part kind_.Point ≡ Some part_.Point
     → (frac exp : List ℕ) → IsFrac frac → IsExp exp → Completes (frac ++ exp) part
 frac_goes part m e p [] exp f x = exp_goes part m e exp x
 frac_goes part m e p (b ∷ bytes) exp f x =
     goes_on part part_.Point b (bytes ++ exp) (subst (λ k. part_after part k ≡ Some part_.Point) (sym f.0) p)
-    (run_goes part_.Point part_.Fraction bytes exp (takes _ _ refl refl) (takes _ _ refl refl) f.1 (exp_goes part_.Fraction refl refl exp x))
+    (run_goes part_.Point part_.Fraction bytes exp (takes _ _ refl refl) (takes _ _ refl refl) f.1
+    (exp_goes part_.Fraction refl refl exp x))
 
 -- the whole part with what follows it completes a number
 int_goes : (part : Part) → part_after part kind_.Zero ≡ Some part_.Zero → part_after part kind_.Digit ≡ Some part_.Whole
@@ -102,7 +111,8 @@ int_goes part z d (b ∷ bytes) frac exp (inr i) f x =
     (digits_go part_.Whole bytes (frac ++ exp) (takes _ _ refl refl) i.1 (frac_goes part_.Whole refl refl refl frac exp f x))
 
 -- so do all four parts
-minus_goes : (minus int frac exp : List ℕ) → IsMinus minus → IsInt int → IsFrac frac → IsExp exp → Completes (minus ++ (int ++ (frac ++ exp))) part_.Nothing
+minus_goes : (minus int frac exp : List ℕ) → IsMinus minus → IsInt int → IsFrac frac → IsExp exp →
+    Completes (minus ++ (int ++ (frac ++ exp))) part_.Nothing
 minus_goes [] int frac exp m i f x = int_goes part_.Nothing refl refl int frac exp i f x
 minus_goes (b ∷ []) int frac exp m i f x =
     goes_on part_.Nothing part_.Minus b (int ++ (frac ++ exp)) (subst (λ k. part_after part_.Nothing k ≡ Some part_.Minus) (sym m) refl)
@@ -111,14 +121,17 @@ minus_goes (b ∷ c ∷ bytes) int frac exp m i f x = absurd m
 
 -- a number of the grammar is read part by part
 pub number_goes : (bytes : List ℕ) → IsNumber bytes → Completes bytes part_.Nothing
-number_goes bytes n = subst (λ xs. Completes xs part_.Nothing) (sym n.spelled) (minus_goes n.minus n.int n.frac n.exp n.is_minus n.is_int n.is_frac n.is_exp)
+number_goes bytes n = subst (λ xs. Completes xs part_.Nothing) (sym n.spelled)
+    (minus_goes n.minus n.int n.frac n.exp n.is_minus n.is_int n.is_frac n.is_exp)
 
 -- what completes a number behind a part, in the grammar's own words
 abbrev pub Spelled : Part → List ℕ → Type 0
 Spelled part_.Nothing bytes = IsNumber bytes
-Spelled part_.Minus bytes = (int : List ℕ) × (frac : List ℕ) × (exp : List ℕ) × IsInt int × IsFrac frac × IsExp exp × (bytes ≡ int ++ (frac ++ exp))
+Spelled part_.Minus bytes = (int : List ℕ) × (frac : List ℕ) × (exp : List ℕ) × IsInt int × IsFrac frac × IsExp exp ×
+    (bytes ≡ int ++ (frac ++ exp))
 Spelled part_.Zero bytes = (frac : List ℕ) × (exp : List ℕ) × IsFrac frac × IsExp exp × (bytes ≡ frac ++ exp)
-Spelled part_.Whole bytes = (digits : List ℕ) × (frac : List ℕ) × (exp : List ℕ) × AreAll is_digit digits × IsFrac frac × IsExp exp × (bytes ≡ digits ++ (frac ++ exp))
+Spelled part_.Whole bytes = (digits : List ℕ) × (frac : List ℕ) × (exp : List ℕ) × AreAll is_digit digits × IsFrac frac × IsExp exp ×
+    (bytes ≡ digits ++ (frac ++ exp))
 Spelled part_.Point bytes = (digits : List ℕ) × (exp : List ℕ) × IsRun digits × IsExp exp × (bytes ≡ digits ++ exp)
 Spelled part_.Fraction bytes = (digits : List ℕ) × (exp : List ℕ) × AreAll is_digit digits × IsExp exp × (bytes ≡ digits ++ exp)
 Spelled part_.Letter bytes = IsSigned bytes
@@ -179,11 +192,24 @@ whole_then b bytes k (digits, frac, exp, ds, f, x, e) = (b ∷ digits, frac, exp
 
 -- a number without a minus
 unsigned : (bytes : List ℕ) → Spelled part_.Minus bytes → Spelled part_.Nothing bytes
-unsigned bytes (int, frac, exp, i, f, x, e) = record { minus = []; int = int; frac = frac; exp = exp; is_minus = tt; is_int = i; is_frac = f; is_exp = x; spelled = e }
+unsigned bytes (int, frac, exp, i, f, x, e) =
+    record { minus = []; int = int; frac = frac; exp = exp; is_minus = tt; is_int = i; is_frac = f; is_exp = x; spelled = e }
 
 -- a number with one
 minus_then : (b : ℕ) (bytes : List ℕ) → kind_of b ≡ kind_.Minus → Spelled part_.Minus bytes → Spelled part_.Nothing (b ∷ bytes)
-minus_then b bytes k (int, frac, exp, i, f, x, e) = record { minus = b ∷ []; int = int; frac = frac; exp = exp; is_minus = k; is_int = i; is_frac = f; is_exp = x; spelled = ap (λ xs. b ∷ xs) e }
+minus_then b bytes k (int, frac, exp, i, f, x, e) =
+    record {
+      minus = b ∷ [];
+      int = int;
+      frac = frac;
+      exp = exp;
+      is_minus = k;
+      is_int = i;
+      is_frac = f;
+      is_exp = x;
+      spelled =
+          ap (λ xs. b ∷ xs) e;
+    }
 
 -- digits of which there is at least one are digits
 run_of : (bytes : List ℕ) → IsRun bytes → AreAll is_digit bytes

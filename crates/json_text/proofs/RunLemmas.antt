@@ -23,7 +23,8 @@ use Rattle.json_text.proofs.HoldLemmas.{widen}
 use Rattle.json_text.proofs.ScannerLemmas.{same_holds}
 
 -- one more byte that passes
-pub all_more : (p : ℕ → Bool) (n : ℕ) (bytes : List ℕ) → AreAll p (take n bytes) → n < length bytes → p (get_or bytes n 0) ≡ true → AreAll p (take (suc n) bytes)
+pub all_more : (p : ℕ → Bool) (n : ℕ) (bytes : List ℕ) → AreAll p (take n bytes) → n < length bytes → p (get_or bytes n 0) ≡ true →
+    AreAll p (take (suc n) bytes)
 all_more p n [] a l h = absurd (omega arith)
 all_more p zero (b ∷ bytes) a l h = (h, tt)
 all_more p (suc n) (b ∷ bytes) a l h = (a.0, all_more p n bytes a.1 (omega arith) h)
@@ -37,7 +38,8 @@ on_part (Some z) p q k f = f z k
 pub parts_more : (part : Part) (n : ℕ) (bytes : List ℕ) (last next : Part) → PartsGo part (take n bytes) last → n < length bytes
     → part_after last (kind_of (get_or bytes n 0)) ≡ Some next → PartsGo part (take (suc n) bytes) next
 parts_more part n [] last next g l h = absurd (omega arith)
-parts_more part zero (b ∷ bytes) last next g l h = subst (λ o. OnPart o (λ z. next ≡ z)) (sym (ap (λ z. part_after z (kind_of b)) (sym g) ∙ h)) refl
+parts_more part zero (b ∷ bytes) last next g l h =
+    subst (λ o. OnPart o (λ z. next ≡ z)) (sym (ap (λ z. part_after z (kind_of b)) (sym g) ∙ h)) refl
 parts_more part (suc n) (b ∷ bytes) last next g l h =
     on_part (part_after part (kind_of b)) (λ z. PartsGo z (take n bytes) last) (λ z. PartsGo z (take (suc n) bytes) next) g
     (λ z k. parts_more z n bytes last next k (omega arith) h)
@@ -46,7 +48,8 @@ parts_more part (suc n) (b ∷ bytes) last next g l h =
 abbrev pub Runs : Mode → Kept → List ℕ → Mode → List ℕ → Type 0
 Runs mode kept [] to after = (to ≡ mode) × (after ≡ kept.content)
 Runs mode kept (b ∷ run) to after =
-    (next : Mode) × (longer : List ℕ) × (byte_move mode kept b ≡ Reads next (holding kept longer)) × Runs next (holding kept longer) run to after
+    (next : Mode) × (longer : List ℕ) × (byte_move mode kept b ≡ Reads next (holding kept longer)) ×
+    Runs next (holding kept longer) run to after
 
 -- the same from where a scanner stands
 abbrev pub RunsFrom : Scanner → List ℕ → Mode → List ℕ → Type 0
@@ -83,7 +86,8 @@ plain_run role kept (b ∷ run) a = (
   mode_.Text role (place_.Chars None),
   (kept.content ++ []) ++ (b ∷ []),
   ap (λ l. lead_move role None l kept b) (plain_lead b a.0),
-  subst (λ z. Runs (mode_.Text role (place_.Chars None)) (holding kept ((kept.content ++ []) ++ (b ∷ []))) run (mode_.Text role (place_.Chars None)) z)
+  subst (λ z. Runs (mode_.Text role (place_.Chars None)) (holding kept ((kept.content ++ []) ++ (b ∷ []))) run
+      (mode_.Text role (place_.Chars None)) z)
       (append_assoc (kept.content ++ []) (b ∷ []) run ∙ ap (λ z. z ++ (b ∷ run)) (append_nil kept.content))
       (plain_run role (holding kept ((kept.content ++ []) ++ (b ∷ []))) run a.1),
 )
@@ -96,14 +100,16 @@ number_run part kept (b ∷ run) to g =
     on (part_after part (kind_of b)) refl g (λ z k. number_run z (holding kept (kept.content ++ (b ∷ []))) run to k)
   where
     on : (o : Option Part) → part_after part (kind_of b) ≡ o → OnPart o (λ z. PartsGo z run to)
-        → ((z : Part) → PartsGo z run to → Runs (mode_.Number z) (holding kept (kept.content ++ (b ∷ []))) run (mode_.Number to) ((kept.content ++ (b ∷ [])) ++ run))
+        → ((z : Part) → PartsGo z run to →
+        Runs (mode_.Number z) (holding kept (kept.content ++ (b ∷ []))) run (mode_.Number to) ((kept.content ++ (b ∷ [])) ++ run))
         → Runs (mode_.Number part) kept (b ∷ run) (mode_.Number to) (kept.content ++ (b ∷ run))
     on None e k goes = absurd k
     on (Some next) e k goes = (
       mode_.Number next,
       kept.content ++ (b ∷ []),
       ap (λ o. number_move part o kept b) e,
-      subst (λ z. Runs (mode_.Number next) (holding kept (kept.content ++ (b ∷ []))) run (mode_.Number to) z) (append_assoc kept.content (b ∷ []) run) (goes next k),
+      subst (λ z. Runs (mode_.Number next) (holding kept (kept.content ++ (b ∷ []))) run (mode_.Number to) z)
+          (append_assoc kept.content (b ∷ []) run) (goes next k),
     )
 
 -- a front grows over a run
@@ -148,23 +154,28 @@ pub run_holds : (old new : Scanner) (run : List ℕ) → RunsTo old run new
     → new.machine.opens.items ≡ old.machine.opens.items → pending old ≡ run ++ pending new → fed new ≡ fed old → new.ended ≡ old.ended
     → (bytes : List ℕ) (steps : List Step) → Holds old bytes steps → Holds new bytes steps
 run_holds old new [] (m, c) o p n e bytes steps h =
-    same_holds old new bytes steps h (record { pending_same = sym p; fed_same = n; ended_same = e }) (record { mode = m; opens = o; content = c })
+    same_holds old new bytes steps h (record { pending_same = sym p; fed_same = n; ended_same = e })
+    (record { mode = m; opens = o; content = c })
 run_holds old new (b ∷ run) r o p n e bytes steps h = record {
   front = h.front ++ see (b ∷ run) [];
-  given = steps_append h.front (see (b ∷ run) []) ∙ ap (λ z. steps_of h.front ++ z) (steps_see (b ∷ run)) ∙ append_nil (steps_of h.front) ∙ h.given;
+  given = steps_append h.front (see (b ∷ run) []) ∙ ap (λ z. steps_of h.front ++ z) (steps_see (b ∷ run)) ∙ append_nil (steps_of h.front)
+      ∙ h.given;
   split = h.split ∙ ap (λ z. symbols_of h.front ++ symbols z) p ∙ ap (λ z. symbols_of h.front ++ z) (bytes_append (b ∷ run) (pending new))
       ∙ sym (append_assoc (symbols_of h.front) (symbols (b ∷ run)) (symbols (pending new)))
-      ∙ ap (λ z. z ++ symbols (pending new)) (sym (symbols_append h.front (see (b ∷ run) []) ∙ ap (λ z. symbols_of h.front ++ z) (symbols_see (b ∷ run))));
+      ∙ ap (λ z. z ++ symbols (pending new))
+      (sym (symbols_append h.front (see (b ∷ run) []) ∙ ap (λ z. symbols_of h.front ++ z) (symbols_see (b ∷ run))));
   count = h.count ∙ sym n;
   is_front = widen (first_of (symbols_left new)) placed (begins (first_of (symbols_left new)) refl);
 }
   where
     next_is : Begins (first_of (symbols_left old)) (Byte b ∷ [])
-    next_is = begins [] (ap (λ ps. first_of (symbols ps ++ (if old.ended then End ∷ [] else []))) (sym p) ∙ sym (append_nil (first_of (symbols_left old))))
+    next_is = begins [] (ap (λ ps. first_of (symbols ps ++ (if old.ended then End ∷ [] else []))) (sym p)
+        ∙ sym (append_nil (first_of (symbols_left old))))
 
     placed : IsFrontOf (h.front ++ see (b ∷ run) []) [] new.machine.mode (kept_of new.machine)
     placed =
-        subst (λ x. IsFrontOf (h.front ++ see (b ∷ run) []) [] new.machine.mode (keeping (64 - length x) (reverse x) new.machine.content.items)) (sym o)
+        subst (λ x. IsFrontOf (h.front ++ see (b ∷ run) []) [] new.machine.mode
+        (keeping (64 - length x) (reverse x) new.machine.content.items)) (sym o)
         (run_front b run new.machine.mode new.machine.content.items h.is_front next_is r)
 
 -- one more byte of a list that passes, behind a place
@@ -178,7 +189,8 @@ all_at p from at bytes f l a h =
     (all_more p (at - from) (drop from bytes) a inside (ap p (get_or-drop from bytes (at - from) 0 ∙ ap (λ k. get_or bytes k 0) place) ∙ h))
 
 -- one more byte of a number, behind a place
-pub parts_at : (part last next : Part) (from at : ℕ) (bytes : List ℕ) → from ≤ at → at < length bytes → PartsGo part (take (at - from) (drop from bytes)) last
+pub parts_at : (part last next : Part) (from at : ℕ) (bytes : List ℕ) → from ≤ at → at < length bytes →
+    PartsGo part (take (at - from) (drop from bytes)) last
     → part_after last (kind_of (get_or bytes at 0)) ≡ Some next → PartsGo part (take (at + 1 - from) (drop from bytes)) next
 parts_at part last next from at bytes f l g h =
     let longer : suc (at - from) ≡ at + 1 - from = omega arith in
@@ -194,8 +206,15 @@ Beside = List ℕ × ℕ × ℕ × Bool × Bool × List Bracket × List ℕ
 
 -- its bytes and how many they are, the bytes before them, both flags, the brackets and the last content
 abbrev pub beside : Scanner → Beside
-beside scanner =
-    (scanner.input.items, vec_len scanner.input, scanner.before, scanner.ended, scanner.failed, scanner.machine.opens.items, scanner.machine.text.items)
+beside scanner = (
+  scanner.input.items,
+  vec_len scanner.input,
+  scanner.before,
+  scanner.ended,
+  scanner.failed,
+  scanner.machine.opens.items,
+  scanner.machine.text.items,
+)
 
 -- a scanner has gone on in what it keeps, and left all but the place and the content that is read
 pub record Onward (old new : Scanner) : Type 0 where
@@ -212,7 +231,13 @@ run_of old new = take (new.read - old.read) (drop old.read old.input.items)
 pub reads_run : (old new : Scanner) → Onward old new → RunsTo old (run_of old new) new → ReadsOn old new
 reads_run old new o r = record {
   holds = run_holds old new (run_of old new) r (ap (λ (p : Beside). p.5) o.same) pends count ended;
-  leaves = record { fed_same = count; ended_same = ended; failed_same = ap (λ (p : Beside). p.4) o.same; content_same = ap (λ (p : Beside). p.6) o.same };
+  leaves = record {
+    fed_same = count;
+    ended_same = ended;
+    failed_same = ap (λ (p : Beside). p.4) o.same;
+    content_same =
+        ap (λ (p : Beside). p.6) o.same;
+  };
   fewer = few;
 }
   where
@@ -236,16 +261,19 @@ pub reads_to : (old new : Scanner) (to : Mode) (after : List ℕ) → Onward old
     → RunsFrom old (run_of old new) to after → ReadsOn old new
 reads_to old new to after o m c r =
     reads_run old new o
-    (subst (λ z. RunsFrom old (run_of old new) z new.machine.content.items) (sym m) (subst (λ z. RunsFrom old (run_of old new) to z) (sym c) r))
+    (subst (λ z. RunsFrom old (run_of old new) z new.machine.content.items) (sym m)
+    (subst (λ z. RunsFrom old (run_of old new) to z) (sym c) r))
 
 -- white space was read
 pub spaces_on : (old new : Scanner) → Onward old new → MaySpace old.machine.mode → new.machine.mode ≡ old.machine.mode
     → new.machine.content.items ≡ old.machine.content.items → AreAll is_space (run_of old new) → ReadsOn old new
 spaces_on old new o m e c a =
-    reads_to old new old.machine.mode old.machine.content.items o e c (space_run old.machine.mode (kept_of old.machine) (run_of old new) m a)
+    reads_to old new old.machine.mode old.machine.content.items o e c
+    (space_run old.machine.mode (kept_of old.machine) (run_of old new) m a)
 
 -- plain bytes were read
-pub plain_on : (old new : Scanner) (role : Role) → Onward old new → old.machine.mode ≡ mode_.Text role (place_.Chars None) → new.machine.mode ≡ old.machine.mode
+pub plain_on : (old new : Scanner) (role : Role) → Onward old new → old.machine.mode ≡ mode_.Text role (place_.Chars None) →
+    new.machine.mode ≡ old.machine.mode
     → new.machine.content.items ≡ old.machine.content.items ++ run_of old new → AreAll is_plain (run_of old new) → ReadsOn old new
 plain_on old new role o m e c a =
     let to = mode_.Text role (place_.Chars None) in
@@ -254,9 +282,11 @@ plain_on old new role o m e c a =
     (subst (λ z. Runs z (kept_of old.machine) (run_of old new) to after) (sym m) (plain_run role (kept_of old.machine) (run_of old new) a))
 
 -- bytes of a number were read
-pub number_on : (old new : Scanner) (part last : Part) → Onward old new → old.machine.mode ≡ mode_.Number part → new.machine.mode ≡ mode_.Number last
+pub number_on : (old new : Scanner) (part last : Part) → Onward old new → old.machine.mode ≡ mode_.Number part →
+    new.machine.mode ≡ mode_.Number last
     → new.machine.content.items ≡ old.machine.content.items ++ run_of old new → PartsGo part (run_of old new) last → ReadsOn old new
 number_on old new part last o m e c g =
     let after = old.machine.content.items ++ run_of old new in
     reads_to old new (mode_.Number last) after o e c
-    (subst (λ z. Runs z (kept_of old.machine) (run_of old new) (mode_.Number last) after) (sym m) (number_run part (kept_of old.machine) (run_of old new) last g))
+    (subst (λ z. Runs z (kept_of old.machine) (run_of old new) (mode_.Number last) after) (sym m)
+    (number_run part (kept_of old.machine) (run_of old new) last g))

@@ -28,19 +28,23 @@ pending_byte items i b h e = rw add-one (drop-cons items i b h ∙ ap (λ x. x �
 abbrev pub Moves : Scanner → Scanner → Taken → Symbol → Type 0
 Moves old new taken x = move_of taken new.machine ≡ move_at old x
 
-module _ (old new : Scanner) (bytes : List ℕ) (steps : List Step) (b : ℕ) (taken : Taken) (h : Holds old bytes steps) (m : Moves old new taken (Byte b)) where
+module _ (old new : Scanner) (bytes : List ℕ) (steps : List Step) (b : ℕ) (taken : Taken) (h : Holds old bytes steps) (m :
+    Moves old new taken (Byte b)) where
   -- it was read
   pub byte_read : taken ≡ taken_.Read → pending old ≡ b ∷ pending new → fed new ≡ fed old → Holds new bytes steps
   byte_read t p n = read_holds old new bytes steps b h p n (subst (λ x. Moves old new x (Byte b)) t m)
 
   -- a step was given
-  pub byte_given : (token : Token) (answer : JsonStep) → taken ≡ taken_.Given token → ((text : List ℕ) → step_for answer text ≡ Some (step_of token text))
+  pub byte_given : (token : Token) (answer : JsonStep) → taken ≡ taken_.Given token →
+      ((text : List ℕ) → step_for answer text ≡ Some (step_of token text))
       → pending old ≡ b ∷ pending new → fed new ≡ fed old → Told answer new bytes steps
   byte_given token answer t a p n =
-      told_step (step_of token (content new)) (a (content new)) (given_holds old new bytes steps b h p n (step_of token (content new)) (subst (λ x. Moves old new x (Byte b)) t m))
+      told_step (step_of token (content new)) (a (content new))
+      (given_holds old new bytes steps b h p n (step_of token (content new)) (subst (λ x. Moves old new x (Byte b)) t m))
 
   -- a number was given
-  pub byte_first : taken ≡ taken_.First → (others : List ℕ) → pending old ≡ b ∷ others → IsLeftSame old new → Told step_.Number new bytes steps
+  pub byte_first : taken ≡ taken_.First → (others : List ℕ) → pending old ≡ b ∷ others → IsLeftSame old new →
+      Told step_.Number new bytes steps
   byte_first t others q s =
       told_step (Step.Number (content new)) refl
       (first_holds old new bytes steps (Byte b) (symbols others ++ (if old.ended then End ∷ [] else [])) (Step.Number (content new)) h s
@@ -55,13 +59,15 @@ same_holds old new bytes steps h l s = record {
   split = h.split ∙ ap (λ ps. symbols_of h.front ++ symbols ps) (sym l.pending_same);
   count = h.count ∙ sym l.fed_same;
   is_front = subst (λ x. IsFrontOf h.front (first_of (symbols_left new)) x (kept_of new.machine)) (sym s.mode)
-      (subst (λ x. IsFrontOf h.front (first_of (symbols_left new)) old.machine.mode (keeping (64 - length x) (reverse x) new.machine.content.items)) (sym s.opens)
+      (subst (λ x. IsFrontOf h.front (first_of (symbols_left new)) old.machine.mode
+      (keeping (64 - length x) (reverse x) new.machine.content.items)) (sym s.opens)
       (subst (λ x. IsFrontOf h.front (first_of (symbols_left new)) old.machine.mode (holding (kept_of old.machine) x)) (sym s.content)
       (subst (λ x. IsFrontOf h.front (first_of x) old.machine.mode (kept_of old.machine)) (sym left) h.is_front)));
 }
   where
     left : symbols_left new ≡ symbols_left old
-    left = ap (λ ps. symbols ps ++ (if new.ended then End ∷ [] else [])) l.pending_same ∙ ap (λ t. symbols (pending old) ++ (if t then End ∷ [] else [])) l.ended_same
+    left = ap (λ ps. symbols ps ++ (if new.ended then End ∷ [] else [])) l.pending_same
+        ∙ ap (λ t. symbols (pending old) ++ (if t then End ∷ [] else [])) l.ended_same
 
 -- a move by a symbol from the same place is the same
 same_move : (old new : Machine) (x : Symbol) → IsSame old new
@@ -89,19 +95,22 @@ module _ (old new : Scanner) (bytes : List ℕ) (steps : List Step) (h : Holds o
   pub byte_stuck : (b : ℕ) (taken : Taken) (others : List ℕ) (at : ℕ) → Takes old.machine new.machine (move_at old (Byte b)) taken
       → taken ≡ taken_.Stuck → pending old ≡ b ∷ others → IsAt new at → Told (step_.Bad at) new bytes steps
   byte_stuck b taken others at k t q a =
-      let m : Takes old.machine new.machine (move_at old (Byte b)) taken_.Stuck = subst (λ y. Takes old.machine new.machine (move_at old (Byte b)) y) t k in
+      let m : Takes old.machine new.machine (move_at old (Byte b)) taken_.Stuck =
+      subst (λ y. Takes old.machine new.machine (move_at old (Byte b)) y) t k in
       stuck_told (Byte b) (symbols others ++ (if new.ended then End ∷ [] else [])) at m.stays
       (ap (λ ps. symbols ps ++ (if new.ended then End ∷ [] else [])) (l.pending_same ∙ q)) m.moves a
 
 -- nothing is left, and the end wasn't said
-pub last_more : (scanner : Scanner) (bytes : List ℕ) (steps : List Step) → Holds scanner bytes steps → pending scanner ≡ [] → scanner.ended ≡ false → Told step_.More scanner bytes steps
+pub last_more : (scanner : Scanner) (bytes : List ℕ) (steps : List Step) → Holds scanner bytes steps → pending scanner ≡ [] →
+    scanner.ended ≡ false → Told step_.More scanner bytes steps
 last_more scanner bytes steps h p e = told_verdict More refl h (holds_more scanner bytes steps h p e)
 
 -- what a move by the end says
 abbrev pub EndMoves : Scanner → Scanner → Ending → Type 0
 EndMoves old new ending = end_move_of ending new.machine ≡ move_at old End
 
-module _ (old new : Scanner) (bytes : List ℕ) (steps : List Step) (ending : Ending) (h : Holds old bytes steps) (m : EndMoves old new ending)
+module _ (old new : Scanner) (bytes : List ℕ) (steps : List Step) (ending : Ending) (h : Holds old bytes steps) (m :
+    EndMoves old new ending)
     (nil : pending old ≡ []) (l : IsLeftSame old new) (t : old.ended ≡ true) where
   left_end : symbols_left old ≡ End ∷ []
   left_end = ap (λ ps. symbols ps ++ (if old.ended then End ∷ [] else [])) nil ∙ ap (λ y. if y then End ∷ [] else []) t
@@ -117,10 +126,12 @@ module _ (old new : Scanner) (bytes : List ℕ) (steps : List Step) (ending : En
   end_whole_told q s =
       let u : IsUnchanged old.machine new.machine = subst (λ y. EndStays y old.machine new.machine) q s in
       let k = same_holds old new bytes steps h l u.place in
-      told_verdict Whole refl k (holds_whole new bytes steps k (l.pending_same ∙ nil) (l.ended_same ∙ t) (same_move old.machine new.machine End u.place ∙ sym (subst (λ y. EndMoves old new y) q m)))
+      told_verdict Whole refl k (holds_whole new bytes steps k (l.pending_same ∙ nil) (l.ended_same
+      ∙ t) (same_move old.machine new.machine End u.place ∙ sym (subst (λ y. EndMoves old new y) q m)))
 
   -- the text isn't whole
-  pub end_stuck_told : (at : ℕ) → ending ≡ ending_.Stuck → EndStays ending old.machine new.machine → IsAt new at → Told (step_.Bad at) new bytes steps
+  pub end_stuck_told : (at : ℕ) → ending ≡ ending_.Stuck → EndStays ending old.machine new.machine → IsAt new at →
+      Told (step_.Bad at) new bytes steps
   end_stuck_told at q s a =
       let u : IsUnchanged old.machine new.machine = subst (λ y. EndStays y old.machine new.machine) q s in
       stuck_told old new bytes steps h l End [] at u.place

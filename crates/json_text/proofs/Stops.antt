@@ -67,7 +67,8 @@ part_none part_.Exponent = refl
 pub may_end_gives : (part : Part) (kept : Kept) → may_end part ≡ true
     → end_move part kept ≡ GivesFirst (Step.Number kept.content) mode_.After (holding kept [])
 may_end_gives part kept m =
-    subst (λ t. cond t (GivesFirst (Step.Number kept.content) mode_.After (holding kept [])) Stuck ≡ GivesFirst (Step.Number kept.content) mode_.After (holding kept [])) (sym m) refl
+    subst (λ t. cond t (GivesFirst (Step.Number kept.content) mode_.After (holding kept [])) Stuck ≡
+    GivesFirst (Step.Number kept.content) mode_.After (holding kept [])) (sym m) refl
 
 -- where a value may end, a number that may end does
 pub number_stops : (part : Part) (kept : Kept) (x : Symbol) (marks : List Mark)
@@ -75,7 +76,8 @@ pub number_stops : (part : Part) (kept : Kept) (x : Symbol) (marks : List Mark)
     → move_by (mode_.Number part) kept x ≡ GivesFirst (Step.Number kept.content) mode_.After (holding kept [])
 number_stops part kept End marks m a = may_end_gives part kept m
 number_stops part kept (Byte b) marks m a =
-    let k : kind_of b ≡ kind_.Other = after_kind kept.room kept.opens kept.content b marks (forth mode_.After kept (Seen (Byte b) ∷ marks) a) in
+    let k : kind_of b ≡ kind_.Other = after_kind kept.room kept.opens kept.content b marks
+    (forth mode_.After kept (Seen (Byte b) ∷ marks) a) in
     subst (λ o. number_move part o kept b ≡ GivesFirst (Step.Number kept.content) mode_.After (holding kept []))
     (sym (ap (λ x. part_after part x) k ∙ part_none part)) (may_end_gives part kept m)
 
@@ -222,12 +224,16 @@ number_says part None kept b = end_says_byte part kept
 -- a byte at any place
 pub byte_says : (mode : Mode) (kept : Kept) (b : ℕ) → ByteSays mode kept (byte_move mode kept b)
 byte_says mode_.Value kept b = never_says _ _ _ (by_cond NeverFirst (is_space b) _ _ (λ e. tt) (λ e. start_never (start_of b) kept b))
-byte_says mode_.First kept b = never_says _ _ _ (by_cond NeverFirst (is_space b) _ _ (λ e. tt) (λ e. first_never kept.room kept.opens kept.content b))
-byte_says mode_.After kept b = never_says _ _ _ (by_cond NeverFirst (is_space b) _ _ (λ e. tt) (λ e. after_never kept.room kept.opens kept.content b))
+byte_says mode_.First kept b = never_says _ _ _
+    (by_cond NeverFirst (is_space b) _ _ (λ e. tt) (λ e. first_never kept.room kept.opens kept.content b))
+byte_says mode_.After kept b = never_says _ _ _
+    (by_cond NeverFirst (is_space b) _ _ (λ e. tt) (λ e. after_never kept.room kept.opens kept.content b))
 byte_says mode_.Name kept b = never_says _ _ _ (by_cond NeverFirst (is_space b) _ _ (λ e. tt) (λ e. name_never kept b))
-byte_says mode_.Colon kept b = never_says _ _ _ (by_cond NeverFirst (is_space b) _ _ (λ e. tt) (λ e. by_cond NeverFirst (eqb b 58) _ _ (λ f. tt) (λ f. tt)))
+byte_says mode_.Colon kept b = never_says _ _ _
+    (by_cond NeverFirst (is_space b) _ _ (λ e. tt) (λ e. by_cond NeverFirst (eqb b 58) _ _ (λ f. tt) (λ f. tt)))
 byte_says (mode_.Word letters) kept b =
-    never_says _ _ _ (by_cond NeverFirst (eqb b (letter_after letters)) _ _ (λ e. word_never letters (letters_after letters) kept) (λ e. tt))
+    never_says _ _ _ (by_cond NeverFirst (eqb b (letter_after letters)) _ _ (λ e. word_never letters (letters_after letters) kept)
+    (λ e. tt))
 byte_says (mode_.Number part) kept b = number_says part (part_after part (kind_of b)) kept b
 byte_says (mode_.Text role place) kept b = never_says _ _ _ (text_never role place kept b)
 

@@ -38,18 +38,28 @@ whole_at {front} {next} {mode} {kept} bytes f n s e = record { same = same_at; i
 
     only_at : (text : List Mark) → IsText text → symbols_of text ≡ seen bytes true → text ≡ front ++ (Seen End ∷ [])
     only_at text t q =
-        let b : Begins (symbols_of front ++ (End ∷ [])) (symbols_of text) = begins [] (q ∙ ap (λ y. y ++ (End ∷ [])) (sym s) ∙ sym (append_nil (symbols_of front ++ (End ∷ [])))) in
+        let b : Begins (symbols_of front ++ (End ∷ [])) (symbols_of text) =
+        begins [] (q ∙ ap (λ y. y ++ (End ∷ [])) (sym s) ∙ sym (append_nil (symbols_of front ++ (End ∷ [])))) in
         let o = on f End n text t b in
         let w = shown mode kept End b.rest o.rest (subst ReadsFirst (sym e) tt) o.follows o.seen in
         o.same ∙ ap (λ r. front ++ r) (w.1 ∙ ap (λ r. Seen End ∷ r) (out_finishes (subst (λ v. Goes v w.0) e w.2)))
 
-module _ {front : List Mark} {next : List Symbol} {mode : Mode} {kept : Kept} (f : IsFrontOf front next mode kept) (x : Symbol) (n : Begins next (x ∷ [])) where
+module _ {front : List Mark} {next : List Symbol} {mode : Mode} {kept : Kept} (f : IsFrontOf front next mode kept) (x : Symbol) (n :
+    Begins next (x ∷ [])) where
   -- no text goes on behind the front
   pub bad_at : (bytes : List ℕ) (ended : Bool) (others : List Symbol) → seen bytes ended ≡ symbols_of front ++ (x ∷ others)
       → move_by mode kept x ≡ Stuck → IsBad bytes ended front
   bad_at bytes ended others s e =
       let a = alive mode kept in
-      record { next = x; others = others; same = s; begins = (Seen a.symbol ∷ a.rest, f.back (Seen a.symbol ∷ a.rest) a.follows); longest = longest_at; all = all_at }
+      record {
+        next = x;
+        others = others;
+        same = s;
+        begins = (Seen a.symbol ∷ a.rest, f.back (Seen a.symbol ∷ a.rest) a.follows);
+        longest =
+            longest_at;
+        all = all_at;
+      }
     where
       longest_at : (text : List Mark) → IsText text → Begins (symbols_of front ++ (x ∷ [])) (symbols_of text) → ⊥
       longest_at text t b =
@@ -62,12 +72,14 @@ module _ {front : List Mark} {next : List Symbol} {mode : Mode} {kept : Kept} (f
         | inl g ↦ g
         | inr g ↦ elim (longer_by front other g q) [
           | inl h ↦ begins [] (sym h ∙ sym (append_nil other))
-          | inr (step, more, h) ↦ absurd (given_free mode kept x step (more ++ rest) (stands f x n step more rest (subst (λ r. IsText (r ++ rest)) h t)) e)
+          | inr (step, more, h) ↦ absurd (given_free mode kept x step (more ++ rest)
+              (stands f x n step more rest (subst (λ r. IsText (r ++ rest)) h t)) e)
         ]
       ]
 
 -- a front within a text that shows a symbol behind another front, at least as long, lies within that front
-pub within : (front other rest : List Mark) (x : Symbol) → Begins front (other ++ (Seen x ∷ rest)) → Begins (symbols_of front) (symbols_of other) → Begins front other
+pub within : (front other rest : List Mark) (x : Symbol) → Begins front (other ++ (Seen x ∷ rest)) →
+    Begins (symbols_of front) (symbols_of other) → Begins front other
 within front other rest x g s = elim (comparable front g.rest other (Seen x ∷ rest) (sym g.same)) [
   | inl h ↦ h
   | inr h ↦ within_by h.rest h.same
@@ -77,7 +89,8 @@ within front other rest x g s = elim (comparable front g.rest other (Seen x ∷ 
     within_by [] e = begins [] (sym (e ∙ append_nil other) ∙ sym (append_nil front))
     within_by (Seen y ∷ m) e =
         absurd (no_cons (sym (nothing_more (symbols_of other) (y ∷ (symbols_of m ++ s.rest))
-        (s.same ∙ ap (λ z. z ++ s.rest) (ap symbols_of e ∙ symbols_append other (Seen y ∷ m)) ∙ append_assoc (symbols_of other) (y ∷ symbols_of m) s.rest))))
+        (s.same ∙ ap (λ z. z ++ s.rest) (ap symbols_of e ∙ symbols_append other (Seen y ∷ m))
+        ∙ append_assoc (symbols_of other) (y ∷ symbols_of m) s.rest))))
     within_by (Given y ∷ m) e =
         let k : Given y ∷ (m ++ g.rest) ≡ Seen x ∷ rest =
         cancel other (sym (append_assoc other (Given y ∷ m) g.rest) ∙ ap (λ r. r ++ g.rest) (sym e) ∙ sym g.same) in
@@ -87,36 +100,43 @@ within front other rest x g s = elim (comparable front g.rest other (Seen x ∷ 
         not_seen e = cc
 
 -- the longest beginnings of two fronts are one
-not_shorter : (bytes : List ℕ) (ended : Bool) (front other : List Mark) (b : IsBad bytes ended front) (c : IsBad bytes ended other) (m : List Symbol)
+not_shorter : (bytes : List ℕ) (ended : Bool) (front other : List Mark) (b : IsBad bytes ended front) (c : IsBad bytes ended other) (m :
+    List Symbol)
     → symbols_of other ≡ symbols_of front ++ m → symbols_of other ≡ symbols_of front
 not_shorter bytes ended front other b c [] e = e ∙ append_nil (symbols_of front)
 not_shorter bytes ended front other b c (y ∷ m) e =
     let k : b.next ∷ b.others ≡ (y ∷ m) ++ (c.next ∷ c.others) =
-    cancel (symbols_of front) (sym b.same ∙ c.same ∙ ap (λ s. s ++ (c.next ∷ c.others)) e ∙ append_assoc (symbols_of front) (y ∷ m) (c.next ∷ c.others)) in
+    cancel (symbols_of front) (sym b.same ∙ c.same ∙ ap (λ s. s ++ (c.next ∷ c.others)) e
+    ∙ append_assoc (symbols_of front) (y ∷ m) (c.next ∷ c.others)) in
     let g : Begins (symbols_of front ++ (b.next ∷ [])) (symbols_of other) =
     begins m (e ∙ ap (λ z. symbols_of front ++ (z ∷ m)) (sym (head_of k)) ∙ sym (append_assoc (symbols_of front) (b.next ∷ []) m)) in
     absurd (b.longest (other ++ c.begins.0) c.begins.1 (begins_trans g (symbols_begin (begins_front other c.begins.0))))
 
 -- so both beginnings are as long
-same_length : (bytes : List ℕ) (ended : Bool) (front other : List Mark) → IsBad bytes ended front → IsBad bytes ended other → symbols_of other ≡ symbols_of front
-same_length bytes ended front other b c = elim (comparable (symbols_of front) (b.next ∷ b.others) (symbols_of other) (c.next ∷ c.others) (sym b.same ∙ c.same)) [
-  | inl g ↦ not_shorter bytes ended front other b c g.rest g.same
-  | inr g ↦ sym (not_shorter bytes ended other front c b g.rest g.same)
-]
+same_length : (bytes : List ℕ) (ended : Bool) (front other : List Mark) → IsBad bytes ended front → IsBad bytes ended other →
+    symbols_of other ≡ symbols_of front
+same_length bytes ended front other b c =
+    elim (comparable (symbols_of front) (b.next ∷ b.others) (symbols_of other) (c.next ∷ c.others) (sym b.same ∙ c.same)) [
+      | inl g ↦ not_shorter bytes ended front other b c g.rest g.same
+      | inr g ↦ sym (not_shorter bytes ended other front c b g.rest g.same)
+    ]
 
 -- what was seen of a text that goes on
 pub seen_more : (bytes : List ℕ) → seen bytes false ≡ symbols bytes
 seen_more bytes = append_nil (symbols bytes)
 
 -- the bytes begin a text that goes on from them
-pub goes_begin : (bytes : List ℕ) (front : List Mark) (m : IsMore bytes front) → Begins (symbols bytes) (symbols_of (front ++ (Seen m.goes_on.0 ∷ m.goes_on.1)))
+pub goes_begin : (bytes : List ℕ) (front : List Mark) (m : IsMore bytes front) →
+    Begins (symbols bytes) (symbols_of (front ++ (Seen m.goes_on.0 ∷ m.goes_on.1)))
 goes_begin bytes front m =
-    begins (m.goes_on.0 ∷ symbols_of m.goes_on.1) (symbols_append front (Seen m.goes_on.0 ∷ m.goes_on.1) ∙ ap (λ s. s ++ (m.goes_on.0 ∷ symbols_of m.goes_on.1)) m.same)
+    begins (m.goes_on.0 ∷ symbols_of m.goes_on.1) (symbols_append front (Seen m.goes_on.0 ∷ m.goes_on.1)
+    ∙ ap (λ s. s ++ (m.goes_on.0 ∷ symbols_of m.goes_on.1)) m.same)
 
 -- of two fronts behind which nothing is fixed, one lies within the other
 more_within : (bytes : List ℕ) (front other : List Mark) → IsMore bytes front → IsMore bytes other → Begins front other
 more_within bytes front other b c =
-    within front other c.goes_on.1 c.goes_on.0 (b.only (other ++ (Seen c.goes_on.0 ∷ c.goes_on.1)) c.goes_on.2 (goes_begin bytes other c)) (begins [] (c.same ∙ sym b.same ∙ sym (append_nil (symbols_of front))))
+    within front other c.goes_on.1 c.goes_on.0 (b.only (other ++ (Seen c.goes_on.0 ∷ c.goes_on.1)) c.goes_on.2 (goes_begin bytes other c))
+    (begins [] (c.same ∙ sym b.same ∙ sym (append_nil (symbols_of front))))
 
 -- where more may come, no beginning is bad
 more_not_bad : (bytes : List ℕ) (front other : List Mark) → IsMore bytes front → IsBad bytes false other → ⊥
@@ -131,27 +151,38 @@ whole_not_bad bytes front other w b =
     b.longest front w.is_text (begins b.others (w.same ∙ b.same ∙ sym (append_assoc (symbols_of other) (b.next ∷ []) b.others)))
 
 -- the same front, and the same verdict
-same_front : (bytes : List ℕ) (ended : Bool) (front other : List Mark) (v w : Verdict) → IsFrontFor bytes ended front v → IsFrontFor bytes ended other w → (front ≡ other) × (v ≡ w)
-same_front bytes ended front other More More (e, b) (k, c) = (begins_antisym (more_within bytes front other b c) (more_within bytes other front c b), refl)
+same_front : (bytes : List ℕ) (ended : Bool) (front other : List Mark) (v w : Verdict) → IsFrontFor bytes ended front v →
+    IsFrontFor bytes ended other w → (front ≡ other) × (v ≡ w)
+same_front bytes ended front other More More (e, b) (k, c) =
+    (begins_antisym (more_within bytes front other b c) (more_within bytes other front c b), refl)
 same_front bytes ended front other More Whole (e, b) (k, c) = absurd (false≢true (sym e ∙ k))
-same_front bytes ended front other More (BadAt n) (e, b) (k, c) = absurd (more_not_bad bytes front other b (subst (λ t. IsBad bytes t other) e c))
+same_front bytes ended front other More (BadAt n) (e, b) (k, c) =
+    absurd (more_not_bad bytes front other b (subst (λ t. IsBad bytes t other) e c))
 same_front bytes ended front other Whole More (e, b) (k, c) = absurd (false≢true (sym k ∙ e))
 same_front bytes ended front other Whole Whole (e, b) (k, c) = (c.only front b.is_text b.same, refl)
-same_front bytes ended front other Whole (BadAt n) (e, b) (k, c) = absurd (whole_not_bad bytes front other b (subst (λ t. IsBad bytes t other) e c))
-same_front bytes ended front other (BadAt n) More (e, b) (k, c) = absurd (more_not_bad bytes other front c (subst (λ t. IsBad bytes t front) k b))
-same_front bytes ended front other (BadAt n) Whole (e, b) (k, c) = absurd (whole_not_bad bytes other front c (subst (λ t. IsBad bytes t front) k b))
+same_front bytes ended front other Whole (BadAt n) (e, b) (k, c) =
+    absurd (whole_not_bad bytes front other b (subst (λ t. IsBad bytes t other) e c))
+same_front bytes ended front other (BadAt n) More (e, b) (k, c) =
+    absurd (more_not_bad bytes other front c (subst (λ t. IsBad bytes t front) k b))
+same_front bytes ended front other (BadAt n) Whole (e, b) (k, c) =
+    absurd (whole_not_bad bytes other front c (subst (λ t. IsBad bytes t front) k b))
 same_front bytes ended front other (BadAt n) (BadAt p) (e, b) (k, c) =
-    let s = same_length bytes ended front other b c in
-    (begins_antisym (c.all front b.begins.0 b.begins.1 (sym s)) (b.all other c.begins.0 c.begins.1 s), ap BadAt (sym e ∙ ap length (sym s) ∙ k))
+    let s = same_length bytes ended front other b c in (
+      begins_antisym (c.all front b.begins.0 b.begins.1 (sym s)) (b.all other c.begins.0 c.begins.1 s),
+      ap BadAt (sym e ∙ ap length (sym s) ∙ k),
+    )
 
 -- one list of steps, and one verdict
-pub unique : (bytes : List ℕ) (ended : Bool) (steps others : List Step) (v w : Verdict) → Reads bytes ended steps v → Reads bytes ended others w → (steps ≡ others) × (v ≡ w)
+pub unique : (bytes : List ℕ) (ended : Bool) (steps others : List Step) (v w : Verdict) → Reads bytes ended steps v →
+    Reads bytes ended others w → (steps ≡ others) × (v ≡ w)
 unique bytes ended steps others v w b c =
     let s = same_front bytes ended b.front c.front v w b.fits c.fits in
     (sym b.given ∙ ap steps_of s.0 ∙ c.given, s.1)
 
-module _ (bytes : List ℕ) (ended : Bool) (front other : List Mark) (pending : List Symbol) (c : IsBad bytes ended other) (s : seen bytes ended ≡ symbols_of front ++ pending)
-    (rest : List Mark) (t : IsText (front ++ rest)) (only : (y : Symbol) (m : List Symbol) → symbols_of other ≡ symbols_of front ++ (y ∷ m) → Begins front (other ++ c.begins.0)) where
+module _ (bytes : List ℕ) (ended : Bool) (front other : List Mark) (pending : List Symbol) (c : IsBad bytes ended other) (s :
+    seen bytes ended ≡ symbols_of front ++ pending)
+    (rest : List Mark) (t : IsText (front ++ rest)) (only : (y : Symbol) (m : List Symbol) →
+    symbols_of other ≡ symbols_of front ++ (y ∷ m) → Begins front (other ++ c.begins.0)) where
   -- the front of a fault that has more symbols begins with a front
   longer : (m : List Symbol) → symbols_of other ≡ symbols_of front ++ m → Begins front other
   longer [] e = c.all front rest t (sym (e ∙ append_nil (symbols_of front)))
@@ -160,7 +191,8 @@ module _ (bytes : List ℕ) (ended : Bool) (front other : List Mark) (pending : 
       elim (comparable front g.rest other c.begins.0 (sym g.same)) [
         | inl h ↦ h
         | inr h ↦ absurd (no_cons (sym (nothing_more (symbols_of front) (y ∷ (m ++ symbols_of h.rest))
-            (ap symbols_of h.same ∙ symbols_append other h.rest ∙ ap (λ z. z ++ symbols_of h.rest) e ∙ append_assoc (symbols_of front) (y ∷ m) (symbols_of h.rest)))))
+            (ap symbols_of h.same ∙ symbols_append other h.rest ∙ ap (λ z. z ++ symbols_of h.rest) e
+            ∙ append_assoc (symbols_of front) (y ∷ m) (symbols_of h.rest)))))
       ]
 
   -- it has no fewer
@@ -200,7 +232,8 @@ module _ {front : List Mark} {mode : Mode} {kept : Kept} (pending : List Symbol)
       longer : (y : Symbol) (m : List Symbol) → symbols_of other ≡ symbols_of front ++ (y ∷ m) → Begins front (other ++ c.begins.0)
       longer y m e =
           let p : pending ≡ y ∷ (m ++ (c.next ∷ c.others)) =
-          cancel (symbols_of front) (sym s ∙ c.same ∙ ap (λ z. z ++ (c.next ∷ c.others)) e ∙ append_assoc (symbols_of front) (y ∷ m) (c.next ∷ c.others)) in
+          cancel (symbols_of front) (sym s ∙ c.same ∙ ap (λ z. z ++ (c.next ∷ c.others)) e
+          ∙ append_assoc (symbols_of front) (y ∷ m) (c.next ∷ c.others)) in
           let n : Begins (symbols_of front ++ first_of pending) (symbols_of other) =
           begins m (e ∙ sym (append_assoc (symbols_of front) (y ∷ []) m) ∙ ap (λ z. (symbols_of front ++ first_of z) ++ m) (sym p)) in
           f.only (other ++ c.begins.0) c.begins.1 (begins_trans n (symbols_begin (begins_front other c.begins.0)))
@@ -218,7 +251,8 @@ module _ {front : List Mark} {mode : Mode} {kept : Kept} (pending : List Symbol)
   -- and that of a whole text
   before_whole : (other : List Mark) → ended ≡ true → IsWhole bytes other → Begins front other
   before_whole other e c =
-      f.only other c.is_text (subst (λ z. Begins (symbols_of front ++ first_of pending) z) (ap (λ t. seen bytes t) e ∙ sym c.same) next_seen)
+      f.only other c.is_text (subst (λ z. Begins (symbols_of front ++ first_of pending) z) (ap (λ t. seen bytes t) e
+      ∙ sym c.same) next_seen)
 
   -- so it begins each front of a reading
   before : (other : List Mark) (v : Verdict) → IsFrontFor bytes ended other v → Begins front other

@@ -54,7 +54,8 @@ is_hex b = is_within 48 57 b || is_within 65 70 b || is_within 97 102 b
 
 -- the number that a hexadecimal digit stands for
 abbrev pub hex_value : ℕ → ℕ
-hex_value b = if is_within 48 57 b then b - 48 else if is_within 65 70 b then b - 55 else if is_within 97 102 b then b - 87 else 0
+hex_value b = if is_within 48 57 b then b - 48 else if is_within 65 70 b then b - 55 else if is_within 97 102
+    b then b - 87 else 0
 
 -- the ranges that RFC 3629 knows for a byte that isn't the first of its character
 pub data Range : Type 0 where

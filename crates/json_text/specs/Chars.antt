@@ -97,7 +97,8 @@ abbrev pub content_of : Option ℕ → List Char → List ℕ
 content_of waiting [] = lone waiting
 content_of waiting (Plain bytes ∷ chars) = lone waiting ++ (bytes ++ content_of None chars)
 content_of waiting (Short b letter ∷ chars) = lone waiting ++ (b ∷ content_of None chars)
-content_of waiting (Coded a b c d ∷ chars) = unit_bytes waiting (unit_of a b c d) ++ content_of (waits (unit_of a b c d)) chars
+content_of waiting (Coded a b c d ∷ chars) = unit_bytes waiting (unit_of a b c d) ++
+    content_of (waits (unit_of a b c d)) chars
 
 -- the step that a text gives
 abbrev pub text_step : Role → List ℕ → Step

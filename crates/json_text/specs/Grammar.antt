@@ -74,14 +74,16 @@ abbrev mutual
   pub print_others : Others → Bracket → List Mark → List Mark
   print_others (Last space) bracket rest = see space (close bracket rest)
   print_others (Next space behind name value others) bracket rest =
-      see space (Seen (Byte 44) ∷ see behind (print_name name (print_value value (print_others others bracket rest))))
+      see space (Seen (Byte 44) ∷ see behind
+      (print_name name (print_value value (print_others others bracket rest))))
 
 -- an entry of an object has a name, an item of an array has none
 abbrev pub IsName : Bracket → Name → Type 0
 IsName bracket_.Square NoName = Unit {0}
 IsName bracket_.Square (Named chars before behind) = ⊥
 IsName bracket_.Curly NoName = ⊥
-IsName bracket_.Curly (Named chars before behind) = AreChars chars × AreAll is_space before × AreAll is_space behind
+IsName bracket_.Curly (Named chars before behind) = AreChars chars × AreAll is_space before ×
+    AreAll is_space behind
 
 -- a tree is a value of the grammar where so many brackets more may open
 abbrev mutual
@@ -100,7 +102,8 @@ abbrev mutual
   pub AreOthers : Others → Bracket → ℕ → Type 0
   AreOthers (Last space) bracket room = AreAll is_space space
   AreOthers (Next space behind name value others) bracket room =
-      AreAll is_space space × AreAll is_space behind × IsName bracket name × IsValue value room × AreOthers others bracket room
+      AreAll is_space space × AreAll is_space behind × IsName bracket name × IsValue value room ×
+      AreOthers others bracket room
 
 -- a whole text with its steps: space, a value, space, the end
 pub record IsText (marks : List Mark) : Type 0 where

@@ -1,5 +1,5 @@
--- The moves of a scanner, symbol by symbol, for the private clauses: no public clause and no definition of the
--- grammar or of a reading cites them.
+-- The moves of a scanner, symbol by symbol, for the private clauses: no public clause and no definition of
+-- the grammar or of a reading cites them.
 use Rattle.std.specs.Prelude.{ℕ, zero, suc, List, [], ◌∷◌, ◌++◌, ◌==◌, Bool, cond, Option, Some, None}
 use Rattle.json_text.specs.declared.mode.Bracket.{Bracket}
 use Rattle.json_text.specs.declared.mode.Bracket.TheVariants as bracket_
@@ -149,7 +149,8 @@ word_move letters None kept = Gives (Step.Word (word_of letters)) mode_.After ke
 
 -- where a number can't go on
 abbrev pub end_move : Part → Kept → Move
-end_move part kept = cond (may_end part) (GivesFirst (Step.Number kept.content) mode_.After (holding kept [])) Stuck
+end_move part kept = cond (may_end part) (GivesFirst (Step.Number kept.content) mode_.After (holding kept []))
+    Stuck
 
 -- in a number
 abbrev pub number_move : Part → Option Part → Kept → ℕ → Move
@@ -194,11 +195,14 @@ abbrev pub text_move : Role → Place → Kept → ℕ → Move
 text_move role (place_.Chars w) kept b = lead_move role w (lead_of b) kept b
 text_move role (place_.Escape w) kept b = escape_move role w (escape_of b) kept
 text_move role (place_.Hex1 w) kept b = cond (is_hex b) (Reads (mode_.Text role (place_.Hex2 w b)) kept) Stuck
-text_move role (place_.Hex2 w x) kept b = cond (is_hex b) (Reads (mode_.Text role (place_.Hex3 w x b)) kept) Stuck
-text_move role (place_.Hex3 w x y) kept b = cond (is_hex b) (Reads (mode_.Text role (place_.Hex4 w x y b)) kept) Stuck
+text_move role (place_.Hex2 w x) kept b =
+    cond (is_hex b) (Reads (mode_.Text role (place_.Hex3 w x b)) kept) Stuck
+text_move role (place_.Hex3 w x y) kept b =
+    cond (is_hex b) (Reads (mode_.Text role (place_.Hex4 w x y b)) kept) Stuck
 text_move role (place_.Hex4 w x y z) kept b =
     cond (is_hex b)
-    (Reads (mode_.Text role (place_.Chars (waits (unit_of x y z b)))) (holding kept (kept.content ++ unit_bytes w (unit_of x y z b))))
+    (Reads (mode_.Text role (place_.Chars (waits (unit_of x y z b))))
+    (holding kept (kept.content ++ unit_bytes w (unit_of x y z b))))
     Stuck
 text_move role (place_.Tail tail) kept b =
     cond (fits_tail tail b) (tail_move role (tail_after tail) (holding kept (kept.content ++ (b ∷ [])))) Stuck

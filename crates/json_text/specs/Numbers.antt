@@ -17,7 +17,8 @@ IsMinus (b ∷ c ∷ bytes) = ⊥
 -- a zero, or digits of which the first isn't zero
 abbrev pub IsInt : List ℕ → Type 0
 IsInt [] = ⊥
-IsInt (b ∷ bytes) = ((kind_of b ≡ kind_.Zero) × (bytes ≡ [])) ⊎ ((kind_of b ≡ kind_.Digit) × AreAll is_digit bytes)
+IsInt (b ∷ bytes) = ((kind_of b ≡ kind_.Zero) × (bytes ≡ [])) ⊎
+    ((kind_of b ≡ kind_.Digit) × AreAll is_digit bytes)
 
 -- a point and digits, or nothing
 abbrev pub IsFrac : List ℕ → Type 0

@@ -7,8 +7,8 @@ use Rattle.json_text.specs.Grammar.{IsText}
 abbrev pub seen : List ℕ → Bool → List Symbol
 seen bytes ended = symbols bytes ++ (if ended then End ∷ [] else [])
 
--- what there is to say behind the steps that are fixed: more may come, the text is whole, or no text goes on so
--- behind so many bytes
+-- what there is to say behind the steps that are fixed: more may come, the text is whole, or no text goes on
+-- so behind so many bytes
 pub data Verdict : Type 0 where
   More : Verdict
   Whole : Verdict
@@ -33,8 +33,10 @@ pub record IsBad (bytes : List ℕ) (ended : Bool) (front : List Mark) : Type 0 
   pub others : List Symbol
   pub same : seen bytes ended ≡ symbols_of front ++ (next ∷ others)
   pub begins : (rest : List Mark) × IsText (front ++ rest)
-  pub longest : (text : List Mark) → IsText text → Begins (symbols_of front ++ (next ∷ [])) (symbols_of text) → ⊥
-  pub all : (other rest : List Mark) → IsText (other ++ rest) → symbols_of other ≡ symbols_of front → Begins other front
+  pub longest : (text : List Mark) → IsText text →
+      Begins (symbols_of front ++ (next ∷ [])) (symbols_of text) → ⊥
+  pub all : (other rest : List Mark) → IsText (other ++ rest) → symbols_of other ≡ symbols_of front →
+      Begins other front
 
 -- the front fits the verdict
 abbrev pub IsFrontFor : List ℕ → Bool → List Mark → Verdict → Type 0
@@ -50,4 +52,5 @@ pub record Reads (bytes : List ℕ) (ended : Bool) (steps : List Step) (verdict 
 
 -- the steps are fixed: whatever is read of what was seen begins with them
 abbrev pub AreFixed : List ℕ → Bool → List Step → Type 0
-AreFixed bytes ended steps = (all : List Step) (verdict : Verdict) → Reads bytes ended all verdict → Begins steps all
+AreFixed bytes ended steps = (all : List Step) (verdict : Verdict) → Reads bytes ended all verdict →
+    Begins steps all

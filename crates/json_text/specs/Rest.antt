@@ -19,8 +19,8 @@ use Rattle.json_text.specs.Bytes.{AreAll, is_space, kind_of, AreIn, ranges_of, i
 use Rattle.json_text.specs.Chars.{Char, Coded, Short, IsChar, AreChars, print_chars, print_text, close_text, content_of}
 use Rattle.json_text.specs.Grammar.{Value, Entries, Others, print_value, print_entries, print_others, IsValue, AreEntries, AreOthers, IsText}
 
--- what is known of a place in a text beside its mode: how many brackets may still open, those that are open, the
--- innermost first, and the content so far of the text or the number
+-- what is known of a place in a text beside its mode: how many brackets may still open, those that are open,
+-- the innermost first, and the content so far of the text or the number
 pub record Kept : Type 0 where
   pub room : ℕ
   pub opens : List Bracket
@@ -38,7 +38,8 @@ holding kept content = record kept { content = content }
 abbrev pub After : ℕ → List Bracket → List Mark → Type 0
 After room [] marks = (space : List ℕ) × AreAll is_space space × (marks ≡ see space (Seen End ∷ []))
 After room (bracket ∷ opens) marks =
-    (others : Others) × (rest : List Mark) × AreOthers others bracket room × (marks ≡ print_others others bracket rest)
+    (others : Others) × (rest : List Mark) × AreOthers others bracket room ×
+    (marks ≡ print_others others bracket rest)
     × After (suc room) opens rest
 
 -- before a value
@@ -50,7 +51,8 @@ BeforeValue room opens marks =
 -- behind the name of a member
 abbrev pub BeforeColon : ℕ → List Bracket → List Mark → Type 0
 BeforeColon room opens marks =
-    (space : List ℕ) × (rest : List Mark) × AreAll is_space space × (marks ≡ see space (Seen (Byte 58) ∷ rest))
+    (space : List ℕ) × (rest : List Mark) × AreAll is_space space ×
+    (marks ≡ see space (Seen (Byte 58) ∷ rest))
     × BeforeValue room opens rest
 
 -- before the name of a member
@@ -63,7 +65,8 @@ BeforeName room opens marks =
 abbrev pub BeforeFirst : ℕ → List Bracket → List Mark → Type 0
 BeforeFirst room [] marks = BeforeValue room [] marks
 BeforeFirst room (bracket ∷ opens) marks =
-    (entries : Entries) × (rest : List Mark) × AreEntries entries bracket room × (marks ≡ print_entries entries bracket rest)
+    (entries : Entries) × (rest : List Mark) × AreEntries entries bracket room ×
+    (marks ≡ print_entries entries bracket rest)
     × After (suc room) opens rest
 
 -- the word of which these letters were read
@@ -158,32 +161,42 @@ InText role kept waiting marks =
     × Behind role kept.room kept.opens rest
 
 -- the last bytes of a character, and then what follows it
-abbrev pub InChar : (role : Role) (kept : Kept) (waiting : Option ℕ) (char : Char) (bytes : List ℕ) (marks : List Mark)
+abbrev pub InChar : (role : Role) (kept : Kept) (waiting : Option ℕ) (char : Char) (bytes : List ℕ) (marks :
+    List Mark)
     → Type 0
 InChar role kept waiting char bytes marks =
     (chars : List Char) × (rest : List Mark) × IsChar char × AreChars chars
-    × (marks ≡ see bytes (print_chars chars (close_text role (kept.content ++ content_of waiting (char ∷ chars)) rest)))
+    ×
+    (marks ≡ see bytes (print_chars chars
+    (close_text role (kept.content ++ content_of waiting (char ∷ chars)) rest)))
     × Behind role kept.room kept.opens rest
 
 -- behind a backslash
 abbrev pub InEscape : Role → Kept → Option ℕ → List Mark → Type 0
 InEscape role kept waiting marks =
     ((b : ℕ) × (letter : ℕ) × InChar role kept waiting (Short b letter) (letter ∷ []) marks)
-    ⊎ ((a : ℕ) × (b : ℕ) × (c : ℕ) × (d : ℕ) × InChar role kept waiting (Coded a b c d) (117 ∷ a ∷ b ∷ c ∷ d ∷ []) marks)
+    ⊎ ((a : ℕ) × (b : ℕ) × (c : ℕ) × (d : ℕ) ×
+    InChar role kept waiting (Coded a b c d) (117 ∷ a ∷ b ∷ c ∷ d ∷ []) marks)
 
 -- the last digits of a code unit, and then what follows it
-abbrev pub InDigits : (role : Role) (kept : Kept) (waiting : Option ℕ) (char : Char) (digits : List ℕ) (marks : List Mark)
+abbrev pub InDigits : (role : Role) (kept : Kept) (waiting : Option ℕ) (char : Char) (digits : List ℕ)
+    (marks : List Mark)
     → Type 0
 InDigits role kept waiting char digits marks =
     (chars : List Char) × (rest : List Mark) × AreAll is_hex digits × AreChars chars
-    × (marks ≡ see digits (print_chars chars (close_text role (kept.content ++ content_of waiting (char ∷ chars)) rest)))
+    ×
+    (marks ≡ see digits (print_chars chars
+    (close_text role (kept.content ++ content_of waiting (char ∷ chars)) rest)))
     × Behind role kept.room kept.opens rest
 
 -- inside a character of several bytes
 abbrev pub InBytes : Role → Kept → Tail → List Mark → Type 0
 InBytes role kept tail marks =
-    (bytes : List ℕ) × (chars : List Char) × (rest : List Mark) × AreIn (ranges_of tail) bytes × AreChars chars
-    × (marks ≡ see bytes (print_chars chars (close_text role (kept.content ++ (bytes ++ content_of None chars)) rest)))
+    (bytes : List ℕ) × (chars : List Char) × (rest : List Mark) × AreIn (ranges_of tail) bytes ×
+    AreChars chars
+    ×
+    (marks ≡ see bytes (print_chars chars
+    (close_text role (kept.content ++ (bytes ++ content_of None chars)) rest)))
     × Behind role kept.room kept.opens rest
 
 -- between quotation marks
@@ -212,16 +225,18 @@ Rest (mode_.Word letters) kept marks =
     × After kept.room kept.opens rest
 Rest (mode_.Number part) kept marks =
     (bytes : List ℕ) × (rest : List Mark) × Completes bytes part
-    × (marks ≡ see bytes (Given (Step.Number (kept.content ++ bytes)) ∷ rest)) × After kept.room kept.opens rest
+    × (marks ≡ see bytes (Given (Step.Number (kept.content ++ bytes)) ∷ rest)) ×
+    After kept.room kept.opens rest
 Rest (mode_.Text role place) kept marks = RestOfText role place kept marks
 
--- the marks were read up to a place: what goes on from them to a whole text is what may follow there. Each text
--- that begins with their symbols and the next one begins with the marks; and of other marks with these symbols
--- that begin some text, one is the beginning of the other
+-- the marks were read up to a place: what goes on from them to a whole text is what may follow there. Each
+-- text that begins with their symbols and the next one begins with the marks; and of other marks with these
+-- symbols that begin some text, one is the beginning of the other
 pub record IsFrontOf (front : List Mark) (next : List Symbol) (mode : Mode) (kept : Kept) : Type 0 where
   pub forth : (rest : List Mark) → IsText (front ++ rest) → Rest mode kept rest
   pub back : (rest : List Mark) → Rest mode kept rest → IsText (front ++ rest)
-  pub only : (text : List Mark) → IsText text → Begins (symbols_of front ++ next) (symbols_of text) → Begins front text
+  pub only : (text : List Mark) → IsText text → Begins (symbols_of front ++ next) (symbols_of text) →
+      Begins front text
   pub kin : (other rest : List Mark) → IsText (other ++ rest) → symbols_of other ≡ symbols_of front
       → Begins other front ⊎ Begins front other
 

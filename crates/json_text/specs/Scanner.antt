@@ -44,14 +44,15 @@ is_number _ = 0
 abbrev pub most_steps : Scanner → ℕ
 most_steps scanner = 2 * (vec_len scanner.input - scanner.read) + is_number scanner.machine.mode
 
--- the bytes are those that were scanned and those that are pending. The scanned ones are a front's, whose steps
--- were given, and the scanner's place is behind it
+-- the bytes are those that were scanned and those that are pending. The scanned ones are a front's, whose
+-- steps were given, and the scanner's place is behind it
 pub record Holds (scanner : Scanner) (bytes : List ℕ) (steps : List Step) : Type 0 where
   pub front : List Mark
   pub given : steps_of front ≡ steps
   pub split : symbols bytes ≡ symbols_of front ++ symbols (pending scanner)
   pub count : length bytes ≡ fed scanner
-  pub is_front : IsFrontOf front (first_of (symbols_left scanner)) scanner.machine.mode (kept_of scanner.machine)
+  pub is_front : IsFrontOf front (first_of (symbols_left scanner)) scanner.machine.mode
+      (kept_of scanner.machine)
 
 -- the scanner works, and stands for these bytes, the end or not, and these steps
 pub record Stands (scanner : Scanner) (bytes : List ℕ) (ended : Bool) (steps : List Step) : Type 0 where
@@ -60,17 +61,20 @@ pub record Stands (scanner : Scanner) (bytes : List ℕ) (ended : Bool) (steps :
   pub works : has_failed scanner ≡ false
 
 -- the scanner gave one more step, and all its steps are fixed
-pub record GaveStep (step : Step) (new : Scanner) (bytes : List ℕ) (ended : Bool) (steps : List Step) : Type 0 where
+pub record GaveStep (step : Step) (new : Scanner) (bytes : List ℕ) (ended : Bool) (steps : List Step) :
+    Type 0 where
   pub stands : Stands new bytes ended (steps ++ (step ∷ []))
   pub fixed : AreFixed bytes ended (steps ++ (step ∷ []))
 
 -- the scanner gave all fixed steps, and says what there is to say behind them
-pub record GaveVerdict (verdict : Verdict) (new : Scanner) (bytes : List ℕ) (ended : Bool) (steps : List Step) : Type 0 where
+pub record GaveVerdict (verdict : Verdict) (new : Scanner) (bytes : List ℕ) (ended : Bool) (steps :
+    List Step) : Type 0 where
   pub stands : Stands new bytes ended steps
   pub reads : Reads bytes ended steps verdict
 
 -- what an answer says
-abbrev pub Answers : (answer : JsonStep) (new : Scanner) (bytes : List ℕ) (ended : Bool) (steps : List Step) → Type 0
+abbrev pub Answers : (answer : JsonStep) (new : Scanner) (bytes : List ℕ) (ended : Bool) (steps : List Step) →
+    Type 0
 Answers step_.Open new = GaveStep (Step.Opens bracket_.Curly) new
 Answers step_.Close new = GaveStep (Step.Closes bracket_.Curly) new
 Answers step_.ListOpen new = GaveStep (Step.Opens bracket_.Square) new

@@ -62,8 +62,8 @@ abbrev pub Stays : Taken → Machine → Machine → Type 0
 Stays taken_.Stuck old new = IsSame old new
 Stays _ old new = Unit {0}
 
--- what became of a symbol is this move; the last content stays where no other is given, and where no text goes on
--- nothing has changed
+-- what became of a symbol is this move; the last content stays where no other is given, and where no text
+-- goes on nothing has changed
 pub record Takes (old new : Machine) (move : Move) (taken : Taken) : Type 0 where
   pub moves : move_of taken new ≡ move
   pub kept : KeepsText taken old new

@@ -12,9 +12,11 @@ use Rattle.json_text.specs.Tokens.{step_for, verdict_for}
 
 -- a step more was given, or the verdict told
 pub data Told (answer : JsonStep) (new : Scanner) (bytes : List ℕ) (steps : List Step) : Type 0 where
-  told_step : (given : Step) → step_for answer (content new) ≡ Some given → Holds new bytes (steps ++ (given ∷ []))
+  told_step : (given : Step) → step_for answer (content new) ≡ Some given →
+      Holds new bytes (steps ++ (given ∷ []))
       → Told answer new bytes steps
-  told_verdict : (said : Verdict) → verdict_for answer ≡ Some said → Holds new bytes steps → Reads bytes new.ended steps said
+  told_verdict : (said : Verdict) → verdict_for answer ≡ Some said → Holds new bytes steps →
+      Reads bytes new.ended steps said
       → Told answer new bytes steps
 
 -- a symbol was read and nothing told, or something was

@@ -12,8 +12,8 @@ use cost_model::FactsOf;
 use space_search::{Outcome, least};
 use std::alloc::{AllocError, Global};
 
-/// A walk of least rank of a leg whose nodes differ, searched from junction to junction, or that the
-/// leg has none, or that `limit` labels at ends of runs are settled and one more would be.
+/// A walk of least rank of a leg whose nodes differ, searched from junction to junction, or that
+/// the leg has none, or that `limit` labels at ends of runs are settled and one more would be.
 pub fn least_walk_by_runs<F: FactsOf>(
     alloc: Global,
     space: &BikeSpace<F>,

@@ -1,4 +1,5 @@
--- How far the finding of least sums is: the sums so far and what waits to be looked at (this project's own rule).
+-- How far the finding of least sums is: the sums so far and what waits to be looked at (this project's own
+-- rule).
 use Rattle.std.specs.BinaryHeap.{heap_items}
 use Rattle.std.specs.List.{Contains, count_by, sum}
 use Rattle.std.specs.List.Sorted.{IsPermutation}
@@ -62,19 +63,20 @@ pub record IsState (roads : Roads) (prices : Prices) (target far : ℕ) (state :
   pub counted : length state.sums ≡ roads.nodes
   pub within : (node : ℕ) → node < roads.nodes → at state node ≤ far
   pub target_is : at state target ≡ 0
-  pub walks : (node : ℕ) → node < roads.nodes → at state node < far → HasWalk roads prices target node (at state node)
+  pub walks : (node : ℕ) → node < roads.nodes → at state node < far →
+      HasWalk roads prices target node (at state node)
   pub waiting : (sum node : ℕ) → Contains state.queue (sum, node) → node < roads.nodes
   pub few : AreFew far state
   pub uncut : SUM_BOUND ≤ far → state.cut ≡ false
 
--- the sum before a link is no larger than its price and the sum behind it; and where no sum was left out, there is one
--- before the link where there is one behind it
+-- the sum before a link is no larger than its price and the sum behind it; and where no sum was left out,
+-- there is one before the link where there is one behind it
 pub record IsRelaxed (far : ℕ) (state : State) (before behind price : ℕ) : Type 0 where
   pub low : at state before ≤ at state behind + price
   pub near : state.cut ≡ false → at state behind < far → at state before < far
 
 -- an open link is relaxed, or its end waits with its sum
-abbrev pub IsDone : Roads → Prices → ℕ → State → ℕ → Type 0
+abbrev pub IsDone : (roads : Roads) (prices : Prices) (far : ℕ) (state : State) (link : ℕ) → Type 0
 IsDone roads prices far state link =
     (price : ℕ) → prices link ≡ Some price →
     IsRelaxed far state (roads.from link) (roads.to link) price ⊎ Contains state.queue
@@ -91,9 +93,9 @@ pub record IsLeft (roads : Roads) (node place link : ℕ) : Type 0 where
   pub within : found < length (out_links roads node)
   pub back : twin_of (get_or (out_links roads node) found 0) ≡ link
 
--- every open link is relaxed, or its end waits with its sum, or it is the way back of one that leaves a node, at this
--- place or behind it
-abbrev pub AreDoneBefore : Roads → Prices → ℕ → ℕ → ℕ → State → Type 0
+-- every open link is relaxed, or its end waits with its sum, or it is the way back of one that leaves a node,
+-- at this place or behind it
+abbrev pub AreDoneBefore : (roads : Roads) (prices : Prices) (far node place : ℕ) (state : State) → Type 0
 AreDoneBefore roads prices far node place state =
     (link : ℕ) → link < roads.links → IsDone roads prices far state link ⊎ IsLeft roads node place link
 
@@ -102,10 +104,12 @@ abbrev pub work : State → ℕ
 work state = 2 * sum state.sums + length state.queue
 
 -- a link is done, and what was done stays so
-pub record Relaxes (roads : Roads) (prices : Prices) (target far : ℕ) (old new : State) (link : ℕ) : Type 0 where
+pub record Relaxes (roads : Roads) (prices : Prices) (target far : ℕ) (old new : State) (link : ℕ) :
+    Type 0 where
   pub state : IsState roads prices target far new
   pub done : IsDone roads prices far new link
-  pub keeps : (other : ℕ) → other < roads.links → IsDone roads prices far old other → IsDone roads prices far new other
+  pub keeps : (other : ℕ) → other < roads.links → IsDone roads prices far old other →
+      IsDone roads prices far new other
   pub falls : work new ≤ work old
 
 -- the end of the finding: nothing waits, so every open link is relaxed, and a map has few nodes

@@ -23,8 +23,9 @@ abbrev pub sum_along : Prices → List ℕ → ℕ
 sum_along prices [] = 0
 sum_along prices (link ∷ links) = paid_for (prices link) + sum_along prices links
 
--- a list of open links, each of which leaves where the one before it arrived, from a node to the target; it may turn back
-abbrev pub IsOpenWalk : Roads → Prices → ℕ → ℕ → List ℕ → Type 0
+-- a list of open links, each of which leaves where the one before it arrived, from a node to the target; it
+-- may turn back
+abbrev pub IsOpenWalk : (roads : Roads) (prices : Prices) (target node : ℕ) (walk : List ℕ) → Type 0
 IsOpenWalk roads prices target node walk = IsJoinedWalk roads (is_open prices) node target walk
 
 -- a walk from a node to the target that comes to a sum
@@ -34,7 +35,7 @@ pub record HasWalk (roads : Roads) (prices : Prices) (target node sum : ℕ) : T
   pub comes_to : sum_along prices walk ≡ sum
 
 -- no walk from a node to the target comes to less
-abbrev pub IsAtMostEach : Roads → Prices → ℕ → ℕ → ℕ → Type 0
+abbrev pub IsAtMostEach : (roads : Roads) (prices : Prices) (target node sum : ℕ) → Type 0
 IsAtMostEach roads prices target node sum = (walk : List ℕ) → IsOpenWalk roads prices target node walk →
     sum ≤ sum_along prices walk
 
@@ -48,7 +49,7 @@ abbrev pub HasNoWalk : Roads → Prices → ℕ → ℕ → Type 0
 HasNoWalk roads prices target node = (walk : List ℕ) → IsOpenWalk roads prices target node walk → ⊥
 
 -- the least sum from a node to the target, none exactly where no walk leads there
-abbrev pub IsLeastSum : Roads → Prices → ℕ → ℕ → Option ℕ → Type 0
+abbrev pub IsLeastSum : (roads : Roads) (prices : Prices) (target node : ℕ) (sum : Option ℕ) → Type 0
 IsLeastSum roads prices target node None = HasNoWalk roads prices target node
 IsLeastSum roads prices target node (Some sum) = IsLeast roads prices target node sum
 

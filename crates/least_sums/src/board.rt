@@ -40,7 +40,8 @@ impl<N: Amount> Board<N> {
 
     /// Takes the entry of the least sum from the queue.
     pub(crate) fn pop(&mut self) -> Option<(u128, u32)>
-        ensures value { let old = state_of N.number self.old in let new = state_of N.number self.new in
+        ensures value { let old = state_of N.number self.old in
+            let new = state_of N.number self.new in
             MatchOption result ((new ≡ old) × (old.queue ≡ []))
             (λ entry. Pops old new entry.0 entry.1) }
     {

@@ -1,4 +1,5 @@
--- What a search on a leg looks for, and what its turns answer, in the words of walks (this project's own rule).
+-- What a search on a leg looks for, and what its turns answer, in the words of walks (this project's own
+-- rule).
 use Rattle.std.specs.Prelude.{◌≡◌, ◌≢◌, ℕ, ◌+◌, ◌<◌, ◌≤◌, ◌^◌, Bool, IsTrue, if◌then◌else◌, List, length}
 use Rattle.bike_space.specs.Alternatives.{IsLeastRanked}
 use Rattle.bike_space.specs.Kept.{Wakes, task_of}
@@ -23,15 +24,16 @@ use Rattle.leg_search.specs.declared.turn.LegTurn.{LegTurn}
 
 -- ---- What is looked for
 
--- a quest: a leg, the links whose segments were used, the most labels that are settled, and whether the search goes from
--- junction to junction
+-- a quest: a leg, the links whose segments were used, the most labels that are settled, and whether the
+-- search goes from junction to junction
 pub record Quest : Type 0 where
   pub leg : Leg
   pub used : ℕ → Bool
   pub limit : ℕ
   pub runs : Bool
 
--- a walk of the leg of least rank, with its rank, which is below 2^120; and by junction runs a list of whole runs
+-- a walk of the leg of least rank, with its rank, which is below 2^120; and by junction runs a list of whole
+-- runs
 pub record IsFoundFor (quest : Quest) (walk : List ℕ) (rank : ℕ) : Type 0 where
   pub least : IsLeastRanked quest.leg quest.used walk
   pub ranks : leg_rank quest.leg quest.used walk ≡ rank
@@ -71,19 +73,23 @@ pub record IsSearchOn (map : MapValue) (links : Links) (prices : Prices) (s : Le
 -- ---- What a turn answers
 
 -- the search goes on with the same quest
-pub record GoesOnAs (map : MapValue) (links : Links) (prices : Prices) (quest : Quest) (next : LegSearch) : Type 0 where
+pub record GoesOnAs (map : MapValue) (links : Links) (prices : Prices) (quest : Quest) (next : LegSearch) :
+    Type 0 where
   pub on : IsSearchOn map links prices next
   pub same : quest_of map links prices next ≡ quest
 
--- it goes on; or a walk of least rank was found; or the leg has no walk; or the limit is spent, with its evidence
-abbrev pub AnswersLeg : (map : MapValue) (links : Links) (prices : Prices) (quest : Quest) → LegAnswer → Type 0
+-- it goes on; or a walk of least rank was found; or the leg has no walk; or the limit is spent, with its
+-- evidence
+abbrev pub AnswersLeg : (map : MapValue) (links : Links) (prices : Prices) (quest : Quest) → LegAnswer →
+    Type 0
 AnswersLeg map links prices quest (More next) = GoesOnAs map links prices quest next
 AnswersLeg map links prices quest (Found walk rank) = IsFoundFor quest walk rank
 AnswersLeg map links prices quest NoWay = HasNoWalk quest.leg
 AnswersLeg map links prices quest Budget = (walks : List (List ℕ)) × IsSpentFor quest walks
 
 -- what the answer of a turn says
-abbrev pub AnswersLegTurn : (map : MapValue) (links : Links) (prices : Prices) (quest : Quest) → LegTurn → Type 0
+abbrev pub AnswersLegTurn : (map : MapValue) (links : Links) (prices : Prices) (quest : Quest) → LegTurn →
+    Type 0
 AnswersLegTurn map links prices quest turn = AnswersLeg map links prices quest turn.answer
 
 -- where the search goes on, it settled the whole quota, and else less

@@ -1,4 +1,5 @@
-//! A search for a walk of a leg in turns, over its links or from junction to junction, put to rest between them.
+//! A search for a walk of a leg in turns, over its links or from junction to junction, put to rest
+//! between them.
 #![tactic(auto)]
 
 mod ask;

@@ -15,8 +15,9 @@ use space_search::Search;
 use std::alloc::{AllocError, Global};
 
 impl LegSearch {
-    /// A search on a leg whose nodes differ, over a map, by the facts of its links, the rates of a profile and the modes
-    /// of those facts. What still has to be paid from each node is found here, once for all turns.
+    /// A search on a leg whose nodes differ, over a map, by the facts of its links, the rates of a
+    /// profile and the modes of those facts. What still has to be paid from each node is found
+    /// here, once for all turns.
     pub fn new<F: FactsOf>(
         alloc: Global,
         map: &Map,
@@ -36,13 +37,14 @@ impl LegSearch {
 
         // It is a search on the leg that was asked for, and has settled no label.
         ensures on { IfOk result (IsSearchOn map.now (F.links facts.now) rates.now) }
-        ensures quest { IfOk result (λ search. quest_of map.now (F.links facts.now) rates.now search ≡ record {
-          leg = leg_of map.now (F.links facts.now) rates.now
-              (record { cut = ask.entry.cut.now; turns = ask.entry.turns; start = ask.entry.start; target = ask.entry.target });
-          used = is_marked ask.entry.used.now;
-          limit = ask.entry.limit;
-          runs = ask.entry.runs;
-        }) }
+        ensures quest { IfOk result
+            (λ search. quest_of map.now (F.links facts.now) rates.now search ≡ record {
+              leg = leg_of map.now (F.links facts.now) rates.now
+                  (record { cut = ask.entry.cut.now; turns = ask.entry.turns; start = ask.entry.start; target = ask.entry.target });
+              used = is_marked ask.entry.used.now;
+              limit = ask.entry.limit;
+              runs = ask.entry.runs;
+            }) }
         ensures fresh { IfOk result (λ search. settled_of search ≡ 0) }
     {
         let space = BikeSpace::new(

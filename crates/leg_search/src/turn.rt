@@ -41,8 +41,8 @@ pub struct LegTurn {
 }
 
 impl LegSearch {
-    /// Settles at most `quota` labels, over the map, the facts and the rates that the search began over. After want of
-    /// memory nothing is left of the search.
+    /// Settles at most `quota` labels, over the map, the facts and the rates that the search began
+    /// over. After want of memory nothing is left of the search.
     pub fn turn<F: FactsOf>(
         self,
         alloc: Global,
@@ -76,12 +76,15 @@ fn by_links<F: FactsOf>(
     quota: u32,
 ) -> Result<LegTurn, AllocError>
     requires differ { space.kept.start ≢ space.kept.target }
-    requires of { IsSearchOf (rules_of (task_of space.map.now (F.links space.facts.now) space.rates.now space.kept))
+    requires of { IsSearchOf
+        (rules_of (task_of space.map.now (F.links space.facts.now) space.rates.now space.kept))
         search }
     requires some { 1 ≤ quota }
-    ensures answers { IfOk result (AnswersLegTurn space.entry.map.now (F.links space.entry.facts.now) space.entry.rates.now
+    ensures answers { IfOk result
+        (AnswersLegTurn space.entry.map.now (F.links space.entry.facts.now) space.entry.rates.now
         (quest_by (task_of space.entry.map.now (F.links space.entry.facts.now) space.entry.rates.now space.entry.kept) search false)) }
-    ensures counts { IfOk result (CountsLegTurn quota (length (view search).settled) (view search).limit) }
+    ensures counts { IfOk result
+        (CountsLegTurn quota (length (view search).settled) (view search).limit) }
 {
     let mut search = search;
     let step = step(alloc, &space, &mut search, quota)?;
@@ -126,9 +129,11 @@ fn by_runs<F: FactsOf>(
     requires of { IsSearchOf (run_rules (rules_of
         (task_of space.map.now (F.links space.facts.now) space.rates.now space.kept))) search }
     requires some { 1 ≤ quota }
-    ensures answers { IfOk result (AnswersLegTurn space.entry.map.now (F.links space.entry.facts.now) space.entry.rates.now
+    ensures answers { IfOk result
+        (AnswersLegTurn space.entry.map.now (F.links space.entry.facts.now) space.entry.rates.now
         (quest_by (task_of space.entry.map.now (F.links space.entry.facts.now) space.entry.rates.now space.entry.kept) search true)) }
-    ensures counts { IfOk result (CountsLegTurn quota (length (view search).settled) (view search).limit) }
+    ensures counts { IfOk result
+        (CountsLegTurn quota (length (view search).settled) (view search).limit) }
 {
     let mut search = search;
     let step = step(alloc, &RunSpace::new(&space), &mut search, quota)?;

@@ -5,6 +5,8 @@ use Rattle.lookup_table.specs.declared.part.Part.{Part}
 use Rattle.lookup_table.specs.First.{begins_as, first_name, begins_with_yes}
 use Rattle.lookup_table.specs.Numbers.{AreNumbersOf}
 use Rattle.lookup_table.specs.Tag.{TagRow}
+-- an empty line is skipped
+pub use Rattle.lookup_table.proofs.ReadLemmas.{line_form-empty}
 
 -- numbers of a part's tags stay so where the first of them is set to 0, to 1 or to the number of its first value, 2
 pub AreNumbersOf-first : (part : Part) (rows : List TagRow) (numbers : List ℕ) (number : ℕ) → IsTrue (begins_as part rows) → number ≤ 2

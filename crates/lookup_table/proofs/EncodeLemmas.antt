@@ -9,7 +9,8 @@ use Rattle.lookup_table.specs.Noted.{noted_at, noted}
 use Rattle.lookup_table.specs.Numbers.{value_number_of, tag_number_of, tag_numbers, value_text, printed_tags, AreNumbersOf, IsFirstSpelling, AreFirstSpellings}
 use Rattle.lookup_table.specs.Tag.{TagRow, AreSound, AreDistinct, names_of, place_of}
 use Rattle.lookup_table.proofs.TagLemmas.{AreWithin-number}
-use Rattle.lookup_table.proofs.RowLemmas.{name_place-none, bytes_eq-turned, bytes_eq-refl, same_name}
+use Rattle.lookup_table.proofs.RowLemmas.{name_place-none}
+use Rattle.item_list.proofs.TestLemmas.{bytes_eq-refl, bytes_eq-same, bytes_eq-turned}
 
 -- a list of tags: names with their values
 abbrev pub TagList : Type 0
@@ -42,7 +43,7 @@ noted_is (r ∷ rs) tag tags apart = by_test (bytes_eq tag.0 r.name) refl (noted
         → noted_at (r ∷ rs) (tag_numbers (r ∷ rs) tags) tag.1 (cond b (Some 0) (option_map suc (place_of rs tag.0)))
         ≡ cond b (value_number_of r tag.1) (tag_number_of r tags) ∷ tag_numbers rs (tag ∷ tags)
     by_test true test rest =
-        let none : place_of rs tag.0 ≡ None = ap (place_of rs) (same_name tag.0 r.name test) ∙ apart.0 in
+        let none : place_of rs tag.0 ≡ None = ap (place_of rs) (bytes_eq-same tag.0 r.name test) ∙ apart.0 in
         ap (λ ns. value_number_of r tag.1 ∷ ns) (sym (tag_numbers-absent rs tag tags none))
     by_test false test rest =
         noted_at-later r rs (tag_number_of r tags) (tag_numbers rs tags) tag.1 (place_of rs tag.0)

@@ -43,7 +43,7 @@ lines_of-split text n line after n_is line_is after_is =
     ∙ ap (λ a. line ∷ lines_after a) (sym after_is)
 
 -- a blank line is skipped
-line_form-empty : line_form [] ≡ Skipped
+pub line_form-empty : line_form [] ≡ Skipped
 line_form-empty = ap (λ b. cond b (text_form []) Malformed) (is_utf8-from_IsUtf8 [] ([], (refl, refl)))
 
 -- what is read from here on is what is read of the whole text, and the lines are few enough to be numbered

@@ -1,31 +1,14 @@
 -- The tags of a part, found by their names.
-use Rattle.std.proofs.Common.{◌≡◌, ℕ, suc, ◌+◌, ◌<◌, Bool, true, false, not, cond, ◌||◌, List, [], ◌∷◌, ◌++◌, length, get_or, set, map, position, nat_lt, Option, Some, None, refl, sym, ap, ◌∙◌, subst, arith, IfSome, Vec, Global}
+use Rattle.std.proofs.Common.{◌≡◌, ℕ, suc, ◌+◌, ◌<◌, Bool, true, false, cond, ◌||◌, List, [], ◌∷◌, ◌++◌, length, get_or, set, map, position, nat_lt, Option, Some, None, refl, sym, ap, ◌∙◌, subst, arith, IfSome, Vec, Global}
 use Rattle.std.proofs.lemmas.List.{length-map, map-append}
 use Rattle.indexmap.specs.IndexSet.{insert_key}
-use Rattle.std.proofs.lemmas.Bool.Decides.{nat_tests}
-use Rattle.std.proofs.lemmas.Slice.Eq.{bytes_eq-Decides}
-use Rattle.std.specs.List.{prefix_len, list_any}
+use Rattle.std.specs.List.{list_any}
 use Rattle.std.specs.Option.{option_map}
 use Rattle.std.specs.Str.{bytes_eq}
 use Rattle.lookup_table.specs.Tag.{TagRow, name_place, AreDistinct, names_of, place_of, add_value, empty_tag, add_line, values_of, room_for, has_room}
+use Rattle.item_list.proofs.TestLemmas.{bytes_eq-turned, position-step}
 
 -- ---- Names
-
--- a test that two names are one says so
-pub same_name : (x y : List ℕ) → bytes_eq x y ≡ true → x ≡ y
-same_name x y test = (bytes_eq-Decides x y).0 test
-
--- a name is itself
-pub bytes_eq-refl : (x : List ℕ) → bytes_eq x x ≡ true
-bytes_eq-refl x = (bytes_eq-Decides x x).1 refl
-
--- the order of two names is free
-pub bytes_eq-turned : (x y : List ℕ) → bytes_eq x y ≡ false → bytes_eq y x ≡ false
-bytes_eq-turned x y test = by_test (bytes_eq y x) refl
-  where
-    by_test : (b : Bool) → bytes_eq y x ≡ b → b ≡ false
-    by_test true same = let e : y ≡ x = same_name y x same in let wrong : bytes_eq x y ≡ true = ap (bytes_eq x) e ∙ bytes_eq-refl x in cc
-    by_test false other = refl
 
 -- a name that isn't in a list is neither its first nor in the rest
 pub name_place-none : (x : List ℕ) (xs : List (List ℕ)) (name : List ℕ) → name_place (x ∷ xs) name ≡ None
@@ -72,42 +55,13 @@ AreDistinct-append (x ∷ xs) name apart none =
 
 -- ---- The index of names
 
--- what `position` answers where the first passes
-found_first : (len : ℕ) → cond {A = Option ℕ} (nat_lt 0 (suc len)) (Some 0) None ≡ Some 0
-found_first len = let test : nat_lt 0 (suc len) ≡ true = grind (arith, nat_tests) in ap (λ b. cond {A = Option ℕ} b (Some 0) None) test
-
--- what it answers where the first doesn't
-found_later : (n len : ℕ)
-    → cond {A = Option ℕ} (nat_lt (1 + n) (suc len)) (Some (1 + n)) None ≡ option_map suc (cond (nat_lt n len) (Some n) None)
-found_later n len = by_test (nat_lt n len) refl
-  where
-    one : 1 + n ≡ suc n
-    one = omega arith
-
-    by_test : (b : Bool) → nat_lt n len ≡ b → cond (nat_lt (1 + n) (suc len)) (Some (1 + n)) None ≡ option_map suc (cond b (Some n) None)
-    by_test true below =
-        let test : nat_lt (1 + n) (suc len) ≡ true = grind (arith, nat_tests) in
-        ap (λ b. cond b (Some (1 + n)) None) test ∙ ap Some one
-    by_test false above =
-        let test : nat_lt (1 + n) (suc len) ≡ false = grind (arith, nat_tests) in
-        ap (λ b. cond b (Some (1 + n)) None) test
-
 -- the index finds the place of a name
 pub position-name_place : (name : List ℕ) (keys : List (Vec ℕ Global))
     → position (λ k. bytes_eq name k.items) keys ≡ name_place (map (λ k. k.items) keys) name
 position-name_place name [] = refl
-position-name_place name (k ∷ ks) = by_test (bytes_eq name k.items) refl (position-name_place name ks)
-  where
-    by_test : (b : Bool) → bytes_eq name k.items ≡ b → position (λ k. bytes_eq name k.items) ks ≡ name_place (map (λ k. k.items) ks) name
-        → position (λ k. bytes_eq name k.items) (k ∷ ks) ≡ cond b (Some 0) (option_map suc (name_place (map (λ k. k.items) ks) name))
-    by_test true test rest =
-        ap (λ b. cond (nat_lt (cond (not b) (1 + prefix_len (λ x. not (bytes_eq name x.items)) ks) 0) (suc (length ks)))
-        (Some (cond (not b) (1 + prefix_len (λ x. not (bytes_eq name x.items)) ks) 0)) None) test ∙ found_first (length ks)
-    by_test false test rest =
-        ap (λ b. cond (nat_lt (cond (not b) (1 + prefix_len (λ x. not (bytes_eq name x.items)) ks) 0) (suc (length ks)))
-        (Some (cond (not b) (1 + prefix_len (λ x. not (bytes_eq name x.items)) ks) 0)) None) test
-        ∙ found_later (prefix_len (λ x. not (bytes_eq name x.items)) ks) (length ks)
-        ∙ ap (option_map suc) rest
+position-name_place name (k ∷ ks) =
+    position-step (λ (k : Vec ℕ Global). bytes_eq name k.items) k ks
+    ∙ ap (λ (rest : Option ℕ). cond (bytes_eq name k.items) (Some 0) (option_map suc rest)) (position-name_place name ks)
 
 -- a place that is found is within the part
 pub within_rows : (rows : List TagRow) (name : List ℕ) (r : Option ℕ) → r ≡ place_of rows name → IfSome r (λ i. i < length rows)

@@ -1,5 +1,5 @@
 -- The tag numbers of a way or a node, and their text, after `lookups.dat`.
-use Rattle.std.specs.Prelude.{◌≡◌, ℕ, ◌+◌, ◌-◌, ◌≤◌, List, [], ◌∷◌, ◌++◌, length, map, slice_index_or, ◌==◌, Some, None, unwrap_or, if◌then◌else◌}
+use Rattle.std.specs.Prelude.{◌≡◌, ℕ, ◌+◌, ◌-◌, ◌≤◌, Bool, false, not, ◌||◌, List, [], ◌∷◌, ◌++◌, length, map, slice_index_or, ◌==◌, Some, None, unwrap_or, if◌then◌else◌}
 use Rattle.std.specs.List.{join_with_byte}
 use Rattle.std.specs.Str.{bytes_eq}
 use lib.Chars.{codes}
@@ -18,6 +18,16 @@ tag_number_of row (t ∷ ts) = if bytes_eq t.0 row.name then value_number_of row
 -- one number for each tag of a part
 abbrev pub tag_numbers : List TagRow → List (List ℕ × List ℕ) → List ℕ
 tag_numbers rows tags = map (λ row. tag_number_of row tags) rows
+
+-- some of these numbers isn't 0
+abbrev pub some_set : List ℕ → Bool
+some_set [] = false
+some_set (n ∷ ns) = not (n == 0) || some_set ns
+
+-- a number after the first isn't 0
+abbrev pub has_set : List ℕ → Bool
+has_set [] = false
+has_set (n ∷ ns) = some_set ns
 
 -- ---- The text of numbers
 

@@ -81,7 +81,7 @@ impl Tag {
 
     /// The first spelling of the value at a place.
     pub(crate) fn first(&self, place: usize) -> &[u8]
-        requires { place < length self.now.firsts }
+        requires fits { place < length self.now.firsts }
         ensures value { result.now ≡ slice_index_or self.now.firsts place [] }
     {
         self.firsts[place].as_slice()

@@ -56,7 +56,8 @@ cells-few plan width height is wide high =
 
 -- the places of two spots that are put into a list
 pub corners-are : (plan : Plan) (last : ℕ) (first second : Spot) (none one both : List Spot) → last ≡ cells_of plan - 1 →
-    place_of first ≡ cell_place plan 0 → place_of second ≡ cell_place plan last → none ≡ [] → one ≡ none ++ first ∷ [] → both ≡ one ++ second ∷ [] →
+    place_of first ≡ cell_place plan 0 → place_of second ≡ cell_place plan last → none ≡ [] → one ≡ none ++ first ∷ [] →
+    both ≡ one ++ second ∷ [] →
     places both ≡ cell_place plan 0 ∷ cell_place plan (cells_of plan - 1) ∷ []
 corners-are plan last first second none one both is at_first at_second empty puts_first puts_second =
     ap places (puts_second ∙ ap (λ (l : List Spot). l ++ second ∷ []) (puts_first ∙ ap (λ (l : List Spot). l ++ first ∷ []) empty))
@@ -100,7 +101,8 @@ module _ (world : WorldValue) (sections : Sections) (plan : Plan)
     question_by asked = record { binding = binding_in world sections asked.overrides; asked = asked }
 
     -- what answers the request between the corners
-    pub answers-corners : (asked : Asked) (result : Result Track RouteError) → asked ≡ corners_asked plan → IsAnswer (question_by asked) result →
+    pub answers-corners : (asked : Asked) (result : Result Track RouteError) → asked ≡ corners_asked plan →
+        IsAnswer (question_by asked) result →
         IsAnswer (question_by (corners_asked plan)) result
     answers-corners asked result is answers = subst (λ (a : Asked). IsAnswer (question_by a) result) is answers
 
@@ -131,7 +133,8 @@ module _ (world : WorldValue) (sections : Sections) (plan : Plan)
 
     -- what is told of the request between the corners is told of hills
     pub hills-told : (result : Result Track MadeError) → profile_of hill_text ≡ Ok sections → IsHillWorld plan world →
-        Tells (λ track. IsAnswer (question_by (corners_asked plan)) (Ok track)) (λ error. IsAnswer (question_by (corners_asked plan)) (Err error)) result →
+        Tells (λ track. IsAnswer (question_by (corners_asked plan)) (Ok track))
+        (λ error. IsAnswer (question_by (corners_asked plan)) (Err error)) result →
         Tells (IsHillTrack plan) (IsHillsRefusal plan) result
     hills-told result profile is told =
         tells-by (λ (track : Track). IsAnswer (question_by (corners_asked plan)) (Ok track)) (IsHillTrack plan)
@@ -143,7 +146,8 @@ module _ (world : WorldValue) (sections : Sections) (plan : Plan)
 
 -- a world with the table and the tile of hills is one of hills
 pub hill-world : (plan : Plan) (seed : ℕ) (table : TagTable) (tiles : Tiles) (result : Result World MadeError) → seed ≡ plan.seed →
-    table_of look_text ≡ Ok table → ((relief : Relief) × (relief_of_file tile_name (hgt_bytes seed) ≡ Some relief) × HaveTileAlone relief tiles) →
+    table_of look_text ≡ Ok table → ((relief : Relief) × (relief_of_file tile_name (hgt_bytes seed) ≡ Some relief) ×
+    HaveTileAlone relief tiles) →
     Makes (overpass_text plan) (λ world. IsMadeWorld plan table tiles (world_of world)) RefusesNothing result →
     Makes (overpass_text plan) (λ world. IsHillWorld plan (world_of world)) RefusesNothing result
 hill-world plan seed table tiles (Ok world) same table_is tile made = record {
@@ -162,7 +166,8 @@ hill-world plan seed table tiles (Err NoMemory) same table_is tile made = tt
 -- ---- The track
 
 -- the legs of a track that answers a question cost less than 2^127
-answer-fits : (question : Question) (result : Result Track RouteError) → IsAnswer question result → IfOk result (λ track. total_cost track.legs < 2 ^ 127)
+answer-fits : (question : Question) (result : Result Track RouteError) → IsAnswer question result →
+    IfOk result (λ track. total_cost track.legs < 2 ^ 127)
 answer-fits question _ (refused is) = tt
 answer-fits question _ (unmapped over none) = tt
 answer-fits question _ (trackless over nodes none) = tt
@@ -173,7 +178,8 @@ pub track-fits : (plan : Plan) (track : Track) → IsHillTrack plan track → to
 track-fits plan track is = answer-fits is.question (Ok track) is.answers
 
 -- what is told of a track across hills
-pub hills-found : (plan grid : Plan) (track : Track) (told : Hills) → grid ≡ plan → IsHillTrack grid track → told.cost ≡ total_cost track.legs →
+pub hills-found : (plan grid : Plan) (track : Track) (told : Hills) → grid ≡ plan → IsHillTrack grid track →
+    told.cost ≡ total_cost track.legs →
     told.nodes ≡ cells_of grid → told.segments ≡ length (segments_of grid) → IsHillsFound plan told
 hills-found plan grid track told same is cost nodes segments =
     subst (λ (p : Plan). IsHillsFound p told) same

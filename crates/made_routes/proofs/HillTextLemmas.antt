@@ -1,16 +1,18 @@
 -- The text of hills' profile is one: its words, and the sections of its words.
-use Rattle.std.proofs.Common.{◌≡◌, ℕ, suc, Bool, true, false, ◌&&◌, List, [], ◌∷◌, ◌++◌, length, map, pos, Option, Some, None, Result, Ok, Err, refl, ap, ◌∙◌, arith}
+use Rattle.std.proofs.Common.{◌≡◌, ℕ, suc, Bool, true, false, ◌&&◌, List, [], ◌∷◌, ◌++◌, length, map, pos, Option, Some, None, Result, Ok, Err, refl, ap, ◌∙◌}
 use Rattle.std.specs.Prelude.{codes, is_ok}
 use Rattle.fixed_num.specs.Decimal.{cut_millionths}
 use Rattle.fixed_num.specs.Literal.{literal_of}
 use Rattle.profile_text.specs.Kind.{kind_of, op_of, plain_kind, section_of, word_of}
 use Rattle.profile_text.specs.Read.{and_then, assignment_of, expr_of, most_depth, profile_of, read, sections_within, taken, with_first}
-use Rattle.profile_text.specs.Token.{Place, Token, is_ink, is_joined, is_word_byte, prepend, tokens_from}
+use Rattle.profile_text.specs.Token.{Place, Token, is_word_byte, prepend, tokens_from}
 use Rattle.profile_text.specs.Tree.{Assignment, Constant, Sections}
 use Rattle.profile_text.specs.declared.error.TextError.{TextError}
 use Rattle.profile_text.specs.declared.kind.Section.{Section}
 use Rattle.profile_text.specs.declared.kind.Section.TheVariants.{Global, Way}
 use Rattle.made_routes.specs.Texts.{hill_text}
+use Rattle.std.proofs.lemmas.Bool.{and_parts}
+use Rattle.profile_text.proofs.CallerLemmas.{joined_byte, one_byte, token_is, word_is_ink}
 
 -- ---- The tokens of words
 
@@ -35,58 +37,36 @@ spaced [] = []
 spaced (w ∷ []) = w
 spaced (w ∷ v ∷ ws) = w ++ 32 ∷ spaced (v ∷ ws)
 
--- a token of a line
-abbrev token : ℕ → List ℕ → Token
-token line text = record { line = line; text = text }
-
--- both of two tests
-both : (a b : Bool) → (a && b) ≡ true → (a ≡ true) × (b ≡ true)
-both true b h = (refl, h)
-both false b h = absurd cc
-
--- a byte of a word is a byte of a token
-word_is_ink : (c : ℕ) → is_word_byte c ≡ true → is_ink false c ≡ true
-word_is_ink c h = grind (arith, h)
-
--- a token of one byte
-one_byte : (line c : ℕ) (cs : List ℕ) → is_ink false c ≡ true → is_joined c cs ≡ false →
-    tokens_from false line (c ∷ cs) ≡ token line (c ∷ []) ∷ tokens_from false line cs
-one_byte line c cs ink joined = rw (ink, joined) refl
-
--- a byte that goes on stands at the front of the first token
-joined_byte : (line c : ℕ) (cs : List ℕ) → is_ink false c ≡ true → is_joined c cs ≡ true →
-    tokens_from false line (c ∷ cs) ≡ prepend c (tokens_from false line cs)
-joined_byte line c cs ink joined = rw (ink, joined) refl
-
 -- a word before a space is a token
-word_first : (line : ℕ) (w rest : List ℕ) → is_word w ≡ true → tokens_from false line (w ++ 32 ∷ rest) ≡ token line w ∷ tokens_from false line rest
+word_first : (line : ℕ) (w rest : List ℕ) → is_word w ≡ true →
+    tokens_from false line (w ++ 32 ∷ rest) ≡ token_is line w ∷ tokens_from false line rest
 word_first line [] rest h = absurd cc
 word_first line (c ∷ []) rest h =
-    let c_is = (both (is_word_byte c) true h).0 in
+    let c_is = (and_parts (is_word_byte c) true h).0 in
     one_byte line c (32 ∷ rest) (word_is_ink c c_is) (ap (λ v. v && false) c_is)
 word_first line (c ∷ d ∷ ds) rest h =
-    let first = both (is_word_byte c) (are_word_bytes (d ∷ ds)) h in
-    let d_is = (both (is_word_byte d) (are_word_bytes ds) first.1).0 in
+    let first = and_parts (is_word_byte c) (are_word_bytes (d ∷ ds)) h in
+    let d_is = (and_parts (is_word_byte d) (are_word_bytes ds) first.1).0 in
     joined_byte line c (d ∷ ds ++ 32 ∷ rest) (word_is_ink c first.0) (ap (λ v. v && is_word_byte d) first.0 ∙ d_is)
     ∙ ap (prepend c) (word_first line (d ∷ ds) rest first.1)
 
 -- a word at the end is a token
-word_last : (line : ℕ) (w : List ℕ) → is_word w ≡ true → tokens_from false line w ≡ token line w ∷ []
+word_last : (line : ℕ) (w : List ℕ) → is_word w ≡ true → tokens_from false line w ≡ token_is line w ∷ []
 word_last line [] h = absurd cc
-word_last line (c ∷ []) h = one_byte line c [] (word_is_ink c (both (is_word_byte c) true h).0) refl
+word_last line (c ∷ []) h = one_byte line c [] (word_is_ink c (and_parts (is_word_byte c) true h).0) refl
 word_last line (c ∷ d ∷ ds) h =
-    let first = both (is_word_byte c) (are_word_bytes (d ∷ ds)) h in
-    let d_is = (both (is_word_byte d) (are_word_bytes ds) first.1).0 in
+    let first = and_parts (is_word_byte c) (are_word_bytes (d ∷ ds)) h in
+    let d_is = (and_parts (is_word_byte d) (are_word_bytes ds) first.1).0 in
     joined_byte line c (d ∷ ds) (word_is_ink c first.0) (ap (λ v. v && is_word_byte d) first.0 ∙ d_is)
     ∙ ap (prepend c) (word_last line (d ∷ ds) first.1)
 
 -- the tokens of words with a space between two are the words
-words_are_tokens : (line : ℕ) (ws : List (List ℕ)) → are_words ws ≡ true → tokens_from false line (spaced ws) ≡ map (token line) ws
+words_are_tokens : (line : ℕ) (ws : List (List ℕ)) → are_words ws ≡ true → tokens_from false line (spaced ws) ≡ map (token_is line) ws
 words_are_tokens line [] h = refl
-words_are_tokens line (w ∷ []) h = word_last line w (both (is_word w) true h).0
+words_are_tokens line (w ∷ []) h = word_last line w (and_parts (is_word w) true h).0
 words_are_tokens line (w ∷ v ∷ ws) h =
-    word_first line w (spaced (v ∷ ws)) (both (is_word w) (are_words (v ∷ ws)) h).0
-    ∙ ap (λ ts. token line w ∷ ts) (words_are_tokens line (v ∷ ws) (both (is_word w) (are_words (v ∷ ws)) h).1)
+    word_first line w (spaced (v ∷ ws)) (and_parts (is_word w) (are_words (v ∷ ws)) h).0
+    ∙ ap (λ ts. token_is line w ∷ ts) (words_are_tokens line (v ∷ ws) (and_parts (is_word w) (are_words (v ∷ ws)) h).1)
 
 -- ---- The sections of tokens
 
@@ -103,12 +83,14 @@ abbrev sections : ℕ → Option Section → List Token → Result Sections Text
 sections parts current ts = sections_within parts current 1 ts
 
 -- the global section opens
-opening-global : (parts : ℕ) (ts : List Token) → sections (suc parts) None (token 1 (codes "---context:global") ∷ ts) ≡ sections parts (Some Global) ts
+opening-global : (parts : ℕ) (ts : List Token) →
+    sections (suc parts) None (token_is 1 (codes "---context:global") ∷ ts) ≡ sections parts (Some Global) ts
 unfolding sections_within kind_of word_of op_of section_of plain_kind literal_of cut_millionths
 opening-global parts ts = refl
 
 -- the section of ways opens
-opening-way : (parts : ℕ) (ts : List Token) → sections (suc parts) (Some Global) (token 1 (codes "---context:way") ∷ ts) ≡ sections parts (Some Way) ts
+opening-way : (parts : ℕ) (ts : List Token) →
+    sections (suc parts) (Some Global) (token_is 1 (codes "---context:way") ∷ ts) ≡ sections parts (Some Way) ts
 unfolding sections_within kind_of word_of op_of section_of plain_kind literal_of cut_millionths
 opening-way parts ts = refl
 
@@ -123,13 +105,13 @@ with_rest parts section a p = with_first section a (sections_within parts (Some 
 
 -- the word of an assignment
 assign-word : (parts : ℕ) (section : Section) (ts : List Token) →
-    sections (suc parts) (Some section) (token 1 (codes "assign") ∷ ts) ≡ and_then (assignment_of (place ts)) (with_rest parts section)
+    sections (suc parts) (Some section) (token_is 1 (codes "assign") ∷ ts) ≡ and_then (assignment_of (place ts)) (with_rest parts section)
 unfolding sections_within kind_of word_of op_of section_of plain_kind literal_of cut_millionths
 assign-word parts section ts = refl
 
 -- an assignment that is read
 assigning : (parts : ℕ) (section : Section) (ts rest : List Token) (a : Assignment) → assignment_of (place ts) ≡ read a (place rest) →
-    is_ok (sections (suc parts) (Some section) (token 1 (codes "assign") ∷ ts)) ≡ is_ok (sections parts (Some section) rest)
+    is_ok (sections (suc parts) (Some section) (token_is 1 (codes "assign") ∷ ts)) ≡ is_ok (sections parts (Some section) rest)
 assigning parts section ts rest a is =
     ap is_ok (assign-word parts section ts)
     ∙ ap (λ r. is_ok (and_then r (with_rest parts section))) is
@@ -154,19 +136,22 @@ hill_words-are = refl
 
 -- the price of climbing
 cost-read : (ts : List Token) →
-    assignment_of (place (token 1 (codes "uphillcost") ∷ token 1 (codes "100") ∷ ts)) ≡ read (assignment (codes "uphillcost") 100000000) (place ts)
+    assignment_of (place (token_is 1 (codes "uphillcost") ∷ token_is 1 (codes "100") ∷ ts)) ≡
+    read (assignment (codes "uphillcost") 100000000) (place ts)
 unfolding assignment_of expr_of most_depth taken kind_of word_of op_of section_of plain_kind literal_of cut_millionths
 cost-read ts = refl
 
 -- the slope beyond which it counts
 cutoff-read : (ts : List Token) →
-    assignment_of (place (token 1 (codes "uphillcutoff") ∷ token 1 (codes "1.5") ∷ ts)) ≡ read (assignment (codes "uphillcutoff") 1500000) (place ts)
+    assignment_of (place (token_is 1 (codes "uphillcutoff") ∷ token_is 1 (codes "1.5") ∷ ts)) ≡
+    read (assignment (codes "uphillcutoff") 1500000) (place ts)
 unfolding assignment_of expr_of most_depth taken kind_of word_of op_of section_of plain_kind literal_of cut_millionths
 cutoff-read ts = refl
 
 -- the factor of each metre
 factor-read : (ts : List Token) →
-    assignment_of (place (token 1 (codes "costfactor") ∷ token 1 (codes "1") ∷ ts)) ≡ read (assignment (codes "costfactor") 1000000) (place ts)
+    assignment_of (place (token_is 1 (codes "costfactor") ∷ token_is 1 (codes "1") ∷ ts)) ≡
+    read (assignment (codes "costfactor") 1000000) (place ts)
 unfolding assignment_of expr_of most_depth taken kind_of word_of op_of section_of plain_kind literal_of cut_millionths
 factor-read ts = refl
 
@@ -176,7 +161,7 @@ unfolding sections_within
 at_end parts current = refl
 
 -- the words are sections
-hill_words-accepted : is_ok (sections 98 None (map (token 1) hill_words)) ≡ true
+hill_words-accepted : is_ok (sections 98 None (map (token_is 1) hill_words)) ≡ true
 hill_words-accepted =
     ap is_ok (opening-global 97 _)
     ∙ assigning 96 Global _ _ (assignment (codes "uphillcost") 100000000) (cost-read _)
@@ -186,7 +171,8 @@ hill_words-accepted =
     ∙ at_end 93 (Some Way)
 
 -- the sections of a text's tokens
-profile-tokens : (text : List ℕ) (ts : List Token) → tokens_from false 1 text ≡ ts → length text ≡ 98 → profile_of text ≡ sections 98 None ts
+profile-tokens : (text : List ℕ) (ts : List Token) → tokens_from false 1 text ≡ ts → length text ≡ 98 →
+    profile_of text ≡ sections 98 None ts
 unfolding profile_of
 profile-tokens text ts tokens size =
     ap (λ n. sections_within n None 1 (tokens_from false 1 text)) size ∙ ap (sections 98 None) tokens
@@ -200,5 +186,6 @@ hill_text-size = refl
 pub hill-accepted : is_ok (profile_of hill_text) ≡ true
 hill-accepted =
     ap is_ok
-    (profile-tokens hill_text (map (token 1) hill_words) (ap (tokens_from false 1) hill_text-words ∙ words_are_tokens 1 hill_words hill_words-are) hill_text-size)
+    (profile-tokens hill_text (map (token_is 1) hill_words) (ap (tokens_from false 1) hill_text-words
+    ∙ words_are_tokens 1 hill_words hill_words-are) hill_text-size)
     ∙ hill_words-accepted

@@ -82,11 +82,13 @@ pub step-to : (plan : Plan) (cells : List ℕ) (place : ℕ) → 1 ≤ place →
 step-to plan cells zero some below are = absurd (omega (arith, some))
 step-to plan cells (suc place) some below are =
     let e : suc place - 1 ≡ place = omega arith in
-    subst (λ (n : ℕ). IsShortStep plan (slice_index_or cells n 0) (slice_index_or cells (suc place) 0)) (sym e) (step-at plan cells place below are)
+    subst (λ (n : ℕ). IsShortStep plan (slice_index_or cells n 0) (slice_index_or cells (suc place) 0)) (sym e)
+    (step-at plan cells place below are)
 
 -- the length up to a place, and the step to it
 pub length-to : (plan : Plan) (cells : List ℕ) (place sum next : ℕ) → 1 ≤ place → place < length cells →
-    sum ≡ walk_length plan (take place cells) → next ≡ distance_between plan (slice_index_or cells (place - 1) 0) (slice_index_or cells place 0) →
+    sum ≡ walk_length plan (take place cells) →
+    next ≡ distance_between plan (slice_index_or cells (place - 1) 0) (slice_index_or cells place 0) →
     sum + next ≡ walk_length plan (take (place + 1) cells)
 length-to plan cells zero sum next some below before is = absurd (omega (arith, some))
 length-to plan cells (suc place) sum next some below before is =
@@ -100,7 +102,8 @@ length-to plan cells (suc place) sum next some below before is =
 -- ---- Arrows
 
 -- the arrow between two places is as long as the distance between the cells that lie there
-pub distance-is : (plan : Plan) (a b n : ℕ) (first second : Place) (found : Arrow) → first ≡ cell_place plan a → second ≡ cell_place plan b →
+pub distance-is : (plan : Plan) (a b n : ℕ) (first second : Place) (found : Arrow) → first ≡ cell_place plan a →
+    second ≡ cell_place plan b →
     arrow_between first second ≡ Some found → n ≡ found.len → n ≡ distance_between plan a b
 distance-is plan a b n first second found at_a at_b there is =
     is ∙ length_between-is first second found (arrow_between-found first second found there).0

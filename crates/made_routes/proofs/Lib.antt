@@ -2,6 +2,7 @@ mod LengthLemmas
 mod PriceLemmas
 mod HillTextLemmas
 mod LookTextLemmas
+mod LookFormLemmas
 mod TextLemmas
 mod MakingLemmas
 mod WalkLemmas

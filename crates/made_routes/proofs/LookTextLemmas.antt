@@ -1,15 +1,16 @@
 -- The text of hills' tag table is one: its lines, their forms, and the table of these.
-use Rattle.std.proofs.Common.{◌≡◌, ℕ, Bool, true, false, not, cond, ◌&&◌, List, [], ◌∷◌, ◌++◌, map, reverse, None, Ok, Err, refl, ap, ap₂, ◌∙◌}
+use Rattle.std.proofs.Common.{◌≡◌, ℕ, Bool, true, false, cond, ◌&&◌, List, [], ◌∷◌, ◌++◌, map, reverse, None, Ok, Err, refl, ap, ap₂, ◌∙◌}
 use Rattle.std.specs.Prelude.{codes, is_ok, ◌==◌}
 use Rattle.std.specs.List.{onto_first}
-use Rattle.std.specs.Str.{chars, is_utf8}
-use lib.Utf8.{encode}
 use Rattle.lookup_table.specs.First.{TagTable, begins_as}
 use Rattle.lookup_table.specs.Line.{LineForm, LookupVersion, MinorVersion, Opens, Skipped, TagLine, is_in_line, line_form, lines_of}
 use Rattle.lookup_table.specs.Table.{first_fault, forms_of, has_versions, rows_after, table_of, unless_fault, whole_table}
 use Rattle.lookup_table.specs.declared.error.LookupError.TheVariants.{FirstTag, Version}
 use Rattle.lookup_table.specs.declared.part.Part.TheVariants.{Node, Way}
 use Rattle.made_routes.specs.Texts.{look_text}
+use Rattle.std.proofs.lemmas.Bool.{and_parts, not-true}
+use Rattle.lookup_table.proofs.CallerLemmas.{line_form-empty}
+use Rattle.made_routes.proofs.LookFormLemmas.{form-lookup_version, form-minor_version, form-way, form-reversedirection-yes, form-highway-residential, form-highway-primary, form-highway-track, form-highway-cycleway, form-oneway-yes, form-oneway-no, form-bicycle-yes, form-bicycle-no, form-junction-roundabout, form-route_bicycle_rcn-yes, form-node, form-nodeaccessgranted-yes, form-barrier-gate, form-barrier-bollard}
 
 -- ---- Lines
 
@@ -28,29 +29,19 @@ abbrev lined : List (List ℕ) → List ℕ
 lined [] = []
 lined (l ∷ ls) = l ++ 10 ∷ lined ls
 
--- both of two tests
-both : (a b : Bool) → (a && b) ≡ true → (a ≡ true) × (b ≡ true)
-both true b h = (refl, h)
-both false b h = absurd cc
-
--- a test that fails
-fails : (b : Bool) → not b ≡ true → b ≡ false
-fails true h = absurd cc
-fails false h = refl
-
 -- a line and its end are a line
 line_first : (l rest : List ℕ) → are_in_line l ≡ true → lines_of (l ++ 10 ∷ rest) ≡ l ∷ lines_of rest
 line_first [] rest h = refl
 line_first (c ∷ cs) rest h =
-    let test = both (is_in_line c) (are_in_line cs) h in
-    ap (λ b. cond b ([] ∷ lines_of (cs ++ 10 ∷ rest)) (onto_first c (lines_of (cs ++ 10 ∷ rest)))) (fails (c == 10) test.0)
+    let test = and_parts (is_in_line c) (are_in_line cs) h in
+    ap (λ b. cond b ([] ∷ lines_of (cs ++ 10 ∷ rest)) (onto_first c (lines_of (cs ++ 10 ∷ rest)))) (not-true (c == 10) test.0)
     ∙ ap (onto_first c) (line_first cs rest test.1)
 
 -- the lines of the text of lines, and an empty one behind the last end
 lines_are : (ls : List (List ℕ)) → are_lines ls ≡ true → lines_of (lined ls) ≡ ls ++ [] ∷ []
 lines_are [] h = refl
 lines_are (l ∷ ls) h =
-    let test = both (are_in_line l) (are_lines ls) h in
+    let test = and_parts (are_in_line l) (are_lines ls) h in
     line_first l (lined ls) test.0 ∙ ap (λ (xs : List (List ℕ)). l ∷ xs) (lines_are ls test.1)
 
 -- the lines of the text
@@ -87,103 +78,6 @@ look_text-lines = refl
 -- they are lines
 look_lines-are : are_lines look_lines ≡ true
 look_lines-are = refl
-
--- ---- Forms of lines
-
--- the form of a line of dashes
-form-lookup_version : line_form (codes "---lookupversion:10") ≡ LookupVersion
-unfolding is_utf8 chars encode
-form-lookup_version = refl
-
--- the form of a line of dashes
-form-minor_version : line_form (codes "---minorversion:1") ≡ MinorVersion
-unfolding is_utf8 chars encode
-form-minor_version = refl
-
--- the form of an empty line
-form-empty : line_form [] ≡ Skipped
-unfolding is_utf8 chars encode
-form-empty = refl
-
--- the form of a line of dashes
-form-way : line_form (codes "---context:way") ≡ Opens Way
-unfolding is_utf8 chars encode
-form-way = refl
-
--- the form of a tag line
-form-reversedirection-yes : line_form (codes "reversedirection;0000000000 yes") ≡ TagLine (codes "reversedirection") (codes "yes" ∷ [])
-unfolding is_utf8 chars encode
-form-reversedirection-yes = refl
-
--- the form of a tag line
-form-highway-residential : line_form (codes "highway;0000000400 residential") ≡ TagLine (codes "highway") (codes "residential" ∷ [])
-unfolding is_utf8 chars encode
-form-highway-residential = refl
-
--- the form of a tag line
-form-highway-primary : line_form (codes "highway;0000000300 primary") ≡ TagLine (codes "highway") (codes "primary" ∷ [])
-unfolding is_utf8 chars encode
-form-highway-primary = refl
-
--- the form of a tag line
-form-highway-track : line_form (codes "highway;0000000200 track") ≡ TagLine (codes "highway") (codes "track" ∷ [])
-unfolding is_utf8 chars encode
-form-highway-track = refl
-
--- the form of a tag line
-form-highway-cycleway : line_form (codes "highway;0000000100 cycleway") ≡ TagLine (codes "highway") (codes "cycleway" ∷ [])
-unfolding is_utf8 chars encode
-form-highway-cycleway = refl
-
--- the form of a tag line
-form-oneway-yes : line_form (codes "oneway;0000000020 yes true 1") ≡ TagLine (codes "oneway") (codes "yes" ∷ codes "true" ∷ codes "1" ∷ [])
-unfolding is_utf8 chars encode
-form-oneway-yes = refl
-
--- the form of a tag line
-form-oneway-no : line_form (codes "oneway;0000000010 no") ≡ TagLine (codes "oneway") (codes "no" ∷ [])
-unfolding is_utf8 chars encode
-form-oneway-no = refl
-
--- the form of a tag line
-form-bicycle-yes : line_form (codes "bicycle;0000000020 yes") ≡ TagLine (codes "bicycle") (codes "yes" ∷ [])
-unfolding is_utf8 chars encode
-form-bicycle-yes = refl
-
--- the form of a tag line
-form-bicycle-no : line_form (codes "bicycle;0000000010 no") ≡ TagLine (codes "bicycle") (codes "no" ∷ [])
-unfolding is_utf8 chars encode
-form-bicycle-no = refl
-
--- the form of a tag line
-form-junction-roundabout : line_form (codes "junction;0000000010 roundabout") ≡ TagLine (codes "junction") (codes "roundabout" ∷ [])
-unfolding is_utf8 chars encode
-form-junction-roundabout = refl
-
--- the form of a tag line
-form-route_bicycle_rcn-yes : line_form (codes "route_bicycle_rcn;0000000000 yes") ≡ TagLine (codes "route_bicycle_rcn") (codes "yes" ∷ [])
-unfolding is_utf8 chars encode
-form-route_bicycle_rcn-yes = refl
-
--- the form of a line of dashes
-form-node : line_form (codes "---context:node") ≡ Opens Node
-unfolding is_utf8 chars encode
-form-node = refl
-
--- the form of a tag line
-form-nodeaccessgranted-yes : line_form (codes "nodeaccessgranted;0000000000 yes") ≡ TagLine (codes "nodeaccessgranted") (codes "yes" ∷ [])
-unfolding is_utf8 chars encode
-form-nodeaccessgranted-yes = refl
-
--- the form of a tag line
-form-barrier-gate : line_form (codes "barrier;0000000020 gate") ≡ TagLine (codes "barrier") (codes "gate" ∷ [])
-unfolding is_utf8 chars encode
-form-barrier-gate = refl
-
--- the form of a tag line
-form-barrier-bollard : line_form (codes "barrier;0000000010 bollard") ≡ TagLine (codes "barrier") (codes "bollard" ∷ [])
-unfolding is_utf8 chars encode
-form-barrier-bollard = refl
 
 -- the forms of the lines, the last first
 abbrev look_forms : List LineForm
@@ -244,7 +138,7 @@ lines-forms : map line_form (look_lines ++ [] ∷ []) ≡ look_forms_in_order
 lines-forms =
     ap₂ ◌∷◌ form-lookup_version (
     ap₂ ◌∷◌ form-minor_version (
-    ap₂ ◌∷◌ form-empty (
+    ap₂ ◌∷◌ line_form-empty (
     ap₂ ◌∷◌ form-way (
     ap₂ ◌∷◌ form-reversedirection-yes (
     ap₂ ◌∷◌ form-highway-residential (
@@ -257,14 +151,14 @@ lines-forms =
     ap₂ ◌∷◌ form-bicycle-no (
     ap₂ ◌∷◌ form-junction-roundabout (
     ap₂ ◌∷◌ form-route_bicycle_rcn-yes (
-    ap₂ ◌∷◌ form-empty (
+    ap₂ ◌∷◌ line_form-empty (
     ap₂ ◌∷◌ form-node (
     ap₂ ◌∷◌ form-nodeaccessgranted-yes (
     ap₂ ◌∷◌ form-barrier-gate (
     ap₂ ◌∷◌ form-barrier-bollard (
     ap₂ ◌∷◌ form-bicycle-yes (
     ap₂ ◌∷◌ form-bicycle-no (
-    ap₂ ◌∷◌ form-empty (refl)))))))))))))))))))))))
+    ap₂ ◌∷◌ line_form-empty (refl)))))))))))))))))))))))
 
 -- the last first
 forms-turned : reverse look_forms_in_order ≡ look_forms

@@ -12,9 +12,11 @@ use Rattle.overpass_graph.specs.Builder.{IsFaultOfBeginning, IsFaultOfText}
 -- a fault of a text at its end, or want of memory, is told as such
 pub fault-told : {T : Type 0} (text : List ℕ) (Is : T → Type 0) (error : MapError) (told : MadeError) → told ≡ map_error error →
     (error ≡ fault.NoMemory) ⊎ IsFaultOfText text error → Makes {T = T} text Is RefusesNothing (Err told)
-fault-told {T} text Is error told is cause = subst (λ (m : MadeError). Makes {T = T} text Is RefusesNothing (Err m)) (sym is) (go error cause)
+fault-told {T} text Is error told is cause =
+    subst (λ (m : MadeError). Makes {T = T} text Is RefusesNothing (Err m)) (sym is) (go error cause)
   where
-    go : (error : MapError) → (error ≡ fault.NoMemory) ⊎ IsFaultOfText text error → Makes {T = T} text Is RefusesNothing (Err (map_error error))
+    go : (error : MapError) → (error ≡ fault.NoMemory) ⊎ IsFaultOfText text error →
+        Makes {T = T} text Is RefusesNothing (Err (map_error error))
     go fault.NoMemory cause = tt
     go (fault.NotJson at) (inl same) = absurd (cc)
     go (fault.NotJson at) (inr is) = at_end is
@@ -30,7 +32,8 @@ fault-told {T} text Is error told is cause = subst (λ (m : MadeError). Makes {T
     go (fault.MissingNode way node) (inr is) = at_end is
 
 -- a fault of a front of a text, or want of memory, is told as such
-pub front-told : (S : Type 0) {T : Type 0} (text : List ℕ) (Is : T → Type 0) (front rest : List ℕ) (error : MadeError) → front ++ rest ≡ text →
+pub front-told : (S : Type 0) {T : Type 0} (text : List ℕ) (Is : T → Type 0) (front rest : List ℕ) (error : MadeError) →
+    front ++ rest ≡ text →
     OnFault {T = S} (Err error) (IsFaultOfBeginning front) → Makes {T = T} text Is RefusesNothing (Err error)
 front-told S text Is front rest (Map found) whole cause = in_front (record { front = front; rest = rest; whole = whole; is = cause })
 front-told S text Is front rest (Route error) whole cause = absurd cause

@@ -36,7 +36,8 @@ chosen false c n cost is = absurd (cc)
 link-cheap : (links : Links) → AreLinks links → (link cost : ℕ) → link_price links link ≡ Some cost → cost < COST_BOUND
 unfolding link_price price_of
 link-cheap links sound link cost is =
-    let found = chosen (nat_lt link links.count) (is_permitted (links.facts link)) (unsigned_abs (distance_of (links.facts link) (pos 0) (pos 0))) cost is in
+    let found = chosen (nat_lt link links.count) (is_permitted (links.facts link))
+    (unsigned_abs (distance_of (links.facts link) (pos 0) (pos 0))) cost is in
     let cheap = distance-cheap (links.facts link) (sound link (ltb-true link links.count found.0)) in
     omega (arith, cheap, found.1)
 
@@ -55,7 +56,8 @@ prices-cheap links sound which count =
 -- ---- One more
 
 -- the prices of the first segments with the next one's
-pub prices-more : (links : Links) (which place : ℕ) (costs pushed : List (Option ℕ)) (price : Option ℕ) → costs ≡ segment_prices links which place →
+pub prices-more : (links : Links) (which place : ℕ) (costs pushed : List (Option ℕ)) (price : Option ℕ) →
+    costs ≡ segment_prices links which place →
     pushed ≡ costs ++ price ∷ [] → price ≡ link_price links (2 * place + which) → pushed ≡ segment_prices links which (place + 1)
 prices-more links which place costs pushed price before is next =
     is ∙ ap (λ (l : List (Option ℕ)). l ++ price ∷ []) before

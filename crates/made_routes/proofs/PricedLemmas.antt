@@ -32,7 +32,8 @@ use Rattle.way_class.specs.Links.{links_of}
 -- ---- Links of the same facts
 
 -- a price behind a test of a number, where the facts are the same
-price-same : (a b : Links) (link : ℕ) → ((link : ℕ) → link < b.count → a.facts link ≡ b.facts link) → (there : Bool) → nat_lt link b.count ≡ there →
+price-same : (a b : Links) (link : ℕ) → ((link : ℕ) → link < b.count → a.facts link ≡ b.facts link) → (there : Bool) →
+    nat_lt link b.count ≡ there →
     cond there (price_of (a.facts link)) None ≡ cond there (price_of (b.facts link)) None
 price-same a b link facts true is = ap price_of (facts link (ltb-true link b.count is))
 price-same a b link facts false is = refl
@@ -68,7 +69,8 @@ costs-same plan a b same facts =
 -- ---- Answers
 
 -- a walk by a profile that is ready is a walk by the profile
-walk-ready : (plan : Plan) (from to : ℕ) (binding : Binding) (ready : Ready) → IsReadyBy binding (ready_of binding) ready → (answer : Option PricedWalk) →
+walk-ready : (plan : Plan) (from to : ℕ) (binding : Binding) (ready : Ready) → IsReadyBy binding (ready_of binding) ready →
+    (answer : Option PricedWalk) →
     IsWalkOver plan (costs_by plan (links_of ready.bound)) from to answer → IsWalkBy plan from to binding answer
 walk-ready plan from to binding ready is answer over = record {
   terms = terms_in ready;
@@ -85,7 +87,8 @@ module _ (plan : Plan) (from to : ℕ) (world : WorldValue) (sections : Sections
         Tells (IsWalkOver plan (costs_by plan (links_of ready.bound)) from to) RefusesNothing result →
         Tells (IsWalkBy plan from to (binding_in world sections [])) (λ error. ready_of (binding_in world sections []) ≡ Err error) result
     ready-told ready result is told =
-        tells-by (IsWalkOver plan (costs_by plan (links_of ready.bound)) from to) (IsWalkBy plan from to (binding_in world sections [])) RefusesNothing
+        tells-by (IsWalkOver plan (costs_by plan (links_of ready.bound)) from to) (IsWalkBy plan from to (binding_in world sections []))
+        RefusesNothing
         (λ (error : RouteError). ready_of (binding_in world sections []) ≡ Err error) result
         (walk-ready plan from to (binding_in world sections []) ready
         (subst (λ (o : List (List ℕ × ℤ)). IsReadyBy (binding_in world sections o) (ready_of (binding_in world sections o)) ready) none is))
@@ -94,9 +97,11 @@ module _ (plan : Plan) (from to : ℕ) (world : WorldValue) (sections : Sections
     -- a refusal of the profile is told as such
     pub refusal-told : (error : RouteError) (told : MadeError) → told ≡ route_error error →
         (error ≡ refusal.NoMemory) ⊎ (ready_of (binding_in world sections overrides) ≡ Err error) →
-        Tells (IsWalkBy plan from to (binding_in world sections [])) (λ error. ready_of (binding_in world sections []) ≡ Err error) (Err told)
+        Tells (IsWalkBy plan from to (binding_in world sections [])) (λ error. ready_of (binding_in world sections []) ≡ Err error)
+        (Err told)
     refusal-told error told is cause =
-        route-told (IsWalkBy plan from to (binding_in world sections [])) (λ (e : RouteError). ready_of (binding_in world sections []) ≡ Err e) error told
+        route-told (IsWalkBy plan from to (binding_in world sections []))
+        (λ (e : RouteError). ready_of (binding_in world sections []) ≡ Err e) error told
         is (subst (λ (o : List (List ℕ × ℤ)). (error ≡ refusal.NoMemory) ⊎ (ready_of (binding_in world sections o) ≡ Err error)) none cause)
 
 -- a walk by the profile of a question answers it
@@ -123,7 +128,8 @@ none-there tiles none corner = go (relief_at tiles corner) (none corner)
     go (Some relief) is = absurd (cc)
 
 -- what is told by the profile of a question over the world that is made for it answers the question
-pub walk-made : (question : WalkQuestion) (tiles : Tiles) (world : WorldValue) (result : Result (Option PricedWalk) MadeError) → HaveNoTile tiles →
+pub walk-made : (question : WalkQuestion) (tiles : Tiles) (world : WorldValue) (result : Result (Option PricedWalk) MadeError) →
+    HaveNoTile tiles →
     IsMadeWorld question.plan question.table tiles world →
     Tells (IsWalkBy question.plan question.from question.to (binding_in world question.sections []))
     (λ error. ready_of (binding_in world question.sections []) ≡ Err error) result →

@@ -9,7 +9,8 @@ use Rattle.route_ready.specs.declared.error.RouteError.{RouteError}
 use Rattle.route_ready.specs.declared.error.RouteError.TheVariants as refusal
 
 -- the refusal of a request, or want of memory, is told as such
-pub route-told : {T : Type 0} (Is : T → Type 0) (Refuses : RouteError → Type 0) (error : RouteError) (told : MadeError) → told ≡ route_error error →
+pub route-told : {T : Type 0} (Is : T → Type 0) (Refuses : RouteError → Type 0) (error : RouteError) (told : MadeError) →
+    told ≡ route_error error →
     (error ≡ refusal.NoMemory) ⊎ Refuses error → Tells {T = T} Is Refuses (Err told)
 route-told {T} Is Refuses error told is cause = subst (λ (m : MadeError). Tells {T = T} Is Refuses (Err m)) (sym is) (go error cause)
   where

@@ -1,5 +1,5 @@
 -- The text of a grid's map is short, and the tile of hills is one.
-use Rattle.std.proofs.Common.{◌≡◌, ℕ, zero, suc, pos, ◌+◌, ◌*◌, ◌-◌, ◌/◌, ◌%◌, ◌<◌, ◌≤◌, ◌^◌, inl, inr, List, [], ◌∷◌, ◌++◌, length, get_or, slice_get, Option, Some, true, refl, sym, ap, ◌∙◌, subst, arith, length-append, suc-mul, div-le_self, Bool, false, cond, None, Result, Err, is_some, map}
+use Rattle.std.proofs.Common.{◌≡◌, ℕ, zero, suc, pos, ◌+◌, ◌*◌, ◌-◌, ◌/◌, ◌%◌, ◌<◌, ◌≤◌, ◌^◌, inl, inr, List, [], ◌∷◌, ◌++◌, length, get_or, Option, Some, true, refl, sym, ap, ◌∙◌, subst, arith, length-append, suc-mul, div-le_self, Bool, false, cond, None, Result, Err, is_some, map}
 use Rattle.std.specs.List.{concat, range_with_len}
 use Rattle.std.specs.Option.{unwrap_or}
 use Rattle.std.specs.Prelude.{codes, decimal, ◌==◌}
@@ -31,6 +31,7 @@ use Rattle.hgt_tiles.specs.declared.tile_file.TileError.TheVariants.{Name, NoMem
 use Rattle.hgt_tiles.specs.declared.tile_set.Tiles.{Tiles}
 use Rattle.made_routes.specs.Made.{HaveTileAlone}
 use Rattle.made_routes.specs.Texts.{tile_name}
+use Rattle.item_list.proofs.ListLemmas.{slice_get-there}
 
 -- ---- Lists that are put together
 
@@ -64,7 +65,8 @@ degrees-short : (n : ℕ) → n < 1000000000 → length (mil6 (pos n)) ≤ 20
 unfolding mil6
 degrees-short n few =
     let whole : length (decimal (n / 1000000)) ≤ 7 = number-short (n / 1000000) (omega (arith, few)) in
-    text (sign_text (is_negative (pos n))) (decimal (n / 1000000) ++ 46 ∷ last_digits 6 (n % 1000000)) 1 19 20 (sign-short (is_negative (pos n)))
+    text (sign_text (is_negative (pos n))) (decimal (n / 1000000) ++ 46 ∷ last_digits 6 (n % 1000000)) 1 19 20
+    (sign-short (is_negative (pos n)))
     (text (decimal (n / 1000000)) (46 ∷ last_digits 6 (n % 1000000)) 7 7 19 whole (omega (arith, digits-short (n % 1000000))) (omega arith))
     (omega arith)
 
@@ -93,13 +95,24 @@ node-short : (plan : Plan) (cell : ℕ) → cell < 1000000 → length (node_part
 unfolding node_part node_text
 node-short plan cell few =
     let all =
-    text (front_of cell) (codes "{\"type\":\"node\",\"id\":" ++ (decimal (cell + 1) ++ (codes ",\"lat\":" ++ (mil6 (pos (1000 * row_of plan cell)) ++ (codes ",\"lon\":" ++ (mil6 (pos (1000 * column_of plan cell)) ++ (codes "}"))))))) 14 97 111 (front-short cell)
-    (text (codes "{\"type\":\"node\",\"id\":") (decimal (cell + 1) ++ (codes ",\"lat\":" ++ (mil6 (pos (1000 * row_of plan cell)) ++ (codes ",\"lon\":" ++ (mil6 (pos (1000 * column_of plan cell)) ++ (codes "}")))))) 20 77 97 (omega arith)
-    (text (decimal (cell + 1)) (codes ",\"lat\":" ++ (mil6 (pos (1000 * row_of plan cell)) ++ (codes ",\"lon\":" ++ (mil6 (pos (1000 * column_of plan cell)) ++ (codes "}"))))) 7 70 77 (number-short (cell + 1) (omega (arith, few)))
-    (text (codes ",\"lat\":") (mil6 (pos (1000 * row_of plan cell)) ++ (codes ",\"lon\":" ++ (mil6 (pos (1000 * column_of plan cell)) ++ (codes "}")))) 10 60 70 (omega arith)
-    (text (mil6 (pos (1000 * row_of plan cell))) (codes ",\"lon\":" ++ (mil6 (pos (1000 * column_of plan cell)) ++ (codes "}"))) 20 40 60 (degrees-short (1000 * row_of plan cell) (omega (arith, few, div-le_self cell plan.width)))
+    text (front_of cell) (codes "{\"type\":\"node\",\"id\":" ++
+    (decimal (cell + 1) ++ (codes ",\"lat\":" ++
+    (mil6 (pos (1000 * row_of plan cell)) ++ (codes ",\"lon\":" ++ (mil6 (pos (1000 * column_of plan cell)) ++ (codes "}"))))))) 14 97
+    111 (front-short cell)
+    (text (codes "{\"type\":\"node\",\"id\":") (decimal (cell + 1) ++
+    (codes ",\"lat\":" ++ (mil6 (pos (1000 * row_of plan cell)) ++
+    (codes ",\"lon\":" ++ (mil6 (pos (1000 * column_of plan cell)) ++ (codes "}")))))) 20 77 97 (omega arith)
+    (text (decimal (cell + 1)) (codes ",\"lat\":" ++
+    (mil6 (pos (1000 * row_of plan cell)) ++ (codes ",\"lon\":" ++ (mil6 (pos (1000 * column_of plan cell)) ++ (codes "}"))))) 7 70 77
+    (number-short (cell + 1) (omega (arith, few)))
+    (text (codes ",\"lat\":") (mil6 (pos (1000 * row_of plan cell)) ++
+    (codes ",\"lon\":" ++ (mil6 (pos (1000 * column_of plan cell)) ++ (codes "}")))) 10 60 70 (omega arith)
+    (text (mil6 (pos (1000 * row_of plan cell))) (codes ",\"lon\":" ++ (mil6 (pos (1000 * column_of plan cell)) ++ (codes "}"))) 20 40 60
+    (degrees-short (1000 * row_of plan cell) (omega (arith, few, div-le_self cell plan.width)))
     (text (codes ",\"lon\":") (mil6 (pos (1000 * column_of plan cell)) ++ (codes "}")) 10 30 40 (omega arith)
-    (text (mil6 (pos (1000 * column_of plan cell))) (codes "}") 20 10 30 (degrees-short (1000 * column_of plan cell) (omega (arith, few, mod-le cell plan.width))) (omega arith) (omega arith)) (omega arith)) (omega arith)) (omega arith)) (omega arith)) (omega arith)) (omega arith) in
+    (text (mil6 (pos (1000 * column_of plan cell))) (codes "}") 20 10 30
+    (degrees-short (1000 * column_of plan cell) (omega (arith, few, mod-le cell plan.width))) (omega arith) (omega arith))
+    (omega arith)) (omega arith)) (omega arith)) (omega arith)) (omega arith)) (omega arith) in
     omega (arith, all)
 
 -- the element of a segment behind the end of the line before it
@@ -107,15 +120,32 @@ way-short : (plan : Plan) (k : ℕ) → k < 2000000 → start_of k < 1000000 →
 unfolding way_part way_text
 way-short plan k few start end =
     let all =
-    text (codes ",\n") (codes "{\"type\":\"way\",\"id\":" ++ (decimal (k + 1) ++ (codes ",\"nodes\":[" ++ (decimal (start_of k + 1) ++ (codes "," ++ (decimal (end_of plan k + 1) ++ (codes "],\"tags\":{\"highway\":\"" ++ (class_name (class_of plan.seed k) ++ (codes "\"}}"))))))))) 2 98 100 (omega arith)
-    (text (codes "{\"type\":\"way\",\"id\":") (decimal (k + 1) ++ (codes ",\"nodes\":[" ++ (decimal (start_of k + 1) ++ (codes "," ++ (decimal (end_of plan k + 1) ++ (codes "],\"tags\":{\"highway\":\"" ++ (class_name (class_of plan.seed k) ++ (codes "\"}}")))))))) 20 78 98 (omega arith)
-    (text (decimal (k + 1)) (codes ",\"nodes\":[" ++ (decimal (start_of k + 1) ++ (codes "," ++ (decimal (end_of plan k + 1) ++ (codes "],\"tags\":{\"highway\":\"" ++ (class_name (class_of plan.seed k) ++ (codes "\"}}"))))))) 7 71 78 (number-short (k + 1) (omega (arith, few)))
-    (text (codes ",\"nodes\":[") (decimal (start_of k + 1) ++ (codes "," ++ (decimal (end_of plan k + 1) ++ (codes "],\"tags\":{\"highway\":\"" ++ (class_name (class_of plan.seed k) ++ (codes "\"}}")))))) 10 61 71 (omega arith)
-    (text (decimal (start_of k + 1)) (codes "," ++ (decimal (end_of plan k + 1) ++ (codes "],\"tags\":{\"highway\":\"" ++ (class_name (class_of plan.seed k) ++ (codes "\"}}"))))) 7 54 61 (number-short (start_of k + 1) (omega (arith, start)))
-    (text (codes ",") (decimal (end_of plan k + 1) ++ (codes "],\"tags\":{\"highway\":\"" ++ (class_name (class_of plan.seed k) ++ (codes "\"}}")))) 1 53 54 (omega arith)
-    (text (decimal (end_of plan k + 1)) (codes "],\"tags\":{\"highway\":\"" ++ (class_name (class_of plan.seed k) ++ (codes "\"}}"))) 7 46 53 (number-short (end_of plan k + 1) (omega (arith, end)))
+    text (codes ",\n") (codes "{\"type\":\"way\",\"id\":" ++
+    (decimal (k + 1) ++ (codes ",\"nodes\":[" ++
+    (decimal (start_of k + 1) ++ (codes "," ++
+    (decimal (end_of plan k + 1) ++ (codes "],\"tags\":{\"highway\":\"" ++ (class_name (class_of plan.seed k) ++ (codes "\"}}")))))))))
+    2 98 100 (omega arith)
+    (text (codes "{\"type\":\"way\",\"id\":") (decimal (k + 1) ++
+    (codes ",\"nodes\":[" ++ (decimal (start_of k + 1) ++
+    (codes "," ++ (decimal (end_of plan k + 1) ++
+    (codes "],\"tags\":{\"highway\":\"" ++ (class_name (class_of plan.seed k) ++ (codes "\"}}")))))))) 20 78 98 (omega arith)
+    (text (decimal (k + 1)) (codes ",\"nodes\":[" ++
+    (decimal (start_of k + 1) ++ (codes "," ++
+    (decimal (end_of plan k + 1) ++ (codes "],\"tags\":{\"highway\":\"" ++ (class_name (class_of plan.seed k) ++ (codes "\"}}"))))))) 7
+    71 78 (number-short (k + 1) (omega (arith, few)))
+    (text (codes ",\"nodes\":[") (decimal (start_of k + 1) ++
+    (codes "," ++ (decimal (end_of plan k + 1) ++
+    (codes "],\"tags\":{\"highway\":\"" ++ (class_name (class_of plan.seed k) ++ (codes "\"}}")))))) 10 61 71 (omega arith)
+    (text (decimal (start_of k + 1)) (codes "," ++
+    (decimal (end_of plan k + 1) ++ (codes "],\"tags\":{\"highway\":\"" ++ (class_name (class_of plan.seed k) ++ (codes "\"}}"))))) 7 54
+    61 (number-short (start_of k + 1) (omega (arith, start)))
+    (text (codes ",") (decimal (end_of plan k + 1) ++
+    (codes "],\"tags\":{\"highway\":\"" ++ (class_name (class_of plan.seed k) ++ (codes "\"}}")))) 1 53 54 (omega arith)
+    (text (decimal (end_of plan k + 1)) (codes "],\"tags\":{\"highway\":\"" ++ (class_name (class_of plan.seed k) ++ (codes "\"}}"))) 7 46
+    53 (number-short (end_of plan k + 1) (omega (arith, end)))
     (text (codes "],\"tags\":{\"highway\":\"") (class_name (class_of plan.seed k) ++ (codes "\"}}")) 25 21 46 (omega arith)
-    (text (class_name (class_of plan.seed k)) (codes "\"}}") 11 10 21 (class-short (class_of plan.seed k)) (omega arith) (omega arith)) (omega arith)) (omega arith)) (omega arith)) (omega arith)) (omega arith)) (omega arith)) (omega arith)) (omega arith) in
+    (text (class_name (class_of plan.seed k)) (codes "\"}}") 11 10 21 (class-short (class_of plan.seed k)) (omega arith) (omega arith))
+    (omega arith)) (omega arith)) (omega arith)) (omega arith)) (omega arith)) (omega arith)) (omega arith)) (omega arith) in
     omega (arith, all)
 
 -- the end
@@ -123,17 +153,11 @@ last-short : length last_part ≤ 200
 unfolding last_part
 last-short = omega arith
 
--- what is at a place of a list
-there : {A : Type 0} (xs : List A) (i : ℕ) → i < length xs → (x : A) × (slice_get xs i ≡ Some x)
-there [] i below = absurd (omega (arith, below))
-there (x ∷ xs) zero below = (x, refl)
-there (x ∷ xs) (suc i) below = there xs i (omega (arith, below))
-
 -- a part of a segment
 way-part-short : (plan : Plan) (part : ℕ) → IsPlan plan → cells_of plan ≤ part → part - cells_of plan < length (segments_of plan) →
     length (get_or (parts_of plan) part []) ≤ 200
 way-part-short plan part is behind within =
-    let found = there (segments_of plan) (part - cells_of plan) within in
+    let found = slice_get-there (segments_of plan) (part - cells_of plan) within in
     let way = part-way plan part (part - cells_of plan) found.0 behind refl found.1 in
     let at = segments_of-at plan (part - cells_of plan) found.0 found.1 in
     let number = numbers_of-within plan (part - cells_of plan) at.k at.at in
@@ -180,7 +204,8 @@ joined-size f size (x ∷ xs) each =
     omega (arith, length-append (f x) (concat (map f xs)), each x, more, suc-mul (length xs) size)
 
 -- so many lists joined, each of which is so long
-lists-size : (f : ℕ → List ℕ) (size count : ℕ) → ((x : ℕ) → length (f x) ≡ size) → length (concat (map f (range_with_len 0 count))) ≡ count * size
+lists-size : (f : ℕ → List ℕ) (size count : ℕ) → ((x : ℕ) → length (f x) ≡ size) →
+    length (concat (map f (range_with_len 0 count))) ≡ count * size
 lists-size f size count each =
     joined-size f size (range_with_len 0 count) each ∙ ap (λ n. n * size) (length-range_with_len 0 count)
 
@@ -204,7 +229,8 @@ differ : true ≡ false → ⊥
 differ same = cc
 
 -- the tile is refused for want of memory alone
-pub tile-memory : {T : Type 0} (result : Result T TileError) (error : TileError) (name bytes : List ℕ) (seed : ℕ) → result ≡ Err error → name ≡ tile_name →
+pub tile-memory : {T : Type 0} (result : Result T TileError) (error : TileError) (name bytes : List ℕ) (seed : ℕ) → result ≡ Err error →
+    name ≡ tile_name →
     bytes ≡ hgt_bytes seed → (result ≡ Err Name → is_some (corner_of_name name) ≡ false) →
     (result ≡ Err Size → is_some (steps_of (length bytes)) ≡ false) → error ≡ NoMemory
 tile-memory result Name name bytes seed is name_is bytes_are no_corner no_steps =

@@ -17,11 +17,13 @@ segments-few plan is =
     omega (arith, cells_of-within plan is, length-numbers_below plan (2 * cells_of plan), length-map (numbers_of plan) (segment_of plan))
 
 -- a least walk that is there goes in short steps
-pub least-short : (plan : Plan) (costs : Costs) (from to : ℕ) (answer : Option GridWalk) (walk : GridWalk) (cells : List ℕ) → 1 ≤ plan.width →
+pub least-short : (plan : Plan) (costs : Costs) (from to : ℕ) (answer : Option GridWalk) (walk : GridWalk) (cells : List ℕ) →
+    1 ≤ plan.width →
     answer ≡ Some walk →
     MatchOption answer (HasNoGridWalk plan costs from to) (λ w. IsLeastGridWalk plan costs from to w.cells w.cost) →
     cells ≡ walk.cells → AreShortSteps plan cells
 least-short plan costs from to answer walk cells some is found same =
     let least : IsLeastGridWalk plan costs from to walk.cells walk.cost =
-    subst (λ (a : Option GridWalk). MatchOption a (HasNoGridWalk plan costs from to) (λ w. IsLeastGridWalk plan costs from to w.cells w.cost)) is found in
+    subst (λ (a : Option GridWalk). MatchOption a (HasNoGridWalk plan costs from to)
+    (λ w. IsLeastGridWalk plan costs from to w.cells w.cost)) is found in
     subst (AreShortSteps plan) (sym same) (walk-short plan costs from to walk.cost walk.cells some least.walk)

@@ -13,7 +13,8 @@ use Rattle.way_class.specs.Facts.{Binding, facts_of}
 abbrev pub is_permitted : LinkFacts → Bool
 is_permitted facts = int_lt facts.costfactor (pos 10000000000)
 
--- what a link of these facts costs in millionths: its distance part with empty buffers; none where it may not be taken
+-- what a link of these facts costs in millionths: its distance part with empty buffers; none where it may not
+-- be taken
 unfoldable pub price_of : LinkFacts → Option ℕ
 price_of facts = cond (is_permitted facts) (Some (unsigned_abs (distance_of facts (pos 0) (pos 0)))) None
 
@@ -21,15 +22,17 @@ price_of facts = cond (is_permitted facts) (Some (unsigned_abs (distance_of fact
 unfoldable pub link_price : Links → ℕ → Option ℕ
 link_price links link = cond (nat_lt link links.count) (price_of (links.facts link)) None
 
--- what the first segments cost, in their order: each segment has two links that follow each other, the first in its own direction and the
--- second back, and the number says which
+-- what the first segments cost, in their order: each segment has two links that follow each other, the first
+-- in its own direction and the second back, and the number says which
 abbrev pub segment_prices : Links → ℕ → ℕ → List (Option ℕ)
-segment_prices links which count = map (λ place. link_price links (2 * place + which)) (range_with_len 0 count)
+segment_prices links which count =
+    map (λ place. link_price links (2 * place + which)) (range_with_len 0 count)
 
 -- what the segments of a grid cost, each by its two links
 abbrev pub costs_by : Plan → Links → Costs
 costs_by plan links =
-    listed_costs plan (segment_prices links 0 (length (segments_of plan))) (segment_prices links 1 (length (segments_of plan)))
+    listed_costs plan (segment_prices links 0 (length (segments_of plan)))
+    (segment_prices links 1 (length (segments_of plan)))
 
 -- the links of a map with the facts that a profile gives them
 abbrev pub bound_links : Binding → Links

@@ -24,8 +24,8 @@ use Rattle.route_ready.specs.declared.error.RouteError.{RouteError}
 use Rattle.track_legs.specs.Sums.{total_cost}
 use Rattle.track_legs.specs.declared.track.Track.{Track}
 
--- the request between opposite corners: one leg from the first cell to the last, no circles, the first alternative, 10,000,000 labels at
--- most, no overrides, not by junction runs
+-- the request between opposite corners: one leg from the first cell to the last, no circles, the first
+-- alternative, 10,000,000 labels at most, no overrides, not by junction runs
 abbrev pub corners_asked : Plan → Asked
 corners_asked plan = record {
   waypoints = cell_place plan 0 ∷ cell_place plan (cells_of plan - 1) ∷ [];
@@ -39,13 +39,14 @@ corners_asked plan = record {
 }
 
 -- the tag table, the tile of the seed and the profile that hills are crossed by
-pub record AreHillParts (plan : Plan) (table : TagTable) (relief : Relief) (sections : Sections) : Type 0 where
+pub record AreHillParts (plan : Plan) (table : TagTable) (relief : Relief) (sections : Sections) :
+    Type 0 where
   pub table_is : table_of look_text ≡ Ok table
   pub relief_is : relief_of_file tile_name (hgt_bytes plan.seed) ≡ Some relief
   pub sections_are : profile_of hill_text ≡ Ok sections
 
--- the question that hills put: the request between opposite corners by that profile, over the grid's own map with that table and that tile
--- alone
+-- the question that hills put: the request between opposite corners by that profile, over the grid's own map
+-- with that table and that tile alone
 pub record IsHillQuestion (plan : Plan) (question : Question) : Type 0 where
   pub table : TagTable
   pub relief : Relief

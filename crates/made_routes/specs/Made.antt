@@ -47,8 +47,8 @@ pub record IsMadeWorld (plan : Plan) (table : TagTable) (tiles : Tiles) (world :
 
 -- ---- Answers
 
--- a call over the map of a text gives such an answer, or such a refusal of a request; or it tells a fault that the text has as that of
--- a map, or want of memory
+-- a call over the map of a text gives such an answer, or such a refusal of a request; or it tells a fault
+-- that the text has as that of a map, or want of memory
 abbrev pub Makes : {T : Type 0} → List ℕ → (T → Type 0) → (RouteError → Type 0) → Result T MadeError → Type 0
 Makes text Answers Refuses (Ok answer) = Answers answer
 Makes text Answers Refuses (Err (Map fault)) = HasTextFault text fault

@@ -66,13 +66,15 @@ pub record IsProfileRefused (question : WalkQuestion) (error : RouteError) : Typ
 -- ---- For the parts alone
 
 -- a walk of least cost by these costs, with its length, or that there is none
-abbrev pub IsWalkOver : Plan → Costs → ℕ → ℕ → Option PricedWalk → Type 0
+abbrev pub IsWalkOver : (plan : Plan) (costs : Costs) (from to : ℕ) (answer : Option PricedWalk) → Type 0
 IsWalkOver plan costs from to answer =
     MatchOption answer (HasNoGridWalk plan costs from to)
-    (λ walk. IsLeastGridWalk plan costs from to walk.cells walk.cost × (walk.length ≡ walk_length plan walk.cells))
+    (λ walk. IsLeastGridWalk plan costs from to walk.cells walk.cost ×
+    (walk.length ≡ walk_length plan walk.cells))
 
 -- the same by a profile, which is accepted where it is bound
-pub record IsWalkBy (plan : Plan) (from to : ℕ) (binding : Binding) (answer : Option PricedWalk) : Type 0 where
+pub record IsWalkBy (plan : Plan) (from to : ℕ) (binding : Binding) (answer : Option PricedWalk) :
+    Type 0 where
   pub terms : Terms
   pub accepted : ready_of binding ≡ Ok terms
   pub over : IsWalkOver plan (costs_by plan (bound_links binding)) from to answer

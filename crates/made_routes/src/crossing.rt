@@ -34,7 +34,8 @@ use track_legs::Track;
 /// How many labels the search settles at most.
 const LABELS: u64 = 10_000_000;
 
-/// The route from the first cell of a grid to the last, with the heights of its seed, by a profile that minds hills.
+/// The route from the first cell of a grid to the last, with the heights of its seed, by a profile
+/// that minds hills.
 pub fn hills(alloc: Global, seed: u32, w: u32, h: u32) -> Result<Hills, MadeError>
     requires lawful { IsPlan (plan_of seed w h) }
     ensures exact { let plan = plan_of seed w h in
@@ -72,7 +73,8 @@ fn cell_count(grid: &Grid) -> u32
 /// The track between opposite corners.
 fn crossing(alloc: Global, grid: &Grid, seed: u32) -> Result<Track, MadeError>
     requires seed { seed ≡ grid.now.seed }
-    ensures exact { Makes (overpass_text grid.now) (IsHillTrack grid.now) (IsHillsRefusal grid.now) result }
+    ensures exact { Makes (overpass_text grid.now) (IsHillTrack grid.now) (IsHillsRefusal grid.now)
+        result }
 {
     match hill_world(alloc, grid, seed) {
         Ok(world) => crossing_in(alloc, grid, &world),
@@ -83,7 +85,8 @@ fn crossing(alloc: Global, grid: &Grid, seed: u32) -> Result<Track, MadeError>
 /// The world of a grid's own map with the tile of its seed.
 fn hill_world(alloc: Global, grid: &Grid, seed: u32) -> Result<World, MadeError>
     requires seed { seed ≡ grid.now.seed }
-    ensures exact { Makes (overpass_text grid.now) (λ world. IsHillWorld grid.now (world_of world)) RefusesNothing result }
+    ensures exact { Makes (overpass_text grid.now) (λ world. IsHillWorld grid.now (world_of world))
+        RefusesNothing result }
 {
     // What the grid promises of itself.
     let _segments = grid.segments();
@@ -112,7 +115,8 @@ fn crossing_by(
       binding = binding_in (world_of world.now) (sections_in profile.now) [];
       asked = corners_asked grid.now;
     } in
-        Tells (λ track. IsAnswer question (Ok track)) (λ error. IsAnswer question (Err error)) result }
+        Tells (λ track. IsAnswer question (Ok track)) (λ error. IsAnswer question (Err error))
+        result }
 {
     let request = corners(alloc, grid)?;
     match route(alloc, world, profile, request) {

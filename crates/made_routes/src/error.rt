@@ -8,8 +8,8 @@ use overpass_graph::MapError;
 use route_ready::RouteError;
 use std::alloc::AllocError;
 
-/// Why nothing is answered over a map that is made from a number. Want of memory is always `NoMemory`, also where it comes
-/// from a map or a request.
+/// Why nothing is answered over a map that is made from a number. Want of memory is always
+/// `NoMemory`, also where it comes from a map or a request.
 #[derive(Clone, Copy, Drop)]
 pub enum MadeError {
     /// The made text is no map.

@@ -1,4 +1,5 @@
-//! Routes over maps that are made from a number: a walk across a grid by a profile, and the route across its hills.
+//! Routes over maps that are made from a number: a walk across a grid by a profile, and the route
+//! across its hills.
 #![tactic(auto)]
 
 mod crossing;

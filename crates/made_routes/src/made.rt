@@ -25,7 +25,8 @@ pub(crate) fn made_world(
     table: Table,
     tiles: Tiles,
 ) -> Result<World, MadeError>
-    ensures exact { Makes (overpass_text grid.now) (λ world. IsMadeWorld grid.now table tiles (world_of world)) RefusesNothing result }
+    ensures exact { Makes (overpass_text grid.now)
+        (λ world. IsMadeWorld grid.now table tiles (world_of world)) RefusesNothing result }
 {
     let map = made_map(alloc, grid)?;
     let world = World::new(alloc, table, map, tiles)?;
@@ -34,7 +35,8 @@ pub(crate) fn made_world(
 
 /// The map of a grid's own text, which is fed piece by piece: no more of it than a piece is kept.
 fn made_map(alloc: Global, grid: &Grid) -> Result<Map, MadeError>
-    ensures exact { Makes (overpass_text grid.now) (IsMapOfText (overpass_text grid.now)) RefusesNothing result }
+    ensures exact { Makes (overpass_text grid.now) (IsMapOfText (overpass_text grid.now))
+        RefusesNothing result }
 {
     // What the grid promises of itself.
     let _segments = grid.segments();

@@ -38,8 +38,9 @@ pub struct PricedWalk {
     pub cost: u128,
 }
 
-/// A walk of least cost by a profile from one cell of a grid to another, and `None` where there is none: the profile is
-/// bound without overrides to the grid's own map, without heights, and a segment costs the distance part of its link.
+/// A walk of least cost by a profile from one cell of a grid to another, and `None` where there is
+/// none: the profile is bound without overrides to the grid's own map, without heights, and a
+/// segment costs the distance part of its link.
 pub fn walk_by_profile(
     alloc: Global,
     grid: &Grid,

@@ -14,7 +14,8 @@ use way_class::Bound;
 /// A costfactor from which a link may not be taken, 10000 in millionths.
 const FORBIDDEN: i64 = 10_000_000_000;
 
-/// What the first segments cost in their order, along their first links (0) or back along their second ones (1).
+/// What the first segments cost in their order, along their first links (0) or back along their
+/// second ones (1).
 pub(crate) fn segment_prices(
     alloc: Global,
     bound: &Bound,

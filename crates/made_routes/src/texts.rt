@@ -88,7 +88,8 @@ pub(crate) fn hill_profile(alloc: Global) -> Result<Profile, AllocError>
 pub(crate) fn hill_tiles(alloc: Global, seed: u32) -> Result<Tiles, AllocError>
     requires lawful { seed ≤ 65535 }
     ensures exact { IfOk result (λ tiles.
-        (relief : Relief) × (relief_of_file tile_name (hgt_bytes seed) ≡ Some relief) × HaveTileAlone relief tiles) }
+        (relief : Relief) × (relief_of_file tile_name (hgt_bytes seed) ≡ Some relief) ×
+        HaveTileAlone relief tiles) }
 {
     let tile = hill_tile(alloc, seed)?;
     let mut tiles = Tiles::new(alloc);

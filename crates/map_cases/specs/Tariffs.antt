@@ -17,10 +17,13 @@ pub price-small : (number price : ℕ) → price_of number ≡ Some price → pr
 price-small number price is =
     elim (cases_lt number PRICE_BOUND) [
       | inl below ↦
-          let same : Some number ≡ Some price = sym (ap (λ b. cond b (Some number) None) (lt-ltb number PRICE_BOUND below)) ∙ is in
+          let same : Some number ≡ Some price =
+          sym (ap (λ b. cond b (Some number) None) (lt-ltb number PRICE_BOUND below)) ∙ is in
           let one : number ≡ price = cc in
           subst (λ n. n < PRICE_BOUND) one below
       | inr above ↦
-          let same : None ≡ Some price = sym (ap (λ b. cond b (Some number) None) (le-ltb number PRICE_BOUND (omega (arith, above)))) ∙ is in
+          let same : None ≡ Some price =
+          sym (ap (λ b. cond b (Some number) None) (le-ltb number PRICE_BOUND (omega (arith, above))))
+          ∙ is in
           absurd cc
     ]

@@ -94,8 +94,8 @@ fn facts_text(alloc: Global, bound: &Bound) -> Result<String, AllocError> {
     Ok(text)
 }
 
-/// Appends the facts of a link: length, rise, costfactor, turncost, initialcost, classifier, charge, both
-/// factors, and a sign where access is granted.
+/// Appends the facts of a link: length, rise, costfactor, turncost, initialcost, classifier,
+/// charge, both factors, and a sign where access is granted.
 fn append_facts(text: &mut String, facts: &LinkFacts) -> Result<(), AllocError> {
     write!(text, "{},{}", facts.arrow.len, facts.rise)?;
     write!(text, ",{},{}", facts.costfactor, facts.turncost)?;

@@ -1,5 +1,5 @@
-//! Runs tables of cases on maps: texts of maps and what comes of them, the nearest nodes of waypoints, least sums, tracks,
-//! walks of least rank, and profiles bound to maps.
+//! Runs tables of cases on maps: texts of maps and what comes of them, the nearest nodes of
+//! waypoints, least sums, tracks, walks of least rank, and profiles bound to maps.
 #![tactic(auto)]
 
 mod answers;

@@ -17,7 +17,8 @@ use junction_runs::least_walk_by_runs;
 use overpass_graph::Map;
 use std::alloc::{AllocError, Global};
 
-/// The searches for a walk: from link to link, from junction to junction, and with a space that rests between turns.
+/// The searches for a walk: from link to link, from junction to junction, and with a space that
+/// rests between turns.
 const SEARCHES: [&str; 3] = ["walk", "runs", "woken"];
 
 /// The two nodes of a walk, and the limit of labels.

@@ -11,7 +11,8 @@ use least_sums::{Sums, least_sums};
 use overpass_graph::Map;
 use std::alloc::{AllocError, Global};
 
-/// The least sums of all nodes: the words are the text of a map, the number of the target, and what each link costs.
+/// The least sums of all nodes: the words are the text of a map, the number of the target, and what
+/// each link costs.
 pub(crate) fn all_sums(alloc: Global, case: &Case, map: &Map) -> Result<String, AllocError> {
     let target = case.count(2);
     if target >= map.nodes() as u64 {

@@ -20,7 +20,8 @@ use track_legs::{Row, Track, cost_along, recheck, rows};
 /// The calls on tracks.
 const CALLS: [&str; 3] = ["recheck", "rows", "cost"];
 
-/// The answer to a case: its words are the call, the text of a map, the facts of the map's links, and the rates.
+/// The answer to a case: its words are the call, the text of a map, the facts of the map's links,
+/// and the rates.
 pub(crate) fn answer(alloc: Global, case: &Case, map: &Map) -> Result<String, AllocError> {
     let Some(rates) = rates_of_word(case.text(3)) else {
         return String::from_str(alloc, OUTSIDE);
@@ -103,7 +104,8 @@ fn with_cut(
     String::from_str(alloc, if is_track { "yes" } else { "no" })
 }
 
-/// The rows of the track of a case, where it is one with no link cut and no turn restriction counted.
+/// The rows of the track of a case, where it is one with no link cut and no turn restriction
+/// counted.
 fn rows_told(
     alloc: Global,
     case: &Case,

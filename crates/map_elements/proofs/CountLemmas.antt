@@ -28,7 +28,8 @@ pub record Counts (all left : List Step) (total depth : ℕ) : Type 0 where
   pub size : size_of 0 all + length left ≡ total + size_of depth left
   pub ends : ends_in 0 all ≡ ends_in depth left
 
-module _ (all left : List Step) (total depth : ℕ) (step : Step) (before : List Step) (is : before ≡ step ∷ left) (h : Counts all before total depth)
+module _ (all left : List Step) (total depth : ℕ) (step : Step) (before : List Step) (is : before ≡ step ∷ left) (h :
+    Counts all before total depth)
     (n : ℕ) (behind : n ≡ depth_after depth step) where
   size_if : size_of depth before ≡ by_depth n 1 (λ still. suc (size_of still left))
   size_if = ap (size_of depth) is ∙ ap (λ m. by_depth m 1 (λ still. suc (size_of still left))) (sym behind)
@@ -65,7 +66,8 @@ pub Counts-start : (all : List Step) (total : ℕ) → total ≡ length all → 
 Counts-start all total is = record { is_total = is; few = omega (arith, is); size = omega (arith, is); ends = refl }
 
 -- where no step is left, all are counted
-pub Counts-stop : (all left : List Step) (total depth : ℕ) → left ≡ [] → Counts all left total depth → (total ≡ size_of 0 all) × (false ≡ ends_in 0 all)
+pub Counts-stop : (all left : List Step) (total depth : ℕ) → left ≡ [] → Counts all left total depth →
+    (total ≡ size_of 0 all) × (false ≡ ends_in 0 all)
 Counts-stop all left total depth is h =
     let k : size_of depth left ≡ 0 = ap (size_of depth) is in
     let l : length left ≡ 0 = ap (λ (s : List Step). length s) is in

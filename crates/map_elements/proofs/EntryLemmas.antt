@@ -30,7 +30,8 @@ module _ (name : List ℕ) (named : bytes_eq name name ≡ true) where
   found value is_whole others = ap (λ b. if b then Some value else member name others) named
 
   -- the items go on over one more step
-  items_on : (rest inner : List Step) (done more : List Entry) (item next : Option (List ℕ)) (value held : List Step) (depth after : ℕ) (step : Step)
+  items_on : (rest inner : List Step) (done more : List Entry) (item next : Option (List ℕ)) (value held : List Step) (depth after : ℕ)
+      (step : Step)
       → Cuts inner done item value depth → Goes item value depth step more next held after
       → (Cuts (inner ++ step ∷ []) (done ++ more) next held after
       → items_here (inner ++ step ∷ []) after rest ≡ Some ((done ++ more) ++ entries_from next held after rest))
@@ -51,19 +52,25 @@ module _ (name : List ℕ) (named : bytes_eq name name ≡ true) where
       ap (λ o. with_some o items_of) (found (Step.Opens bracket_.Square ∷ inner) false [])
       ∙ ap Some (ap (entries_from None [] zero) (sym (append-nil inner)) ∙ cuts [])
   items_same (Step.Closes bracket ∷ rest) inner done item value zero cuts =
-      ap (λ o. with_some o items_of) (found (Step.Opens bracket_.Square ∷ (inner ++ Step.Closes bracket ∷ [])) true (entries_from None [] zero rest))
+      ap (λ o. with_some o items_of) (found (Step.Opens bracket_.Square ∷ (inner ++ Step.Closes bracket ∷ [])) true
+      (entries_from None [] zero rest))
       ∙ ap Some (cuts (Step.Closes bracket ∷ []))
   items_same (Step.Closes bracket ∷ rest) inner done item value (suc zero) cuts =
-      items_on rest inner done (whole_entry item (value ++ Step.Closes bracket ∷ []) ∷ []) item None value [] (suc zero) zero (Step.Closes bracket) cuts (λ tail. refl)
-      (items_same rest (inner ++ Step.Closes bracket ∷ []) (done ++ (whole_entry item (value ++ Step.Closes bracket ∷ []) ∷ [])) None [] zero) refl
+      items_on rest inner done (whole_entry item (value ++ Step.Closes bracket ∷ []) ∷ []) item None value [] (suc zero) zero
+      (Step.Closes bracket) cuts (λ tail. refl)
+      (items_same rest (inner ++ Step.Closes bracket ∷ []) (done ++ (whole_entry item (value ++ Step.Closes bracket ∷ []) ∷ [])) None []
+      zero) refl
   items_same (Step.Closes bracket ∷ rest) inner done item value (suc (suc depth)) cuts =
-      items_on rest inner done [] item item value (value ++ Step.Closes bracket ∷ []) (suc (suc depth)) (suc depth) (Step.Closes bracket) cuts (λ tail. refl)
+      items_on rest inner done [] item item value (value ++ Step.Closes bracket ∷ []) (suc (suc depth)) (suc depth) (Step.Closes bracket)
+      cuts (λ tail. refl)
       (items_same rest (inner ++ Step.Closes bracket ∷ []) (done ++ []) item (value ++ Step.Closes bracket ∷ []) (suc depth)) refl
   items_same (Step.Opens bracket ∷ rest) inner done item value zero cuts =
-      items_on rest inner done [] item item value (value ++ Step.Opens bracket ∷ []) zero (suc zero) (Step.Opens bracket) cuts (λ tail. refl)
+      items_on rest inner done [] item item value (value ++ Step.Opens bracket ∷ []) zero (suc zero) (Step.Opens bracket) cuts
+      (λ tail. refl)
       (items_same rest (inner ++ Step.Opens bracket ∷ []) (done ++ []) item (value ++ Step.Opens bracket ∷ []) (suc zero)) refl
   items_same (Step.Opens bracket ∷ rest) inner done item value (suc depth) cuts =
-      items_on rest inner done [] item item value (value ++ Step.Opens bracket ∷ []) (suc depth) (suc (suc depth)) (Step.Opens bracket) cuts (λ tail. refl)
+      items_on rest inner done [] item item value (value ++ Step.Opens bracket ∷ []) (suc depth) (suc (suc depth)) (Step.Opens bracket) cuts
+      (λ tail. refl)
       (items_same rest (inner ++ Step.Opens bracket ∷ []) (done ++ []) item (value ++ Step.Opens bracket ∷ []) (suc (suc depth))) refl
   items_same (Step.Key text ∷ rest) inner done item value zero cuts =
       items_on rest inner done [] item (Some text) value [] zero zero (Step.Key text) cuts (λ tail. refl)
@@ -72,20 +79,27 @@ module _ (name : List ℕ) (named : bytes_eq name name ≡ true) where
       items_on rest inner done [] item item value (value ++ Step.Key text ∷ []) (suc depth) (suc depth) (Step.Key text) cuts (λ tail. refl)
       (items_same rest (inner ++ Step.Key text ∷ []) (done ++ []) item (value ++ Step.Key text ∷ []) (suc depth)) refl
   items_same (Step.Text text ∷ rest) inner done item value zero cuts =
-      items_on rest inner done (whole_entry item (value ++ Step.Text text ∷ []) ∷ []) item None value [] zero zero (Step.Text text) cuts (λ tail. refl)
+      items_on rest inner done (whole_entry item (value ++ Step.Text text ∷ []) ∷ []) item None value [] zero zero (Step.Text text) cuts
+      (λ tail. refl)
       (items_same rest (inner ++ Step.Text text ∷ []) (done ++ (whole_entry item (value ++ Step.Text text ∷ []) ∷ [])) None [] zero) refl
   items_same (Step.Text text ∷ rest) inner done item value (suc depth) cuts =
-      items_on rest inner done [] item item value (value ++ Step.Text text ∷ []) (suc depth) (suc depth) (Step.Text text) cuts (λ tail. refl)
+      items_on rest inner done [] item item value (value ++ Step.Text text ∷ []) (suc depth) (suc depth) (Step.Text text) cuts
+      (λ tail. refl)
       (items_same rest (inner ++ Step.Text text ∷ []) (done ++ []) item (value ++ Step.Text text ∷ []) (suc depth)) refl
   items_same (Step.Number text ∷ rest) inner done item value zero cuts =
-      items_on rest inner done (whole_entry item (value ++ Step.Number text ∷ []) ∷ []) item None value [] zero zero (Step.Number text) cuts (λ tail. refl)
-      (items_same rest (inner ++ Step.Number text ∷ []) (done ++ (whole_entry item (value ++ Step.Number text ∷ []) ∷ [])) None [] zero) refl
+      items_on rest inner done (whole_entry item (value ++ Step.Number text ∷ []) ∷ []) item None value [] zero zero (Step.Number text) cuts
+      (λ tail. refl)
+      (items_same rest (inner ++ Step.Number text ∷ []) (done ++ (whole_entry item (value ++ Step.Number text ∷ []) ∷ [])) None [] zero)
+      refl
   items_same (Step.Number text ∷ rest) inner done item value (suc depth) cuts =
-      items_on rest inner done [] item item value (value ++ Step.Number text ∷ []) (suc depth) (suc depth) (Step.Number text) cuts (λ tail. refl)
+      items_on rest inner done [] item item value (value ++ Step.Number text ∷ []) (suc depth) (suc depth) (Step.Number text) cuts
+      (λ tail. refl)
       (items_same rest (inner ++ Step.Number text ∷ []) (done ++ []) item (value ++ Step.Number text ∷ []) (suc depth)) refl
   items_same (Step.Word word ∷ rest) inner done item value zero cuts =
-      items_on rest inner done (whole_entry item (value ++ Step.Word word ∷ []) ∷ []) item None value [] zero zero (Step.Word word) cuts (λ tail. refl)
+      items_on rest inner done (whole_entry item (value ++ Step.Word word ∷ []) ∷ []) item None value [] zero zero (Step.Word word) cuts
+      (λ tail. refl)
       (items_same rest (inner ++ Step.Word word ∷ []) (done ++ (whole_entry item (value ++ Step.Word word ∷ []) ∷ [])) None [] zero) refl
   items_same (Step.Word word ∷ rest) inner done item value (suc depth) cuts =
-      items_on rest inner done [] item item value (value ++ Step.Word word ∷ []) (suc depth) (suc depth) (Step.Word word) cuts (λ tail. refl)
+      items_on rest inner done [] item item value (value ++ Step.Word word ∷ []) (suc depth) (suc depth) (Step.Word word) cuts
+      (λ tail. refl)
       (items_same rest (inner ++ Step.Word word ∷ []) (done ++ []) item (value ++ Step.Word word ∷ []) (suc depth)) refl

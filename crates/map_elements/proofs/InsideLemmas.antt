@@ -39,18 +39,22 @@ module _ (steps : List Step) (depth : ℕ) (value : List Step) (values : List (L
     from = onto steps now (λ rest. Some (inside.entries ++ entries_from inside.name (value ++ s ∷ []) (suc still) rest)) s inside.from
         (λ rest. ap (λ es. Some (inside.entries ++ es))
         (entries_on inside.name value depth s rest h
-        ∙ ap (λ d. by_depth d (whole_entry inside.name (value ++ s ∷ []) ∷ entries_from None [] zero rest) (λ still. entries_from inside.name (value ++ s ∷ []) still rest)) e));
+        ∙ ap (λ d. by_depth d (whole_entry inside.name (value ++ s ∷ []) ∷ entries_from None [] zero rest)
+        (λ still. entries_from inside.name (value ++ s ∷ []) still rest)) e));
     whole = inside.whole;
   }
 
   -- what the elements are where this step ends one
   ended : (s : Step) → goes_on depth s ≡ true → depth_after depth s ≡ zero → (rest : List Step)
-      → elements_list ((steps ++ s ∷ []) ++ rest) ≡ Some (inside.entries ++ whole_entry inside.name (value ++ s ∷ []) ∷ entries_from None [] zero rest)
+      → elements_list ((steps ++ s ∷ []) ++ rest) ≡
+      Some (inside.entries ++ whole_entry inside.name (value ++ s ∷ []) ∷ entries_from None [] zero rest)
   unfolding now
-  ended s h e = onto steps now (λ rest. Some (inside.entries ++ whole_entry inside.name (value ++ s ∷ []) ∷ entries_from None [] zero rest)) s inside.from
+  ended s h e = onto steps now (λ rest. Some (inside.entries ++ whole_entry inside.name (value ++ s ∷ []) ∷ entries_from None [] zero rest))
+      s inside.from
       (λ rest. ap (λ es. Some (inside.entries ++ es))
       (entries_on inside.name value depth s rest h
-      ∙ ap (λ d. by_depth d (whole_entry inside.name (value ++ s ∷ []) ∷ entries_from None [] zero rest) (λ still. entries_from inside.name (value ++ s ∷ []) still rest)) e))
+      ∙ ap (λ d. by_depth d (whole_entry inside.name (value ++ s ∷ []) ∷ entries_from None [] zero rest)
+      (λ still. entries_from inside.name (value ++ s ∷ []) still rest)) e))
 
   -- the last step of an element
   pub element_ends : (s : Step) → goes_on depth s ≡ true → depth_after depth s ≡ zero
@@ -73,16 +77,20 @@ module _ (steps : List Step) (depth : ℕ) (value : List Step) (values : List (L
       let all : whole_values entries ≡ values ++ (value ++ s ∷ []) ∷ whole_values (entries_from None [] zero rest) =
       whole_values-append inside.entries (whole_entry inside.name (value ++ s ∷ []) ∷ entries_from None [] zero rest)
       ∙ ap (λ vs. vs ++ (value ++ s ∷ []) ∷ whole_values (entries_from None [] zero rest)) inside.whole in
-      ap (λ o. and_then (take_values limits 1 (whole_elements o) empty) (λ draft. verdict_on draft (is_some (elements_list ((steps ++ s ∷ []) ++ rest))) verdict)) is
-      ∙ ap (λ vs. and_then (take_values limits 1 vs empty) (λ draft. verdict_on draft (is_some (elements_list ((steps ++ s ∷ []) ++ rest))) verdict)) all
-      ∙ ap (λ r. and_then r (λ draft. verdict_on draft (is_some (elements_list ((steps ++ s ∷ []) ++ rest))) verdict)) (refused (whole_values (entries_from None [] zero rest)))
+      ap (λ o. and_then (take_values limits 1 (whole_elements o) empty)
+      (λ draft. verdict_on draft (is_some (elements_list ((steps ++ s ∷ []) ++ rest))) verdict)) is
+      ∙ ap (λ vs. and_then (take_values limits 1 vs empty)
+      (λ draft. verdict_on draft (is_some (elements_list ((steps ++ s ∷ []) ++ rest))) verdict)) all
+      ∙ ap (λ r. and_then r (λ draft. verdict_on draft (is_some (elements_list ((steps ++ s ∷ []) ++ rest))) verdict))
+      (refused (whole_values (entries_from None [] zero rest)))
 
 -- the list of elements ends
 pub list_ends : (steps value : List Step) (values : List (List Step)) (bracket : Bracket) → IsInList steps zero value values
     → IsPast (steps ++ Step.Closes bracket ∷ []) values
 list_ends steps value values bracket inside = record {
   entries = inside.entries;
-  from = onto steps (λ rest. Some (inside.entries ++ entries_from inside.name value zero rest)) (λ rest. Some inside.entries) (Step.Closes bracket) inside.from
+  from = onto steps (λ rest. Some (inside.entries ++ entries_from inside.name value zero rest)) (λ rest. Some inside.entries)
+      (Step.Closes bracket) inside.from
       (λ rest. ap Some (append-nil inside.entries));
   whole = inside.whole;
 }

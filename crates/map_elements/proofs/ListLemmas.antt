@@ -11,7 +11,8 @@ ReadsOn read all done left = read all ≡ with_some (read left) (λ more. Some (
 
 -- one goes before what the others come to
 cons_some : {A : Type 0} (done : List A) (a : A) (more : Option (List A)) →
-    with_some (with_some more (λ more. Some (a ∷ more))) (λ more. Some (done ++ more)) ≡ with_some more (λ more. Some ((done ++ a ∷ []) ++ more))
+    with_some (with_some more (λ more. Some (a ∷ more))) (λ more. Some (done ++ more)) ≡
+    with_some more (λ more. Some ((done ++ a ∷ []) ++ more))
 cons_some done a None = refl
 cons_some done a (Some more) = ap (λ l. Some l) (sym (append_assoc done (a ∷ []) more))
 
@@ -23,13 +24,15 @@ module _ {V A : Type 0} (read : List V → Option (List A)) (one : V → Option 
       ReadsOn read all (done ++ a ∷ []) left
   ReadsOn-step all done v left a h is =
       h
-      ∙ ap (λ o. with_some o (λ more. Some (done ++ more))) (cons v left ∙ ap (λ o. with_some o (λ a. with_some (read left) (λ more. Some (a ∷ more)))) is)
+      ∙ ap (λ o. with_some o (λ more. Some (done ++ more))) (cons v left
+      ∙ ap (λ o. with_some o (λ a. with_some (read left) (λ more. Some (a ∷ more)))) is)
       ∙ cons_some done a (read left)
 
   -- one is something else
   ReadsOn-stop : (all : List V) (done : List A) (v : V) (left : List V) → ReadsOn read all done (v ∷ left) → one v ≡ None → read all ≡ None
   ReadsOn-stop all done v left h is =
-      h ∙ ap (λ o. with_some o (λ more. Some (done ++ more))) (cons v left ∙ ap (λ o. with_some o (λ a. with_some (read left) (λ more. Some (a ∷ more)))) is)
+      h ∙ ap (λ o. with_some o (λ more. Some (done ++ more))) (cons v left
+      ∙ ap (λ o. with_some o (λ a. with_some (read left) (λ more. Some (a ∷ more)))) is)
 
 -- so whole numbers are read
 pub numbers_step : (all : List (List Step)) (done : List ℤ) (v : List Step) (left : List (List Step)) (a : ℤ) →
@@ -60,5 +63,6 @@ ReadsOn-start read all = same (read all)
     same (Some more) = refl
 
 -- behind the last
-pub ReadsOn-end : {V A : Type 0} (read : List V → Option (List A)) (all : List V) (done : List A) → read [] ≡ Some [] → ReadsOn read all done [] → read all ≡ Some done
+pub ReadsOn-end : {V A : Type 0} (read : List V → Option (List A)) (all : List V) (done : List A) → read [] ≡ Some [] →
+    ReadsOn read all done [] → read all ≡ Some done
 ReadsOn-end read all done none h = h ∙ ap (λ o. with_some o (λ more. Some (done ++ more))) none ∙ ap (λ l. Some l) (append-nil done)

@@ -18,7 +18,8 @@ first_then (Some a) more true value = refl
 first_then (Some a) more false value = refl
 
 -- so one more is looked through
-pub noted_more : (name : List ℕ) (all before left : List Entry) (slot new : Option (List Step)) (entry : Entry) → before ≡ entry ∷ left → new ≡ noted name slot entry →
+pub noted_more : (name : List ℕ) (all before left : List Entry) (slot new : Option (List Step)) (entry : Entry) → before ≡ entry ∷ left →
+    new ≡ noted name slot entry →
     member name all ≡ first_of slot (member name before) → member name all ≡ first_of new (member name left)
 noted_more name all before left slot new entry is noting h =
     h

@@ -88,7 +88,8 @@ awaited_from steps top rest =
 -- the value of `elements` is an object
 pub object_begins : (steps : List Step) → IsTop steps 0 true → IsNever (steps ++ Step.Opens bracket_.Curly ∷ [])
 object_begins steps top =
-    onto steps (λ rest. with_some (member the_name (entries_from (Some the_name) [] 0 rest)) items_of) (λ rest. None) (Step.Opens bracket_.Curly)
+    onto steps (λ rest. with_some (member the_name (entries_from (Some the_name) [] 0 rest)) items_of) (λ rest. None)
+    (Step.Opens bracket_.Curly)
     (awaited_from steps top)
     (λ rest. let (more, is) = first_stays rest [] (Step.Opens bracket_.Curly) zero in ap (λ o. with_some o items_of) is)
 
@@ -110,7 +111,8 @@ plain_stands steps s plain top =
 -- ---- The top object
 
 -- the top object ends before any member `elements`
-pub top_ends : (steps : List Step) (is_named : Bool) (bracket : Bracket) → IsTop steps 0 is_named → IsNever (steps ++ Step.Closes bracket ∷ [])
+pub top_ends : (steps : List Step) (is_named : Bool) (bracket : Bracket) → IsTop steps 0 is_named →
+    IsNever (steps ++ Step.Closes bracket ∷ [])
 top_ends steps is_named bracket top =
     onto steps (λ rest. with_some (member the_name (entries_from top.name top.value 0 rest)) items_of) (λ rest. None) (Step.Closes bracket)
     top.from (λ rest. refl)
@@ -127,7 +129,8 @@ awaits text false same = by_other (bytes_eq the_name text) refl
         absurd (false≢true (sym same ∙ (bytes_eq-Decides text the_name).1 is))
 
 -- a member of the top object is named
-pub top_names : (steps : List Step) (is_named : Bool) (text : List ℕ) → IsTop steps 0 is_named → IsTop (steps ++ Step.Key text ∷ []) 0 (bytes_eq text the_name)
+pub top_names : (steps : List Step) (is_named : Bool) (text : List ℕ) → IsTop steps 0 is_named →
+    IsTop (steps ++ Step.Key text ∷ []) 0 (bytes_eq text the_name)
 top_names steps is_named text top = record {
   name = Some text;
   value = [];
@@ -146,10 +149,14 @@ passes (Some name) value others other = by_same (bytes_eq the_name name) other
     by_same false h = refl
     by_same true h = absurd (false≢true h)
 
+-- the entries where a value has come so far and brackets are open so deep: it is whole, or goes on
+abbrev pub entries_at : (name : Option (List ℕ)) (value : List Step) (depth : ℕ) (rest : List Step) → List Entry
+entries_at name value depth rest =
+    by_depth depth (whole_entry name value ∷ entries_from None [] zero rest) (λ still. entries_from name value still rest)
+
 -- what such a step does to the entries
 pub entries_on : (name : Option (List ℕ)) (value : List Step) (depth : ℕ) (s : Step) (rest : List Step) → goes_on depth s ≡ true
-    → entries_from name value depth (s ∷ rest)
-    ≡ by_depth (depth_after depth s) (whole_entry name (value ++ s ∷ []) ∷ entries_from None [] zero rest) (λ still. entries_from name (value ++ s ∷ []) still rest)
+    → entries_from name value depth (s ∷ rest) ≡ entries_at name (value ++ s ∷ []) (depth_after depth s) rest
 entries_on name value zero (Step.Closes bracket) rest h = absurd (false≢true h)
 entries_on name value zero (Step.Key text) rest h = absurd (false≢true h)
 entries_on name value zero (Step.Opens bracket) rest h = refl
@@ -171,7 +178,8 @@ top_goes_on steps depth s h top = by_after (depth_after depth s) refl
           (λ rest. with_some (member the_name (entries_from None [] zero rest)) items_of) s top.from
           (λ rest. ap (λ es. with_some (member the_name es) items_of)
           (entries_on top.name top.value depth s rest h
-          ∙ ap (λ d. by_depth d (whole_entry top.name (top.value ++ s ∷ []) ∷ entries_from None [] zero rest) (λ still. entries_from top.name (top.value ++ s ∷ []) still rest)) (sym e))
+          ∙ ap (λ d. by_depth d (whole_entry top.name (top.value ++ s ∷ []) ∷ entries_from None [] zero rest)
+          (λ still. entries_from top.name (top.value ++ s ∷ []) still rest)) (sym e))
           ∙ ap (λ o. with_some o items_of) (passes top.name (top.value ++ s ∷ []) (entries_from None [] zero rest) top.awaited));
       awaited = refl;
     }
@@ -182,7 +190,8 @@ top_goes_on steps depth s h top = by_after (depth_after depth s) refl
           (λ rest. with_some (member the_name (entries_from top.name (top.value ++ s ∷ []) (suc after) rest)) items_of) s top.from
           (λ rest. ap (λ es. with_some (member the_name es) items_of)
           (entries_on top.name top.value depth s rest h
-          ∙ ap (λ d. by_depth d (whole_entry top.name (top.value ++ s ∷ []) ∷ entries_from None [] zero rest) (λ still. entries_from top.name (top.value ++ s ∷ []) still rest)) (sym e)));
+          ∙ ap (λ d. by_depth d (whole_entry top.name (top.value ++ s ∷ []) ∷ entries_from None [] zero rest)
+          (λ still. entries_from top.name (top.value ++ s ∷ []) still rest)) (sym e)));
       awaited = top.awaited;
     }
 

@@ -14,27 +14,6 @@ use Rattle.map_elements.specs.Entries.{depth_after}
 use Rattle.map_elements.specs.Reader.{goes_on, is_plain, IsKind, IsAt, IsInList, IsPast, IsTaken, IsRefused, IsFault, Holds}
 use Rattle.map_elements.proofs.InsideLemmas.{element_goes_on, element_ends, element_refused, list_ends, list_names}
 
--- the element that ends with this step is taken, or refused
-pub ended_holds : {A : Type 0} (limits : Limits) (steps : List Step) (depth : ℕ) (value pushed : List Step) (values : List (List Step)) (s : Step)
-    (new : Progress) (result : Result A MapError)
-    → IsInList steps depth value values → goes_on depth s ≡ true → depth_after depth s ≡ zero → pushed ≡ value ++ s ∷ []
-    → MatchResult result (λ _. IsTaken limits new (values ++ pushed ∷ [])) (λ e. (e ≡ NoMemory) ⊎ IsRefused limits values pushed e)
-    → OnOk result (new.place ≡ Elements 0) → OnOk result (new.steps ≡ [])
-    → MatchResult result (λ _. Holds limits new (steps ++ s ∷ [])) (λ e. (e ≡ NoMemory) ⊎ IsFault limits (steps ++ s ∷ []) e)
-ended_holds limits steps depth value pushed values s new (Ok a) inside goes ends same taken place empty =
-    record {
-      values = values ++ (value ++ s ∷ []) ∷ [];
-      at = subst (λ p. IsAt p new.steps (steps ++ s ∷ []) (values ++ (value ++ s ∷ []) ∷ [])) (sym place)
-          (subst (λ xs. IsInList (steps ++ s ∷ []) 0 xs (values ++ (value ++ s ∷ []) ∷ [])) (sym empty)
-          (element_ends steps depth value values inside s goes ends));
-      taken = subst (λ xs. IsTaken limits new (values ++ xs ∷ [])) same taken;
-    }
-ended_holds limits steps depth value pushed values s new (Err e) inside goes ends same taken place empty =
-    elim taken [
-      | inl h ↦ inl h
-      | inr h ↦ inr (element_refused steps depth value values inside limits s e goes ends (subst (λ xs. IsRefused limits values xs e) same h))
-    ]
-
 -- what was taken before stays taken where the tables and the count do
 pub taken_kept : (limits : Limits) (old new : Progress) (values : List (List Step)) → new.tables ≡ old.tables → new.count ≡ old.count
     → IsTaken limits old values → IsTaken limits new values
@@ -45,7 +24,8 @@ taken_kept limits old new values tables count taken = record {
 }
 
 -- a step that neither names nor ends anything
-pub goes_on_kind : (kind : Kind) (text : List ℕ) (depth : ℕ) (s : Step) → IsKind kind text s → (kind ≡ kind_.Closes → ⊥) → (kind ≡ kind_.Names → ⊥)
+pub goes_on_kind : (kind : Kind) (text : List ℕ) (depth : ℕ) (s : Step) → IsKind kind text s → (kind ≡ kind_.Closes → ⊥) →
+    (kind ≡ kind_.Names → ⊥)
     → goes_on depth s ≡ true
 goes_on_kind kind_.Opens text zero s is close name = subst (λ x. goes_on 0 x ≡ true) (sym is) refl
 goes_on_kind kind_.OpensList text zero s is close name = subst (λ x. goes_on 0 x ≡ true) (sym is) refl
@@ -67,43 +47,72 @@ pub goes_on_within : (depth : ℕ) (s : Step) → (depth ≡ 0 → ⊥) → goes
 goes_on_within zero s inner = absurd (inner refl)
 goes_on_within (suc depth) s inner = refl
 
--- the element goes on with this step
-pub inner_holds : (limits : Limits) (steps : List Step) (depth after : ℕ) (value : List Step) (values : List (List Step)) (s : Step) (old new : Progress)
-    → IsInList steps depth value values → IsTaken limits old values → goes_on depth s ≡ true → after ≡ depth_after depth s → (after ≡ 0 → ⊥)
-    → new.place ≡ Elements after → new.steps ≡ value ++ s ∷ [] → new.tables ≡ old.tables → new.count ≡ old.count
-    → Holds limits new (steps ++ s ∷ [])
-inner_holds limits steps depth zero value values s old new inside taken goes is open_ place held tables count = absurd (open_ refl)
-inner_holds limits steps depth (suc after) value values s old new inside taken goes is open_ place held tables count = record {
-  values = values;
-  at = subst (λ p. IsAt p new.steps (steps ++ s ∷ []) values) (sym place)
-      (subst (λ xs. IsInList (steps ++ s ∷ []) (suc after) xs values) (sym held) (element_goes_on steps depth value values inside s after goes (sym is)));
-  taken = taken_kept limits old new values tables count taken;
-}
+-- a step of an element
+module _ (limits : Limits) (steps : List Step) (depth : ℕ) (value : List Step) (values : List (List Step)) (s : Step)
+    (inside : IsInList steps depth value values) (goes : goes_on depth s ≡ true) where
+  -- what is held of the element, with this step, is taken or refused, and nothing of it is held any more
+  pub record IsTakenWhole {A : Type 0} (pushed : List Step) (new : Progress) (result : Result A MapError) : Type 0 where
+    pub same : pushed ≡ value ++ s ∷ []
+    pub taken : MatchResult result (λ _. IsTaken limits new (values ++ pushed ∷ [])) (λ e. (e ≡ NoMemory) ⊎
+        IsRefused limits values pushed e)
+    pub place : OnOk result (new.place ≡ Elements 0)
+    pub empty : OnOk result (new.steps ≡ [])
 
--- the list of elements ends with this step
-pub past_holds : (limits : Limits) (steps : List Step) (value : List Step) (values : List (List Step)) (text : List ℕ) (s : Step) (old new : Progress)
-    → IsInList steps 0 value values → IsTaken limits old values → IsKind kind_.Closes text s
-    → new.place ≡ Past → new.tables ≡ old.tables → new.count ≡ old.count
-    → Holds limits new (steps ++ s ∷ [])
-past_holds limits steps value values text s old new inside taken (bracket, is) place tables count = record {
-  values = values;
-  at = subst (λ p. IsAt p new.steps (steps ++ s ∷ []) values) (sym place)
-      (subst (λ x. IsPast (steps ++ x ∷ []) values) (sym is) (list_ends steps value values bracket inside));
-  taken = taken_kept limits old new values tables count taken;
-}
+  -- the element that ends with this step is taken, or refused
+  pub ended_holds : {A : Type 0} (pushed : List Step) (new : Progress) (result : Result A MapError) → depth_after depth s ≡ zero →
+      IsTakenWhole pushed new result →
+      MatchResult result (λ _. Holds limits new (steps ++ s ∷ [])) (λ e. (e ≡ NoMemory) ⊎ IsFault limits (steps ++ s ∷ []) e)
+  ended_holds pushed new (Ok a) ends whole =
+      record {
+        values = values ++ (value ++ s ∷ []) ∷ [];
+        at = subst (λ p. IsAt p new.steps (steps ++ s ∷ []) (values ++ (value ++ s ∷ []) ∷ [])) (sym whole.place)
+            (subst (λ xs. IsInList (steps ++ s ∷ []) 0 xs (values ++ (value ++ s ∷ []) ∷ [])) (sym whole.empty)
+            (element_ends steps depth value values inside s goes ends));
+        taken = subst (λ xs. IsTaken limits new (values ++ xs ∷ [])) whole.same whole.taken;
+      }
+  ended_holds pushed new (Err e) ends whole =
+      elim whole.taken [
+        | inl h ↦ inl h
+        | inr h ↦ inr (element_refused steps depth value values inside limits s e goes ends
+            (subst (λ xs. IsRefused limits values xs e) whole.same h))
+      ]
 
--- a name stands between elements
-pub named_holds : (limits : Limits) (steps : List Step) (value : List Step) (values : List (List Step)) (text : List ℕ) (s : Step) (old new : Progress)
-    → IsInList steps 0 value values → IsTaken limits old values → s ≡ Step.Key text
-    → new.place ≡ Elements 0 → new.steps ≡ [] → new.tables ≡ old.tables → new.count ≡ old.count
-    → Holds limits new (steps ++ s ∷ [])
-named_holds limits steps value values text s old new inside taken is place empty tables count = record {
-  values = values;
-  at = subst (λ p. IsAt p new.steps (steps ++ s ∷ []) values) (sym place)
-      (subst (λ xs. IsInList (steps ++ s ∷ []) 0 xs values) (sym empty)
-      (subst (λ x. IsInList (steps ++ x ∷ []) 0 [] values) (sym is) (list_names steps value values text inside)));
-  taken = taken_kept limits old new values tables count taken;
-}
+  -- the element goes on with this step
+  pub inner_holds : (after : ℕ) (old new : Progress) → IsTaken limits old values → after ≡ depth_after depth s → (after ≡ 0 → ⊥) →
+      new.place ≡ Elements after → new.steps ≡ value ++ s ∷ [] → new.tables ≡ old.tables → new.count ≡ old.count →
+      Holds limits new (steps ++ s ∷ [])
+  inner_holds zero old new taken is open_ place held tables count = absurd (open_ refl)
+  inner_holds (suc after) old new taken is open_ place held tables count = record {
+    values = values;
+    at = subst (λ p. IsAt p new.steps (steps ++ s ∷ []) values) (sym place)
+        (subst (λ xs. IsInList (steps ++ s ∷ []) (suc after) xs values) (sym held)
+        (element_goes_on steps depth value values inside s after goes (sym is)));
+    taken = taken_kept limits old new values tables count taken;
+  }
+
+-- a step between elements
+module _ (limits : Limits) (steps value : List Step) (values : List (List Step)) (text : List ℕ) (s : Step) (old new : Progress)
+    (inside : IsInList steps 0 value values) (taken : IsTaken limits old values) where
+  -- the list of elements ends with this step
+  pub past_holds : IsKind kind_.Closes text s → new.place ≡ Past → new.tables ≡ old.tables → new.count ≡ old.count →
+      Holds limits new (steps ++ s ∷ [])
+  past_holds (bracket, is) place tables count = record {
+    values = values;
+    at = subst (λ p. IsAt p new.steps (steps ++ s ∷ []) values) (sym place)
+        (subst (λ x. IsPast (steps ++ x ∷ []) values) (sym is) (list_ends steps value values bracket inside));
+    taken = taken_kept limits old new values tables count taken;
+  }
+
+  -- a name stands between elements
+  pub named_holds : s ≡ Step.Key text → new.place ≡ Elements 0 → new.steps ≡ [] → new.tables ≡ old.tables → new.count ≡ old.count →
+      Holds limits new (steps ++ s ∷ [])
+  named_holds is place empty tables count = record {
+    values = values;
+    at = subst (λ p. IsAt p new.steps (steps ++ s ∷ []) values) (sym place)
+        (subst (λ xs. IsInList (steps ++ s ∷ []) 0 xs values) (sym empty)
+        (subst (λ x. IsInList (steps ++ x ∷ []) 0 [] values) (sym is) (list_names steps value values text inside)));
+    taken = taken_kept limits old new values tables count taken;
+  }
 
 -- a step leads from one place to another outside of the list of elements
 pub outside_holds : (limits : Limits) (steps later : List Step) (values : List (List Step)) (old new : Progress)

@@ -95,19 +95,22 @@ fault_comes limits bytes ended steps all verdict fault fixed reads is =
     }
 
 -- a text that has ended was read to its end
-ended_whole : (bytes : List ℕ) (steps : List Step) (verdict : Verdict) → Reads bytes true steps verdict → refusal_of verdict ≡ None → verdict ≡ Verdict.Whole
+ended_whole : (bytes : List ℕ) (steps : List Step) (verdict : Verdict) → Reads bytes true steps verdict → refusal_of verdict ≡ None →
+    verdict ≡ Verdict.Whole
 ended_whole bytes steps Verdict.More reads good = absurd (false≢true (sym reads.fits.0))
 ended_whole bytes steps Verdict.Whole reads good = refl
 ended_whole bytes steps (Verdict.BadAt at) reads good = cc
 
 -- and one that hasn't may go on
-open_more : (bytes : List ℕ) (steps : List Step) (verdict : Verdict) → Reads bytes false steps verdict → refusal_of verdict ≡ None → verdict ≡ Verdict.More
+open_more : (bytes : List ℕ) (steps : List Step) (verdict : Verdict) → Reads bytes false steps verdict → refusal_of verdict ≡ None →
+    verdict ≡ Verdict.More
 open_more bytes steps Verdict.More reads good = refl
 open_more bytes steps Verdict.Whole reads good = absurd (false≢true reads.fits.0)
 open_more bytes steps (Verdict.BadAt at) reads good = cc
 
 -- a text that has ended comes to its tables where there is a list of elements
-pub ended_tables : (limits : Limits) (reading : Reading) (bytes : List ℕ) → IsRead limits reading bytes true → has_list reading.progress.place ≡ true
+pub ended_tables : (limits : Limits) (reading : Reading) (bytes : List ℕ) → IsRead limits reading bytes true →
+    has_list reading.progress.place ≡ true
     → (reading.progress.tables.limits ≡ limits) × ComesTo limits bytes true (Ok reading.progress.tables.draft)
 ended_tables limits reading bytes read list =
     let whole : read.verdict ≡ Verdict.Whole = ended_whole bytes read.stands.steps read.verdict read.reads read.good in (
@@ -123,7 +126,8 @@ ended_tables limits reading bytes read list =
     )
 
 -- and has the wrong shape where there is none
-pub ended_shape : (limits : Limits) (reading : Reading) (bytes : List ℕ) → IsRead limits reading bytes true → has_list reading.progress.place ≡ false
+pub ended_shape : (limits : Limits) (reading : Reading) (bytes : List ℕ) → IsRead limits reading bytes true →
+    has_list reading.progress.place ≡ false
     → ComesTo limits bytes true (Err (Shape 0))
 ended_shape limits reading bytes read list =
     let whole : read.verdict ≡ Verdict.Whole = ended_whole bytes read.stands.steps read.verdict read.reads read.good in

@@ -19,7 +19,8 @@ AreWithin-push bytes [] row h fits = (fits, h)
 AreWithin-push bytes (r ∷ rows) row h fits = (h.0, AreWithin-push bytes rows row h.1 fits)
 
 -- a row's content stays
-content_in-more : (bytes more : List ℕ) (row : Row) → row.start + row.length ≤ length bytes → content_in (bytes ++ more) row ≡ content_in bytes row
+content_in-more : (bytes more : List ℕ) (row : Row) → row.start + row.length ≤ length bytes →
+    content_in (bytes ++ more) row ≡ content_in bytes row
 content_in-more bytes more row fits =
     let start : row.start ≤ length bytes = omega (arith, fits) in
     ap (take row.length) (drop-append-le row.start bytes more start)
@@ -41,7 +42,8 @@ content_in-next : (bytes text : List ℕ) (kind : StepKind) → content_in (byte
 content_in-next bytes text kind = ap (take (length text)) (drop-append_seam bytes text) ∙ take_all (length text) text (omega arith)
 
 -- where a content was put behind the bytes, and its row behind the rows or not, one step is more or none
-module _ (old text new : List ℕ) (rows after : List Row) (kind : StepKind) (row : Row) (within : AreWithin old rows) (bytes : new ≡ old ++ text)
+module _ (old text new : List ℕ) (rows after : List Row) (kind : StepKind) (row : Row) (within : AreWithin old rows) (bytes : new ≡ old ++
+    text)
     (is : row ≡ next_row old kind (length text)) where
   pub steps_in-push : (pushed : Bool) → after ≡ (if pushed then rows ++ row ∷ [] else rows) →
       steps_in new after ≡ (if pushed then steps_in old rows ++ step_of kind text ∷ [] else steps_in old rows)

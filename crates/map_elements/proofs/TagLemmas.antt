@@ -69,7 +69,8 @@ Have-add tags tag names have = λ name.
 
 -- one goes before what the others come to
 cons_some : (done : List Tag) (tag : Tag) (more : Option (List Tag)) →
-    with_some (with_some more (λ tags. Some (tag ∷ tags))) (λ more. Some (done ++ more)) ≡ with_some more (λ more. Some ((done ++ tag ∷ []) ++ more))
+    with_some (with_some more (λ tags. Some (tag ∷ tags))) (λ more. Some (done ++ more)) ≡
+    with_some more (λ more. Some ((done ++ tag ∷ []) ++ more))
 cons_some done tag None = refl
 cons_some done tag (Some more) = ap (λ l. Some l) (sym (append_assoc done (tag ∷ []) more))
 
@@ -83,14 +84,17 @@ abbrev pub tag_by : List (List ℕ) → List Entry → List ℕ → Option (List
 tag_by names left name text = with_some text (λ text. with_some (tags_from (name ∷ names) left) (λ tags. Some ((name, text) ∷ tags)))
 
 -- the tag of a member whose name is new goes behind the others
-module _ (Came Comes : List (List ℕ) → Type 0) (all left before : List Entry) (done after : List Tag) (entry : Entry) (name text : List ℕ) where
+module _ (Came Comes : List (List ℕ) →
+    Type 0) (all left before : List Entry) (done after : List Tag) (entry : Entry) (name text : List ℕ) where
   pub Tagged-new : (h : Tagged Came all done before) → before ≡ entry ∷ left → entry.name ≡ Some name → not (is_among name h.names) ≡ true →
       Comes (name ∷ h.names) → text_of entry.value ≡ Some text → after ≡ done ++ (name, text) ∷ [] → Tagged Comes all after left
   Tagged-new h is named new holds texted pushed =
       let read : tags_from h.names before ≡ with_some (tags_from (name ∷ h.names) left) (λ tags. Some ((name, text) ∷ tags)) =
       ap (tags_from h.names) is
-      ∙ ap (λ o. with_some o (λ n. if is_among n h.names then tags_from h.names left else tag_by h.names left n (text_of entry.value))) named
-      ∙ ap (λ v. if v then tags_from h.names left else tag_by h.names left name (text_of entry.value)) (not_true (is_among name h.names) new)
+      ∙ ap (λ o. with_some o (λ n. if is_among n h.names then tags_from h.names left else tag_by h.names left n (text_of entry.value)))
+      named
+      ∙ ap (λ v. if v then tags_from h.names left else tag_by h.names left name (text_of entry.value))
+      (not_true (is_among name h.names) new)
       ∙ ap (tag_by h.names left name) texted in
       record {
         names = name ∷ h.names;

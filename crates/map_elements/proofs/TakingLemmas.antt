@@ -58,7 +58,8 @@ module _ (limits : Limits) (values : List (List Step)) (value : List Step) (at :
       behind more ∙ ap (λ r. and_then r (λ x. and_then (take_element limits x draft) (λ d. take_values limits (suc at) more d))) is
 
   -- the next element doesn't go into the draft
-  pub element_is_refused : (element : Element) (fault : MapError) → element_of at value ≡ Ok element → take_element limits element draft ≡ Err fault
+  pub element_is_refused : (element : Element) (fault : MapError) → element_of at value ≡ Ok element →
+      take_element limits element draft ≡ Err fault
       → IsRefused limits values value fault
   element_is_refused element fault is refused more =
       behind more

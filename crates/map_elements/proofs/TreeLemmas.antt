@@ -8,7 +8,7 @@ use Rattle.json_text.specs.declared.mode.Role.TheVariants as role_
 use Rattle.json_text.specs.Marks.{Symbol, End, Step, Mark, Seen, Given, steps_of, see}
 use Rattle.json_text.specs.Chars.{Char, content_of, print_chars, print_text, close_text, text_step, spelled}
 use Rattle.json_text.specs.Grammar.{Name, Value, Entries, Others, IsText, letters_of, print_name, print_value, print_entries, print_others}
-use Rattle.map_elements.specs.Entries.{entries_from, whole_entry, by_depth}
+use Rattle.map_elements.specs.Entries.{entries_from, whole_entry, by_depth, Entry}
 use Rattle.map_elements.specs.Trees.{name_steps, name_told, tree_steps, entries_steps, others_steps, others_told, entries_told, AreOfTree, AreMembersOfTree, AreItemsOfTree}
 
 -- ---- The steps of what is printed
@@ -24,7 +24,8 @@ chars_steps [] rest = refl
 chars_steps (c ∷ chars) rest = see_steps (spelled c) (print_chars chars rest) ∙ chars_steps chars rest
 
 -- a text gives one
-text_steps : (role : Role) (chars : List Char) (rest : List Mark) → steps_of (print_text role chars rest) ≡ text_step role (content_of None chars) ∷ steps_of rest
+text_steps : (role : Role) (chars : List Char) (rest : List Mark) →
+    steps_of (print_text role chars rest) ≡ text_step role (content_of None chars) ∷ steps_of rest
 text_steps role chars rest = chars_steps chars (close_text role (content_of None chars) rest)
 
 -- a name gives one, where there is one
@@ -34,16 +35,14 @@ named_steps (Name.Named chars before behind) rest =
     text_steps role_.Name chars (see before (Seen (Symbol.Byte 58) ∷ see behind rest))
     ∙ ap (λ s. Step.Key (content_of None chars) ∷ s) (see_steps before (Seen (Symbol.Byte 58) ∷ see behind rest) ∙ see_steps behind rest)
 
--- an entry and the others give theirs
-printed_entry : (name : Name) (value : Value) (others : Others) (bracket : Bracket) (rest : List Mark)
-    → steps_of (print_value value (print_others others bracket rest)) ≡ tree_steps value ++ steps_of (print_others others bracket rest)
-    → steps_of (print_others others bracket rest) ≡ others_steps bracket others ++ steps_of rest
-    → steps_of (print_name name (print_value value (print_others others bracket rest))) ≡ (name_steps name ++ (tree_steps value ++ others_steps bracket others)) ++ steps_of rest
-printed_entry name value others bracket rest first later =
-    named_steps name (print_value value (print_others others bracket rest))
-    ∙ ap (λ s. name_steps name ++ s) (first ∙ ap (λ s. tree_steps value ++ s) later
-    ∙ sym (append_assoc (tree_steps value) (others_steps bracket others) (steps_of rest)))
-    ∙ sym (append_assoc (name_steps name) (tree_steps value ++ others_steps bracket others) (steps_of rest))
+-- an entry gives its steps, before what the marks behind it give
+printed_entry : (name : Name) (value : Value) (others left : List Step) (next : List Mark) →
+    steps_of (print_value value next) ≡ tree_steps value ++ steps_of next → steps_of next ≡ others ++ left →
+    steps_of (print_name name (print_value value next)) ≡ (name_steps name ++ (tree_steps value ++ others)) ++ left
+printed_entry name value others left next first later =
+    named_steps name (print_value value next)
+    ∙ ap (λ s. name_steps name ++ s) (first ∙ ap (λ s. tree_steps value ++ s) later ∙ sym (append_assoc (tree_steps value) others left))
+    ∙ sym (append_assoc (name_steps name) (tree_steps value ++ others) left)
 
 mutual
   -- a value gives its steps
@@ -54,17 +53,23 @@ mutual
   printed_steps (Value.Group bracket entries) rest = ap (λ s. Step.Opens bracket ∷ s) (printed_entries entries bracket rest)
 
   -- so do entries
-  printed_entries : (entries : Entries) (bracket : Bracket) (rest : List Mark) → steps_of (print_entries entries bracket rest) ≡ entries_steps bracket entries ++ steps_of rest
+  printed_entries : (entries : Entries) (bracket : Bracket) (rest : List Mark) →
+      steps_of (print_entries entries bracket rest) ≡ entries_steps bracket entries ++ steps_of rest
   printed_entries (Entries.Empty space) bracket rest = see_steps space _
   printed_entries (Entries.Entry space name value others) bracket rest =
-      see_steps space _ ∙ printed_entry name value others bracket rest (printed_steps value (print_others others bracket rest)) (printed_others others bracket rest)
+      see_steps space _ ∙ printed_entry name value (others_steps bracket others) (steps_of rest) (print_others others bracket rest)
+      (printed_steps value (print_others others bracket rest))
+      (printed_others others bracket rest)
 
   -- the others
-  printed_others : (others : Others) (bracket : Bracket) (rest : List Mark) → steps_of (print_others others bracket rest) ≡ others_steps bracket others ++ steps_of rest
+  printed_others : (others : Others) (bracket : Bracket) (rest : List Mark) →
+      steps_of (print_others others bracket rest) ≡ others_steps bracket others ++ steps_of rest
   printed_others (Others.Last space) bracket rest = see_steps space _
   printed_others (Others.Next space behind name value others) bracket rest =
       see_steps space _ ∙ see_steps behind _
-      ∙ printed_entry name value others bracket rest (printed_steps value (print_others others bracket rest)) (printed_others others bracket rest)
+      ∙ printed_entry name value (others_steps bracket others) (steps_of rest) (print_others others bracket rest)
+      (printed_steps value (print_others others bracket rest))
+      (printed_others others bracket rest)
 
 -- the steps of a text that was read to its end are those of its value
 pub of_tree : AreOfTree
@@ -88,10 +93,12 @@ GoesBy steps = (name : Option (List ℕ)) (held : List Step) (depth : ℕ) (rest
 abbrev Ends : List Step → Type 0
 Ends steps = (name : Option (List ℕ)) (held : List Step) (depth : ℕ) (rest : List Step)
     → entries_from name held (suc depth) (steps ++ rest)
-    ≡ by_depth depth (whole_entry name (held ++ steps) ∷ entries_from None [] zero rest) (λ still. entries_from name (held ++ steps) still rest)
+    ≡ by_depth depth (whole_entry name (held ++ steps) ∷ entries_from None [] zero rest)
+    (λ still. entries_from name (held ++ steps) still rest)
 
 -- an entry and the others go by
-entry_within : (inner : Name) (value : Value) (others : Others) (bracket : Bracket) → GoesBy (tree_steps value) → Ends (others_steps bracket others)
+entry_within : (inner : Name) (value : Value) (others : Others) (bracket : Bracket) → GoesBy (tree_steps value) →
+    Ends (others_steps bracket others)
     → Ends (name_steps inner ++ (tree_steps value ++ others_steps bracket others))
 entry_within Name.NoName value others bracket goes ends name held depth rest =
     ap (entries_from name held (suc depth)) (append_assoc (tree_steps value) (others_steps bracket others) rest)
@@ -100,7 +107,8 @@ entry_within Name.NoName value others bracket goes ends name held depth rest =
     ∙ ap (λ xs. by_depth depth (whole_entry name xs ∷ entries_from None [] zero rest) (λ still. entries_from name xs still rest))
     (append_assoc held (tree_steps value) (others_steps bracket others))
 entry_within (Name.Named chars before behind) value others bracket goes ends name held depth rest =
-    ap (entries_from name (held ++ Step.Key (content_of None chars) ∷ []) (suc depth)) (append_assoc (tree_steps value) (others_steps bracket others) rest)
+    ap (entries_from name (held ++ Step.Key (content_of None chars) ∷ []) (suc depth))
+    (append_assoc (tree_steps value) (others_steps bracket others) rest)
     ∙ goes name (held ++ Step.Key (content_of None chars) ∷ []) depth (others_steps bracket others ++ rest)
     ∙ ends name ((held ++ Step.Key (content_of None chars) ∷ []) ++ tree_steps value) depth rest
     ∙ ap (λ xs. by_depth depth (whole_entry name xs ∷ entries_from None [] zero rest) (λ still. entries_from name xs still rest))
@@ -108,7 +116,8 @@ entry_within (Name.Named chars before behind) value others bracket goes ends nam
     ∙ append_assoc held (Step.Key (content_of None chars) ∷ []) (tree_steps value ++ others_steps bracket others))
 
 -- a group goes by within a value
-group_within : (bracket : Bracket) (entries : Entries) → Ends (entries_steps bracket entries) → GoesBy (Step.Opens bracket ∷ entries_steps bracket entries)
+group_within : (bracket : Bracket) (entries : Entries) → Ends (entries_steps bracket entries) →
+    GoesBy (Step.Opens bracket ∷ entries_steps bracket entries)
 group_within bracket entries ends name held depth rest =
     ends name (held ++ Step.Opens bracket ∷ []) (suc depth) rest
     ∙ ap (λ xs. entries_from name xs (suc depth) rest) (append_assoc held (Step.Opens bracket ∷ []) (entries_steps bracket entries))
@@ -141,26 +150,26 @@ cut_off (Value.Number bytes) name rest = refl
 cut_off (Value.Text chars) name rest = refl
 cut_off (Value.Group bracket entries) name rest = entries_within entries bracket name (Step.Opens bracket ∷ []) zero rest
 
--- an entry is cut off, and then the others
-entry_cut : (name : Name) (value : Value) (others : Others) (bracket : Bracket)
-    → entries_from None [] zero (others_steps bracket others) ≡ others_told others
-    → entries_from None [] zero (name_steps name ++ (tree_steps value ++ others_steps bracket others))
-    ≡ whole_entry (name_told name) (tree_steps value) ∷ others_told others
-entry_cut Name.NoName value others bracket later =
-    cut_off value None (others_steps bracket others) ∙ ap (λ es. whole_entry None (tree_steps value) ∷ es) later
-entry_cut (Name.Named chars before behind) value others bracket later =
-    cut_off value (Some (content_of None chars)) (others_steps bracket others)
+-- an entry is cut off, and then what the steps behind it tell
+entry_cut : (name : Name) (value : Value) (steps : List Step) (told : List Entry) → entries_from None [] zero steps ≡ told →
+    entries_from None [] zero (name_steps name ++ (tree_steps value ++ steps)) ≡ whole_entry (name_told name) (tree_steps value) ∷ told
+entry_cut Name.NoName value steps told later =
+    cut_off value None steps ∙ ap (λ es. whole_entry None (tree_steps value) ∷ es) later
+entry_cut (Name.Named chars before behind) value steps told later =
+    cut_off value (Some (content_of None chars)) steps
     ∙ ap (λ es. whole_entry (Some (content_of None chars)) (tree_steps value) ∷ es) later
 
 -- the entries of the others
 others_cut : (others : Others) (bracket : Bracket) → entries_from None [] zero (others_steps bracket others) ≡ others_told others
 others_cut (Others.Last space) bracket = refl
-others_cut (Others.Next space behind name value others) bracket = entry_cut name value others bracket (others_cut others bracket)
+others_cut (Others.Next space behind name value others) bracket =
+    entry_cut name value (others_steps bracket others) (others_told others) (others_cut others bracket)
 
 -- the entries of a group are those of its tree
 entries_cut : (entries : Entries) (bracket : Bracket) → entries_from None [] zero (entries_steps bracket entries) ≡ entries_told entries
 entries_cut (Entries.Empty space) bracket = refl
-entries_cut (Entries.Entry space name value others) bracket = entry_cut name value others bracket (others_cut others bracket)
+entries_cut (Entries.Entry space name value others) bracket =
+    entry_cut name value (others_steps bracket others) (others_told others) (others_cut others bracket)
 
 -- so the members of an object are
 pub members_cut : AreMembersOfTree

@@ -60,7 +60,8 @@ lead_less (d ∷ ds) all =
     ] all
 
 -- where something stands behind the digits, there is no whole number
-tail_none : (negative : Bool) (whole rest : List ℕ) → 0 < length rest → with_some (parts_from negative whole (tail_of rest)) whole_part ≡ None
+tail_none : (negative : Bool) (whole rest : List ℕ) → 0 < length rest →
+    with_some (parts_from negative whole (tail_of rest)) whole_part ≡ None
 tail_none negative whole [] some = absurd (omega (arith, some))
 tail_none negative [] (c ∷ cs) some = refl
 tail_none negative (w ∷ ws) (c ∷ []) some =
@@ -69,7 +70,8 @@ tail_none negative (w ∷ ws) (c ∷ []) some =
       | false ↦ refl
     ]
 tail_none negative (w ∷ ws) (c ∷ d ∷ ds) some =
-    elim ((c == 46) && is_fraction (d ∷ ds)) as (λ v. with_some (parts_from negative (w ∷ ws) (if v then Some (d ∷ ds) else None)) whole_part ≡ None) [
+    elim ((c == 46) && is_fraction (d ∷ ds))
+    as (λ v. with_some (parts_from negative (w ∷ ws) (if v then Some (d ∷ ds) else None)) whole_part ≡ None) [
       | true ↦ refl
       | false ↦ refl
     ]
@@ -85,21 +87,25 @@ unfit false size e =
 signed_by : (negative : Bool) (size : ℕ) → signed_size negative size
     ≡ with_some (if nat_le size 9223372036854775808 then Some size else None) (signed_size negative)
 signed_by negative size =
-    elim (nat_le size 9223372036854775808) as (λ v. nat_le size 9223372036854775808 ≡ v → signed_size negative size ≡ with_some (if v then Some size else None) (signed_size negative)) [
+    elim (nat_le size 9223372036854775808) as (λ v. nat_le size 9223372036854775808 ≡ v →
+    signed_size negative size ≡ with_some (if v then Some size else None) (signed_size negative)) [
       | true ↦ λ e. refl
       | false ↦ λ e. unfit negative size e
     ] refl
 
 -- the whole number of the parts of a text is that of its digits
-pub whole_digits : (negative : Bool) (ds : List ℕ) → with_some (unsigned_parts negative ds) whole_part ≡ with_some (size_in ds) (signed_size negative)
+pub whole_digits : (negative : Bool) (ds : List ℕ) →
+    with_some (unsigned_parts negative ds) whole_part ≡ with_some (size_in ds) (signed_size negative)
 whole_digits negative [] = refl
 whole_digits negative (d ∷ ds) = by_digits (all_ascii_digits (d ∷ ds)) refl
   where
     by_digits : (v : Bool) → all_ascii_digits (d ∷ ds) ≡ v →
         with_some (unsigned_parts negative (d ∷ ds)) whole_part ≡ with_some (size_from 0 (d ∷ ds)) (signed_size negative)
     by_digits true all =
-        let front : take (leading_digits (d ∷ ds)) (d ∷ ds) ≡ d ∷ ds = take_all (leading_digits (d ∷ ds)) (d ∷ ds) (omega (arith, lead_all (d ∷ ds) all)) in
-        let back : drop (leading_digits (d ∷ ds)) (d ∷ ds) ≡ [] = drop_all (leading_digits (d ∷ ds)) (d ∷ ds) (omega (arith, lead_all (d ∷ ds) all)) in
+        let front : take (leading_digits (d ∷ ds)) (d ∷ ds) ≡ d ∷ ds =
+        take_all (leading_digits (d ∷ ds)) (d ∷ ds) (omega (arith, lead_all (d ∷ ds) all)) in
+        let back : drop (leading_digits (d ∷ ds)) (d ∷ ds) ≡ [] =
+        drop_all (leading_digits (d ∷ ds)) (d ∷ ds) (omega (arith, lead_all (d ∷ ds) all)) in
         ap (λ w. with_some (parts_from negative w (tail_of (drop (leading_digits (d ∷ ds)) (d ∷ ds)))) whole_part) front
         ∙ ap (λ t. with_some (parts_from negative (d ∷ ds) (tail_of t)) whole_part) back
         ∙ signed_by negative (digits_after 0 (d ∷ ds))
@@ -125,7 +131,8 @@ module _ (all : Option ℕ) (n : ℕ) (ds : List ℕ) (i : ℕ) (more : i < leng
   pub size_from-over : 922337203685477580 < n → all ≡ None
   size_from-over large =
       next_by
-      ∙ elim (is_ascii_digit (get_or ds i 0)) as (λ b. (if b then size_from (10 * n + (get_or ds i 0 - 48)) (drop (i + 1) ds) else None) ≡ None) [
+      ∙ elim (is_ascii_digit (get_or ds i 0))
+      as (λ b. (if b then size_from (10 * n + (get_or ds i 0 - 48)) (drop (i + 1) ds) else None) ≡ None) [
         | true ↦ size_from-large (10 * n + (get_or ds i 0 - 48)) (drop (i + 1) ds) (omega (arith, large))
         | false ↦ refl
       ]

@@ -1,4 +1,5 @@
--- The element that a value stands for, or what is wrong with it (the JSON profile of Overpass that this project reads).
+-- The element that a value stands for, or what is wrong with it (the JSON profile of Overpass that this
+-- project reads).
 use Rattle.std.specs.Prelude.{ℕ, ℤ, pos, List, Option, Some, None, Result, Ok, Err, if◌then◌else◌}
 use Rattle.std.specs.Str.{bytes_eq}
 use lib.Chars.{codes}

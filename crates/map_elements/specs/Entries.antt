@@ -5,8 +5,8 @@ use Rattle.std.specs.Str.{bytes_eq}
 use Rattle.json_text.specs.declared.mode.Bracket.TheVariants as bracket_
 use Rattle.json_text.specs.Marks.{Step}
 
--- a member of an object with its name, or an item of an array, which has none; its value is a list of steps, and
--- it is whole where the last step of its value is there
+-- a member of an object with its name, or an item of an array, which has none; its value is a list of steps,
+-- and it is whole where the last step of its value is there
 pub record Entry : Type 0 where
   pub name : Option (List ℕ)
   pub value : List Step
@@ -37,8 +37,8 @@ abbrev pub by_depth : {A : Type 0} → ℕ → A → (ℕ → A) → A
 by_depth zero closed still = closed
 by_depth (suc depth) closed still = still (suc depth)
 
--- the entries among the steps that are left, up to the bracket that closes the object or array, where an entry of
--- this name has come so far, with this value, in which so many brackets are open
+-- the entries among the steps that are left, up to the bracket that closes the object or array, where an
+-- entry of this name has come so far, with this value, in which so many brackets are open
 abbrev pub entries_from : Option (List ℕ) → List Step → ℕ → List Step → List Entry
 entries_from name value depth [] = begun_entry name value
 entries_from name value zero (Step.Closes bracket ∷ steps) = []
@@ -74,7 +74,8 @@ member name (entry ∷ entries) = if is_named name entry then Some entry.value e
 -- the values of the entries that are whole
 abbrev pub whole_values : List Entry → List (List Step)
 whole_values [] = []
-whole_values (entry ∷ entries) = if entry.is_whole then entry.value ∷ whole_values entries else whole_values entries
+whole_values (entry ∷ entries) =
+    if entry.is_whole then entry.value ∷ whole_values entries else whole_values entries
 
 -- the values of all entries
 abbrev pub values_of : List Entry → List (List Step)

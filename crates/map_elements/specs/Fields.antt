@@ -1,5 +1,5 @@
--- What stands in the fields of an element: texts, numbers, whole numbers, lists of them, tags and members (the JSON
--- profile of Overpass that this project reads).
+-- What stands in the fields of an element: texts, numbers, whole numbers, lists of them, tags and members
+-- (the JSON profile of Overpass that this project reads).
 use Rattle.std.specs.Prelude.{ℕ, nat_le, ℤ, Bool, true, false, ◌||◌, List, [], ◌∷◌, Option, Some, None, if◌then◌else◌}
 use Rattle.std.specs.Str.{bytes_eq}
 use lib.Chars.{codes}
@@ -37,7 +37,8 @@ whole_part d = by_fraction d.fraction
   where
     by_fraction : List ℕ → Option ℤ
     by_fraction [] =
-        if fits_64 d.is_negative (digits_after 0 d.whole) then Some (with_sign d.is_negative (digits_after 0 d.whole)) else None
+        if fits_64 d.is_negative (digits_after 0 d.whole) then Some
+        (with_sign d.is_negative (digits_after 0 d.whole)) else None
     by_fraction (c ∷ cs) = None
 
 -- the whole number of a text: an optional `-` and digits, within 64 bits
@@ -65,8 +66,8 @@ abbrev pub is_among : List ℕ → List (List ℕ) → Bool
 is_among name [] = false
 is_among name (other ∷ others) = bytes_eq name other || is_among name others
 
--- the tags of members behind those of these names: each first member of a name has a text, and later ones of that
--- name are read past
+-- the tags of members behind those of these names: each first member of a name has a text, and later ones of
+-- that name are read past
 abbrev pub tags_from : List (List ℕ) → List Entry → Option (List Tag)
 tags_from names [] = Some []
 tags_from names (entry ∷ entries) =
@@ -89,7 +90,8 @@ tags_of entries = by_value (member (codes "tags") entries)
 
 -- ---- Members of relations
 
--- the member of a relation that a value stands for: an object with a text `type`, a whole `ref` and a text `role`
+-- the member of a relation that a value stands for: an object with a text `type`, a whole `ref` and a text
+-- `role`
 abbrev pub member_of : List Step → Option Member
 member_of value =
     with_some (members_of value) (λ entries.

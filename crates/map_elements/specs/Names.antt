@@ -9,7 +9,8 @@ use Rattle.map_elements.specs.Fields.{is_among}
 
 -- the set holds these names and no others
 abbrev pub Holds : {S : Type 0} → HashSet (Bor (List ℕ)) S → List (List ℕ) → Type 0
-Holds set names = (q : Bor (List ℕ)) → contains (λ x y. pointwise nat_eq x.now y.now) set q ≡ is_among q.now names
+Holds set names = (q : Bor (List ℕ)) →
+    contains (λ x y. pointwise nat_eq x.now y.now) set q ≡ is_among q.now names
 
 -- one of these tags has this name
 abbrev pub has_tag : List ℕ → List Tag → Bool

@@ -1,4 +1,5 @@
--- The first members of the names that elements have, while members are looked through (this project's own rule).
+-- The first members of the names that elements have, while members are looked through (this project's own
+-- rule).
 use Rattle.std.specs.Prelude.{◌≡◌, List, Option, Some, None}
 use lib.Chars.{codes}
 use Rattle.json_text.specs.Marks.{Step}
@@ -10,7 +11,8 @@ first_of None later = later
 first_of (Some a) later = Some a
 
 -- of the members that were looked through, these are the first of each name
-pub record Noted (kind id lat lon nodes members tags : Option (List Step)) (all left : List Entry) : Type 0 where
+pub record Noted (kind id lat lon nodes members tags : Option (List Step)) (all left : List Entry) :
+    Type 0 where
   pub kind_is : member (codes "type") all ≡ first_of kind (member (codes "type") left)
   pub id_is : member (codes "id") all ≡ first_of id (member (codes "id") left)
   pub lat_is : member (codes "lat") all ≡ first_of lat (member (codes "lat") left)

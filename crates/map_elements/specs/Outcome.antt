@@ -1,4 +1,5 @@
--- What a map's text comes to: its elements, or its first fault (this project's own rule for the order of faults).
+-- What a map's text comes to: its elements, or its first fault (this project's own rule for the order of
+-- faults).
 use Rattle.std.specs.Prelude.{ℕ, suc, List, [], ◌∷◌, Bool, Option, Some, None, is_some, Result, Ok, Err, if◌then◌else◌, ◌≡◌}
 use lib.Chars.{codes}
 use Rattle.item_list.specs.Answer.{and_then}
@@ -19,7 +20,8 @@ take_element limits (Element.Way way) draft = take_way limits way draft
 take_element limits (Element.Relation relation) draft = take_relation limits relation draft
 take_element limits Element.Other draft = Ok draft
 
--- a draft with the elements of these whole values, of which the first stands at this place, or the first fault
+-- a draft with the elements of these whole values, of which the first stands at this place, or the first
+-- fault
 abbrev pub take_values : Limits → ℕ → List (List Step) → Draft → Result Draft MapError
 take_values limits at [] draft = Ok draft
 take_values limits at (value ∷ values) draft =
@@ -27,9 +29,11 @@ take_values limits at (value ∷ values) draft =
     and_then (take_element limits element draft) (λ more.
     take_values limits (suc at) values more))
 
--- the items of the array that is the value of the first member `elements` of the top object, as far as they have come
+-- the items of the array that is the value of the first member `elements` of the top object, as far as they
+-- have come
 unfoldable pub elements_list : List Step → Option (List Entry)
-elements_list steps = with_some (members_of steps) (λ entries. with_some (member (codes "elements") entries) items_of)
+elements_list steps = with_some (members_of steps)
+    (λ entries. with_some (member (codes "elements") entries) items_of)
 
 -- the values of the elements that are whole
 abbrev pub whole_elements : Option (List Entry) → List (List Step)
@@ -46,14 +50,15 @@ verdict_on draft has_list Verdict.More = Ok draft
 verdict_on draft has_list (Verdict.BadAt at) = Err (NotJson at)
 verdict_on draft has_list Verdict.Whole = if has_list then Ok draft else Err (Shape 0)
 
--- what a text comes to, of which these are the fixed steps and the verdict behind them: the fault of a whole element
--- comes first, then that of the JSON text, and the form of the whole at the end
+-- what a text comes to, of which these are the fixed steps and the verdict behind them: the fault of a whole
+-- element comes first, then that of the JSON text, and the form of the whole at the end
 abbrev pub outcome_of : Limits → List Step → Verdict → Result Draft MapError
 outcome_of limits steps verdict =
     and_then (draft_of limits steps) (λ draft. verdict_on draft (is_some (elements_list steps)) verdict)
 
 -- the bytes of a text, with its end or without, come to this
-pub record ComesTo (limits : Limits) (bytes : List ℕ) (ended : Bool) (outcome : Result Draft MapError) : Type 0 where
+pub record ComesTo (limits : Limits) (bytes : List ℕ) (ended : Bool) (outcome : Result Draft MapError) :
+    Type 0 where
   pub steps : List Step
   pub verdict : Verdict
   pub reads : Reads bytes ended steps verdict

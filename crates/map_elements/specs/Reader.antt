@@ -67,10 +67,12 @@ pub record IsTop (steps : List Step) (depth : ℕ) (is_named : Bool) : Type 0 wh
   pub awaited : IsAwaited is_named name value depth
 
 -- the steps lead into the list of elements: these are whole, and of one more this has come
-pub record IsInList (steps : List Step) (depth : ℕ) (value : List Step) (values : List (List Step)) : Type 0 where
+pub record IsInList (steps : List Step) (depth : ℕ) (value : List Step) (values : List (List Step)) :
+    Type 0 where
   pub name : Option (List ℕ)
   pub entries : List Entry
-  pub from : (rest : List Step) → elements_list (steps ++ rest) ≡ Some (entries ++ entries_from name value depth rest)
+  pub from : (rest : List Step) →
+      elements_list (steps ++ rest) ≡ Some (entries ++ entries_from name value depth rest)
   pub whole : whole_values entries ≡ values
 
 -- the steps lead behind the list of elements
@@ -86,7 +88,8 @@ IsNever steps = (rest : List Step) → elements_list (steps ++ rest) ≡ None
 -- where the steps have led, with so much of an element and so many whole ones
 abbrev pub IsAt : Place → List Step → List Step → List (List Step) → Type 0
 IsAt place_.Start value steps values = (steps ≡ []) × (values ≡ []) × (value ≡ [])
-IsAt (place_.Top depth is_named) value steps values = IsTop steps depth is_named × (values ≡ []) × (value ≡ [])
+IsAt (place_.Top depth is_named) value steps values = IsTop steps depth is_named × (values ≡ []) ×
+    (value ≡ [])
 IsAt (place_.Elements depth) value steps values = IsInList steps depth value values
 IsAt place_.Past value steps values = IsPast steps values
 IsAt place_.Never value steps values = IsNever steps × (values ≡ [])
@@ -118,7 +121,8 @@ IsRefused limits values value fault =
 
 -- the steps have this fault, whatever follows them
 abbrev pub IsFault : Limits → List Step → MapError → Type 0
-IsFault limits steps fault = (rest : List Step) (verdict : Verdict) → outcome_of limits (steps ++ rest) verdict ≡ Err fault
+IsFault limits steps fault = (rest : List Step) (verdict : Verdict) →
+    outcome_of limits (steps ++ rest) verdict ≡ Err fault
 
 -- ---- The reader
 
@@ -136,7 +140,8 @@ pub record StandsWith (limits : Limits) (reading : Reading) (bytes : List ℕ) (
 
 -- the same bytes are read on
 pub record ReadsOn (old new : Reading) : Type 0 where
-  pub stands : (limits : Limits) (bytes : List ℕ) (ended : Bool) → StandsWith limits old bytes ended → StandsWith limits new bytes ended
+  pub stands : (limits : Limits) (bytes : List ℕ) (ended : Bool) → StandsWith limits old bytes ended →
+      StandsWith limits new bytes ended
   pub fed : scanner.fed new.scanner ≡ scanner.fed old.scanner
   pub ended : scanner.has_ended new.scanner ≡ scanner.has_ended old.scanner
 
@@ -148,7 +153,8 @@ pub record IsRead (limits : Limits) (reading : Reading) (bytes : List ℕ) (ende
   pub good : refusal_of verdict ≡ None
 
 -- one more step was read, or all were
-abbrev pub IsOn : Bool → Limits → Reading → List ℕ → Bool → Type 0
+abbrev pub IsOn : (is_more : Bool) (limits : Limits) (reading : Reading) (bytes : List ℕ) (ended : Bool) →
+    Type 0
 IsOn true limits reading bytes ended = StandsWith limits reading bytes ended
 IsOn false limits reading bytes ended = IsRead limits reading bytes ended
 

@@ -11,7 +11,8 @@ use Rattle.map_elements.specs.Elements.{Element}
 abbrev pub seen : Kind → Element
 seen (element_.Node id spot tags) = Element.Node (record { id = id; content = place_of spot; tags = tags })
 seen (element_.Way id nodes tags) = Element.Way (record { id = id; content = nodes; tags = tags })
-seen (element_.Relation id members tags) = Element.Relation (record { id = id; content = members; tags = tags })
+seen (element_.Relation id members tags) =
+    Element.Relation (record { id = id; content = members; tags = tags })
 seen element_.Other = Element.Other
 
 -- what is there; otherwise the element at this place has the wrong shape

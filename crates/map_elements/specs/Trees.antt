@@ -1,5 +1,5 @@
--- The steps of a JSON tree, and what its members and items are: laws that tie what is cut by counting brackets to the
--- tree (RFC 8259).
+-- The steps of a JSON tree, and what its members and items are: laws that tie what is cut by counting
+-- brackets to the tree (RFC 8259).
 use Rattle.std.specs.Prelude.{◌≡◌, ℕ, List, [], ◌∷◌, ◌++◌, true, Option, Some, None}
 use Rattle.json_text.specs.declared.mode.Bracket.{Bracket}
 use Rattle.json_text.specs.declared.mode.Bracket.TheVariants as bracket_
@@ -40,12 +40,14 @@ abbrev mutual
 -- the entries behind the first, each with its name and the steps of its value
 abbrev pub others_told : Others → List Entry
 others_told (Others.Last space) = []
-others_told (Others.Next space behind name value others) = whole_entry (name_told name) (tree_steps value) ∷ others_told others
+others_told (Others.Next space behind name value others) =
+    whole_entry (name_told name) (tree_steps value) ∷ others_told others
 
 -- the entries of an object or an array, each with its name and the steps of its value
 abbrev pub entries_told : Entries → List Entry
 entries_told (Entries.Empty space) = []
-entries_told (Entries.Entry space name value others) = whole_entry (name_told name) (tree_steps value) ∷ others_told others
+entries_told (Entries.Entry space name value others) =
+    whole_entry (name_told name) (tree_steps value) ∷ others_told others
 
 -- the steps of a text that was read to its end are those of a value of the grammar
 abbrev pub AreOfTree : Type 0
@@ -54,8 +56,10 @@ AreOfTree = (bytes : List ℕ) (steps : List Step) → Reads bytes true steps Ve
 
 -- the members of an object are those of its tree
 abbrev pub AreMembersOfTree : Type 0
-AreMembersOfTree = (entries : Entries) → members_of (tree_steps (Value.Group bracket_.Curly entries)) ≡ Some (entries_told entries)
+AreMembersOfTree = (entries : Entries) →
+    members_of (tree_steps (Value.Group bracket_.Curly entries)) ≡ Some (entries_told entries)
 
 -- the items of an array are those of its tree
 abbrev pub AreItemsOfTree : Type 0
-AreItemsOfTree = (entries : Entries) → items_of (tree_steps (Value.Group bracket_.Square entries)) ≡ Some (entries_told entries)
+AreItemsOfTree = (entries : Entries) →
+    items_of (tree_steps (Value.Group bracket_.Square entries)) ≡ Some (entries_told entries)

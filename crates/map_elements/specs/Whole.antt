@@ -4,8 +4,8 @@ use Rattle.std.specs.Char.{is_ascii_digit}
 use Rattle.fixed_num.specs.Decimal.{with_sign}
 use Rattle.map_elements.specs.Fields.{fits_64}
 
--- the number that digits spell after the number that the digits before them spell, none where a byte is no digit or
--- the number is above 2^63
+-- the number that digits spell after the number that the digits before them spell, none where a byte is no
+-- digit or the number is above 2^63
 abbrev pub size_from : ℕ → List ℕ → Option ℕ
 size_from n [] = if nat_le n 9223372036854775808 then Some n else None
 size_from n (c ∷ cs) = if is_ascii_digit c then size_from (10 * n + (c - 48)) cs else None

@@ -1,6 +1,6 @@
 //! What stands in the fields of an element.
-ghost use Rattle.std.specs.Prelude.{◌≡◌, [], None, Some, MatchOption, option_map};
-ghost use Rattle.map_elements.specs.Entries.{entries_from, member, members_of, items_of};
+ghost use Rattle.std.specs.Prelude.{◌≡◌, None, Some, MatchOption};
+ghost use Rattle.map_elements.specs.Entries.{member, members_of, items_of};
 ghost use Rattle.map_elements.specs.Fields.{with_some, text_of, number_of, whole_number_of};
 
 use crate::steps::StepKind;

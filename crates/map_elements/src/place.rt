@@ -13,7 +13,8 @@ use json_text::JsonStep;
 pub(crate) enum Place {
     /// Nothing has come.
     Start,
-    /// Into the top object, before any member `elements`; the value that has come so far has so many open brackets, or
+    /// Into the top object, before any member `elements`; the value that has come so far has so
+    /// many open brackets, or
     /// `is_named` tells that the value of `elements` is next.
     Top { depth: u32, is_named: bool },
     /// Into the list of elements, where so many brackets of an element are open.
@@ -42,7 +43,8 @@ pub(crate) enum Kind {
 /// What a step does to the brackets.
 pub(crate) fn kind_of(step: JsonStep) -> Kind
     requires no_verdict { verdict_for step ≡ None }
-    ensures value { (text : List ℕ) (s : Step) → step_for step text ≡ Some s → IsKind result text s }
+    ensures value { (text : List ℕ) (s : Step) → step_for step text ≡ Some s →
+        IsKind result text s }
 {
     match step {
         JsonStep::Open => Kind::Opens,
@@ -93,7 +95,8 @@ pub(crate) fn first_place(kind: Kind) -> Place
 
 /// Where a step between the members of the top object leads, or the first of a member's value.
 fn entry_place(is_named: bool, kind: Kind, text: &[u8]) -> Place
-    ensures value { (steps : List Step) (s : Step) → IsTop steps 0 is_named → IsKind kind text.now s →
+    ensures value { (steps : List Step) (s : Step) → IsTop steps 0 is_named →
+        IsKind kind text.now s →
         IsAt result [] (steps ++ s ∷ []) [] }
 {
     match kind {
@@ -134,7 +137,8 @@ fn entry_place(is_named: bool, kind: Kind, text: &[u8]) -> Place
 
 /// Where a step in the top object leads; none where brackets can't be counted any more.
 pub(crate) fn top_place(depth: u32, is_named: bool, kind: Kind, text: &[u8]) -> Option<Place>
-    ensures value { (steps : List Step) (s : Step) → IsTop steps depth is_named → IsKind kind text.now s →
+    ensures value { (steps : List Step) (s : Step) → IsTop steps depth is_named →
+        IsKind kind text.now s →
         IfSome result (λ place. IsAt place [] (steps ++ s ∷ []) []) }
 {
     if depth == 0 {

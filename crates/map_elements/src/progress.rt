@@ -1,9 +1,8 @@
 //! What has been read of a map's text, step by step.
 
-ghost use Rattle.std.specs.Prelude.{◌≡◌, ◌⊎◌, true, List, [], ◌∷◌, ◌++◌, length, Option, None, Some, Ok, Err, OnOk, MatchResult};
+ghost use Rattle.std.specs.Prelude.{◌≡◌, ◌⊎◌, true, List, [], ◌∷◌, ◌++◌, None, Some, Ok, Err, OnOk, MatchResult};
 ghost use Rattle.json_text.specs.Marks.{Step};
 ghost use Rattle.json_text.specs.Tokens.{step_for, verdict_for};
-ghost use Rattle.map_tables.specs.Draft.{empty};
 ghost use Rattle.map_tables.specs.Held.{Takes};
 ghost use Rattle.map_tables.specs.declared.error.MapError.TheVariants.{NoMemory};
 ghost use Rattle.map_elements.specs.declared.place.Place.TheVariants.{Elements};
@@ -59,7 +58,8 @@ impl Progress {
 
     /// Takes the element whose value is whole.
     fn take_whole(&mut self) -> Result<(), MapError>
-        ensures value { (limits : Limits) (values : List (List Step)) → IsTaken limits self.old values →
+        ensures value { (limits : Limits) (values : List (List Step)) →
+            IsTaken limits self.old values →
             MatchResult result (λ _. IsTaken limits self.new (values ++ self.old.steps ∷ []))
             (λ e. (e ≡ NoMemory) ⊎ IsRefused limits values self.old.steps e) }
         ensures place { OnOk result (self.new.place ≡ Elements 0) }
@@ -91,7 +91,8 @@ impl Progress {
         text: &[u8],
     ) -> Result<(), MapError>
         requires no_verdict { verdict_for step ≡ None }
-        ensures value { (limits : Limits) (steps : List Step) (values : List (List Step)) (s : Step) →
+        ensures value { (limits : Limits) (steps : List Step) (values : List (List Step)) (s :
+            Step) →
             IsInList steps depth self.old.steps values → IsTaken limits self.old values →
             step_for step text.now ≡ Some s → IsKind kind text.now s → goes_on depth s ≡ true →
             MatchResult result (λ _. Holds limits self.new (steps ++ s ∷ []))
@@ -120,7 +121,8 @@ impl Progress {
         text: &[u8],
     ) -> Result<(), MapError>
         requires no_verdict { verdict_for step ≡ None }
-        ensures value { (limits : Limits) (steps : List Step) (values : List (List Step)) (s : Step) →
+        ensures value { (limits : Limits) (steps : List Step) (values : List (List Step)) (s :
+            Step) →
             IsInList steps depth self.old.steps values → IsTaken limits self.old values →
             step_for step text.now ≡ Some s → IsKind kind text.now s →
             MatchResult result (λ _. Holds limits self.new (steps ++ s ∷ []))
@@ -148,7 +150,8 @@ impl Progress {
     /// Takes one more step of the text.
     pub(crate) fn take(&mut self, step: JsonStep, text: &[u8]) -> Result<(), MapError>
         requires no_verdict { verdict_for step ≡ None }
-        ensures value { (limits : Limits) (steps : List Step) (s : Step) → Holds limits self.old steps →
+        ensures value { (limits : Limits) (steps : List Step) (s : Step) →
+            Holds limits self.old steps →
             step_for step text.now ≡ Some s →
             MatchResult result (λ _. Holds limits self.new (steps ++ s ∷ []))
             (λ e. (e ≡ NoMemory) ⊎ IsFault limits (steps ++ s ∷ []) e) }

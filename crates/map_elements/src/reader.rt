@@ -7,8 +7,8 @@ use crate::reading::Reading;
 use map_tables::{Limits, MapError, Tables};
 use std::alloc::Global;
 
-/// A reader of a map's text, as Overpass gives it, into tables of its elements. The text is fed in pieces of any size, of
-/// which no copy is kept.
+/// A reader of a map's text, as Overpass gives it, into tables of its elements. The text is fed in
+/// pieces of any size, of which no copy is kept.
 pub struct DraftReader {
     reading: Reading,
     refused: Option<MapError>,
@@ -47,7 +47,8 @@ impl DraftReader {
     /// Scans a piece and reads its steps.
     fn read_piece(&mut self, piece: &[u8]) -> Result<(), MapError>
         requires few { fed self.old + length piece.now < 2 ^ 63 }
-        ensures value { (limits : Limited) (bytes : List ℕ) → StandsWith limits self.old.reading bytes false →
+        ensures value { (limits : Limited) (bytes : List ℕ) →
+            StandsWith limits self.old.reading bytes false →
             MatchResult result (λ _. IsRead limits self.new.reading (bytes ++ piece.now) false)
             (λ e. IsRefusal limits (bytes ++ piece.now) false e) }
         ensures fed { OnOk result (fed self.new ≡ fed self.old + length piece.now) }
@@ -61,8 +62,9 @@ impl DraftReader {
         self.reading.read_on()
     }
 
-    /// Takes the next piece of the text, of which fewer than 2^63 bytes may come in all. The first fault of the text is
-    /// answered in the call whose bytes fix it, and again by every later call; so is want of memory.
+    /// Takes the next piece of the text, of which fewer than 2^63 bytes may come in all. The first
+    /// fault of the text is answered in the call whose bytes fix it, and again by every later call;
+    /// so is want of memory.
     pub fn feed(&mut self, piece: &[u8]) -> Result<(), MapError>
         requires few { fed self.old + length piece.now < 2 ^ 63 }
         ensures value { (limits : Limited) (bytes : List ℕ) → StandsFor limits self.old bytes →
@@ -92,7 +94,8 @@ impl DraftReader {
     /// The tables of the text, which ends here, or its first fault.
     pub fn finish(self) -> Result<Tables, MapError>
         ensures exact { (limits : Limited) (bytes : List ℕ) → StandsFor limits self bytes →
-            MatchResult result (λ tables. (tables.limits ≡ limits) × ComesTo limits bytes true (Ok tables.draft))
+            MatchResult result (λ tables. (tables.limits ≡ limits) ×
+            ComesTo limits bytes true (Ok tables.draft))
             (λ e. IsRefusal limits bytes true e) }
         ensures again { (e : Fault) → refusal self ≡ Some e → result ≡ Err e }
     {

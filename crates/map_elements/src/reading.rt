@@ -1,6 +1,6 @@
 //! A map's text that is scanned and read, step by step.
 
-ghost use Rattle.std.specs.Prelude.{◌≡◌, ◌<◌, ℕ, Bool, true, false, List, [], None, Some, Ok, Err, is_some, IfOk, OnOk, MatchResult, IsTrue};
+ghost use Rattle.std.specs.Prelude.{◌≡◌, ◌<◌, ℕ, Bool, true, false, List, [], None, Some, Ok, Err, is_some, IfOk, MatchResult, IsTrue};
 ghost use Rattle.json_text.specs.Reading.{Verdict};
 ghost use Rattle.json_text.specs.Scanner.{IsVerdict, fed, has_ended, most_steps};
 ghost use Rattle.json_text.specs.Tokens.{verdict_for};
@@ -68,8 +68,10 @@ impl Reading {
 
     /// Reads the next step, if there is one.
     fn take_next(&mut self) -> Result<bool, MapError>
-        ensures value { (limits : Limited) (bytes : List ℕ) (ended : Bool) → StandsWith limits self.old bytes ended →
-            MatchResult result (λ more. IsOn more limits self.new bytes ended) (λ e. IsRefusal limits bytes ended e) }
+        ensures value { (limits : Limited) (bytes : List ℕ) (ended : Bool) →
+            StandsWith limits self.old bytes ended →
+            MatchResult result (λ more. IsOn more limits self.new bytes ended)
+            (λ e. IsRefusal limits bytes ended e) }
         ensures nearer { IfOk result (λ more. IsTrue more →
             most_steps self.new.scanner < most_steps self.old.scanner) }
         ensures fed { fed self.new.scanner ≡ fed self.old.scanner }
@@ -96,8 +98,10 @@ impl Reading {
 
     /// Reads all fixed steps.
     pub(crate) fn read_on(&mut self) -> Result<(), MapError>
-        ensures value { (limits : Limited) (bytes : List ℕ) (ended : Bool) → StandsWith limits self.old bytes ended →
-            MatchResult result (λ _. IsRead limits self.new bytes ended) (λ e. IsRefusal limits bytes ended e) }
+        ensures value { (limits : Limited) (bytes : List ℕ) (ended : Bool) →
+            StandsWith limits self.old bytes ended →
+            MatchResult result (λ _. IsRead limits self.new bytes ended)
+            (λ e. IsRefusal limits bytes ended e) }
         ensures fed { fed self.new.scanner ≡ fed self.old.scanner }
         ensures ended { has_ended self.new.scanner ≡ has_ended self.old.scanner }
     {
@@ -113,7 +117,8 @@ impl Reading {
     /// The tables of a text that has ended.
     pub(crate) fn into_tables(self) -> Result<Tables, MapError>
         ensures value { (limits : Limited) (bytes : List ℕ) → IsRead limits self bytes true →
-            MatchResult result (λ tables. (tables.limits ≡ limits) × ComesTo limits bytes true (Ok tables.draft))
+            MatchResult result (λ tables. (tables.limits ≡ limits) ×
+            ComesTo limits bytes true (Ok tables.draft))
             (λ e. IsRefusal limits bytes true e) }
     {
         let Reading {

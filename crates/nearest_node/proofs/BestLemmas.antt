@@ -93,7 +93,14 @@ moved-there count places may at keys best is good first some =
       record {
         in_range = good.in_range some;
         let_through = good.let_through some;
-        nearest = λ other below lets. omega (arith, self, small, best-first count places may at keys best is first other below lets, is.few, below);
+        nearest = λ other below lets. omega (
+          arith,
+          self,
+          small,
+          best-first count places may at keys best is first other below lets,
+          is.few,
+          below,
+        );
         first = λ other below lets same. omega (arith, self, same, best-first count places may at keys best is first other below lets);
       },
       omega (arith, self, some),

@@ -9,7 +9,11 @@ nearest-same : (count : ℕ) (places : ℕ → Place) (may : ℕ → Type 0) (at
 nearest-same count places may at a b is other =
     let there = is.nearest b other.in_range other.let_through in
     let back = other.nearest a is.in_range is.let_through in
-    omega (arith, is.first b other.in_range other.let_through (omega (arith, there, back)), other.first a is.in_range is.let_through (omega (arith, there, back)))
+    omega (
+      arith,
+      is.first b other.in_range other.let_through (omega (arith, there, back)),
+      other.first a is.in_range is.let_through (omega (arith, there, back)),
+    )
 
 -- a waypoint is moved to one node alone
 pub moved-same : (count : ℕ) (places : ℕ → Place) (may : ℕ → Type 0) (at : Place) (a b : Option ℕ) →

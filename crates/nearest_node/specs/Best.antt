@@ -23,6 +23,8 @@ pub record IsBest (count : ℕ) (places : ℕ → Place) (may : ℕ → Type 0) 
   pub is : best < no_rank → best ≡ rank_of places at (best % 2 ^ 32)
 
 -- no node of these keys that is let through ranks before the best
-abbrev pub IsFirstOf : (places : ℕ → Place) (may : ℕ → Type 0) (at : Place) (keys : List ℕ) (from to best : ℕ) → Type 0
+abbrev pub IsFirstOf : (places : ℕ → Place) (may : ℕ →
+    Type 0) (at : Place) (keys : List ℕ) (from to best : ℕ) → Type 0
 IsFirstOf places may at keys from to best =
-    (k : ℕ) → from ≤ k → k < to → may (get_or keys k 0 % 2 ^ 32) → best ≤ rank_of places at (get_or keys k 0 % 2 ^ 32)
+    (k : ℕ) → from ≤ k → k < to → may (get_or keys k 0 % 2 ^ 32) →
+    best ≤ rank_of places at (get_or keys k 0 % 2 ^ 32)

@@ -30,7 +30,9 @@ fn is_open_either_way<O: OpenLinks>(map: &Map, passages: &O, link: u32) -> bool
     requires in_range { link < length map.now.links }
     requires lawful { IsMap map.now }
     requires same_links { (O.opens passages.now).count ≡ length map.now.links }
-    ensures found { IsTrue result → IsTrue ((O.opens passages.now).is_open link) ⊎ IsTrue ((O.opens passages.now).is_open (twin_of link)) }
+    ensures found { IsTrue result →
+        IsTrue ((O.opens passages.now).is_open link) ⊎
+        IsTrue ((O.opens passages.now).is_open (twin_of link)) }
     ensures there { IsTrue ((O.opens passages.now).is_open link) → IsTrue result }
     ensures back { IsTrue ((O.opens passages.now).is_open (twin_of link)) → IsTrue result }
 {

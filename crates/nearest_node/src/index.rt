@@ -9,8 +9,8 @@ use geo_int::Spot;
 use overpass_graph::Map;
 use std::alloc::{AllocError, Global};
 
-/// The nodes of a map by latitude: 8 bytes a node. It is made once a map, and finds the nearest node of a place without
-/// a pass over all nodes.
+/// The nodes of a map by latitude: 8 bytes a node. It is made once a map, and finds the nearest
+/// node of a place without a pass over all nodes.
 #[derive(Drop)]
 pub struct NodeIndex {
     pub(crate) keys: Vec<u64>,
@@ -19,7 +19,8 @@ pub struct NodeIndex {
 impl NodeIndex {
     /// The nodes of this map by latitude.
     pub fn new(alloc: Global, map: &Map) -> Result<NodeIndex, AllocError>
-        ensures exact { IfOk result (λ index. IsIndex (length map.now.nodes) (place_at map.now) index.keys.items) }
+        ensures exact { IfOk result
+            (λ index. IsIndex (length map.now.nodes) (place_at map.now) index.keys.items) }
     {
         let mut keys = keys(alloc, map)?;
         keys.sort_unstable();
@@ -29,7 +30,8 @@ impl NodeIndex {
 
 /// The keys of all nodes by number.
 fn keys(alloc: Global, map: &Map) -> Result<Vec<u64>, AllocError>
-    ensures exact { IfOk result (λ keys. keys.items ≡ keys_below (place_at map.now) (length map.now.nodes)) }
+    ensures exact { IfOk result
+        (λ keys. keys.items ≡ keys_below (place_at map.now) (length map.now.nodes)) }
 {
     let mut keys = Vec::new(alloc);
     'nodes: for node in 0..map.nodes() {

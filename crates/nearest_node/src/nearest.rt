@@ -15,8 +15,9 @@ use geo_int::Spot;
 use overpass_graph::Map;
 
 impl NodeIndex {
-    /// The node to which a waypoint is moved: of the nodes that some open link leaves or reaches the nearest, of those as
-    /// near the first; none where none lies within 250 metres. The index is that of the map. It takes no memory.
+    /// The node to which a waypoint is moved: of the nodes that some open link leaves or reaches
+    /// the nearest, of those as near the first; none where none lies within 250 metres. The index
+    /// is that of the map. It takes no memory.
     pub fn nearest<O: OpenLinks>(&self, map: &Map, passages: &O, at: Spot) -> Option<u32>
         requires index { IsIndex (length map.now.nodes) (place_at map.now) self.now.keys.items }
         requires same_links { (O.opens passages.now).count ≡ length map.now.links }
@@ -55,12 +56,15 @@ fn upward<O: OpenLinks>(
     requires lawful { IsMap map.now }
     requires index { IsIndex (length map.now.nodes) (place_at map.now) keys.now }
     requires same_links { (O.opens passages.now).count ≡ length map.now.links }
-    requires best { IsBest (length map.now.nodes) (place_at map.now) (IsEnd (roads_of map.now) (O.opens passages.now).is_open)
+    requires best { IsBest (length map.now.nodes) (place_at map.now)
+        (IsEnd (roads_of map.now) (O.opens passages.now).is_open)
         (place_of at) best }
-    ensures best { IsBest (length map.now.nodes) (place_at map.now) (IsEnd (roads_of map.now) (O.opens passages.now).is_open)
+    ensures best { IsBest (length map.now.nodes) (place_at map.now)
+        (IsEnd (roads_of map.now) (O.opens passages.now).is_open)
         (place_of at) result }
     ensures better { result ≤ best }
-    ensures first { IsFirstOf (place_at map.now) (IsEnd (roads_of map.now) (O.opens passages.now).is_open)
+    ensures first { IsFirstOf (place_at map.now)
+        (IsEnd (roads_of map.now) (O.opens passages.now).is_open)
         (place_of at) keys.now start (length keys.now) result }
 {
     let mut best = best;
@@ -86,13 +90,16 @@ fn downward<O: OpenLinks>(
     requires lawful { IsMap map.now }
     requires index { IsIndex (length map.now.nodes) (place_at map.now) keys.now }
     requires same_links { (O.opens passages.now).count ≡ length map.now.links }
-    requires best { IsBest (length map.now.nodes) (place_at map.now) (IsEnd (roads_of map.now) (O.opens passages.now).is_open)
+    requires best { IsBest (length map.now.nodes) (place_at map.now)
+        (IsEnd (roads_of map.now) (O.opens passages.now).is_open)
         (place_of at) best }
     requires within { start ≤ length keys.now }
-    ensures best { IsBest (length map.now.nodes) (place_at map.now) (IsEnd (roads_of map.now) (O.opens passages.now).is_open)
+    ensures best { IsBest (length map.now.nodes) (place_at map.now)
+        (IsEnd (roads_of map.now) (O.opens passages.now).is_open)
         (place_of at) result }
     ensures better { result ≤ best }
-    ensures first { IsFirstOf (place_at map.now) (IsEnd (roads_of map.now) (O.opens passages.now).is_open)
+    ensures first { IsFirstOf (place_at map.now)
+        (IsEnd (roads_of map.now) (O.opens passages.now).is_open)
         (place_of at) keys.now 0 start result }
 {
     let mut best = best;
@@ -127,12 +134,15 @@ fn better<O: OpenLinks>(map: &Map, passages: &O, at: Spot, node: u32, best: u64)
     requires in_range { node < length map.now.nodes }
     requires lawful { IsMap map.now }
     requires same_links { (O.opens passages.now).count ≡ length map.now.links }
-    requires best { IsBest (length map.now.nodes) (place_at map.now) (IsEnd (roads_of map.now) (O.opens passages.now).is_open)
+    requires best { IsBest (length map.now.nodes) (place_at map.now)
+        (IsEnd (roads_of map.now) (O.opens passages.now).is_open)
         (place_of at) best }
-    ensures best { IsBest (length map.now.nodes) (place_at map.now) (IsEnd (roads_of map.now) (O.opens passages.now).is_open)
+    ensures best { IsBest (length map.now.nodes) (place_at map.now)
+        (IsEnd (roads_of map.now) (O.opens passages.now).is_open)
         (place_of at) result }
     ensures better { result ≤ best }
-    ensures first { IsEnd (roads_of map.now) (O.opens passages.now).is_open node → result ≤ rank_of (place_at map.now) (place_of at) node }
+    ensures first { IsEnd (roads_of map.now) (O.opens passages.now).is_open node →
+        result ≤ rank_of (place_at map.now) (place_of at) node }
 {
     let found = rank(at, map.node_spot(node), node);
     if found < best && is_end(map, passages, node) {

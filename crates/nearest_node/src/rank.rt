@@ -13,10 +13,11 @@ pub(crate) const NO_RANK: u64 = 250_001 << 32;
 /// A length in millimetres that stands for all above 100 kilometres.
 const TOO_LONG: u32 = 100_000_001;
 
-/// The rank of a node at a spot: its distance from a place in millimetres above, its number below. All distances above
-/// 100 kilometres are one.
+/// The rank of a node at a spot: its distance from a place in millimetres above, its number below.
+/// All distances above 100 kilometres are one.
 pub(crate) fn rank(at: Spot, spot: Spot, node: u32) -> u64
-    ensures exact { result ≡ held_length (length_between (place_of at) (place_of spot)) * 2 ^ 32 + node }
+    ensures exact { result ≡
+        held_length (length_between (place_of at) (place_of spot)) * 2 ^ 32 + node }
 {
     ((distance(at, spot) as u64) << 32) + node as u64
 }

@@ -41,4 +41,5 @@ pub touching-cut : (roads : MapValue) (circles : List Circle) (link : ℕ) →
     is_cut roads circles link ≡ true
 unfolding cuts_link
 touching-cut roads circles link h =
-    some-touches (node_at roads.nodes (link_of roads link).from).content (node_at roads.nodes (link_of roads link).to).content circles h.place h.circle h.there h.touches
+    some-touches (node_at roads.nodes (link_of roads link).from).content (node_at roads.nodes (link_of roads link).to).content circles
+    h.place h.circle h.there h.touches

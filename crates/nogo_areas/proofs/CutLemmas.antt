@@ -43,19 +43,24 @@ pub twin-cut : (roads : MapValue) (circles : List Circle) (link : ℕ) → IsMap
     is_cut roads circles (twin_of link) ≡ is_cut roads circles link
 unfolding cuts_link
 twin-cut roads circles link lawful below =
-    ap (λ n. any_touches (node_at roads.nodes n).content (node_at roads.nodes (link_of roads (twin_of link)).to).content circles) (lawful.roads.twin_from link below)
-    ∙ ap (λ n. any_touches (node_at roads.nodes (link_of roads link).to).content (node_at roads.nodes n).content circles) (lawful.roads.twin_to link below)
+    ap (λ n. any_touches (node_at roads.nodes n).content (node_at roads.nodes (link_of roads (twin_of link)).to).content circles)
+    (lawful.roads.twin_from link below)
+    ∙ ap (λ n. any_touches (node_at roads.nodes (link_of roads link).to).content (node_at roads.nodes n).content circles)
+    (lawful.roads.twin_to link below)
     ∙ any-swap (node_at roads.nodes (link_of roads link).from).content (node_at roads.nodes (link_of roads link).to).content circles
 
 -- one more link
 pub cut-step : (roads : MapValue) (circles : List Circle) (link : ℕ) (cut new : List Bool) (is : Bool) → link < length roads.links →
-    cut ≡ take link (cut_of roads circles) → is ≡ is_cut roads circles link → new ≡ cut ++ is ∷ [] → new ≡ take (link + 1) (cut_of roads circles)
+    cut ≡ take link (cut_of roads circles) → is ≡ is_cut roads circles link → new ≡ cut ++ is ∷ [] →
+    new ≡ take (link + 1) (cut_of roads circles)
 cut-step roads circles link cut new is below before e pushed =
     let more = take_more (cut_of roads circles) link false (omega (arith, cut-length roads circles)) in
-    pushed ∙ ap (λ xs. xs ++ is ∷ []) before ∙ ap (λ t. take link (cut_of roads circles) ++ t ∷ []) (e ∙ sym (cut-at roads circles link below)) ∙ sym more
+    pushed ∙ ap (λ xs. xs ++ is ∷ []) before
+    ∙ ap (λ t. take link (cut_of roads circles) ++ t ∷ []) (e ∙ sym (cut-at roads circles link below)) ∙ sym more
 
 -- all links
-pub cut-whole : (roads : MapValue) (circles : List Circle) (n : ℕ) (cut : List Bool) → length roads.links ≤ n → cut ≡ take n (cut_of roads circles) →
+pub cut-whole : (roads : MapValue) (circles : List Circle) (n : ℕ) (cut : List Bool) → length roads.links ≤ n →
+    cut ≡ take n (cut_of roads circles) →
     cut ≡ cut_of roads circles
 cut-whole roads circles n cut all is = is ∙ take_all n (cut_of roads circles) (omega (arith, cut-length roads circles))
 

@@ -1,10 +1,10 @@
 -- Tables of masks leave out no circle that may touch something.
-use Rattle.std.proofs.Common.{◌≡◌, ℕ, zero, suc, ◌+◌, ◌-◌, ◌*◌, ◌/◌, ◌%◌, ◌^◌, ◌≤◌, ◌<◌, min, ◌⊎◌, inl, inr, ◌||◌, Bool, true, false, List, [], ◌∷◌, ◌++◌, length, get_or, refl, sym, ap, ◌∙◌, subst, arith}
+use Rattle.std.proofs.Common.{◌≡◌, ℕ, zero, suc, ◌+◌, ◌-◌, ◌*◌, ◌/◌, ◌%◌, ◌^◌, ◌≤◌, ◌<◌, min, ◌⊎◌, inl, inr, ◌||◌, true, false, List, [], ◌∷◌, ◌++◌, length, get_or, refl, sym, ap, ◌∙◌, subst, arith}
 use Rattle.std.specs.Int.{bit_at}
 use Rattle.std.specs.Int.RustNames.{bit_or}
 use lib.Bits.{bit_and}
 use Rattle.std.proofs.Common.{w64}
-use Rattle.std.proofs.lemmas.Bool.{cases_eq}
+use Rattle.std.proofs.lemmas.Bool.{cases_eq, cases_lt, or_right}
 use Rattle.std.specs.List.{slice_get}
 use Rattle.std.specs.Prelude.{Some}
 use Rattle.std.proofs.Math.Nat.{div-mul-le_self}
@@ -21,7 +21,6 @@ use Rattle.nogo_areas.specs.Fences.{step_of, AreBounds, HasReached, IsFence, Cle
 use Rattle.nogo_areas.specs.declared.circle.Circle.{Circle}
 use Rattle.nogo_areas.specs.declared.scale.Scale.{Scale}
 use Rattle.nogo_areas.specs.declared.sides.Side.{Side}
-use Rattle.nogo_areas.proofs.MissLemmas.{cases_le}
 
 -- ---- Steps
 
@@ -45,31 +44,24 @@ pub step-within : (scale : Scale) (p : ℕ) → step_of scale p < 1024
 unfolding step_of
 step-within scale p = omega arith
 
--- a number is at most another, or larger
-pub cases_lt : (n m : ℕ) → (n ≤ m) ⊎ (m < n)
-cases_lt zero m = inl (omega arith)
-cases_lt (suc n) zero = inr (omega arith)
-cases_lt (suc n) (suc m) = elim (cases_lt n m) [
-  | inl less ↦ inl (omega arith)
-  | inr more ↦ inr (omega arith)
-]
-
 -- ---- Masks
 
 -- a table whose masks have the circles that are reached is right
 pub fence-sound : (side : Side) (scale : Scale) (masks bounds : List ℕ) (circles : List Circle) → AreBounds side circles bounds →
     ((step : ℕ) → step < 1024 → HasReached scale bounds step (get_or masks step 0)) → IsFence side scale masks circles
 fence-sound side scale masks bounds circles are reached = record {
-  beyond = λ k circle few there distance clear. chosen k circle few there distance clear (cases_lt (get_or bounds k 0) distance);
+  beyond = λ k circle few there distance clear. chosen k circle few there distance clear (cases_lt distance (get_or bounds k 0));
 }
   where
     chosen : (k : ℕ) (circle : Circle) → k < 64 → slice_get circles k ≡ Some circle → (distance : ℕ) →
-        bit_at (get_or masks (step_of scale distance) 0) k ≡ 0 → (get_or bounds k 0 ≤ distance) ⊎ (distance < get_or bounds k 0) → IsBeyond side circle distance
-    chosen k circle few there distance clear (inl within) =
-        let set = (reached (step_of scale distance) (step-within scale distance)).reached k few (omega (arith, are.same, slice_get_within circles k circle there))
+        bit_at (get_or masks (step_of scale distance) 0) k ≡ 0 → (distance < get_or bounds k 0) ⊎ (get_or bounds k 0 ≤ distance) →
+        IsBeyond side circle distance
+    chosen k circle few there distance clear (inl more) = are.beyond k circle there distance more
+    chosen k circle few there distance clear (inr within) =
+        let set = (reached (step_of scale distance) (step-within scale distance)).reached k few
+        (omega (arith, are.same, slice_get_within circles k circle there))
         (step-grows scale (get_or bounds k 0) distance within) in
         absurd (omega (arith, set, clear))
-    chosen k circle few there distance clear (inr more) = are.beyond k circle there distance more
 
 -- the first so many bounds that are reached have their bits
 abbrev pub ReachedBelow : Scale → List ℕ → ℕ → ℕ → ℕ → Type 0
@@ -87,18 +79,20 @@ mask-set scale bounds step k mask few before j below reached = elim (cases_eq j 
 pub mask-kept : (scale : Scale) (bounds : List ℕ) (step k mask : ℕ) → step < step_of scale (get_or bounds k 0) →
     ReachedBelow scale bounds step k mask → ReachedBelow scale bounds step (k + 1) mask
 mask-kept scale bounds step k mask later before j below reached = elim (cases_eq j k) [
-  | inl same ↦ let h : step_of scale (get_or bounds k 0) ≤ step = subst (λ i. step_of scale (get_or bounds i 0) ≤ step) same reached in absurd (omega arith)
+  | inl same ↦ let h : step_of scale (get_or bounds k 0) ≤ step = subst (λ i. step_of scale (get_or bounds i 0) ≤ step) same reached in
+      absurd (omega arith)
   | inr other ↦ before j (omega (arith, other)) reached
 ]
 
 -- what both of two masks clear
-pub clears-and : (circles : List Circle) (a b : Spot) (m n : ℕ) → Clears circles a b m → Clears circles a b n → Clears circles a b (bit_and m n)
+pub clears-and : (circles : List Circle) (a b : Spot) (m n : ℕ) → Clears circles a b m → Clears circles a b n →
+    Clears circles a b (bit_and m n)
 clears-and circles a b m n first second = record {
-  untouched = λ k circle few there clear. chosen k circle few there (sym (bit_at_and m n k) ∙ clear) (cases_le (bit_at m k) (bit_at n k));
+  untouched = λ k circle few there clear. chosen k circle few there (sym (bit_at_and m n k) ∙ clear) (cases_lt (bit_at m k) (bit_at n k));
 }
   where
     chosen : (k : ℕ) (circle : Circle) → k < 64 → slice_get circles k ≡ Some circle → min (bit_at m k) (bit_at n k) ≡ 0 →
-        (bit_at m k ≤ bit_at n k) ⊎ (bit_at n k ≤ bit_at m k) → touches_way (place_of a) (place_of b) circle ≡ false
+        (bit_at m k < bit_at n k) ⊎ (bit_at n k ≤ bit_at m k) → touches_way (place_of a) (place_of b) circle ≡ false
     chosen k circle few there clear (inl less) = first.untouched k circle few there (omega arith)
     chosen k circle few there clear (inr more) = second.untouched k circle few there (omega arith)
 
@@ -113,8 +107,10 @@ fence-clears side scale masks circles a b farther sound first second = record {
 -- one more circle with its bound
 pub bounds-more : (side : Side) (circles : List Circle) (bounds new : List ℕ) (k : ℕ) (circle : Circle) (bound : ℕ) → length bounds ≡ k →
     slice_get circles k ≡ Some circle → ((distance : ℕ) → distance < bound → IsBeyond side circle distance) → new ≡ bounds ++ bound ∷ [] →
-    ((j : ℕ) (other : Circle) → j < k → slice_get circles j ≡ Some other → (distance : ℕ) → distance < get_or bounds j 0 → IsBeyond side other distance) →
-    (j : ℕ) (other : Circle) → j < k + 1 → slice_get circles j ≡ Some other → (distance : ℕ) → distance < get_or new j 0 → IsBeyond side other distance
+    ((j : ℕ) (other : Circle) → j < k → slice_get circles j ≡ Some other → (distance : ℕ) → distance < get_or bounds j 0 →
+    IsBeyond side other distance) →
+    (j : ℕ) (other : Circle) → j < k + 1 → slice_get circles j ≡ Some other → (distance : ℕ) → distance < get_or new j 0 →
+    IsBeyond side other distance
 bounds-more side circles bounds new k circle bound long there beyond is before j other below found distance less = elim (cases_eq j k) [
   | inl same ↦
       let e : other ≡ circle = cc in
@@ -122,14 +118,16 @@ bounds-more side circles bounds new k circle bound long there beyond is before j
       subst (λ x. IsBeyond side x distance) (sym e) (beyond distance (omega (arith, last)))
   | inr apart ↦
       let within : j < k = omega (arith, apart) in
-      let first : get_or new j 0 ≡ get_or bounds j 0 = ap (λ xs. get_or xs j 0) is ∙ get_or_append_left bounds (bound ∷ []) 0 j (omega (arith, long)) in
+      let first : get_or new j 0 ≡ get_or bounds j 0 = ap (λ xs. get_or xs j 0) is
+      ∙ get_or_append_left bounds (bound ∷ []) 0 j (omega (arith, long)) in
       before j other within found distance (omega (arith, first))
 ]
 
 -- ---- Ways
 
 -- one more circle that doesn't touch a way
-pub untouched-more : (a b : Place) (circles : List Circle) (k : ℕ) (circle : Circle) → slice_get circles k ≡ Some circle → touches_way a b circle ≡ false →
+pub untouched-more : (a b : Place) (circles : List Circle) (k : ℕ) (circle : Circle) → slice_get circles k ≡ Some circle →
+    touches_way a b circle ≡ false →
     ((j : ℕ) (other : Circle) → j < k → slice_get circles j ≡ Some other → touches_way a b other ≡ false) →
     (j : ℕ) (other : Circle) → j < k + 1 → slice_get circles j ≡ Some other → touches_way a b other ≡ false
 untouched-more a b circles k circle there misses before j other below found = elim (cases_eq j k) [
@@ -140,25 +138,23 @@ untouched-more a b circles k circle there misses before j other below found = el
 ]
 
 -- no circle touches a way that each circle doesn't touch
-pub none-touches : (a b : Place) (circles : List Circle) → ((k : ℕ) (circle : Circle) → slice_get circles k ≡ Some circle → touches_way a b circle ≡ false) →
+pub none-touches : (a b : Place) (circles : List Circle) →
+    ((k : ℕ) (circle : Circle) → slice_get circles k ≡ Some circle → touches_way a b circle ≡ false) →
     any_touches a b circles ≡ false
 none-touches a b [] h = refl
 none-touches a b (circle ∷ circles) h =
     ap (λ t. t || any_touches a b circles) (h 0 circle refl) ∙ none-touches a b circles (λ k other there. h (suc k) other there)
 
 -- some circle touches a way that one circle touches
-pub some-touches : (a b : Place) (circles : List Circle) (k : ℕ) (circle : Circle) → slice_get circles k ≡ Some circle → touches_way a b circle ≡ true →
+pub some-touches : (a b : Place) (circles : List Circle) (k : ℕ) (circle : Circle) → slice_get circles k ≡ Some circle →
+    touches_way a b circle ≡ true →
     any_touches a b circles ≡ true
 some-touches a b [] k circle there touches = cc
 some-touches a b (first ∷ circles) zero circle there touches =
     let e : first ≡ circle = cc in
     ap (λ t. t || any_touches a b circles) (ap (touches_way a b) e ∙ touches)
 some-touches a b (first ∷ circles) (suc k) circle there touches =
-    either (touches_way a b first) (any_touches a b circles) (some-touches a b circles k circle there touches)
-  where
-    either : (s t : Bool) → t ≡ true → (s || t) ≡ true
-    either true t e = refl
-    either false t e = e
+    or_right (touches_way a b first) (any_touches a b circles) (some-touches a b circles k circle there touches)
 
 -- an empty mask clears every way of few circles
 pub empty-clears : (circles : List Circle) (a b : Spot) (mask : ℕ) → mask ≡ 0 → length circles ≤ 64 → Clears circles a b mask →

@@ -1,12 +1,13 @@
 -- A way whose ends both lie beyond a circle's radius on one side isn't touched.
-use Rattle.std.proofs.Common.{◌≡◌, ℕ, zero, suc, pos, negsuc, ◌+◌, ◌*◌, ◌≤◌, ◌<◌, ℤ, neg_ℤ, ◌+ℤ◌, ◌-ℤ◌, ◌*ℤ◌, int_le, unsigned_abs, Bool, true, false, cond, ◌⊎◌, inl, inr, ◌-◌, refl, sym, ap, ◌∙◌, subst, arith}
-use Rattle.std.proofs.Math.IntN.{*ℤ_comm}
+use Rattle.std.proofs.Common.{◌≡◌, ℕ, zero, suc, pos, negsuc, ◌+◌, ◌*◌, ◌≤◌, ◌<◌, ℤ, neg_ℤ, ◌+ℤ◌, ◌-ℤ◌, ◌*ℤ◌, int_le, unsigned_abs, Bool, true, false, cond, inl, inr, ◌-◌, refl, sym, ap, ◌∙◌, subst, arith}
+use Rattle.std.proofs.Math.IntN.{*ℤ_comm, +ℤ_comm}
 use Rattle.std.proofs.lemmas.Nat.{mul-le, mul-lt}
 use Rattle.std.proofs.lemmas.Int.{ints}
 use Rattle.geo_int.specs.Circle.{way_touches, foot, way_square}
 use Rattle.geo_int.proofs.CircleLemmas.{way_touches-swap, way_touches-first, way_touches-second, way_touches-line, square-neg}
 use Rattle.geo_int.proofs.ProductLemmas.{mul-sub}
 use Rattle.geo_int.proofs.SquareLemmas.{square-is}
+use Rattle.std.proofs.lemmas.Bool.{cases_lt}
 
 -- ---- In whole numbers
 
@@ -72,7 +73,8 @@ way-north_first a b n m r beyond = chosen _ _ refl refl
     chosen false false e f =
         let up : pos (n + m) -ℤ pos n ≡ pos m = omega (arith, ints) in
         way_touches-line _ _ _ e f
-        ∙ subst (λ k. int_le ((a *ℤ pos (n + m) -ℤ pos n *ℤ b) *ℤ (a *ℤ pos (n + m) -ℤ pos n *ℤ b)) (pos (r * r) *ℤ ((b -ℤ a) *ℤ (b -ℤ a) +ℤ k *ℤ k)) ≡ false) (sym up)
+        ∙ subst (λ k. int_le ((a *ℤ pos (n + m) -ℤ pos n *ℤ b) *ℤ (a *ℤ pos (n + m) -ℤ pos n *ℤ b))
+        (pos (r * r) *ℤ ((b -ℤ a) *ℤ (b -ℤ a) +ℤ k *ℤ k)) ≡ false) (sym up)
         (subst (λ k. int_le (k *ℤ k) (pos (r * r) *ℤ ((b -ℤ a) *ℤ (b -ℤ a) +ℤ pos m *ℤ pos m)) ≡ false) (sym (area-by_steps a b n m))
         (line-beyond a (b -ℤ a) n m r beyond (subst (λ k. int_le (neg_ℤ (a *ℤ (b -ℤ a) +ℤ pos n *ℤ k)) (pos 0) ≡ false) up e)))
 
@@ -111,10 +113,6 @@ way-flip a n b m s =
     same_test _ _ _ _ _ _ _ _ _ _ s (ap (λ k. neg_ℤ (a *ℤ (b -ℤ a) +ℤ k)) along) (ap (λ k. (b -ℤ a) *ℤ (b -ℤ a) +ℤ k) step)
     (ap (λ k. a *ℤ a +ℤ k) (neg-neg n n)) (ap (λ k. b *ℤ b +ℤ k) (neg-neg m m)) (ap (λ k. k *ℤ k) area ∙ square-neg (a *ℤ m -ℤ n *ℤ b))
 
--- a sum is the same in the other order
-pub add-swap : (x y : ℤ) → x +ℤ y ≡ y +ℤ x
-add-swap x y = omega (arith, ints)
-
 -- north and east may change places
 pub way-turn : (a n b m : ℤ) (s : ℕ) →
     way_touches (record { east = n; north = a }) (record { east = m; north = b }) s ≡
@@ -122,22 +120,14 @@ pub way-turn : (a n b m : ℤ) (s : ℕ) →
 unfolding way_touches
 way-turn a n b m s =
     let area : n *ℤ b -ℤ a *ℤ m ≡ neg_ℤ (a *ℤ m -ℤ n *ℤ b) = omega (arith, ints) in
-    same_test _ _ _ _ _ _ _ _ _ _ s (ap neg_ℤ (add-swap (n *ℤ (m -ℤ n)) (a *ℤ (b -ℤ a)))) (add-swap ((m -ℤ n) *ℤ (m -ℤ n)) ((b -ℤ a) *ℤ (b -ℤ a)))
-    (add-swap (n *ℤ n) (a *ℤ a)) (add-swap (m *ℤ m) (b *ℤ b)) (ap (λ k. k *ℤ k) area ∙ square-neg (a *ℤ m -ℤ n *ℤ b))
-
--- one of two numbers is at most the other
-pub cases_le : (n m : ℕ) → (n ≤ m) ⊎ (m ≤ n)
-cases_le zero m = inl (omega arith)
-cases_le (suc n) zero = inr (omega arith)
-cases_le (suc n) (suc m) = elim (cases_le n m) [
-  | inl less ↦ inl (omega arith)
-  | inr more ↦ inr (omega arith)
-]
+    same_test _ _ _ _ _ _ _ _ _ _ s (ap neg_ℤ (+ℤ_comm (n *ℤ (m -ℤ n)) (a *ℤ (b -ℤ a))))
+    (+ℤ_comm ((m -ℤ n) *ℤ (m -ℤ n)) ((b -ℤ a) *ℤ (b -ℤ a)))
+    (+ℤ_comm (n *ℤ n) (a *ℤ a)) (+ℤ_comm (m *ℤ m) (b *ℤ b)) (ap (λ k. k *ℤ k) area ∙ square-neg (a *ℤ m -ℤ n *ℤ b))
 
 -- the way isn't touched whose ends both lie beyond the radius to the north
 pub way-north : (a b : ℤ) (n m r : ℕ) → r < n → r < m →
     way_touches (record { east = a; north = pos n }) (record { east = b; north = pos m }) (r * r) ≡ false
-way-north a b n m r first second = elim (cases_le n m) [
+way-north a b n m r first second = elim (cases_lt n m) [
   | inl less ↦
       let e : n + (m - n) ≡ m = omega arith in
       subst (λ k. way_touches (record { east = a; north = pos n }) (record { east = b; north = pos k }) (r * r) ≡ false) e

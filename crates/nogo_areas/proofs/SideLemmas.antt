@@ -40,7 +40,11 @@ pub squared-grows : (a b : ℕ) → a ≤ b → squared (radians a) ≤ squared 
 unfolding squared radians
 squared-grows a b less =
     let angle : a * 1745329252 / 100000000 ≤ b * 1745329252 / 100000000 = omega arith in
-    omega (arith, mul-le (a * 1745329252 / 100000000) (a * 1745329252 / 100000000) (b * 1745329252 / 100000000) (b * 1745329252 / 100000000) angle angle)
+    omega (
+      arith,
+      mul-le (a * 1745329252 / 100000000) (a * 1745329252 / 100000000) (b * 1745329252 / 100000000) (b * 1745329252 / 100000000)
+          angle angle,
+    )
 
 -- the cosine near a latitude isn't below the narrow one
 pub narrow-under : (lat : ℕ) (z : ℤ) → unsigned_abs z ≤ lat + 1350000 → narrow_cosine lat ≤ cosine_at z
@@ -97,7 +101,8 @@ half-within (negsuc a) = omega arith
 north-near : (z : ℤ) → unsigned_abs (north_part z) ≤ 300000000 → unsigned_abs z ≤ 2694935
 unfolding north_part
 north-near z near =
-    let e : unsigned_abs (int_div (z *ℤ pos 11132) (pos 100)) ≡ unsigned_abs (z *ℤ pos 11132) / 100 = unsigned_abs-int_div (z *ℤ pos 11132) 100 in
+    let e : unsigned_abs (int_div (z *ℤ pos 11132) (pos 100)) ≡ unsigned_abs (z *ℤ pos 11132) / 100 =
+    unsigned_abs-int_div (z *ℤ pos 11132) 100 in
     let f : unsigned_abs (z *ℤ pos 11132) ≡ unsigned_abs z * 11132 = unsigned_abs-mul z (pos 11132) in
     omega (arith, e, f)
 
@@ -121,15 +126,21 @@ gate-none false false x h = refl
 second-holds : (m n k : ℕ) → (nat_le m k && nat_le n k) ≡ true → n ≤ k
 second-holds m n k e = grind arith
 
+-- whether the way between two places is touched, seen from a circle's centre
+abbrev touched_from : (centre a b : Place) (r : ℕ) → Bool
+touched_from centre a b r =
+    way_touches (record { east = east_between centre a; north = north_between centre a })
+    (record { east = east_between centre b; north = north_between centre b }) (r * r)
+
 -- only ways whose ends are near have to be looked at
-pub near_only : (a b centre : Place) (r : ℕ) → (unsigned_abs (north_between centre a) ≤ 300000000 → unsigned_abs (north_between centre b) ≤ 300000000 →
-    way_touches (record { east = east_between centre a; north = north_between centre a }) (record { east = east_between centre b; north = north_between centre b }) (r * r) ≡ false) →
+pub near_only : (a b centre : Place) (r : ℕ) →
+    (unsigned_abs (north_between centre a) ≤ 300000000 → unsigned_abs (north_between centre b) ≤ 300000000 →
+    touched_from centre a b r ≡ false) →
     circle_touches a b centre r ≡ false
 unfolding circle_touches offsets_touch offset_between
 near_only a b centre r h =
     gate-none (is_near (record { east = east_between centre a; north = north_between centre a }))
-    (is_near (record { east = east_between centre b; north = north_between centre b }))
-    (way_touches (record { east = east_between centre a; north = north_between centre a }) (record { east = east_between centre b; north = north_between centre b }) (r * r))
+    (is_near (record { east = east_between centre b; north = north_between centre b })) (touched_from centre a b r)
     (λ e f. h (second-holds (unsigned_abs (east_between centre a)) (unsigned_abs (north_between centre a)) 300000000 e)
     (second-holds (unsigned_abs (east_between centre b)) (unsigned_abs (north_between centre b)) 300000000 f))
 
@@ -137,16 +148,21 @@ near_only a b centre r h =
 pub north-untouched : (a b centre : Place) (r n m : ℕ) → north_between centre a ≡ pos n → north_between centre b ≡ pos m → r < n → r < m →
     circle_touches a b centre r ≡ false
 north-untouched a b centre r n m e f first second = near_only a b centre r (λ _ _.
-    ap (λ k. way_touches (record { east = east_between centre a; north = k }) (record { east = east_between centre b; north = north_between centre b }) (r * r)) e
-    ∙ ap (λ k. way_touches (record { east = east_between centre a; north = pos n }) (record { east = east_between centre b; north = k }) (r * r)) f
+    ap (λ k. way_touches (record { east = east_between centre a; north = k })
+    (record { east = east_between centre b; north = north_between centre b }) (r * r)) e
+    ∙ ap (λ k. way_touches (record { east = east_between centre a; north = pos n }) (record { east = east_between centre b; north = k })
+    (r * r)) f
     ∙ way-north (east_between centre a) (east_between centre b) n m r first second)
 
 -- nor one whose ends lie beyond it to the south
-pub south-untouched : (a b centre : Place) (r n m : ℕ) → north_between centre a ≡ neg_ℤ (pos n) → north_between centre b ≡ neg_ℤ (pos m) → r < n → r < m →
+pub south-untouched : (a b centre : Place) (r n m : ℕ) → north_between centre a ≡ neg_ℤ (pos n) → north_between centre b ≡ neg_ℤ (pos m) →
+    r < n → r < m →
     circle_touches a b centre r ≡ false
 south-untouched a b centre r n m e f first second = near_only a b centre r (λ _ _.
-    ap (λ k. way_touches (record { east = east_between centre a; north = k }) (record { east = east_between centre b; north = north_between centre b }) (r * r)) e
-    ∙ ap (λ k. way_touches (record { east = east_between centre a; north = neg_ℤ (pos n) }) (record { east = east_between centre b; north = k }) (r * r)) f
+    ap (λ k. way_touches (record { east = east_between centre a; north = k })
+    (record { east = east_between centre b; north = north_between centre b }) (r * r)) e
+    ∙ ap (λ k. way_touches (record { east = east_between centre a; north = neg_ℤ (pos n) })
+    (record { east = east_between centre b; north = k }) (r * r)) f
     ∙ way-south (east_between centre a) (east_between centre b) n m r first second)
 
 -- nor one whose ends, where they are near, lie beyond it to the east
@@ -154,8 +170,10 @@ pub east-untouched : (a b centre : Place) (r n m : ℕ) → east_between centre 
     (unsigned_abs (north_between centre a) ≤ 300000000 → r < n) → (unsigned_abs (north_between centre b) ≤ 300000000 → r < m) →
     circle_touches a b centre r ≡ false
 east-untouched a b centre r n m e f first second = near_only a b centre r (λ near_a near_b.
-    ap (λ k. way_touches (record { east = k; north = north_between centre a }) (record { east = east_between centre b; north = north_between centre b }) (r * r)) e
-    ∙ ap (λ k. way_touches (record { east = pos n; north = north_between centre a }) (record { east = k; north = north_between centre b }) (r * r)) f
+    ap (λ k. way_touches (record { east = k; north = north_between centre a })
+    (record { east = east_between centre b; north = north_between centre b }) (r * r)) e
+    ∙ ap (λ k. way_touches (record { east = pos n; north = north_between centre a }) (record { east = k; north = north_between centre b })
+    (r * r)) f
     ∙ way-east (north_between centre a) (north_between centre b) n m r (first near_a) (second near_b))
 
 -- nor one whose ends, where they are near, lie beyond it to the west
@@ -163,8 +181,10 @@ pub west-untouched : (a b centre : Place) (r n m : ℕ) → east_between centre 
     (unsigned_abs (north_between centre a) ≤ 300000000 → r < n) → (unsigned_abs (north_between centre b) ≤ 300000000 → r < m) →
     circle_touches a b centre r ≡ false
 west-untouched a b centre r n m e f first second = near_only a b centre r (λ near_a near_b.
-    ap (λ k. way_touches (record { east = k; north = north_between centre a }) (record { east = east_between centre b; north = north_between centre b }) (r * r)) e
-    ∙ ap (λ k. way_touches (record { east = neg_ℤ (pos n); north = north_between centre a }) (record { east = k; north = north_between centre b }) (r * r)) f
+    ap (λ k. way_touches (record { east = k; north = north_between centre a })
+    (record { east = east_between centre b; north = north_between centre b }) (r * r)) e
+    ∙ ap (λ k. way_touches (record { east = neg_ℤ (pos n); north = north_between centre a })
+    (record { east = k; north = north_between centre b }) (r * r)) f
     ∙ way-west (north_between centre a) (north_between centre b) n m r (first near_a) (second near_b))
 
 -- ---- Sides
@@ -229,8 +249,10 @@ beyond-west circle reach distance farther less = record {
   untouched = λ a b ha hb.
       west-untouched (place_of a) (place_of b) (place_of circle.centre) circle.radius _ _
       (west-between a circle.centre (omega arith)) (west-between b circle.centre (omega arith))
-      (λ near. farther (circle.centre.ilon - a.ilon) _ (omega arith) (omega arith) (narrow-under _ _ (middle-near (place_of circle.centre) (place_of a) near)))
-      (λ near. farther (circle.centre.ilon - b.ilon) _ (omega arith) (omega arith) (narrow-under _ _ (middle-near (place_of circle.centre) (place_of b) near)));
+      (λ near. farther (circle.centre.ilon - a.ilon) _ (omega arith) (omega arith)
+      (narrow-under _ _ (middle-near (place_of circle.centre) (place_of a) near)))
+      (λ near. farther (circle.centre.ilon - b.ilon) _ (omega arith) (omega arith)
+      (narrow-under _ _ (middle-near (place_of circle.centre) (place_of b) near)));
 }
 
 -- a way to the east of all that a circle reaches
@@ -241,6 +263,8 @@ beyond-east circle reach distance farther less = record {
   untouched = λ a b ha hb.
       east-untouched (place_of a) (place_of b) (place_of circle.centre) circle.radius _ _
       (east-between a circle.centre (omega arith)) (east-between b circle.centre (omega arith))
-      (λ near. farther (a.ilon - circle.centre.ilon) _ (omega arith) (omega arith) (narrow-under _ _ (middle-near (place_of circle.centre) (place_of a) near)))
-      (λ near. farther (b.ilon - circle.centre.ilon) _ (omega arith) (omega arith) (narrow-under _ _ (middle-near (place_of circle.centre) (place_of b) near)));
+      (λ near. farther (a.ilon - circle.centre.ilon) _ (omega arith) (omega arith)
+      (narrow-under _ _ (middle-near (place_of circle.centre) (place_of a) near)))
+      (λ near. farther (b.ilon - circle.centre.ilon) _ (omega arith) (omega arith)
+      (narrow-under _ _ (middle-near (place_of circle.centre) (place_of b) near)));
 }

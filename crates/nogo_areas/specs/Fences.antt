@@ -18,12 +18,14 @@ step_of scale distance = min ((distance - scale.first) / 2 ^ scale.shift) 1023
 -- below the bound of each circle the circle touches nothing
 pub record AreBounds (side : Side) (circles : List Circle) (bounds : List ℕ) : Type 0 where
   pub same : length bounds ≡ length circles
-  pub beyond : (k : ℕ) (circle : Circle) → slice_get circles k ≡ Some circle → (distance : ℕ) → distance < get_or bounds k 0 →
+  pub beyond : (k : ℕ) (circle : Circle) → slice_get circles k ≡ Some circle → (distance : ℕ) →
+      distance < get_or bounds k 0 →
       IsBeyond side circle distance
 
 -- a mask has the bit of each of the first 64 circles whose bound is not on a later step
 pub record HasReached (scale : Scale) (bounds : List ℕ) (step : ℕ) (mask : ℕ) : Type 0 where
-  pub reached : (k : ℕ) → k < 64 → k < length bounds → step_of scale (get_or bounds k 0) ≤ step → bit_at mask k ≡ 1
+  pub reached : (k : ℕ) → k < 64 → k < length bounds → step_of scale (get_or bounds k 0) ≤ step →
+      bit_at mask k ≡ 1
 
 -- the masks of the steps leave out none of the first 64 circles that may touch something there
 pub record IsFence (side : Side) (scale : Scale) (masks : List ℕ) (circles : List Circle) : Type 0 where

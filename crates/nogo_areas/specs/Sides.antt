@@ -20,6 +20,7 @@ pub record IsBeyond (side : Side) (circle : Circle) (along : ℕ) : Type 0 where
   pub untouched : (a b : Spot) → along_of side a ≤ along → along_of side b ≤ along →
       touches_way (place_of a) (place_of b) circle ≡ false
 
--- a whole number of billionths below the cosine of each latitude at most 1,350,000 microdegrees farther from the equator
+-- a whole number of billionths below the cosine of each latitude at most 1,350,000 microdegrees farther from
+-- the equator
 unfoldable pub narrow_cosine : ℕ → ℕ
 narrow_cosine lat = 1000000000 - squared (radians (lat + 1350000)) / 2

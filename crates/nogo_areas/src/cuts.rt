@@ -10,7 +10,8 @@ use crate::touch::Fences;
 use overpass_graph::Map;
 use std::alloc::{AllocError, Global};
 
-/// For each link of the map, in their order, whether some circle touches the straight way between its ends.
+/// For each link of the map, in their order, whether some circle touches the straight way between
+/// its ends.
 pub fn cut(alloc: Global, map: &Map, circles: &[Circle]) -> Result<Vec<bool>, AllocError>
     ensures exact { IfOk result (λ cut. cut.items ≡ cut_of map.now circles.now) }
 {

@@ -25,7 +25,8 @@ impl Fence {
 
     /// The table for these circles.
     pub(crate) fn new(alloc: Global, side: Side, circles: &[Circle]) -> Result<Fence, AllocError>
-        ensures sound { IfOk result (λ fence. IsFence fence.side fence.scale fence.masks.items circles.now) }
+        ensures sound { IfOk result
+            (λ fence. IsFence fence.side fence.scale fence.masks.items circles.now) }
     {
         let bounds = bounds(alloc, side, circles)?;
         let scale = Scale::over(&bounds);
@@ -35,7 +36,8 @@ impl Fence {
 
     /// The circles that are reached by a way between two spots.
     pub(crate) fn mask(&self, a: Spot, b: Spot) -> u64
-        ensures clears { (circles : List Circle) → IsFence self.now.side self.now.scale self.now.masks.items circles
+        ensures clears { (circles : List Circle) →
+            IsFence self.now.side self.now.scale self.now.masks.items circles
             → Clears circles a b result }
     {
         let farther = along(self.side, a).max(along(self.side, b));

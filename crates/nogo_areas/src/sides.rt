@@ -57,12 +57,13 @@ fn height(radius: u64) -> u32
     (radius / 111) as u32
 }
 
-/// What is farther east or west, in microdegrees, is farther than the radius wherever the cosine is not below that of
-/// the centre's surroundings.
+/// What is farther east or west, in microdegrees, is farther than the radius wherever the cosine is
+/// not below that of the centre's surroundings.
 fn width(centre: Spot, radius: u64) -> u32
     requires radius { radius ≤ 100000000 }
     ensures farther { (d cosine : ℕ) → result < d → d ≤ 360000000
-        → narrow_cosine (unsigned_abs (place_of centre).lat) ≤ cosine → radius < d * 11132 * cosine / 100000000000 }
+        → narrow_cosine (unsigned_abs (place_of centre).lat) ≤ cosine →
+        radius < d * 11132 * cosine / 100000000000 }
 {
     let cosine = narrow(centre.lat());
     if cosine == 0 {

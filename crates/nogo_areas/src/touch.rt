@@ -1,6 +1,6 @@
 //! All four edges, and the test of a way.
 
-ghost use Rattle.std.specs.Prelude.{◌≡◌, ℕ, List, ◌<◌, IfOk, false};
+ghost use Rattle.std.specs.Prelude.{◌≡◌, List, ◌<◌, IfOk, false};
 ghost use Rattle.geo_int.specs.Spot.{place_of};
 ghost use Rattle.std.specs.Int.{bit_at};
 ghost use Rattle.nogo_areas.specs.Cuts.{any_touches, touches_way};
@@ -47,7 +47,8 @@ impl Fences {
 
     /// Which of the first 64 circles may touch the way between two spots.
     pub(crate) fn mask(&self, a: Spot, b: Spot) -> u64
-        ensures clears { (circles : List Circle) → AreFences circles self.now → Clears circles a b result }
+        ensures clears { (circles : List Circle) → AreFences circles self.now →
+            Clears circles a b result }
     {
         self.south.mask(a, b) & self.north.mask(a, b) & self.west.mask(a, b) & self.east.mask(a, b)
     }
@@ -80,7 +81,8 @@ fn touch_masked(mask: u64, circles: &[Circle], a: Spot, b: Spot) -> bool
 
 /// Whether a circle touches the way between two spots, if its bit is set or it has none.
 fn touches_masked(mask: u64, k: usize, circle: Circle, a: Spot, b: Spot) -> bool
-    requires clear { k < 64 → bit_at mask k ≡ 0 → touches_way (place_of a) (place_of b) circle ≡ false }
+    requires clear { k < 64 → bit_at mask k ≡ 0 →
+        touches_way (place_of a) (place_of b) circle ≡ false }
     ensures exact { result ≡ touches_way (place_of a) (place_of b) circle }
 {
     if k < 64 && (mask >> k) & 1 == 0 {

@@ -16,11 +16,15 @@ pub may_become : {A E : Type 0} (result : Result A E) (bytes : List ℕ)
 may_become (Ok a) bytes (draft, comes) = record { draft = draft; comes = comes }
 may_become (Err e) bytes h = h
 
--- a text whose elements are taken is that of their map, or lacks a node
-pub text_ends : (result : Result MapValue MapError) (bytes : List ℕ) (draft : Draft) → ComesTo most bytes true (Ok draft)
-    → MatchResult result (λ map. (missing_fault (first_missing draft.nodes draft.ways) ≡ None) × IsMapOf draft map)
+-- of elements that are taken comes their map, or the node that they lack is told
+abbrev pub ComesOf : (draft : Draft) (result : Result MapValue MapError) → Type 0
+ComesOf draft result =
+    MatchResult result (λ map. (missing_fault (first_missing draft.nodes draft.ways) ≡ None) × IsMapOf draft map)
     (λ e. (e ≡ NoMemory) ⊎ (missing_fault (first_missing draft.nodes draft.ways) ≡ Some e))
-    → MatchResult result (λ map. IsMapOfText bytes map) (λ e. (e ≡ NoMemory) ⊎ IsFaultOfText bytes e)
+
+-- a text whose elements are taken is that of their map, or lacks a node
+pub text_ends : (result : Result MapValue MapError) (bytes : List ℕ) (draft : Draft) → ComesTo most bytes true (Ok draft) →
+    ComesOf draft result → MatchResult result (λ map. IsMapOfText bytes map) (λ e. (e ≡ NoMemory) ⊎ IsFaultOfText bytes e)
 text_ends (Ok map) bytes draft comes (complete, is) = record { draft = draft; comes = comes; complete = complete; is_map = is }
 text_ends (Err e) bytes draft comes h = elim h [
   | inl m ↦ inl m

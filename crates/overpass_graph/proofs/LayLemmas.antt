@@ -2,7 +2,7 @@
 use Rattle.std.proofs.Common.{◌≡◌, ℕ, ℤ, pos, zero, suc, ◌+◌, ◌-◌, ◌<◌, ◌≤◌, true, false, ◌⊎◌, inl, inr, List, [], ◌∷◌, ◌++◌, length, get_or, drop, slice_get, Option, Some, None, option_map, is_some, refl, sym, ap, ◌∙◌, arith, eq-eqb, append_assoc}
 use Rattle.std.specs.Ordering.{int_eq}
 use Rattle.std.proofs.lemmas.Bool.{ne_eqb, cases_eq, cases_Bool}
-use Rattle.std.proofs.lemmas.List.{drop_more}
+use Rattle.std.proofs.lemmas.List.{drop_more, drop_all}
 use Rattle.std.proofs.lemmas.Option.{slice_get-get_or}
 use Rattle.geo_int.specs.Place.{Place}
 use Rattle.geo_int.specs.Arrow.{arrow_between}
@@ -10,7 +10,7 @@ use Rattle.geo_int.specs.declared.offsets.Arrow.{Arrow}
 use Rattle.map_tables.specs.Kept.{Kept, place_of_id, AreDistinct}
 use Rattle.map_tables.specs.declared.error.MapError.{MapError}
 use Rattle.map_tables.specs.declared.error.MapError.TheVariants.{MissingNode, NoMemory}
-use Rattle.map_tables.proofs.IdLemmas.{int_eq-refl, same_number}
+use Rattle.map_tables.proofs.CallerLemmas.{int_eq-refl, same_number}
 use Rattle.overpass_graph.specs.declared.link.Link.{Link}
 use Rattle.overpass_graph.specs.Laying.{links_at, links_up_to, links_left}
 use Rattle.overpass_graph.specs.Links.{both_ways, links_of_segment, links_along, missing_in, missing_or, first_missing, missing_fault}
@@ -30,7 +30,8 @@ links_at-both nodes numbers way segment a b o p q a_in b_in apart p_is q_is arro
     let at_a = slice_get-get_or nodes a no_node a_in in
     let at_b = slice_get-get_or nodes b no_node b_in in
     let there : is_some (arrow_between (node_at nodes a).content (node_at nodes b).content) ≡ true =
-    ap is_some (ap (λ x. arrow_between x (node_at nodes b).content) (sym (p_is (node_at nodes a) at_a)) ∙ ap (arrow_between p) (sym (q_is (node_at nodes b) at_b)) ∙ sym arrow) ∙ sym some in
+    ap is_some (ap (λ x. arrow_between x (node_at nodes b).content) (sym (p_is (node_at nodes a) at_a))
+    ∙ ap (arrow_between p) (sym (q_is (node_at nodes b) at_b)) ∙ sym arrow) ∙ sym some in
     rw (ne_eqb a b apart, at_a, at_b, there) refl
 
 -- a segment by the places of its nodes in the text makes the links that it makes by their ids
@@ -54,7 +55,14 @@ segment-same nodes places numbers distinct order way segment x y a b x_at y_at =
           number_found nodes places numbers distinct order x ∙ ap (option_map (λ p. get_or numbers p 0)) x_at in
           let number_y : place_of_id y (picked nodes places) ≡ Some (get_or numbers b 0) =
           number_found nodes places numbers distinct order y ∙ ap (option_map (λ p. get_or numbers p 0)) y_at in
-          rw (other, number_x, number_y, picked-get nodes places numbers order a here.0, picked-get nodes places numbers order b there.0, ne_eqb a b apart) refl
+          rw (
+            other,
+            number_x,
+            number_y,
+            picked-get nodes places numbers order a here.0,
+            picked-get nodes places numbers order b there.0,
+            ne_eqb a b apart,
+          ) refl
     ]
   where
     one : Some a ≡ Some b → a ≡ b
@@ -62,26 +70,23 @@ segment-same nodes places numbers distinct order way segment x y a b x_at y_at =
 
 -- ---- A way
 
--- nothing stands behind the end
-pub drop-beyond : {A : Type 0} (xs : List A) (n : ℕ) → length xs ≤ n → drop n xs ≡ []
-drop-beyond [] zero past = refl
-drop-beyond [] (suc n) past = refl
-drop-beyond (x ∷ xs) zero past = absurd (omega arith)
-drop-beyond (x ∷ xs) (suc n) past = drop-beyond xs n (omega arith)
-
 -- the links that are left are those of the segment that ends here and those behind it
 links_left-step : (nodes : List (Kept Place)) (places numbers : List ℕ) → AreDistinct nodes → IsNodeOrder nodes places numbers →
     (way : ℕ) (ids : List ℤ) (i last node : ℕ) → i < length ids → (0 < i → place_of_id (get_or ids (i - 1) (pos 0)) nodes ≡ Some last) →
     place_of_id (get_or ids i (pos 0)) nodes ≡ Some node →
-    links_left (picked nodes places) way ids i ≡ links_up_to nodes numbers way i last node ++ links_left (picked nodes places) way ids (i + 1)
+    links_left (picked nodes places) way ids i ≡ links_up_to nodes numbers way i last node ++
+    links_left (picked nodes places) way ids (i + 1)
 links_left-step nodes places numbers distinct order way [] zero last node below before here = absurd (omega arith)
 links_left-step nodes places numbers distinct order way (x ∷ ids) zero last node below before here = refl
 links_left-step nodes places numbers distinct order way ids (suc j) last node below before here =
     let e : suc j + 1 ≡ suc (suc j) = omega arith in
     let back : suc j - 1 ≡ j = omega arith in
-    let found : place_of_id (get_or ids j (pos 0)) nodes ≡ Some last = ap (λ k. place_of_id (get_or ids k (pos 0)) nodes) (sym back) ∙ before (omega arith) in
-    let front : drop (suc j) ids ≡ get_or ids (suc j) (pos 0) ∷ drop (suc (suc j)) ids = drop_more ids (suc j) (pos 0) below ∙ ap (λ n. get_or ids (suc j) (pos 0) ∷ drop n ids) e in
-    let segment = segment-same nodes places numbers distinct order way j (get_or ids j (pos 0)) (get_or ids (suc j) (pos 0)) last node found here in
+    let found : place_of_id (get_or ids j (pos 0)) nodes ≡ Some last = ap (λ k. place_of_id (get_or ids k (pos 0)) nodes) (sym back)
+    ∙ before (omega arith) in
+    let front : drop (suc j) ids ≡ get_or ids (suc j) (pos 0) ∷ drop (suc (suc j)) ids = drop_more ids (suc j) (pos 0) below
+    ∙ ap (λ n. get_or ids (suc j) (pos 0) ∷ drop n ids) e in
+    let segment = segment-same nodes places numbers distinct order way j (get_or ids j (pos 0)) (get_or ids (suc j) (pos 0)) last node found
+    here in
     ap (links_along (picked nodes places) way j (get_or ids j (pos 0))) front
     ∙ ap (λ ls. ls ++ links_along (picked nodes places) way (suc j) (get_or ids (suc j) (pos 0)) (drop (suc (suc j)) ids)) segment
     ∙ ap (λ n. links_at nodes numbers way j last node ++ links_left (picked nodes places) way ids n) (sym e)
@@ -90,7 +95,7 @@ links_left-step nodes places numbers distinct order way ids (suc j) last node be
 pub links_left-end : (nodes : List (Kept Place)) (way : ℕ) (ids : List ℤ) (i : ℕ) → length ids ≤ i → links_left nodes way ids i ≡ []
 links_left-end nodes way [] zero past = refl
 links_left-end nodes way (x ∷ ids) zero past = absurd (omega arith)
-links_left-end nodes way ids (suc j) past = ap (links_along nodes way j (get_or ids j (pos 0))) (drop-beyond ids (suc j) past)
+links_left-end nodes way ids (suc j) past = ap (links_along nodes way j (get_or ids j (pos 0))) (drop_all (suc j) ids past)
 
 -- what is laid and what is left stay all links together
 pub links-step : (nodes : List (Kept Place)) (places numbers : List ℕ) → AreDistinct nodes → IsNodeOrder nodes places numbers →
@@ -103,7 +108,8 @@ links-step nodes places numbers distinct order way ids i last node old new whole
     ∙ ap (λ ls. old ++ ls) (sym (links_left-step nodes places numbers distinct order way ids i last node below before here)) ∙ left
 
 -- a node that is there leaves the missing ones to those behind it
-pub missing-step : (nodes : List (Kept Place)) (ids : List ℤ) (i node : ℕ) → i < length ids → place_of_id (get_or ids i (pos 0)) nodes ≡ Some node →
+pub missing-step : (nodes : List (Kept Place)) (ids : List ℤ) (i node : ℕ) → i < length ids →
+    place_of_id (get_or ids i (pos 0)) nodes ≡ Some node →
     missing_in nodes (drop i ids) ≡ missing_in nodes (drop (i + 1) ids)
 missing-step nodes ids i node below here = rw (drop_more ids i (pos 0) below, here) refl
 
@@ -114,7 +120,7 @@ missing-here nodes ids i below here = rw (drop_more ids i (pos 0) below, here) r
 
 -- behind the end none is missing
 pub missing-end : (nodes : List (Kept Place)) (ids : List ℤ) (i : ℕ) → length ids ≤ i → missing_in nodes (drop i ids) ≡ None
-missing-end nodes ids i past = rw (drop-beyond ids i past) refl
+missing-end nodes ids i past = rw (drop_all i ids past) refl
 
 -- ---- The ways
 
@@ -128,7 +134,9 @@ pub way-missing : (nodes : List (Kept Place)) (ways : List (Kept (List ℤ))) (w
     (e ≡ NoMemory) ⊎ (option_map (MissingNode (way_at ways w).id) (missing_in nodes (way_at ways w).content) ≡ Some e) →
     (e ≡ NoMemory) ⊎ (missing_fault (first_missing nodes ways) ≡ Some e)
 way-missing nodes ways w e below none (inl memory) = inl memory
-way-missing nodes ways w e below none (inr missing) = inr (ap missing_fault (sym none ∙ ap (first_missing nodes) (drop_more ways w no_way below)) ∙ by_node (missing_in nodes (way_at ways w).content) missing)
+way-missing nodes ways w e below none (inr missing) =
+    inr (ap missing_fault (sym none ∙ ap (first_missing nodes) (drop_more ways w no_way below))
+    ∙ by_node (missing_in nodes (way_at ways w).content) missing)
   where
     by_node : (o : Option ℤ) → option_map (MissingNode (way_at ways w).id) o ≡ Some e →
         missing_fault (missing_or (way_at ways w).id o (first_missing nodes (drop (w + 1) ways))) ≡ Some e

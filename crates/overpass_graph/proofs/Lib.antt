@@ -1,6 +1,7 @@
 pub mod ArrowLemmas
 pub mod CallerLemmas
 pub mod GroupLemmas
+pub mod PlaceLemmas
 pub mod LawfulLemmas
 pub mod LayLemmas
 pub mod MapLemmas

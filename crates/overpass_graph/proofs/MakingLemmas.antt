@@ -26,7 +26,8 @@ tagged-length id tag (w ∷ ws) = ap suc (tagged-length id tag ws)
 members-length : (tag : Tag) (members : List Member) (ways : List KeptWay) → length (tag_members tag members ways) ≡ length ways
 members-length tag [] ways = refl
 members-length tag (m ∷ ms) ways =
-    members-length tag ms (if bytes_eq m.kind (codes "way") then tag_with_id m.reference tag ways else ways) ∙ by_kind (bytes_eq m.kind (codes "way"))
+    members-length tag ms (if bytes_eq m.kind (codes "way") then tag_with_id m.reference tag ways else ways)
+    ∙ by_kind (bytes_eq m.kind (codes "way"))
   where
     by_kind : (b : Bool) → length (if b then tag_with_id m.reference tag ways else ways) ≡ length ways
     by_kind true = tagged-length m.reference tag ways
@@ -44,7 +45,8 @@ routes-length (r ∷ rs) ways =
 -- ---- The map
 
 module _ (draft : Draft) (places numbers : List ℕ) (net : Net) (turns : TurnTable)
-    (order : IsNodeOrder draft.nodes places numbers) (links : AreLinksFor draft places numbers net) (at : AreTurnsFor draft places turns) where
+    (order : IsNodeOrder draft.nodes places numbers) (links : AreLinksFor draft places numbers net) (at :
+    AreTurnsFor draft places turns) where
   -- the parts fit
   pub made : AreDistinct draft.nodes → IsMade draft.nodes (with_routes draft.relations draft.ways) places numbers net turns
   made distinct = record {
@@ -52,16 +54,17 @@ module _ (draft : Draft) (places numbers : List ℕ) (net : Net) (turns : TurnTa
     order = order;
     net_nodes = links.nodes;
     turn_nodes = at.nodes;
-    lawful = lawful draft.nodes (with_routes draft.relations draft.ways) draft.ways places numbers net turns links.ends links.pieces (record {
-      order = links.fitting.order;
-      few_nodes = links.fitting.few_nodes;
-      few_links = links.fitting.few_links;
-      laid = links.fitting.laid;
-      same_ways = routes-length draft.relations draft.ways;
-      paired = links.fitting.paired;
-      even = links.fitting.even;
-      below = links.fitting.below;
-    });
+    lawful = lawful draft.nodes (with_routes draft.relations draft.ways) draft.ways places numbers net turns links.ends links.pieces
+        (record {
+          order = links.fitting.order;
+          few_nodes = links.fitting.few_nodes;
+          few_links = links.fitting.few_links;
+          laid = links.fitting.laid;
+          same_ways = routes-length draft.relations draft.ways;
+          paired = links.fitting.paired;
+          even = links.fitting.even;
+          below = links.fitting.below;
+        });
   }
 
   -- they are the map of the draft

@@ -17,7 +17,8 @@ pub record IsNodeAt (nodes : List (Kept Place)) (map : MapValue) (node place : �
   pub there : slice_get nodes place ≡ Some (node_at map.nodes node)
 
 -- the place of a node
-pub node-place : (nodes : List (Kept Place)) (ways : List (Kept (List ℤ))) (places numbers : List ℕ) (net : Net) (turns : TurnTable) (map : MapValue) →
+pub node-place : (nodes : List (Kept Place)) (ways : List (Kept (List ℤ))) (places numbers : List ℕ) (net : Net) (turns : TurnTable) (map :
+    MapValue) →
     IsMade nodes ways places numbers net turns → map_value nodes ways places net turns ≡ map →
     (node place : ℕ) → node < length map.nodes → place ≡ get_or places node place → IsNodeAt nodes map node place
 node-place nodes ways places numbers net turns map made seen node place node_in place_is =
@@ -33,31 +34,36 @@ node-place nodes ways places numbers net turns map made seen node place node_in 
     }
 
 -- the list of places has each node
-pub node-within : (nodes : List (Kept Place)) (ways : List (Kept (List ℤ))) (places numbers : List ℕ) (net : Net) (turns : TurnTable) (map : MapValue) →
+pub node-within : (nodes : List (Kept Place)) (ways : List (Kept (List ℤ))) (places numbers : List ℕ) (net : Net) (turns : TurnTable) (map :
+    MapValue) →
     IsMade nodes ways places numbers net turns → map_value nodes ways places net turns ≡ map → length places ≡ length map.nodes
 node-within nodes ways places numbers net turns map made seen =
     made.order.places_length ∙ sym (picked-length nodes places numbers made.order) ∙ ap (λ (m : MapValue). length m.nodes) seen
 
 -- there are as many nodes
-pub node-count : (nodes : List (Kept Place)) (ways : List (Kept (List ℤ))) (places numbers : List ℕ) (net : Net) (turns : TurnTable) (map : MapValue) →
+pub node-count : (nodes : List (Kept Place)) (ways : List (Kept (List ℤ))) (places numbers : List ℕ) (net : Net) (turns : TurnTable) (map :
+    MapValue) →
     IsMade nodes ways places numbers net turns → map_value nodes ways places net turns ≡ map → length nodes ≡ length map.nodes
 node-count nodes ways places numbers net turns map made seen =
     sym (picked-length nodes places numbers made.order) ∙ ap (λ (m : MapValue). length m.nodes) seen
 
 -- a node is found by its id
-pub node-found : (nodes : List (Kept Place)) (ways : List (Kept (List ℤ))) (places numbers : List ℕ) (net : Net) (turns : TurnTable) (map : MapValue) →
+pub node-found : (nodes : List (Kept Place)) (ways : List (Kept (List ℤ))) (places numbers : List ℕ) (net : Net) (turns : TurnTable) (map :
+    MapValue) →
     IsMade nodes ways places numbers net turns → map_value nodes ways places net turns ≡ map → (id : ℤ) →
     place_of_id id map.nodes ≡ option_map (λ p. get_or numbers p 0) (place_of_id id nodes)
 node-found nodes ways places numbers net turns map made seen id =
     ap (λ (m : MapValue). place_of_id id m.nodes) (sym seen) ∙ number_found nodes places numbers made.distinct made.order id
 
 -- the map is lawful
-pub made-lawful : (nodes : List (Kept Place)) (ways : List (Kept (List ℤ))) (places numbers : List ℕ) (net : Net) (turns : TurnTable) (map : MapValue) →
+pub made-lawful : (nodes : List (Kept Place)) (ways : List (Kept (List ℤ))) (places numbers : List ℕ) (net : Net) (turns : TurnTable) (map :
+    MapValue) →
     IsMade nodes ways places numbers net turns → map_value nodes ways places net turns ≡ map → IsMap map
 made-lawful nodes ways places numbers net turns map made seen = subst IsMap seen made.lawful
 
 -- a way by its number
-pub way-there : (nodes : List (Kept Place)) (ways : List (Kept (List ℤ))) (places : List ℕ) (net : Net) (turns : TurnTable) (map : MapValue) →
+pub way-there : (nodes : List (Kept Place)) (ways : List (Kept (List ℤ))) (places : List ℕ) (net : Net) (turns : TurnTable) (map :
+    MapValue) →
     map_value nodes ways places net turns ≡ map → (way : ℕ) → way < length map.ways → slice_get ways way ≡ Some (way_at map.ways way)
 way-there nodes ways places net turns map seen way below =
     let all : ways ≡ map.ways = ap (λ (m : MapValue). m.ways) seen in

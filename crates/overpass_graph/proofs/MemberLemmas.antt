@@ -1,13 +1,12 @@
 -- The ways of members, one member after the other.
 use Rattle.std.proofs.Common.{◌≡◌, ℕ, ℤ, ◌+◌, ◌<◌, ◌≤◌, Bool, true, false, List, [], ◌∷◌, ◌++◌, length, get_or, drop, Option, Some, None, refl, sym, ap, ◌∙◌, append_assoc}
-use Rattle.std.proofs.lemmas.List.{append-nil, drop_more}
+use Rattle.std.proofs.lemmas.List.{append-nil, drop_more, drop_all}
 use Rattle.std.specs.Prelude.{if◌then◌else◌}
 use Rattle.std.specs.Str.{bytes_eq}
 use Rattle.map_tables.specs.Kept.{Kept}
 use Rattle.map_tables.specs.declared.member.Member.{Member}
 use Rattle.overpass_graph.specs.Members.{no_member}
 use Rattle.overpass_graph.specs.Restrictions.{in_role, way_of, ways_of}
-use Rattle.overpass_graph.proofs.LayLemmas.{drop-beyond}
 
 -- the first member's part in a role
 pub role-first : (role : List ℕ) (m : Member) (ms : List Member) → in_role role (m ∷ ms) ≡ in_role role (m ∷ []) ++ in_role role ms
@@ -50,17 +49,19 @@ ways-on ways role members n old new all below so_far is =
 pub ways-end : (ways : List (Kept (List ℤ))) (role : List ℕ) (members : List Member) (n : ℕ) (old all : List ℕ) → length members ≤ n
     → old ++ ways_of ways (in_role role (drop n members)) ≡ all → old ≡ all
 ways-end ways role members n old all past so_far =
-    sym (append-nil old) ∙ ap (λ ms. old ++ ways_of ways (in_role role ms)) (sym (drop-beyond members n past)) ∙ so_far
+    sym (append-nil old) ∙ ap (λ ms. old ++ ways_of ways (in_role role ms)) (sym (drop_all n members past)) ∙ so_far
 
 -- a member in the role is the next
-pub role-here : (role : List ℕ) (members : List Member) (n : ℕ) → n < length members → bytes_eq (get_or members n no_member).role role ≡ true
+pub role-here : (role : List ℕ) (members : List Member) (n : ℕ) → n < length members →
+    bytes_eq (get_or members n no_member).role role ≡ true
     → in_role role (drop n members) ≡ get_or members n no_member ∷ in_role role (drop (n + 1) members)
 role-here role members n below here =
     ap (in_role role) (drop_more members n no_member below)
     ∙ ap (λ b. if b then get_or members n no_member ∷ in_role role (drop (n + 1) members) else in_role role (drop (n + 1) members)) here
 
 -- one in another role is passed over
-pub role-past : (role : List ℕ) (members : List Member) (n : ℕ) → n < length members → bytes_eq (get_or members n no_member).role role ≡ false
+pub role-past : (role : List ℕ) (members : List Member) (n : ℕ) → n < length members →
+    bytes_eq (get_or members n no_member).role role ≡ false
     → in_role role (drop n members) ≡ in_role role (drop (n + 1) members)
 role-past role members n below here =
     ap (in_role role) (drop_more members n no_member below)
@@ -68,4 +69,4 @@ role-past role members n below here =
 
 -- behind the last there is none
 pub role-end : (role : List ℕ) (members : List Member) (n : ℕ) → length members ≤ n → in_role role (drop n members) ≡ []
-role-end role members n past = ap (in_role role) (drop-beyond members n past)
+role-end role members n past = ap (in_role role) (drop_all n members past)

@@ -5,10 +5,10 @@ use Rattle.std.specs.Ordering.{int_eq}
 use Rattle.std.specs.List.{Contains}
 use Rattle.std.proofs.lemmas.Bool.{cases_Bool}
 use Rattle.std.proofs.lemmas.List.{get_or-map, length-map, get_or_default}
-use Rattle.std.proofs.lemmas.Option.{slice_get-get_or, slice_get_within}
+use Rattle.std.proofs.lemmas.Option.{slice_get-get_or, slice_get_within, same_Some}
 use Rattle.geo_int.specs.Place.{Place}
 use Rattle.map_tables.specs.Kept.{Kept, place_of_id, ids_of, AreDistinct}
-use Rattle.map_tables.proofs.IdLemmas.{int_eq-refl, same_number, place_in-at, place_in-own}
+use Rattle.map_tables.proofs.CallerLemmas.{int_eq-refl, same_number, place_in-at, place_in-own}
 use Rattle.overpass_graph.specs.declared.order.NodeId.{NodeId}
 use Rattle.overpass_graph.specs.Maps.{node_at, no_node, AreAscending}
 use Rattle.overpass_graph.specs.Orders.{row_at, AreAsPlaced, IsOrderOf, AreRowsOf, IsNodeOrder, picked}
@@ -27,23 +27,21 @@ ids-at [] k below = absurd (omega arith)
 ids-at (n ∷ nodes) zero below = refl
 ids-at (n ∷ nodes) (suc k) below = ids-at nodes k (omega arith)
 
--- one item is the other
-some-same : {A : Type 0} {x y : A} → Some x ≡ Some y → x ≡ y
-some-same e = cc
-
 -- where an id is found, the node has it
-pub found-at : (nodes : List (Kept Place)) (id : ℤ) (p : ℕ) → place_of_id id nodes ≡ Some p → (p < length nodes) × ((node_at nodes p).id ≡ id)
+pub found-at : (nodes : List (Kept Place)) (id : ℤ) (p : ℕ) → place_of_id id nodes ≡ Some p →
+    (p < length nodes) × ((node_at nodes p).id ≡ id)
 found-at nodes id p found =
     let at = place_in-at (ids_of nodes) id p found in
     let below : p < length nodes = omega (arith, slice_get_within (ids_of nodes) p id at, length-ids nodes) in
-    (below, some-same (sym (ids-at nodes p below) ∙ at))
+    (below, same_Some _ _ (sym (ids-at nodes p below) ∙ at))
 
 -- where ids are distinct, a node is found by its id
 pub found-own : (nodes : List (Kept Place)) (p : ℕ) → AreDistinct nodes → p < length nodes → place_of_id (node_at nodes p).id nodes ≡ Some p
 found-own nodes p distinct below = place_in-own (ids_of nodes) (node_at nodes p).id p distinct (ids-at nodes p below)
 
 -- where ids ascend, a node is found by its id
-pub found-ascending : (nodes : List (Kept Place)) (k : ℕ) (id : ℤ) → AreAscending nodes → k < length nodes → (node_at nodes k).id ≡ id → place_of_id id nodes ≡ Some k
+pub found-ascending : (nodes : List (Kept Place)) (k : ℕ) (id : ℤ) → AreAscending nodes → k < length nodes → (node_at nodes k).id ≡ id →
+    place_of_id id nodes ≡ Some k
 found-ascending [] k id rising below same = absurd (omega arith)
 found-ascending (n ∷ nodes) zero id rising below same =
     ap (λ b. cond b (Some 0) (option_map suc (place_of_id id nodes))) (ap (λ x. int_eq x id) same ∙ int_eq-refl id)
@@ -62,11 +60,13 @@ pub rows-placed : (nodes : List (Kept Place)) (rows : List NodeId) → AreRowsOf
 rows-placed nodes rows are k below = ap (λ (r : NodeId). r.place) (are.row k (omega (arith, are.length_is)))
 
 -- the order of rows is that of their nodes
-pub order-of_nodes : (nodes : List (Kept Place)) (rows : List NodeId) (places numbers : List ℕ) → AreRowsOf nodes rows → IsOrderOf rows places numbers →
+pub order-of_nodes : (nodes : List (Kept Place)) (rows : List NodeId) (places numbers : List ℕ) → AreRowsOf nodes rows →
+    IsOrderOf rows places numbers →
     IsNodeOrder nodes places numbers
 order-of_nodes nodes rows places numbers are order =
     let size = are.length_is in
-    let id_is : (k : ℕ) → k < length nodes → (row_at rows k).id ≡ (node_at nodes k).id = λ k below. ap (λ (r : NodeId). r.id) (are.row k below) in
+    let id_is : (k : ℕ) → k < length nodes →
+    (row_at rows k).id ≡ (node_at nodes k).id = λ k below. ap (λ (r : NodeId). r.id) (are.row k below) in
     record {
       places_length = order.places_length ∙ size;
       numbers_length = order.numbers_length ∙ size;
@@ -81,7 +81,8 @@ order-of_nodes nodes rows places numbers are order =
     }
 
 -- there are as many nodes in the order
-pub picked-length : (nodes : List (Kept Place)) (places numbers : List ℕ) → IsNodeOrder nodes places numbers → length (picked nodes places) ≡ length nodes
+pub picked-length : (nodes : List (Kept Place)) (places numbers : List ℕ) → IsNodeOrder nodes places numbers →
+    length (picked nodes places) ≡ length nodes
 picked-length nodes places numbers order = length-map places (node_at nodes) ∙ order.places_length
 
 -- a node in the order is that at its place
@@ -99,11 +100,13 @@ picked-number nodes places numbers order p below =
 pub picked-get : (nodes : List (Kept Place)) (places numbers : List ℕ) → IsNodeOrder nodes places numbers → (p : ℕ) → p < length nodes →
     slice_get (picked nodes places) (get_or numbers p 0) ≡ slice_get nodes p
 picked-get nodes places numbers order p below =
-    slice_get-get_or (picked nodes places) (get_or numbers p 0) no_node (omega (arith, order.number_in p below, picked-length nodes places numbers order))
+    slice_get-get_or (picked nodes places) (get_or numbers p 0) no_node
+    (omega (arith, order.number_in p below, picked-length nodes places numbers order))
     ∙ ap Some (picked-number nodes places numbers order p below) ∙ sym (slice_get-get_or nodes p no_node below)
 
 -- ids ascend in the order
-pub picked-ascending : (nodes : List (Kept Place)) (places numbers : List ℕ) → IsNodeOrder nodes places numbers → AreAscending (picked nodes places)
+pub picked-ascending : (nodes : List (Kept Place)) (places numbers : List ℕ) → IsNodeOrder nodes places numbers →
+    AreAscending (picked nodes places)
 picked-ascending nodes places numbers order i j before within =
     let j_in : j < length nodes = omega (arith, picked-length nodes places numbers order) in
     let i_in : i < length nodes = omega arith in
@@ -115,7 +118,8 @@ pub picked-same : (nodes : List (Kept Place)) (places numbers : List ℕ) → Is
 picked-same nodes places numbers order node = (
   (λ has.
       let p_in : has.0 < length nodes = has.1 in
-      let n_in : get_or numbers has.0 0 < length (picked nodes places) = omega (arith, order.number_in has.0 p_in, picked-length nodes places numbers order) in (
+      let n_in : get_or numbers has.0 0 < length (picked nodes places) =
+      omega (arith, order.number_in has.0 p_in, picked-length nodes places numbers order) in (
         get_or numbers has.0 0,
         n_in,
         get_or_default (picked nodes places) (get_or numbers has.0 0) _ no_node n_in
@@ -153,6 +157,7 @@ number_found nodes places numbers distinct order id = by_place (place_of_id id n
         by_number (Some k) found =
             let at = found-at (picked nodes places) id k found in
             let k_in : k < length nodes = omega (arith, at.0, picked-length nodes places numbers order) in
-            let same : (node_at nodes (get_or places k 0)).id ≡ id = ap (λ (n : Kept Place). n.id) (sym (picked-at nodes places numbers order k k_in)) ∙ at.1 in
+            let same : (node_at nodes (get_or places k 0)).id ≡ id =
+            ap (λ (n : Kept Place). n.id) (sym (picked-at nodes places numbers order k k_in)) ∙ at.1 in
             let own = found-own nodes (get_or places k 0) distinct (order.place_in k k_in) in
             absurd (some_none (sym own ∙ ap (λ i. place_of_id i nodes) same ∙ missing))

@@ -11,7 +11,7 @@ use Rattle.overpass_graph.specs.Links.{both_ways}
 use Rattle.overpass_graph.specs.Maps.{no_link}
 use Rattle.overpass_graph.specs.Pairs.{Net, paired, AreEndsBelow, IsSoundLaid, Lays, links_now}
 use Rattle.overpass_graph.specs.Nets.{net_link, links_leaving}
-use Rattle.overpass_graph.proofs.GroupLemmas.{places-hit, places-miss, places-none}
+use Rattle.overpass_graph.proofs.PlaceLemmas.{places-hit, places-miss, places-none}
 
 -- ---- Numbers in pairs
 
@@ -135,7 +135,13 @@ paired-append [] (q ∷ pieces) a b p even = absurd (omega arith)
 paired-append (c ∷ ends) [] a b p even = absurd (omega arith)
 paired-append (c ∷ []) (q ∷ pieces) a b p even = absurd (omega arith)
 paired-append (c ∷ d ∷ ends) (q ∷ pieces) a b p even =
-    ap (λ links. record { from = c; to = d; way = q.way; segment = q.segment; back = false } ∷ record { from = d; to = c; way = q.way; segment = q.segment; back = true } ∷ links)
+    ap (λ links. record { from = c; to = d; way = q.way; segment = q.segment; back = false } ∷ record {
+      from = d;
+      to = c;
+      way = q.way;
+      segment = q.segment;
+      back = true;
+    } ∷ links)
     (paired-append ends pieces a b p (omega arith))
 
 -- ---- What is read
@@ -157,7 +163,8 @@ pub link-read : (ends : List ℕ) (pieces : List Piece) → length ends ≡ 2 * 
     link ≡ get_or (paired ends pieces) k no_link
 link-read ends pieces even k p below p_is from to from_is to_is =
     let half_in : k / 2 < length pieces = omega arith in
-    let piece : p ≡ get_or pieces (half k) no_piece = get_or_read pieces (k / 2) p half_in p_is no_piece ∙ ap (λ n. get_or pieces n no_piece) (sym (half-is k)) in
+    let piece : p ≡ get_or pieces (half k) no_piece = get_or_read pieces (k / 2) p half_in p_is no_piece
+    ∙ ap (λ n. get_or pieces n no_piece) (sym (half-is k)) in
     let to_other : to ≡ get_or ends (other k) 0 = to_is ∙ ap (λ n. get_or ends n 0) (sym (other-is k)) in
     rw (paired-at ends pieces even k below, from_is, to_other, piece, second-is k) refl
 
@@ -207,7 +214,8 @@ pub net-size : (nodes : ℕ) (ends : List ℕ) (pieces : List Piece) (net : Net)
 net-size nodes ends pieces net even seen = sym (paired-length ends pieces even) ∙ ap (λ (n : Net). length n.links) seen
 
 -- a list of ends with two more is below where they are
-ends-below : (nodes : ℕ) (ends : List ℕ) (a b : ℕ) → AreEndsBelow nodes ends → a < nodes → b < nodes → AreEndsBelow nodes (ends ++ a ∷ b ∷ [])
+ends-below : (nodes : ℕ) (ends : List ℕ) (a b : ℕ) → AreEndsBelow nodes ends → a < nodes → b < nodes →
+    AreEndsBelow nodes (ends ++ a ∷ b ∷ [])
 ends-below nodes [] a b below a_in b_in zero within = a_in
 ends-below nodes [] a b below a_in b_in (suc zero) within = b_in
 ends-below nodes [] a b below a_in b_in (suc (suc k)) within = absurd (omega arith)
@@ -223,7 +231,8 @@ laid-more nodes laid next a b p is a_in b_in ends_are pieces_are =
     let ends : next.ends.items ≡ laid.ends.items ++ a ∷ b ∷ [] = ends_are ∙ append_assoc laid.ends.items (a ∷ []) (b ∷ []) in
     record {
       sound = record {
-        even = rw (ends, pieces_are, length-append laid.ends.items (a ∷ b ∷ []), length-append laid.pieces.items (p ∷ [])) (omega (arith, is.even));
+        even = rw (ends, pieces_are, length-append laid.ends.items (a ∷ b ∷ []), length-append laid.pieces.items (p ∷ []))
+            (omega (arith, is.even));
         below = rw ends (ends-below nodes laid.ends.items a b is.below a_in b_in);
       };
       links = rw (ends, pieces_are) (paired-append laid.ends.items laid.pieces.items a b p is.even);

@@ -5,10 +5,11 @@ use Rattle.std.specs.Str.{bytes_eq}
 use lib.Chars.{codes}
 use Rattle.map_tables.specs.Kept.{Tag, AreDistinct, ids_of, place_of_id, with_tag}
 use Rattle.map_tables.specs.declared.member.Member.{Member}
-use Rattle.map_tables.proofs.IdLemmas.{place_in-none, place_in-some, same_number}
+use Rattle.map_tables.proofs.CallerLemmas.{place_in-none, place_in-some, same_number}
 use Rattle.overpass_graph.specs.Members.{KeptWay, tag_once}
 use Rattle.overpass_graph.specs.Restrictions.{way_of}
 use Rattle.overpass_graph.specs.RouteTags.{tag_with_id}
+use Rattle.std.proofs.lemmas.Option.{same_Some}
 
 -- an id that isn't there gets no tag
 pub tagged-none : (id : ℤ) (tag : Tag) (ways : List KeptWay) → place_of_id id ways ≡ None → tag_with_id id tag ways ≡ ways
@@ -18,7 +19,8 @@ tagged-none id tag (w ∷ ws) none =
     ap (λ b. (if b then with_tag tag w else w) ∷ tag_with_id id tag ws) other ∙ ap (λ rest. w ∷ rest) (tagged-none id tag ws later)
 
 -- the tag for the way of an id stands at its place
-pub tagged-one : (id : ℤ) (tag : Tag) (ways : List KeptWay) (i : ℕ) (k : KeptWay) → AreDistinct ways → place_of_id id ways ≡ Some i → slice_get ways i ≡ Some k
+pub tagged-one : (id : ℤ) (tag : Tag) (ways : List KeptWay) (i : ℕ) (k : KeptWay) → AreDistinct ways → place_of_id id ways ≡ Some i →
+    slice_get ways i ≡ Some k
     → slice_set ways i (with_tag tag k) ≡ tag_with_id id tag ways
 tagged-one id tag [] i k distinct found there = cc
 tagged-one id tag (w ∷ ws) i k distinct found there =
@@ -27,7 +29,7 @@ tagged-one id tag (w ∷ ws) i k distinct found there =
     let own : w.id ≡ id = same_number w.id id same in
     let later : place_of_id id ws ≡ None = ap (λ n. place_of_id n ws) (sym own) ∙ distinct.0 in
     let here : slice_get (w ∷ ws) 0 ≡ Some k = subst (λ n. slice_get (w ∷ ws) n ≡ Some k) first there in
-    let is : w ≡ k = some_same here in
+    let is : w ≡ k = same_Some w k here in
     ap (λ n. slice_set (w ∷ ws) n (with_tag tag k)) first
     ∙ ap (λ x. with_tag tag x ∷ ws) (sym is)
     ∙ ap (λ rest. with_tag tag w ∷ rest) (sym (tagged-none id tag ws later))
@@ -37,20 +39,19 @@ tagged-one id tag (w ∷ ws) i k distinct found there =
     ap (λ n. slice_set (w ∷ ws) n (with_tag tag k)) is
     ∙ ap (λ rest. w ∷ rest) (tagged-one id tag ws j k distinct.1 found_later here)
     ∙ ap (λ b. (if b then with_tag tag w else w) ∷ tag_with_id id tag ws) (sym other))
-  where
-    some_same : {A : Type 0} {x y : A} → Some x ≡ Some y → x ≡ y
-    some_same e = cc
 
 -- a member that is no way of the map tags none
 pub once-none : (tag : Tag) (m : Member) (ways : List KeptWay) → way_of ways m ≡ None → tag_once tag m ways ≡ ways
 once-none tag m ways none = by_kind (bytes_eq m.kind (codes "way")) none
   where
-    by_kind : (b : Bool) → (if b then place_of_id m.reference ways else None) ≡ None → (if b then tag_with_id m.reference tag ways else ways) ≡ ways
+    by_kind : (b : Bool) → (if b then place_of_id m.reference ways else None) ≡ None →
+        (if b then tag_with_id m.reference tag ways else ways) ≡ ways
     by_kind true h = tagged-none m.reference tag ways h
     by_kind false h = refl
 
 -- one that is a way tags it at its place
-pub once-one : (tag : Tag) (m : Member) (ways : List KeptWay) (i : ℕ) (k : KeptWay) → AreDistinct ways → way_of ways m ≡ Some i → slice_get ways i ≡ Some k
+pub once-one : (tag : Tag) (m : Member) (ways : List KeptWay) (i : ℕ) (k : KeptWay) → AreDistinct ways → way_of ways m ≡ Some i →
+    slice_get ways i ≡ Some k
     → slice_set ways i (with_tag tag k) ≡ tag_once tag m ways
 once-one tag m ways i k distinct found there = by_kind (bytes_eq m.kind (codes "way")) found
   where

@@ -14,13 +14,15 @@ unfolding kind_for_bicycles
 kind-no_type tags none = rw none refl
 
 -- no value
-pub kind-no_value : (tags : List Tag) (type : List ℕ) → value_of (codes "type") tags ≡ Some type → value_of (codes "restriction") tags ≡ None
+pub kind-no_value : (tags : List Tag) (type : List ℕ) → value_of (codes "type") tags ≡ Some type →
+    value_of (codes "restriction") tags ≡ None
     → kind_for_bicycles tags ≡ None
 unfolding kind_for_bicycles
 kind-no_value tags type there none = rw (there, none) refl
 
 -- both are there
-pub kind-both : (tags : List Tag) (type value : List ℕ) → value_of (codes "type") tags ≡ Some type → value_of (codes "restriction") tags ≡ Some value
+pub kind-both : (tags : List Tag) (type value : List ℕ) → value_of (codes "type") tags ≡ Some type →
+    value_of (codes "restriction") tags ≡ Some value
     → kind_for_bicycles tags
     ≡ (if bytes_eq type (codes "restriction") && not (excepts_bicycles (value_of (codes "except") tags)) then kind_of value else None)
 unfolding kind_for_bicycles
@@ -36,7 +38,8 @@ not_false : (a b : Bool) → a ≡ not b → a ≡ false → b ≡ true
 not_false a true e h = refl
 not_false a false e h = absurd (false≢true (sym h ∙ e))
 
-module _ (tags : List Tag) (type value : List ℕ) (there : value_of (codes "type") tags ≡ Some type) (also : value_of (codes "restriction") tags ≡ Some value) where
+module _ (tags : List Tag) (type value : List ℕ) (there : value_of (codes "type") tags ≡ Some type) (also :
+    value_of (codes "restriction") tags ≡ Some value) where
   -- a relation of another type
   pub kind-other : (differs : Bool) → differs ≡ not (bytes_eq type (codes "restriction")) → differs ≡ true → kind_for_bicycles tags ≡ None
   kind-other differs is h =

@@ -1,7 +1,7 @@
 -- Texts of tags.
 use Rattle.std.proofs.Common.{◌≡◌, ◌≢◌, ℕ, zero, suc, ◌+◌, ◌-◌, ◌<◌, ◌≤◌, true, false, inl, inr, List, [], ◌∷◌, ◌++◌, length, get_or, take, drop, refl, sym, ap, ◌∙◌, arith, eq-eqb}
 use Rattle.std.proofs.lemmas.Bool.{ne_eqb, cases_eq}
-use Rattle.std.proofs.lemmas.List.{drop_more, take_more, take_all}
+use Rattle.std.proofs.lemmas.List.{drop_more, take_more, take_all, drop_all}
 use Rattle.std.specs.Str.{bytes_eq}
 use Rattle.overpass_graph.specs.Texts.{IsPieceEnd, bicycle}
 use Rattle.overpass_graph.specs.Restrictions.{begins_with, without_front, without_end, trimmed, pieces, names_bicycle}
@@ -11,27 +11,24 @@ use Rattle.overpass_graph.specs.Restrictions.{begins_with, without_front, withou
 -- one byte that agrees
 pub begins-more : (front text : List ℕ) (k : ℕ) → k < length front → k < length text → get_or text k 0 ≡ get_or front k 0 →
     begins_with (drop k front) (drop k text) ≡ begins_with (drop (k + 1) front) (drop (k + 1) text)
-begins-more front text k f t same = rw (drop_more front k 0 f, drop_more text k 0 t, eq-eqb (get_or front k 0) (get_or text k 0) (sym same)) refl
+begins-more front text k f t same =
+    rw (drop_more front k 0 f, drop_more text k 0 t, eq-eqb (get_or front k 0) (get_or text k 0) (sym same)) refl
 
 -- one byte that differs
 pub begins-other : (front text : List ℕ) (k : ℕ) → k < length front → k < length text → (get_or text k 0 ≡ get_or front k 0 → ⊥) →
     begins_with (drop k front) (drop k text) ≡ false
-begins-other front text k f t other = rw (drop_more front k 0 f, drop_more text k 0 t, ne_eqb (get_or front k 0) (get_or text k 0) (λ e. other (sym e))) refl
+begins-other front text k f t other =
+    rw (drop_more front k 0 f, drop_more text k 0 t, ne_eqb (get_or front k 0) (get_or text k 0) (λ e. other (sym e))) refl
 
 -- the text ends before the front does
 pub begins-short : (front text : List ℕ) (k : ℕ) → k < length front → length text ≤ k → begins_with (drop k front) (drop k text) ≡ false
-begins-short front text k f t = rw (drop_more front k 0 f, drop-beyond text k t) refl
-  where
-    drop-beyond : (xs : List ℕ) (n : ℕ) → length xs ≤ n → drop n xs ≡ []
-    drop-beyond [] zero past = refl
-    drop-beyond [] (suc n) past = refl
-    drop-beyond (x ∷ xs) zero past = absurd (omega arith)
-    drop-beyond (x ∷ xs) (suc n) past = drop-beyond xs n (omega arith)
+begins-short front text k f t = rw (drop_more front k 0 f, drop_all k text t) refl
 
 -- ---- Spaces at the ends
 
 -- a space at the front goes
-pub front-space : (text : List ℕ) (k : ℕ) → k < length text → get_or text k 0 ≡ 32 → without_front (drop k text) ≡ without_front (drop (k + 1) text)
+pub front-space : (text : List ℕ) (k : ℕ) → k < length text → get_or text k 0 ≡ 32 →
+    without_front (drop k text) ≡ without_front (drop (k + 1) text)
 front-space text k below space = rw (drop_more text k 0 below, eq-eqb (get_or text k 0) 32 space) refl
 
 -- from another byte on all stays
@@ -50,16 +47,20 @@ end-ink (x ∷ []) c ink = rw (end-ink [] c ink) refl
 end-ink (x ∷ y ∷ xs) c ink = rw (end-ink (y ∷ xs) c ink) refl
 
 -- a space at the end of a front goes
-pub end-less : (text : List ℕ) (end : ℕ) → 0 < end → end ≤ length text → get_or text (end - 1) 0 ≡ 32 → without_end (take end text) ≡ without_end (take (end - 1) text)
+pub end-less : (text : List ℕ) (end : ℕ) → 0 < end → end ≤ length text → get_or text (end - 1) 0 ≡ 32 →
+    without_end (take end text) ≡ without_end (take (end - 1) text)
 end-less text end some within space =
     let e : end ≡ (end - 1) + 1 = omega arith in
-    ap (λ n. without_end (take n text)) e ∙ ap without_end (take_more text (end - 1) 0 (omega arith)) ∙ end-space (take (end - 1) text) (get_or text (end - 1) 0) space
+    ap (λ n. without_end (take n text)) e ∙ ap without_end (take_more text (end - 1) 0 (omega arith))
+    ∙ end-space (take (end - 1) text) (get_or text (end - 1) 0) space
 
 -- a front that ends with another byte stays
-pub end-stays : (text : List ℕ) (end : ℕ) → 0 < end → end ≤ length text → (get_or text (end - 1) 0 ≡ 32 → ⊥) → without_end (take end text) ≡ take end text
+pub end-stays : (text : List ℕ) (end : ℕ) → 0 < end → end ≤ length text → (get_or text (end - 1) 0 ≡ 32 → ⊥) →
+    without_end (take end text) ≡ take end text
 end-stays text end some within ink =
     let e : end ≡ (end - 1) + 1 = omega arith in
-    let front : take end text ≡ take (end - 1) text ++ get_or text (end - 1) 0 ∷ [] = ap (λ n. take n text) e ∙ take_more text (end - 1) 0 (omega arith) in
+    let front : take end text ≡ take (end - 1) text ++ get_or text (end - 1) 0 ∷ [] = ap (λ n. take n text) e
+    ∙ take_more text (end - 1) 0 (omega arith) in
     ap without_end front ∙ end-ink (take (end - 1) text) (get_or text (end - 1) 0) ink ∙ sym front
 
 -- ---- Pieces
@@ -73,12 +74,14 @@ piece-whole (c ∷ cs) end =
     rw (ne_eqb c 59 here, rest) refl
 
 -- a text is its first piece and those behind the semicolon
-pub piece-cut : (text : List ℕ) (end : ℕ) → IsPieceEnd text end → end < length text → pieces text ≡ take end text ∷ pieces (drop (end + 1) text)
+pub piece-cut : (text : List ℕ) (end : ℕ) → IsPieceEnd text end → end < length text →
+    pieces text ≡ take end text ∷ pieces (drop (end + 1) text)
 piece-cut [] end is below = absurd (omega arith)
 piece-cut (c ∷ cs) zero is below = rw (eq-eqb c 59 (is.at below)) refl
 piece-cut (c ∷ cs) (suc end) is below =
     let here : c ≢ 59 = is.before 0 (omega arith) in
-    let rest = piece-cut cs end (record { before = λ k under. is.before (suc k) (omega arith); at = λ under. is.at (omega arith) }) (omega arith) in
+    let rest = piece-cut cs end (record { before = λ k under. is.before (suc k) (omega arith); at = λ under. is.at (omega arith) })
+    (omega arith) in
     let e : suc end + 1 ≡ suc (end + 1) = omega arith in
     rw (ne_eqb c 59 here, rest, e) refl
 
@@ -96,7 +99,8 @@ bicycle-here text end is within told =
     ]
 
 -- no piece is left, and the last one doesn't say it
-pub bicycle-nowhere : (text : List ℕ) (end : ℕ) → IsPieceEnd text end → length text ≤ end → end ≤ length text → bytes_eq (trimmed (take end text)) bicycle ≡ false →
+pub bicycle-nowhere : (text : List ℕ) (end : ℕ) → IsPieceEnd text end → length text ≤ end → end ≤ length text →
+    bytes_eq (trimmed (take end text)) bicycle ≡ false →
     names_bicycle (pieces text) ≡ false
 bicycle-nowhere text end is beyond within told =
     let last : end ≡ length text = omega arith in
@@ -106,6 +110,7 @@ bicycle-nowhere text end is beyond within told =
     rw (piece-whole text whole, says) refl
 
 -- the first piece doesn't say it, so one behind it does or none
-pub bicycle-behind : (text : List ℕ) (end : ℕ) → IsPieceEnd text end → end < length text → bytes_eq (trimmed (take end text)) bicycle ≡ false →
+pub bicycle-behind : (text : List ℕ) (end : ℕ) → IsPieceEnd text end → end < length text →
+    bytes_eq (trimmed (take end text)) bicycle ≡ false →
     names_bicycle (pieces text) ≡ names_bicycle (pieces (drop (end + 1) text))
 bicycle-behind text end is below told = rw (piece-cut text end is below, told) refl

@@ -8,7 +8,7 @@ use Rattle.overpass_graph.specs.Roads.{places_below}
 use Rattle.overpass_graph.specs.Groups.{key_at, group_of}
 use Rattle.overpass_graph.specs.Restrictions.{is_in, forbids_ways, forbids_by, forbids_any}
 use Rattle.overpass_graph.specs.Turns.{vias_of}
-use Rattle.overpass_graph.proofs.GroupLemmas.{places-hit, places-miss, places-none, count-hit, count-grows, place-at}
+use Rattle.overpass_graph.proofs.PlaceLemmas.{places-hit, places-miss, places-none, count-hit, count-grows, place-at}
 
 -- ---- A number in a list
 
@@ -17,7 +17,8 @@ pub is_in-hit : (ways : List ℕ) (i way : ℕ) → i < length ways → get_or w
 is_in-hit ways i way below same = rw (drop_more ways i 0 below, eq-eqb (get_or ways i 0) way same) refl
 
 -- another number leaves the rest of the list
-pub is_in-miss : (ways : List ℕ) (i way : ℕ) → i < length ways → (get_or ways i 0 ≡ way → ⊥) → is_in way (drop i ways) ≡ is_in way (drop (i + 1) ways)
+pub is_in-miss : (ways : List ℕ) (i way : ℕ) → i < length ways → (get_or ways i 0 ≡ way → ⊥) →
+    is_in way (drop i ways) ≡ is_in way (drop (i + 1) ways)
 is_in-miss ways i way below other = rw (drop_more ways i 0 below, ne_eqb (get_or ways i 0) way other) refl
 
 -- ---- Places of a key
@@ -49,7 +50,8 @@ place-sound key v (suc n) j below =
     ]
 
 -- a number with the value has a place
-pub place-whole : (key : ℕ → ℕ) (v m n : ℕ) → m < n → key m ≡ v → (j : ℕ) × (j < length (places_below key v n)) × (get_or (places_below key v n) j 0 ≡ m)
+pub place-whole : (key : ℕ → ℕ) (v m n : ℕ) → m < n → key m ≡ v →
+    (j : ℕ) × (j < length (places_below key v n)) × (get_or (places_below key v n) j 0 ≡ m)
 place-whole key v m n below same =
     (length (places_below key v m), omega (arith, count-hit key v m same, count-grows key v (suc m) n below), place-at key v m n below same)
 
@@ -83,7 +85,8 @@ pub forbids-some : (rs : List Restriction) (first second : Link) → second.from
     r ≡ get_or rs k r → r.via ≡ first.to → forbids_ways r first.way second.way ≡ true → forbids_any rs first second ≡ true
 forbids-some [] first second joins k r below read at yes_ = absurd (omega arith)
 forbids-some (s ∷ rs) first second joins zero r below read at yes_ =
-    let here : forbids_by s first second ≡ true = ap (λ (x : Restriction). forbids_by x first second) (sym read) ∙ forbids_by-there r first second at joins ∙ yes_ in
+    let here : forbids_by s first second ≡ true = ap (λ (x : Restriction). forbids_by x first second) (sym read)
+    ∙ forbids_by-there r first second at joins ∙ yes_ in
     rw here refl
 forbids-some (s ∷ rs) first second joins (suc k) r below read at yes_ =
     let rest = forbids-some rs first second joins k r (omega arith) read at yes_ in
@@ -116,7 +119,8 @@ group-some rs keys first second keys_are joins j r within read yes_ =
     let size : length keys ≡ length rs = ap length keys_are ∙ length-map rs (λ (x : Restriction). x.via) in
     let place = place-sound (key_at keys) first.to (length keys) j within in
     let below : get_or (group_of keys first.to) j 0 < length rs = omega (arith, size, place.0) in
-    let at : r.via ≡ first.to = sym (via-read rs (get_or (group_of keys first.to) j 0) r below read) ∙ ap (λ ks. key_at ks (get_or (group_of keys first.to) j 0)) (sym keys_are) ∙ place.1 in
+    let at : r.via ≡ first.to = sym (via-read rs (get_or (group_of keys first.to) j 0) r below read)
+    ∙ ap (λ ks. key_at ks (get_or (group_of keys first.to) j 0)) (sym keys_are) ∙ place.1 in
     forbids-some rs first second joins (get_or (group_of keys first.to) j 0) r below read at yes_
 
 -- a place of a group is the number of a restriction

@@ -1,5 +1,5 @@
--- What a builder of a map stands for, and what the text that it was fed comes to: the map of its elements, or its first
--- fault (this project's own rule; a missing node is told after all other faults).
+-- What a builder of a map stands for, and what the text that it was fed comes to: the map of its elements, or
+-- its first fault (this project's own rule; a missing node is told after all other faults).
 use Rattle.std.specs.Prelude.{◌≡◌, ◌⊎◌, ℕ, true, false, List, Option, Some, None, Ok, Err}
 use Rattle.map_tables.specs.Draft.{Draft}
 use Rattle.map_tables.specs.declared.limits.Limits.{Limits}

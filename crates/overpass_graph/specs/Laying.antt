@@ -11,14 +11,15 @@ pub record AreNumbers (nodes : List (Kept Place)) (numbers : List ℕ) : Type 0 
   pub in_range : (p : ℕ) → p < length nodes → get_or numbers p 0 < length nodes
 
 -- the links of a segment between the nodes at two places of the text
-abbrev pub links_at : List (Kept Place) → List ℕ → ℕ → ℕ → ℕ → ℕ → List Link
+abbrev pub links_at : (nodes : List (Kept Place)) (numbers : List ℕ) (way segment a b : ℕ) → List Link
 links_at nodes numbers way segment a b =
     if a == b then []
-    else if has_arrow (slice_get nodes a) (slice_get nodes b) then both_ways way segment (get_or numbers a 0) (get_or numbers b 0)
+    else if has_arrow (slice_get nodes a) (slice_get nodes b) then both_ways way segment (get_or numbers a 0)
+    (get_or numbers b 0)
     else []
 
 -- the links of the segment that ends at this place of a way; none at the first
-abbrev pub links_up_to : List (Kept Place) → List ℕ → ℕ → ℕ → ℕ → ℕ → List Link
+abbrev pub links_up_to : (nodes : List (Kept Place)) (numbers : List ℕ) (way place a b : ℕ) → List Link
 links_up_to nodes numbers way zero a b = []
 links_up_to nodes numbers way (suc segment) a b = links_at nodes numbers way segment a b
 

@@ -21,19 +21,19 @@ has_arrow (Some a) None = false
 has_arrow None b = false
 
 -- the links of a segment of a way between the nodes at two places
-abbrev pub links_between : List (Kept Place) → ℕ → ℕ → Option ℕ → Option ℕ → List Link
+abbrev pub links_between : (nodes : List (Kept Place)) (way segment : ℕ) (a b : Option ℕ) → List Link
 links_between nodes way segment (Some a) (Some b) =
     if has_arrow (slice_get nodes a) (slice_get nodes b) then both_ways way segment a b else []
 links_between nodes way segment (Some a) None = []
 links_between nodes way segment None b = []
 
 -- the links of a segment of a way between two ids: none where they are one, or lie too far apart
-unfoldable pub links_of_segment : List (Kept Place) → ℕ → ℕ → ℤ → ℤ → List Link
+unfoldable pub links_of_segment : (nodes : List (Kept Place)) (way segment : ℕ) (a b : ℤ) → List Link
 links_of_segment nodes way segment a b =
     if int_eq a b then [] else links_between nodes way segment (place_of_id a nodes) (place_of_id b nodes)
 
 -- the links of a way from this segment on, which begins at this id, through these ids
-abbrev pub links_along : List (Kept Place) → ℕ → ℕ → ℤ → List ℤ → List Link
+abbrev pub links_along : (nodes : List (Kept Place)) (way segment : ℕ) (a : ℤ) (ids : List ℤ) → List Link
 links_along nodes way segment a [] = []
 links_along nodes way segment a (b ∷ ids) =
     links_of_segment nodes way segment a b ++ links_along nodes way (suc segment) b ids

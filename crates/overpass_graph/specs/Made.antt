@@ -7,8 +7,10 @@ use Rattle.overpass_graph.specs.Orders.{IsNodeOrder, picked}
 use Rattle.overpass_graph.specs.Pairs.{Net}
 use Rattle.overpass_graph.specs.Turns.{TurnTable}
 
--- the map of these nodes in the order of the text and their places by ascending id, these ways, links and restrictions
-abbrev pub map_value : List (Kept Place) → List (Kept (List ℤ)) → List ℕ → Net → TurnTable → MapValue
+-- the map of these nodes in the order of the text and their places by ascending id, these ways, links and
+-- restrictions
+abbrev pub map_value : (nodes : List (Kept Place)) (ways : List (Kept (List ℤ))) (places : List ℕ)
+    (net : Net) (turns : TurnTable) → MapValue
 map_value nodes ways places net turns = record {
   nodes = picked nodes places;
   ways = ways;
@@ -17,7 +19,8 @@ map_value nodes ways places net turns = record {
 }
 
 -- the parts of a map fit
-pub record IsMade (nodes : List (Kept Place)) (ways : List (Kept (List ℤ))) (places numbers : List ℕ) (net : Net) (turns : TurnTable) : Type 0 where
+pub record IsMade (nodes : List (Kept Place)) (ways : List (Kept (List ℤ))) (places numbers : List ℕ) (net :
+    Net) (turns : TurnTable) : Type 0 where
   pub distinct : AreDistinct nodes
   pub order : IsNodeOrder nodes places numbers
   pub net_nodes : net.nodes ≡ length nodes

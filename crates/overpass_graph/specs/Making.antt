@@ -10,8 +10,10 @@ use Rattle.overpass_graph.specs.Pairs.{Net, paired, AreEndsBelow}
 use Rattle.overpass_graph.specs.Restrictions.{restrictions_of}
 use Rattle.overpass_graph.specs.Turns.{TurnTable}
 
--- a map is made of fitting parts: its nodes are ordered, and its links are those of ways, laid in pairs among the nodes
-pub record AreFitting (nodes : List (Kept Place)) (ways laid_ways : List (Kept (List ℤ))) (places numbers : List ℕ)
+-- a map is made of fitting parts: its nodes are ordered, and its links are those of ways, laid in pairs among
+-- the nodes
+pub record AreFitting (nodes : List (Kept Place)) (ways laid_ways : List (Kept (List ℤ))) (places numbers :
+    List ℕ)
     (net : Net) (ends : List ℕ) (pieces : List Piece) : Type 0 where
   pub order : IsNodeOrder nodes places numbers
   pub few_nodes : length nodes < 2 ^ 32
@@ -32,4 +34,5 @@ pub record AreLinksFor (draft : Draft) (places numbers : List ℕ) (net : Net) :
 -- these are the turns of a draft whose nodes are in this order
 pub record AreTurnsFor (draft : Draft) (places : List ℕ) (turns : TurnTable) : Type 0 where
   pub nodes : turns.nodes ≡ length draft.nodes
-  pub restrictions : turns.restrictions ≡ restrictions_of (picked draft.nodes places) draft.ways draft.relations
+  pub restrictions : turns.restrictions ≡
+      restrictions_of (picked draft.nodes places) draft.ways draft.relations

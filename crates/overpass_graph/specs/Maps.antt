@@ -1,4 +1,5 @@
--- The map of a draft: nodes by ascending id, ways with the tags of their routes, links and turn restrictions (this project's own rule).
+-- The map of a draft: nodes by ascending id, ways with the tags of their routes, links and turn restrictions
+-- (this project's own rule).
 use Rattle.std.specs.Prelude.{◌≡◌, ◌↔◌, ℕ, ℤ, pos, ◌<ℤ◌, ◌<◌, Bool, false, List, [], length, get_or, IsSome}
 use Rattle.std.specs.List.{Contains}
 use Rattle.geo_int.specs.Place.{Place, place}
@@ -60,19 +61,22 @@ forbids_of map first second = forbids_any map.restrictions (link_of map first) (
 abbrev pub AreAscending : List (Kept Place) → Type 0
 AreAscending nodes = (i j : ℕ) → i < j → j < length nodes → (node_at nodes i).id <ℤ (node_at nodes j).id
 
--- what is known of each map: its nodes ascend, its links are roads in pairs of one segment, each of a way of the map and
--- between two nodes that have an arrow
+-- what is known of each map: its nodes ascend, its links are roads in pairs of one segment, each of a way of
+-- the map and between two nodes that have an arrow
 pub record IsMap (map : MapValue) : Type 0 where
   pub ascending : AreAscending map.nodes
   pub roads : IsRoads (roads_of map)
   pub way_in : (link : ℕ) → link < length map.links → (link_of map link).way < length map.ways
   pub arrow : (link : ℕ) → link < length map.links →
-      IsSome (arrow_between (node_at map.nodes (link_of map link).from).content (node_at map.nodes (link_of map link).to).content)
-  pub twin_way : (link : ℕ) → link < length map.links → (link_of map (twin_of link)).way ≡ (link_of map link).way
-  pub twin_segment : (link : ℕ) → link < length map.links → (link_of map (twin_of link)).segment ≡ (link_of map link).segment
+      IsSome (arrow_between (node_at map.nodes (link_of map link).from).content
+      (node_at map.nodes (link_of map link).to).content)
+  pub twin_way : (link : ℕ) → link < length map.links →
+      (link_of map (twin_of link)).way ≡ (link_of map link).way
+  pub twin_segment : (link : ℕ) → link < length map.links →
+      (link_of map (twin_of link)).segment ≡ (link_of map link).segment
 
--- a map is that of a draft: its nodes are those of the draft by ascending id, all else follows from the draft and
--- from the numbers of its nodes
+-- a map is that of a draft: its nodes are those of the draft by ascending id, all else follows from the draft
+-- and from the numbers of its nodes
 pub record IsMapOf (draft : Draft) (map : MapValue) : Type 0 where
   pub same_nodes : (node : Kept Place) → Contains draft.nodes node ↔ Contains map.nodes node
   pub ascending : AreAscending map.nodes

@@ -30,11 +30,13 @@ no_member = record { kind = []; reference = pos 0; role = [] }
 abbrev pub IsNext : List ℕ → List Member → ℕ → Option ℕ → Type 0
 IsNext role members from None = in_role role (drop from members) ≡ []
 IsNext role members from (Some k) =
-    (k < length members) × (in_role role (drop from members) ≡ get_or members k no_member ∷ in_role role (drop (k + 1) members))
+    (k < length members) × (in_role role (drop from members) ≡
+    get_or members k no_member ∷ in_role role (drop (k + 1) members))
 
 -- the node of the map that a member is
 abbrev pub node_of : List (Kept Place) → Member → Option ℕ
-node_of nodes member = if bytes_eq member.kind (codes "node") then place_of_id member.reference nodes else None
+node_of nodes member = if bytes_eq member.kind (codes "node") then place_of_id member.reference
+    nodes else None
 
 -- a way that is kept
 abbrev pub KeptWay : Type 0
@@ -42,7 +44,8 @@ KeptWay = Kept (List ℤ)
 
 -- the ways with one more tag for the one that a member is
 abbrev pub tag_once : Tag → Member → List KeptWay → List KeptWay
-tag_once tag member ways = if bytes_eq member.kind (codes "way") then tag_with_id member.reference tag ways else ways
+tag_once tag member ways = if bytes_eq member.kind (codes "way") then tag_with_id member.reference tag
+    ways else ways
 
 -- what tables hold, with other ways
 abbrev pub with_more_tags : Held → List KeptWay → Held

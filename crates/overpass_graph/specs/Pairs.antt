@@ -9,7 +9,8 @@ pub record Net : Type 0 where
   pub nodes : ℕ
   pub links : List Link
 
--- the links of segments, where each of them is left at one end by its forward link and at the other by its backward one
+-- the links of segments, where each of them is left at one end by its forward link and at the other by its
+-- backward one
 abbrev pub paired : List ℕ → List Piece → List Link
 paired ends [] = []
 paired [] (piece ∷ pieces) = []

@@ -1,4 +1,5 @@
--- Turn restrictions of a map, and which link they forbid after which (this project's own rules, after the tags of OpenStreetMap).
+-- Turn restrictions of a map, and which link they forbid after which (this project's own rules, after the
+-- tags of OpenStreetMap).
 use Rattle.std.specs.Prelude.{ℕ, ℤ, Bool, true, false, ◌&&◌, ◌||◌, not, ◌==◌, List, [], ◌∷◌, Option, Some, None, if◌then◌else◌}
 use Rattle.std.specs.Str.{bytes_eq}
 use lib.Chars.{codes}
@@ -71,14 +72,16 @@ kind_for_bicycles tags = by_values (value_of (codes "type") tags) (value_of (cod
   where
     by_values : Option (List ℕ) → Option (List ℕ) → Option RestrictionKind
     by_values (Some type) (Some value) =
-        if bytes_eq type (codes "restriction") && not (excepts_bicycles (value_of (codes "except") tags)) then kind_of value else None
+        if bytes_eq type (codes "restriction") &&
+        not (excepts_bicycles (value_of (codes "except") tags)) then kind_of value else None
     by_values (Some type) None = None
     by_values None value = None
 
 -- the members with this role, in their order
 abbrev pub in_role : List ℕ → List Member → List Member
 in_role role [] = []
-in_role role (member ∷ members) = if bytes_eq member.role role then member ∷ in_role role members else in_role role members
+in_role role (member ∷ members) =
+    if bytes_eq member.role role then member ∷ in_role role members else in_role role members
 
 -- the node of the only member with the role `via`
 abbrev pub via_of : List (Kept Place) → List Member → Option ℕ
@@ -86,7 +89,8 @@ via_of nodes members = only (in_role (codes "via") members)
   where
     only : List Member → Option ℕ
     only [] = None
-    only (member ∷ []) = if bytes_eq member.kind (codes "node") then place_of_id member.reference nodes else None
+    only (member ∷ []) = if bytes_eq member.kind (codes "node") then place_of_id member.reference
+        nodes else None
     only (member ∷ other ∷ others) = None
 
 -- the way that a member is, where it is one of the map
@@ -112,10 +116,12 @@ restriction_by (Some kind) None froms tos = None
 restriction_by None via froms tos = None
 
 -- the restriction that a relation is, where it is one
-unfoldable pub restriction_of : List (Kept Place) → List (Kept (List ℤ)) → Kept (List Member) → Option Restriction
+unfoldable pub restriction_of : List (Kept Place) → List (Kept (List ℤ)) → Kept (List Member) →
+    Option Restriction
 restriction_of nodes ways relation =
     restriction_by (kind_for_bicycles relation.tags) (via_of nodes relation.content)
-    (ways_of ways (in_role (codes "from") relation.content)) (ways_of ways (in_role (codes "to") relation.content))
+    (ways_of ways (in_role (codes "from") relation.content))
+    (ways_of ways (in_role (codes "to") relation.content))
 
 -- one more restriction in front, where there is one
 abbrev pub put_before : Option Restriction → List Restriction → List Restriction
@@ -123,7 +129,8 @@ put_before None later = later
 put_before (Some restriction) later = restriction ∷ later
 
 -- the restrictions among relations, in their order
-abbrev pub restrictions_of : List (Kept Place) → List (Kept (List ℤ)) → List (Kept (List Member)) → List Restriction
+abbrev pub restrictions_of : List (Kept Place) → List (Kept (List ℤ)) → List (Kept (List Member)) →
+    List Restriction
 restrictions_of nodes ways [] = []
 restrictions_of nodes ways (relation ∷ relations) =
     put_before (restriction_of nodes ways relation) (restrictions_of nodes ways relations)
@@ -135,7 +142,8 @@ abbrev pub is_in : ℕ → List ℕ → Bool
 is_in n [] = false
 is_in n (m ∷ ms) = (m == n) || is_in n ms
 
--- a restriction of this kind forbids its turn from a way to a way, of which the second is or isn't among its second ways
+-- a restriction of this kind forbids its turn from a way to a way, of which the second is or isn't among its
+-- second ways
 abbrev pub forbids_turn : RestrictionKind → Bool → ℕ → ℕ → Bool
 forbids_turn kind_.No is_to first second = is_to && not (first == second)
 forbids_turn kind_.Only is_to first second = not is_to
@@ -146,7 +154,8 @@ forbids_ways r first second = is_in first r.from && forbids_turn r.kind (is_in s
 
 -- a restriction forbids the second link after the first: they meet at its node
 abbrev pub forbids_by : Restriction → Link → Link → Bool
-forbids_by r first second = ((r.via == first.to) && (r.via == second.from)) && forbids_ways r first.way second.way
+forbids_by r first second = ((r.via == first.to) && (r.via == second.from)) &&
+    forbids_ways r first.way second.way
 
 -- one of these restrictions forbids the second link after the first
 abbrev pub forbids_any : List Restriction → Link → Link → Bool

@@ -1,4 +1,5 @@
--- Roads as numbers: nodes, and links from node to node in pairs that are each other's way back (this project's own rule).
+-- Roads as numbers: nodes, and links from node to node in pairs that are each other's way back (this
+-- project's own rule).
 use Rattle.std.specs.Prelude.{◌≡◌, ℕ, zero, suc, ◌+◌, ◌-◌, ◌%◌, ◌^◌, ◌<◌, ◌==◌, List, [], ◌∷◌, ◌++◌, if◌then◌else◌}
 
 -- so many nodes and links, and where each link leaves and where it arrives

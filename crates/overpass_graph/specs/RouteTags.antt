@@ -17,7 +17,8 @@ route_tag route network = (codes "route_" ++ (route ++ (codes "_" ++ network)), 
 
 -- the tag that the ways of a relation with these tags get: it has `type=route`, a `route` and a `network`
 abbrev pub tag_of_route : List Tag → Option Tag
-tag_of_route tags = by_values (value_of (codes "type") tags) (value_of (codes "route") tags) (value_of (codes "network") tags)
+tag_of_route tags = by_values (value_of (codes "type") tags) (value_of (codes "route") tags)
+    (value_of (codes "network") tags)
   where
     by_values : Option (List ℕ) → Option (List ℕ) → Option (List ℕ) → Option Tag
     by_values (Some type) (Some route) (Some network) =
@@ -35,7 +36,8 @@ tag_with_id id tag (k ∷ ks) = (if int_eq k.id id then with_tag tag k else k) �
 abbrev pub tag_members : Tag → List Member → List (Kept (List ℤ)) → List (Kept (List ℤ))
 tag_members tag [] ways = ways
 tag_members tag (member ∷ members) ways =
-    tag_members tag members (if bytes_eq member.kind (codes "way") then tag_with_id member.reference tag ways else ways)
+    tag_members tag members (if bytes_eq member.kind (codes "way") then tag_with_id member.reference tag
+    ways else ways)
 
 -- the ways with the tag of a relation, where it gives one
 abbrev pub with_route : Option Tag → List Member → List (Kept (List ℤ)) → List (Kept (List ℤ))

@@ -13,4 +13,5 @@ vias_of restrictions = map (λ (r : Restriction). r.via) restrictions
 
 -- each restriction is at one of so many nodes
 abbrev pub AreViasBelow : ℕ → List Restriction → Type 0
-AreViasBelow nodes restrictions = (k : ℕ) → k < length (vias_of restrictions) → get_or (vias_of restrictions) k 0 < nodes
+AreViasBelow nodes restrictions = (k : ℕ) → k < length (vias_of restrictions) →
+    get_or (vias_of restrictions) k 0 < nodes

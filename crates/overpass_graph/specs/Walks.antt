@@ -11,9 +11,10 @@ pub record IsOpenLink (roads : Roads) (is_open : ℕ → Bool) (link : ℕ) : Ty
   pub in_range : link < roads.links
   pub «open» : IsTrue (is_open link)
 
--- a list of links is a walk from a node to a node: its links are open, the first leaves the one node and the last
--- arrives at the other, each next one follows the one before it, and without links it stays where it is
-pub record IsWalkBy (roads : Roads) (is_open : ℕ → Bool) (follows : ℕ → ℕ → Type 0) (a b : ℕ) (walk : List ℕ) : Type 0 where
+-- a list of links is a walk from a node to a node: its links are open, the first leaves the one node and the
+-- last arrives at the other, each next one follows the one before it, and without links it stays where it is
+pub record IsWalkBy (roads : Roads) (is_open : ℕ → Bool) (follows : ℕ → ℕ →
+    Type 0) (a b : ℕ) (walk : List ℕ) : Type 0 where
   pub open_links : (k : ℕ) → k < length walk → IsOpenLink roads is_open (link_at walk k)
   pub leaves : 0 < length walk → roads.from (link_at walk 0) ≡ a
   pub arrives : (k : ℕ) → suc k ≡ length walk → roads.to (link_at walk k) ≡ b
@@ -24,17 +25,18 @@ pub record IsWalkBy (roads : Roads) (is_open : ℕ → Bool) (follows : ℕ → 
 abbrev pub Joins : Roads → ℕ → ℕ → Type 0
 Joins roads first second = roads.from second ≡ roads.to first
 
--- the second link may be taken after the first: it leaves where the first arrives, doesn't go back to where the first
--- left, and isn't forbidden after it
+-- the second link may be taken after the first: it leaves where the first arrives, doesn't go back to where
+-- the first left, and isn't forbidden after it
 pub record MayFollow (roads : Roads) (forbids : ℕ → ℕ → Bool) (first second : ℕ) : Type 0 where
   pub joins : Joins roads first second
   pub goes_ahead : roads.to second ≢ roads.from first
   pub allowed : forbids first second ≡ false
 
 -- a list of links that a rider may take from a node to a node
-abbrev pub IsPermittedWalk : Roads → (ℕ → Bool) → (ℕ → ℕ → Bool) → ℕ → ℕ → List ℕ → Type 0
+abbrev pub IsPermittedWalk : (roads : Roads) (is_open : ℕ → Bool) (forbids : ℕ → ℕ → Bool) (from to : ℕ)
+    (links : List ℕ) → Type 0
 IsPermittedWalk roads is_open forbids = IsWalkBy roads is_open (MayFollow roads forbids)
 
 -- a list of open links each of which leaves where the one before it arrived, from a node to a node
-abbrev pub IsJoinedWalk : Roads → (ℕ → Bool) → ℕ → ℕ → List ℕ → Type 0
+abbrev pub IsJoinedWalk : (roads : Roads) (is_open : ℕ → Bool) (from to : ℕ) (links : List ℕ) → Type 0
 IsJoinedWalk roads is_open = IsWalkBy roads is_open (Joins roads)

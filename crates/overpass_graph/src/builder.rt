@@ -19,8 +19,8 @@ const MOST: Limits = Limits {
     members: 8_000_000,
 };
 
-/// A builder of a map from its text, as Overpass gives it in JSON. The text is fed in pieces of any size, of which no copy
-/// is kept.
+/// A builder of a map from its text, as Overpass gives it in JSON. The text is fed in pieces of any
+/// size, of which no copy is kept.
 pub struct MapBuilder {
     alloc: Global,
     reader: DraftReader,
@@ -48,8 +48,9 @@ impl MapBuilder {
         }
     }
 
-    /// Takes the next piece of the text, of which fewer than 2^63 bytes may come in all. The first fault of the text is
-    /// answered in the call whose bytes fix it, and again by every later call; so is want of memory.
+    /// Takes the next piece of the text, of which fewer than 2^63 bytes may come in all. The first
+    /// fault of the text is answered in the call whose bytes fix it, and again by every later call;
+    /// so is want of memory.
     pub fn feed(&mut self, piece: &[u8]) -> Result<(), MapError>
         requires few { fed self.old + length piece.now < 2 ^ 63 }
         ensures value { (bytes : List ℕ) → StandsForText self.old bytes →
@@ -67,10 +68,12 @@ impl MapBuilder {
         self.reader.feed(piece)
     }
 
-    /// The map of the text, which ends here, or its first fault. A node that a way lacks is told after all other faults.
+    /// The map of the text, which ends here, or its first fault. A node that a way lacks is told
+    /// after all other faults.
     pub fn finish(self) -> Result<Map, MapError>
         ensures exact { (bytes : List ℕ) → StandsForText self bytes →
-            MatchResult result (λ map. IsMapOfText bytes map) (λ e. (e ≡ NoMemory) ⊎ IsFaultOfText bytes e) }
+            MatchResult result (λ map. IsMapOfText bytes map) (λ e. (e ≡ NoMemory) ⊎
+            IsFaultOfText bytes e) }
         ensures again { (e : Fault) → refusal self ≡ Some e → result ≡ Err e }
     {
         let MapBuilder { alloc, reader } = self;

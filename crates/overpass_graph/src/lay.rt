@@ -1,6 +1,6 @@
 //! The links of all ways, in their order.
 
-ghost use Rattle.std.specs.Prelude.{◌≡◌, ◌⊎◌, ℕ, ◌<◌, IfOk, IfErr, OnOk, MatchResult, Some, None, option_map, length, get_or, pos};
+ghost use Rattle.std.specs.Prelude.{◌≡◌, ◌<◌, IfOk, IfErr, OnOk, MatchResult, Some, None, option_map, length, get_or, pos};
 ghost use Rattle.item_list.specs.Answer.{Passes};
 ghost use Rattle.map_tables.specs.Kept.{place_of_id};
 ghost use Rattle.map_tables.specs.declared.error.MapError.TheVariants.{MissingNode, NoMemory};
@@ -20,11 +20,15 @@ use std::alloc::{AllocError, Global};
 /// The links of all ways of the tables, or the first node that is missing.
 pub(crate) fn lay(alloc: Global, tables: &Tables, order: &NodeOrder) -> Result<Laid, MapError>
     requires distinct { AreDistinct tables.now.draft.nodes }
-    requires order { IsNodeOrder tables.now.draft.nodes order.now.places.items order.now.numbers.items }
-    ensures missing { Passes (missing_fault (first_missing tables.now.draft.nodes tables.now.draft.ways)) NoMemory result }
+    requires order { IsNodeOrder tables.now.draft.nodes order.now.places.items
+        order.now.numbers.items }
+    ensures missing { Passes
+        (missing_fault (first_missing tables.now.draft.nodes tables.now.draft.ways)) NoMemory
+        result }
     ensures sound { IfOk result (IsSoundLaid (length tables.now.draft.nodes)) }
     ensures links { IfOk result (λ laid. links_now laid
-        ≡ links_from (picked tables.now.draft.nodes order.now.places.items) 0 tables.now.draft.ways) }
+        ≡ links_from (picked tables.now.draft.nodes order.now.places.items) 0
+        tables.now.draft.ways) }
 {
     let mut laid = Laid::new(alloc);
     'ways: for way in 0..tables.ways() {
@@ -36,7 +40,8 @@ pub(crate) fn lay(alloc: Global, tables: &Tables, order: &NodeOrder) -> Result<L
 /// The links of one more way.
 fn lay_way(tables: &Tables, order: &NodeOrder, way: u32, laid: &mut Laid) -> Result<(), MapError>
     requires distinct { AreDistinct tables.now.draft.nodes }
-    requires order { IsNodeOrder tables.now.draft.nodes order.now.places.items order.now.numbers.items }
+    requires order { IsNodeOrder tables.now.draft.nodes order.now.places.items
+        order.now.numbers.items }
     requires in_range { way < length tables.now.draft.ways }
     requires sound { IsSoundLaid (length tables.now.draft.nodes) laid.old }
     ensures missing { let k = way_at tables.now.draft.ways way in
@@ -74,8 +79,10 @@ fn id_at(ids: &[i64], place: usize) -> i64
 fn found(tables: &Tables, way: u32, id: i64) -> Result<u32, MapError>
     requires in_range { way < length tables.now.draft.ways }
     ensures exact { MatchResult result
-        (λ node. (place_of_id id tables.now.draft.nodes ≡ Some node) × (node < length tables.now.draft.nodes))
-        (λ e. (place_of_id id tables.now.draft.nodes ≡ None) × (e ≡ MissingNode (way_at tables.now.draft.ways way).id id)) }
+        (λ node. (place_of_id id tables.now.draft.nodes ≡ Some node) ×
+        (node < length tables.now.draft.nodes))
+        (λ e. (place_of_id id tables.now.draft.nodes ≡ None) ×
+        (e ≡ MissingNode (way_at tables.now.draft.ways way).id id)) }
 {
     match tables.find_node(id) {
         Some(node) => Ok(node),

@@ -1,6 +1,6 @@
 //! The map of tables, made part after part.
 
-ghost use Rattle.std.specs.Prelude.{◌≡◌, ◌⊎◌, ◌<◌, ◌^◌, length, vec_len, IfErr, IfOk, MatchResult, None, Some};
+ghost use Rattle.std.specs.Prelude.{◌≡◌, ◌⊎◌, ◌<◌, IfErr, IfOk, MatchResult, None, Some};
 ghost use Rattle.item_list.specs.Answer.{Passes};
 ghost use Rattle.map_tables.specs.Kept.{AreDistinct};
 ghost use Rattle.map_tables.specs.declared.error.MapError.TheVariants.{NoMemory};
@@ -22,7 +22,8 @@ use std::alloc::{AllocError, Global};
 
 /// The order of the nodes of tables.
 fn order_of(alloc: Global, tables: &Tables) -> Result<NodeOrder, AllocError>
-    ensures exact { IfOk result (λ o. IsNodeOrder tables.now.draft.nodes o.places.items o.numbers.items) }
+    ensures exact { IfOk result
+        (λ o. IsNodeOrder tables.now.draft.nodes o.places.items o.numbers.items) }
 {
     let _count = tables.nodes();
     let rows = rows_of(alloc, tables)?;
@@ -32,9 +33,13 @@ fn order_of(alloc: Global, tables: &Tables) -> Result<NodeOrder, AllocError>
 /// The links of tables, or the first node that is missing.
 fn links_of(alloc: Global, tables: &Tables, order: &NodeOrder) -> Result<Links, MapError>
     requires distinct { AreDistinct tables.now.draft.nodes }
-    requires order { IsNodeOrder tables.now.draft.nodes order.now.places.items order.now.numbers.items }
-    ensures missing { Passes (missing_fault (first_missing tables.now.draft.nodes tables.now.draft.ways)) NoMemory result }
-    ensures exact { IfOk result (AreLinksFor tables.now.draft order.now.places.items order.now.numbers.items) }
+    requires order { IsNodeOrder tables.now.draft.nodes order.now.places.items
+        order.now.numbers.items }
+    ensures missing { Passes
+        (missing_fault (first_missing tables.now.draft.nodes tables.now.draft.ways)) NoMemory
+        result }
+    ensures exact { IfOk result
+        (AreLinksFor tables.now.draft order.now.places.items order.now.numbers.items) }
 {
     let count = tables.nodes();
     let laid = lay(alloc, tables, order)?;
@@ -50,7 +55,8 @@ fn links_of(alloc: Global, tables: &Tables, order: &NodeOrder) -> Result<Links, 
 /// The turns that the restrictions of tables forbid.
 fn turns_of(alloc: Global, tables: &Tables, order: &NodeOrder) -> Result<Turns, AllocError>
     requires distinct { AreDistinct tables.now.draft.nodes }
-    requires order { IsNodeOrder tables.now.draft.nodes order.now.places.items order.now.numbers.items }
+    requires order { IsNodeOrder tables.now.draft.nodes order.now.places.items
+        order.now.numbers.items }
     ensures exact { IfOk result (AreTurnsFor tables.now.draft order.now.places.items) }
 {
     let list = restrictions(alloc, tables, order)?;
@@ -106,8 +112,10 @@ fn with_links(
 fn with_order(alloc: Global, tables: Tables, order: NodeOrder) -> Result<Map, MapError>
     requires distinct { AreDistinct tables.draft.nodes }
     requires order { IsNodeOrder tables.draft.nodes order.places.items order.numbers.items }
-    ensures exact { let lacks = missing_fault (first_missing tables.draft.nodes tables.draft.ways) in
-        MatchResult result (λ map. (lacks ≡ None) × IsMapOf tables.draft map) (λ e. (e ≡ NoMemory) ⊎ (lacks ≡ Some e)) }
+    ensures exact { let lacks =
+        missing_fault (first_missing tables.draft.nodes tables.draft.ways) in
+        MatchResult result (λ map. (lacks ≡ None) × IsMapOf tables.draft map) (λ e. (e ≡ NoMemory) ⊎
+        (lacks ≡ Some e)) }
 {
     match links_of(alloc, &tables, &order) {
         Ok(links) => with_links(alloc, tables, order, links),
@@ -117,8 +125,10 @@ fn with_order(alloc: Global, tables: Tables, order: NodeOrder) -> Result<Map, Ma
 
 /// The map of tables, or the first node that is missing.
 pub(crate) fn map_of(alloc: Global, tables: Tables) -> Result<Map, MapError>
-    ensures exact { let lacks = missing_fault (first_missing tables.draft.nodes tables.draft.ways) in
-        MatchResult result (λ map. (lacks ≡ None) × IsMapOf tables.draft map) (λ e. (e ≡ NoMemory) ⊎ (lacks ≡ Some e)) }
+    ensures exact { let lacks =
+        missing_fault (first_missing tables.draft.nodes tables.draft.ways) in
+        MatchResult result (λ map. (lacks ≡ None) × IsMapOf tables.draft map) (λ e. (e ≡ NoMemory) ⊎
+        (lacks ≡ Some e)) }
 {
     let _limits = tables.limits();
     match order_of(alloc, &tables) {

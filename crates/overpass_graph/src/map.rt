@@ -15,7 +15,8 @@ use item_list::Tags;
 use map_tables::Tables;
 use std::marker::Model;
 
-/// The map of a text: nodes by ascending id, ways in the order of the text, links and turn restrictions.
+/// The map of a text: nodes by ascending id, ways in the order of the text, links and turn
+/// restrictions.
 pub struct Map {
     pub(crate) tables: Tables,
     pub(crate) order: NodeOrder,
@@ -40,9 +41,12 @@ impl Model for Map {
 
     ghost Value = { MapValue };
 
-    ghost view = { λ m. map_value m.tables.draft.nodes m.tables.draft.ways m.order.places.items m.links m.turns };
+    ghost view = { λ m. map_value m.tables.draft.nodes m.tables.draft.ways m.order.places.items
+        m.links m.turns };
 
-    ghost invariant = { λ m. IsMade m.tables.draft.nodes m.tables.draft.ways m.order.places.items m.order.numbers.items m.links m.turns };
+    ghost invariant = { λ m.
+        IsMade m.tables.draft.nodes m.tables.draft.ways m.order.places.items m.order.numbers.items
+        m.links m.turns };
 }
 
 impl Map {
@@ -136,7 +140,8 @@ impl Map {
         self.links.leaving(node)
     }
 
-    /// Whether a turn restriction forbids the second link after the first, which leaves where the first arrives.
+    /// Whether a turn restriction forbids the second link after the first, which leaves where the
+    /// first arrives.
     pub fn forbids(&self, first: u32, second: u32) -> bool
         requires first_in { first < length self.now.links }
         requires second_in { second < length self.now.links }

@@ -21,10 +21,11 @@ pub(crate) fn way_of(tables: &Tables, relation: u32, member: u32) -> Option<u32>
         (λ m. result ≡ way_of_member tables.now.draft.ways m) }
     ensures within { IfSome result (λ way. way < length tables.now.draft.ways) }
 {
-    if tables.member_kind(relation, member) != b"way".as_slice() {
+    let found = tables.member(relation, member);
+    if found.kind != b"way".as_slice() {
         return None;
     }
-    tables.find_way(tables.member_reference(relation, member))
+    tables.find_way(found.reference)
 }
 
 /// Whether a member has this role.
@@ -34,7 +35,7 @@ fn has_role(tables: &Tables, relation: u32, member: u32, role: &[u8]) -> bool
     ensures value { HoldsAtMember tables.now.draft.relations relation member
         (λ m. result ≡ bytes_eq m.role role.now) }
 {
-    tables.member_role(relation, member) == role
+    tables.member(relation, member).role == role
 }
 
 /// Adds the way that a member of this role is.
@@ -48,7 +49,8 @@ fn add_way(
     requires fits { relation < length tables.now.draft.relations }
     requires among { HasMember tables.now.draft.relations relation member }
     ensures value { OnOk result (HoldsAtMember tables.now.draft.relations relation member
-        (λ m. ways.new.items ≡ ways.old.items ++ ways_of tables.now.draft.ways (in_role role.now (m ∷ [])))) }
+        (λ m. ways.new.items ≡ ways.old.items ++
+        ways_of tables.now.draft.ways (in_role role.now (m ∷ [])))) }
 {
     if !has_role(tables, relation, member, role) {
         return Ok(());
@@ -68,7 +70,8 @@ pub(crate) fn ways_in_role(
 ) -> Result<Vec<u32>, AllocError>
     requires fits { relation < length tables.now.draft.relations }
     ensures exact { IfOk result (λ ways. ways.items
-        ≡ ways_of tables.now.draft.ways (in_role role.now (members_at tables.now.draft.relations relation))) }
+        ≡ ways_of tables.now.draft.ways
+        (in_role role.now (members_at tables.now.draft.relations relation))) }
 {
     let mut ways = Vec::new(alloc);
     'members: for member in 0..tables.members(relation) {
@@ -95,22 +98,25 @@ fn node_of(tables: &Tables, order: &NodeOrder, relation: u32, member: u32) -> Op
     requires fits { relation < length tables.now.draft.relations }
     requires among { HasMember tables.now.draft.relations relation member }
     requires distinct { AreDistinct tables.now.draft.nodes }
-    requires order { IsNodeOrder tables.now.draft.nodes order.now.places.items order.now.numbers.items }
+    requires order { IsNodeOrder tables.now.draft.nodes order.now.places.items
+        order.now.numbers.items }
     ensures value { HoldsAtMember tables.now.draft.relations relation member
         (λ m. result ≡ node_of_member (picked tables.now.draft.nodes order.now.places.items) m) }
     ensures within { IfSome result (λ node. node < length tables.now.draft.nodes) }
 {
-    if tables.member_kind(relation, member) != b"node".as_slice() {
+    let found = tables.member(relation, member);
+    if found.kind != b"node".as_slice() {
         return None;
     }
-    number_of(tables, order, tables.member_reference(relation, member))
+    number_of(tables, order, found.reference)
 }
 
 /// The node of the map that the only member with the role `via` is.
 pub(crate) fn via_node(tables: &Tables, order: &NodeOrder, relation: u32) -> Option<u32>
     requires fits { relation < length tables.now.draft.relations }
     requires distinct { AreDistinct tables.now.draft.nodes }
-    requires order { IsNodeOrder tables.now.draft.nodes order.now.places.items order.now.numbers.items }
+    requires order { IsNodeOrder tables.now.draft.nodes order.now.places.items
+        order.now.numbers.items }
     ensures value { result ≡ via_of (picked tables.now.draft.nodes order.now.places.items)
         (members_at tables.now.draft.relations relation) }
     ensures within { IfSome result (λ node. node < length tables.now.draft.nodes) }

@@ -41,7 +41,8 @@ impl Laid {
 
     /// The two links of one more segment.
     pub(crate) fn push(&mut self, way: u32, segment: u32, a: u32, b: u32) -> Result<(), AllocError>
-        ensures value { OnOk result ((nodes : ℕ) → IsSoundLaid nodes self.old → a < nodes → b < nodes
+        ensures value { OnOk result ((nodes : ℕ) → IsSoundLaid nodes self.old → a < nodes →
+            b < nodes
             → Lays nodes self.old self.new (both_ways way segment a b)) }
     {
         self.ends.push(a)?;
@@ -78,7 +79,8 @@ impl Links {
     /// The links that were laid between so many nodes.
     pub(crate) fn new(alloc: Global, nodes: u32, laid: Laid) -> Result<Links, AllocError>
         requires sound { IsSoundLaid nodes laid }
-        ensures value { IfOk result (λ net. net ≡ record { nodes = nodes; links = links_now laid }) }
+        ensures value { IfOk result
+            (λ net. net ≡ record { nodes = nodes; links = links_now laid }) }
     {
         if laid.ends.len() > u32::MAX as usize {
             return Err(AllocError);

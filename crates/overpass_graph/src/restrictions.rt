@@ -66,10 +66,13 @@ fn restriction(
 ) -> Result<Option<Restriction>, AllocError>
     requires fits { relation < length tables.now.draft.relations }
     requires distinct { AreDistinct tables.now.draft.nodes }
-    requires order { IsNodeOrder tables.now.draft.nodes order.now.places.items order.now.numbers.items }
-    ensures exact { IfOk result (λ r. r ≡ restriction_of (picked tables.now.draft.nodes order.now.places.items)
+    requires order { IsNodeOrder tables.now.draft.nodes order.now.places.items
+        order.now.numbers.items }
+    ensures exact { IfOk result
+        (λ r. r ≡ restriction_of (picked tables.now.draft.nodes order.now.places.items)
         tables.now.draft.ways (relation_at tables.now.draft.relations relation)) }
-    ensures below { IfOk result (λ r. AreViasBelow (length tables.now.draft.nodes) (option_to_list r)) }
+    ensures below { IfOk result
+        (λ r. AreViasBelow (length tables.now.draft.nodes) (option_to_list r)) }
 {
     let Some(kind) = kind_for_bicycles(tables.relation_tags(relation)) else {
         return Ok(None);
@@ -90,7 +93,8 @@ fn add_restriction(
 ) -> Result<(), AllocError>
     requires fits { relation < length tables.now.draft.relations }
     requires distinct { AreDistinct tables.now.draft.nodes }
-    requires order { IsNodeOrder tables.now.draft.nodes order.now.places.items order.now.numbers.items }
+    requires order { IsNodeOrder tables.now.draft.nodes order.now.places.items
+        order.now.numbers.items }
     requires below { AreViasBelow (length tables.now.draft.nodes) list.old.items }
     ensures value { OnOk result (list.new.items ≡ list.old.items ++ option_to_list (restriction_of
         (picked tables.now.draft.nodes order.now.places.items) tables.now.draft.ways (relation_at tables.now.draft.relations relation))) }
@@ -109,7 +113,8 @@ pub(crate) fn restrictions(
     order: &NodeOrder,
 ) -> Result<Vec<Restriction>, AllocError>
     requires distinct { AreDistinct tables.now.draft.nodes }
-    requires order { IsNodeOrder tables.now.draft.nodes order.now.places.items order.now.numbers.items }
+    requires order { IsNodeOrder tables.now.draft.nodes order.now.places.items
+        order.now.numbers.items }
     ensures exact { IfOk result (λ list. list.items ≡ restrictions_of
         (picked tables.now.draft.nodes order.now.places.items) tables.now.draft.ways tables.now.draft.relations) }
     ensures below { IfOk result (λ list. AreViasBelow (length tables.now.draft.nodes) list.items) }

@@ -1,7 +1,7 @@
 //! The tags that route relations give to their ways.
 
 ghost use Rattle.std.specs.Prelude.{◌≡◌, ◌<◌, length, IfErr, IfOk, MatchOption, None, OnOk, Some, slice_get, slice_set};
-ghost use Rattle.map_tables.specs.Draft.{HasMember, HoldsAtMember, with_ways};
+ghost use Rattle.map_tables.specs.Draft.{HasMember, HoldsAtMember};
 ghost use Rattle.map_tables.specs.Kept.{with_tag};
 ghost use Rattle.map_tables.specs.declared.error.MapError.TheVariants.{NoMemory};
 ghost use Rattle.overpass_graph.specs.Members.{KeptWay, members_at, relation_at, tag_once, with_more_tags};
@@ -82,7 +82,8 @@ fn tag_member(
     requires fits { relation < length tables.old.draft.relations }
     requires among { HasMember tables.old.draft.relations relation member }
     ensures value { OnOk result (HoldsAtMember tables.old.draft.relations relation member
-        (λ m. tables.new ≡ with_more_tags tables.old (tag_once (name.now, codes "yes") m tables.old.draft.ways))) }
+        (λ m. tables.new ≡ with_more_tags tables.old
+        (tag_once (name.now, codes "yes") m tables.old.draft.ways))) }
     ensures refused { IfErr result (λ e. e ≡ NoMemory) }
 {
     let _limits = tables.limits();
@@ -109,7 +110,9 @@ fn tag_ways(alloc: Global, tables: &mut Tables, relation: u32, name: &[u8]) -> R
 fn tag_route(alloc: Global, tables: &mut Tables, relation: u32) -> Result<(), MapError>
     requires fits { relation < length tables.old.draft.relations }
     ensures value { let r = relation_at tables.old.draft.relations relation in
-        OnOk result (tables.new ≡ with_more_tags tables.old (with_route (tag_of_route r.tags) r.content tables.old.draft.ways)) }
+        OnOk result (tables.new ≡
+        with_more_tags tables.old
+        (with_route (tag_of_route r.tags) r.content tables.old.draft.ways)) }
     ensures refused { IfErr result (λ e. e ≡ NoMemory) }
 {
     let Ok(found) = route_of(alloc, tables.relation_tags(relation)) else {

@@ -24,7 +24,8 @@ pub(crate) fn rows_of(alloc: Global, tables: &Tables) -> Result<Vec<NodeId>, All
 /// The number of the node of an id.
 pub(crate) fn number_of(tables: &Tables, order: &NodeOrder, id: i64) -> Option<u32>
     requires distinct { AreDistinct tables.now.draft.nodes }
-    requires order { IsNodeOrder tables.now.draft.nodes order.now.places.items order.now.numbers.items }
+    requires order { IsNodeOrder tables.now.draft.nodes order.now.places.items
+        order.now.numbers.items }
     ensures value { result ≡ place_of_id id (picked tables.now.draft.nodes order.now.places.items) }
     ensures within { IfSome result (λ node. node < length tables.now.draft.nodes) }
 {

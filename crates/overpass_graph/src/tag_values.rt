@@ -1,9 +1,9 @@
 //! What the tags of a relation say of routes and turn restrictions.
 
-ghost use Rattle.std.specs.Prelude.{◌≡◌, None, Some, IfOk, MatchOption, option_map};
+ghost use Rattle.std.specs.Prelude.{◌≡◌, None, Some, MatchOption};
 ghost use Rattle.overpass_graph.specs.Restrictions.{excepts_bicycles, kind_for_bicycles as kind_by_tags, kind_of as kind_by_value};
 ghost use lib.Chars.{codes};
-ghost use Rattle.overpass_graph.specs.RouteTags.{tag_of_route, value_of as value_by_name};
+ghost use Rattle.overpass_graph.specs.RouteTags.{value_of as value_by_name};
 
 use crate::restriction::RestrictionKind;
 use crate::texts::{begins_with, names_bicycle};

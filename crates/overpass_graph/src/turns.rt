@@ -1,7 +1,6 @@
 //! The turns that restrictions forbid, by node.
 
-ghost use Rattle.std.specs.Prelude.{◌≡◌, ℕ, List, ◌<◌, IfOk, length, get_or, map};
-ghost use Rattle.overpass_graph.specs.declared.restriction.Restriction.{Restriction as RestrictionValue};
+ghost use Rattle.std.specs.Prelude.{◌≡◌, ◌<◌, IfOk, map};
 ghost use Rattle.overpass_graph.specs.Restrictions.{forbids_any, forbids_ways as forbids_ways_of, is_in};
 ghost use Rattle.overpass_graph.specs.Turns.{TurnTable, AreViasBelow, vias_of};
 
@@ -45,7 +44,8 @@ impl Turns {
         restrictions: Vec<Restriction>,
     ) -> Result<Turns, AllocError>
         requires below { AreViasBelow nodes restrictions.items }
-        ensures value { IfOk result (λ turns. turns ≡ record { nodes = nodes; restrictions = restrictions.items }) }
+        ensures value { IfOk result
+            (λ turns. turns ≡ record { nodes = nodes; restrictions = restrictions.items }) }
     {
         if restrictions.len() > u32::MAX as usize {
             return Err(AllocError);

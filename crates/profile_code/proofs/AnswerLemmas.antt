@@ -9,8 +9,10 @@ use Rattle.profile_code.specs.Step.{given_of}
 use Rattle.profile_code.specs.declared.instr.Instr.{Instr}
 use Rattle.profile_code.specs.declared.scratch.Scratch.{Scratch}
 
-module _ (flat : Flat) (part : Part) (numbers : List ℕ) (scratch : Scratch) (held : HoldsGlobals flat scratch) (fits : length numbers ≡ tags_of flat part) where
-  -- a part's run in a scratch of its code lacks nothing, with the part's operations, the values that the scratch holds, and room for its own
+module _ (flat : Flat) (part : Part) (numbers : List ℕ) (scratch : Scratch) (held : HoldsGlobals flat scratch) (fits :
+    length numbers ≡ tags_of flat part) where
+  -- a part's run in a scratch of its code lacks nothing, with the part's operations, the values that the scratch holds, and room for its
+  -- own
   pub own_ready : (instrs : List Instr) (global : List ℤ) (own : Held) → IsSafe flat → instrs ≡ (own_section flat part).instrs
       → global ≡ held_values scratch → own.room ≡ length (own_section flat part).names
       → run_of (given_of numbers global scratch.stack own) instrs ≢ Stuck

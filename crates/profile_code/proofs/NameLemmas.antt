@@ -1,5 +1,5 @@
 -- The names of values, and where they stand.
-use Rattle.std.proofs.Common.{◌≡◌, ◌∙◌, ℕ, suc, ◌<◌, Bool, true, false, List, [], ◌∷◌, length, map, ℤ, Option, Some, None, refl, sym, ap, arith, IfSome, get_or, unwrap_or, subst, is_some}
+use Rattle.std.proofs.Common.{◌≡◌, ◌∙◌, ℕ, suc, ◌<◌, Bool, true, false, List, [], ◌∷◌, length, map, ℤ, Option, Some, None, refl, sym, ap, IfSome, get_or, unwrap_or, subst, is_some}
 use Rattle.std.proofs.Math.Path.{fun_ext}
 use Rattle.std.proofs.lemmas.Option.{slice_get-get_or}
 use Rattle.std.specs.Str.{bytes_eq}
@@ -7,21 +7,11 @@ use Rattle.context_check.proofs.CallerLemmas.{names_of}
 use Rattle.profile_code.specs.Effects.{value_at, last_or, placed_or}
 use Rattle.profile_text.specs.Meaning.{later_value, last_value}
 use Rattle.profile_text.specs.Names.{last_place, later_place}
+use Rattle.profile_text.proofs.CallerLemmas.{last_place-lt}
 
 -- the numbers of values
 abbrev pub numbers_of : List (List ℕ × ℤ) → List ℤ
 numbers_of values = map (λ v. v.1) values
-
--- the place of a name is within the list
-place_within : (names : List (List ℕ)) (name : List ℕ) → IfSome (last_place names name) (λ place. place < length names)
-place_within [] name = tt
-place_within (n ∷ ns) name = by_rest (bytes_eq name n) (last_place ns name) (place_within ns name)
-  where
-    by_rest : (b : Bool) (o : Option ℕ) → IfSome o (λ place. place < length ns) →
-        IfSome (later_place b o) (λ place. place < suc (length ns))
-    by_rest b (Some place) below = omega arith
-    by_rest true None below = omega arith
-    by_rest false None below = tt
 
 -- the value at a place of a list that has one more number at the front
 value_later : (b : Bool) (n : ℤ) (ns : List ℤ) (place : Option ℕ) → IfSome place (λ p. p < length ns) →
@@ -48,7 +38,7 @@ value_placed (v ∷ vs) name =
     let P : ℕ → Type 0 = λ n. IfSome (last_place (names_of vs) name) (λ place. place < n) in
     ap (later_value (bytes_eq name v.0) v.1) (value_placed vs name)
     ∙ value_later (bytes_eq name v.0) v.1 (numbers_of vs) (last_place (names_of vs) name)
-    (subst P (same_length vs) (place_within (names_of vs) name))
+    (subst P (same_length vs) (last_place-lt (names_of vs) name))
 
 -- so a name comes to the same by either
 pub number_placed : (values : List (List ℕ × ℤ)) → placed_or (names_of values) (numbers_of values) ≡ last_or values

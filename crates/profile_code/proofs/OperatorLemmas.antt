@@ -12,6 +12,7 @@ use Rattle.profile_code.specs.Machine.{Given, Ended, Stuck, Next, pushed, comput
 use Rattle.profile_text.specs.Meaning.{Fault, and_then, arithmetic, truth, is_true, decided_by, result_of, operation}
 use Rattle.profile_text.specs.declared.expr.Op.{Op}
 use Rattle.profile_text.specs.declared.expr.Op.TheVariants.{Or, And}
+use Rattle.context_check.proofs.CallerLemmas.{IsKnown-arithmetic}
 
 -- what follows the code of an expression: a run with its value on the stack, or the end with its fault
 abbrev pub after : Given → List Instr → List ℤ → List ℤ → Result ℤ Fault → Ended
@@ -99,14 +100,9 @@ after_computed : (given : Given) (rest : List Instr) (stack own : List ℤ) (r :
 after_computed given rest stack own (Ok n) = refl
 after_computed given rest stack own (Err kind) = refl
 
--- a fault of arithmetic is no want of a name
-known_arithmetic : (r : Result ℤ Arith) → IsKnown (arithmetic r)
-known_arithmetic (Ok n) = tt
-known_arithmetic (Err kind) = tt
-
 -- a second operand leaves a fault of its own or one of arithmetic
 known_second : (op : Op) (a : ℤ) (r : Result ℤ Fault) → IsKnown r → IsKnown (and_then r (λ n. arithmetic (result_of op a n)))
-known_second op a (Ok n) known = known_arithmetic (result_of op a n)
+known_second op a (Ok n) known = IsKnown-arithmetic (result_of op a n)
 known_second op a (Err f) known = known
 
 -- an operator that looks at both operands

@@ -8,6 +8,7 @@ use Rattle.indexmap.specs.IndexMap.{insert_entry}
 use Rattle.profile_text.specs.Meaning.{last_value, later_value}
 use Rattle.profile_text.specs.Vars.{AreVars, by_bytes, first_names}
 use Rattle.profile_text.proofs.NameLemmas.{lookup-insert}
+use Rattle.item_list.proofs.TestLemmas.{bytes_eq-refl}
 
 -- ---- Values that come one after the other
 
@@ -38,13 +39,9 @@ with_name (x ∷ xs) key = cond (bytes_eq key x) (x ∷ xs) (x ∷ with_name xs 
 abbrev without : List ℕ → List (List ℕ) → List (List ℕ)
 without n ns = filter (λ m. not (bytes_eq n m)) ns
 
--- a name is itself
-one : (x : List ℕ) → bytes_eq x x ≡ true
-one x = (bytes_eq-Decides x x).1 refl
-
 -- a name that is left out may be put at the end or not
 without-same : (n : List ℕ) (ns : List (List ℕ)) → without n (with_name ns n) ≡ without n ns
-without-same n [] = ap (λ b. cond (not b) (n ∷ []) []) (one n)
+without-same n [] = ap (λ b. cond (not b) (n ∷ []) []) (bytes_eq-refl n)
 without-same n (x ∷ xs) = by_test (bytes_eq n x) (without-same n xs)
   where
     by_test : (b : Bool) → without n (with_name xs n) ≡ without n xs → without n (cond b (x ∷ xs) (x ∷ with_name xs n)) ≡ without n (x ∷ xs)

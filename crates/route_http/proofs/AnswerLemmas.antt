@@ -1,5 +1,5 @@
 -- What the first bytes of a connection come to, as long as more may come.
-use Rattle.std.proofs.Common.{◌≡◌, ◌≢◌, ℕ, suc, ◌+◌, ◌-◌, ◌≤◌, ◌<◌, Bool, true, false, cond, List, [], ◌∷◌, ◌++◌, length, take, drop, refl, sym, ap, ◌∙◌, subst, arith, Option, Some, None, IfSome, min, length-append, if◌then◌else◌, nat_lt, ◌⊎◌, inl, inr}
+use Rattle.std.proofs.Common.{◌≡◌, ◌≢◌, ℕ, ◌+◌, ◌-◌, ◌≤◌, ◌<◌, Bool, true, false, List, [], ◌∷◌, ◌++◌, length, take, drop, refl, sym, ap, ◌∙◌, subst, arith, Option, Some, None, min, length-append, if◌then◌else◌, nat_lt, ◌⊎◌, inl, inr}
 use Rattle.std.specs.List.{position_or_len, before_first, after_first}
 use Rattle.std.proofs.Math.Nat.{min_comm}
 use Rattle.std.proofs.lemmas.Bool.{cases_lt}
@@ -14,7 +14,7 @@ use Rattle.route_http.specs.declared.heads.Method.{Method}
 use Rattle.route_http.specs.declared.span.Span.{Span}
 use Rattle.route_http.specs.Ends.{end_of}
 use Rattle.route_http.specs.Heads.{is_mark, target_start, IsServed, Tells, IsJudged, head_end, unended, IsHeadUpTo, IsHeadOf, IsHeadWithin}
-use Rattle.route_http.proofs.EndLemmas.{end_append, end_front, end_fits, end_none}
+use Rattle.route_http.proofs.EndLemmas.{end_append, end_fits, end_none}
 
 -- ---- As the code looks for the end
 
@@ -86,7 +86,8 @@ judged_within bytes front head.Bad fits few judged = tt
 judged_within bytes front head.TooLong fits few judged = tt
 
 -- what an answer without an end says of places
-unended_within : (bytes : List ℕ) (test : Bool) (answer : Head) → answer ≡ (if test then head.More else head.TooLong) → IsHeadWithin bytes answer
+unended_within : (bytes : List ℕ) (test : Bool) (answer : Head) → answer ≡ (if test then head.More else head.TooLong) →
+    IsHeadWithin bytes answer
 unended_within bytes true answer is = subst (λ (a : Head). IsHeadWithin bytes a) (sym is) tt
 unended_within bytes false answer is = subst (λ (a : Head). IsHeadWithin bytes a) (sym is) tt
 
@@ -143,7 +144,8 @@ few_or_many k = cases_lt k 16384
 pub head_stays : (bytes more : List ℕ) (answer : Head) → IsHeadOf bytes answer → answer ≢ head.More → IsHeadOf (bytes ++ more) answer
 unfolding IsHeadOf
 head_stays bytes more answer is other =
-    elim (head_end bytes) as (λ (a : Option ℕ). head_end bytes ≡ a → IsHeadUpTo bytes a answer → IsHeadUpTo (bytes ++ more) (head_end (bytes ++ more)) answer) [
+    elim (head_end bytes) as (λ (a : Option ℕ). head_end bytes ≡ a → IsHeadUpTo bytes a answer →
+    IsHeadUpTo (bytes ++ more) (head_end (bytes ++ more)) answer) [
       | None ↦ λ none up_to.
           elim (few_or_many (length bytes)) [
             | inl few ↦ absurd (other (up_to ∙ unended_short (length bytes) few))
@@ -168,7 +170,8 @@ all_front bytes few = take_all 16384 bytes (omega arith)
 pub more_from : (bytes : List ℕ) → IsHeadOf bytes head.More → (end_of bytes ≡ None) × (length bytes < 16384)
 unfolding IsHeadOf
 more_from bytes is =
-    elim (head_end bytes) as (λ (a : Option ℕ). head_end bytes ≡ a → IsHeadUpTo bytes a head.More → (end_of bytes ≡ None) × (length bytes < 16384)) [
+    elim (head_end bytes) as (λ (a : Option ℕ). head_end bytes ≡ a → IsHeadUpTo bytes a head.More →
+    (end_of bytes ≡ None) × (length bytes < 16384)) [
       | None ↦ λ none up_to.
           elim (few_or_many (length bytes)) [
             | inl few ↦ (ap end_of (sym (all_front bytes few)) ∙ none, few)
@@ -198,7 +201,8 @@ none_longer bytes came longer below fits none =
 -- ---- One answer
 
 -- two heads of one request are one
-same_whole : (bytes : List ℕ) (r : RequestHead) (long m : ℕ) (method n : Method) (path p query q : Span) (body b : ℕ) → IsServed bytes r body
+same_whole : (bytes : List ℕ) (r : RequestHead) (long m : ℕ) (method n : Method) (path p query q : Span) (body b : ℕ) →
+    IsServed bytes r body
     → IsServed bytes r b → Tells bytes r long method path query → Tells bytes r m n p q
     → head.Whole long method path query body ≡ head.Whole m n p q b
 same_whole bytes r long m method n path p query q body b one other first second =

@@ -4,6 +4,7 @@ use Rattle.std.proofs.lemmas.List.{take-append-drop, drop_all}
 use Rattle.std.specs.Option.{option_or}
 use Rattle.item_list.proofs.ListLemmas.{tail}
 use Rattle.route_http.specs.Ends.{empty_line, end_of}
+use Rattle.item_list.proofs.TestLemmas.{option_map-none, place-from_front, place-from_next}
 
 -- ---- The empty line
 
@@ -73,16 +74,6 @@ or_none : (a b : Option ℕ) → option_or a b ≡ None → (a ≡ None) × (b �
 or_none None b is = (refl, is)
 or_none (Some n) b is = absurd (cc)
 
--- where nothing is counted up
-map_none : (f : ℕ → ℕ) (a : Option ℕ) → option_map f a ≡ None → a ≡ None
-map_none f None is = refl
-map_none f (Some n) is = absurd (cc)
-
--- a place counted from the front
-map_zero : (a : Option ℕ) → a ≡ option_map (λ (n : ℕ). 0 + n) a
-map_zero None = refl
-map_zero (Some n) = ap (λ (m : ℕ). Some m) (omega arith)
-
 -- a place counted from one byte before
 map_suc : (k : ℕ) (a : Option ℕ) → option_map (λ (n : ℕ). suc n) (option_map (λ (n : ℕ). k + n) a) ≡ option_map (λ (n : ℕ). suc k + n) a
 map_suc k None = refl
@@ -99,11 +90,11 @@ end_here b n bytes is = ap (λ (a : Option ℕ). option_or a (option_map (λ (n 
 -- where none ends within so many bytes and two, the first is looked for behind them
 pub end_skip : (k : ℕ) (bytes : List ℕ) → end_of (take (suc (suc k)) bytes) ≡ None
     → end_of bytes ≡ option_map (λ (n : ℕ). k + n) (end_of (drop k bytes))
-end_skip zero bytes none = map_zero (end_of bytes)
+end_skip zero bytes none = place-from_front (end_of bytes)
 end_skip (suc k) [] none = refl
 end_skip (suc k) (b ∷ bytes) none =
     let both = or_none (empty_line (b ∷ take (suc (suc k)) bytes)) _ none in
-    let rest : end_of (take (suc (suc k)) bytes) ≡ None = map_none (λ (n : ℕ). suc n) _ both.1 in
+    let rest : end_of (take (suc (suc k)) bytes) ≡ None = option_map-none (λ (n : ℕ). suc n) _ both.1 in
     end_behind b bytes (sym (line_front k b bytes) ∙ both.0)
     ∙ ap (λ (a : Option ℕ). option_map (λ (n : ℕ). suc n) a) (end_skip k bytes rest)
     ∙ map_suc k (end_of (drop k bytes))
@@ -189,7 +180,7 @@ pub record LooksOn (bytes : List ℕ) (at : ℕ) : Type 0 where
 
 -- at the front all is to be looked at
 pub LooksOn-init : (bytes : List ℕ) → LooksOn bytes 0
-LooksOn-init bytes = record { same = map_zero (end_of bytes) }
+LooksOn-init bytes = record { same = place-from_front (end_of bytes) }
 
 -- where an empty line begins here, it is the first
 pub LooksOn-found : (bytes : List ℕ) (at n : ℕ) → at < length bytes → LooksOn bytes at → empty_line (drop at bytes) ≡ Some n
@@ -209,13 +200,8 @@ LooksOn-more bytes at inside looks none =
     let next : end_of bytes ≡ option_map (λ (n : ℕ). suc at + n) (end_of (drop (suc at) bytes)) =
     looks.same ∙ ap (λ (l : List ℕ). option_map (λ (n : ℕ). at + n) (end_of l)) cut
     ∙ ap (λ (a : Option ℕ). option_map (λ (n : ℕ). at + n) a) behind
-    ∙ map_next at (end_of (drop (suc at) bytes)) in
+    ∙ place-from_next at (end_of (drop (suc at) bytes)) in
     record { same = subst (λ (k : ℕ). end_of bytes ≡ option_map (λ (n : ℕ). k + n) (end_of (drop k bytes))) (sym (add-one at)) next }
-  where
-    map_next : (at : ℕ) (a : Option ℕ)
-        → option_map (λ (n : ℕ). at + n) (option_map (λ (n : ℕ). suc n) a) ≡ option_map (λ (n : ℕ). suc at + n) a
-    map_next at None = refl
-    map_next at (Some n) = ap (λ (m : ℕ). Some m) (omega arith)
 
 -- at the end there was none
 pub LooksOn-done : (bytes : List ℕ) (at : ℕ) → length bytes ≤ at → LooksOn bytes at → end_of bytes ≡ None
@@ -225,8 +211,10 @@ LooksOn-done bytes at past looks =
 -- where none ends within the first bytes, the first is looked for from two bytes before them on
 looked_from : (bytes : List ℕ) (from start : ℕ) → start ≡ from - 2 → end_of (take from bytes) ≡ None
     → end_of bytes ≡ option_map (λ (n : ℕ). start + n) (end_of (drop start bytes))
-looked_from bytes zero start is none = let e : ◌≡◌ {A = ℕ} 0 start = omega arith in subst (λ (k : ℕ). end_of bytes ≡ option_map (λ (n : ℕ). k + n) (end_of (drop k bytes))) e (map_zero (end_of bytes))
-looked_from bytes (suc zero) start is none = let e : ◌≡◌ {A = ℕ} 0 start = omega arith in subst (λ (k : ℕ). end_of bytes ≡ option_map (λ (n : ℕ). k + n) (end_of (drop k bytes))) e (map_zero (end_of bytes))
+looked_from bytes zero start is none = let e : ◌≡◌ {A = ℕ} 0 start = omega arith in
+    subst (λ (k : ℕ). end_of bytes ≡ option_map (λ (n : ℕ). k + n) (end_of (drop k bytes))) e (place-from_front (end_of bytes))
+looked_from bytes (suc zero) start is none = let e : ◌≡◌ {A = ℕ} 0 start = omega arith in
+    subst (λ (k : ℕ). end_of bytes ≡ option_map (λ (n : ℕ). k + n) (end_of (drop k bytes))) e (place-from_front (end_of bytes))
 looked_from bytes (suc (suc k)) start is none =
     let e : k ≡ start = omega arith in
     subst (λ (k : ℕ). end_of bytes ≡ option_map (λ (n : ℕ). k + n) (end_of (drop k bytes))) e (end_skip k bytes none)

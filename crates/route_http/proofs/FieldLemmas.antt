@@ -1,5 +1,5 @@
 -- What header lines say of a body's length, line by line and digit by digit.
-use Rattle.std.proofs.Common.{◌≡◌, ℕ, suc, ◌+◌, ◌*◌, ◌-◌, ◌≤◌, ◌<◌, Bool, true, false, ◌&&◌, ◌||◌, cond, List, [], ◌∷◌, length, drop, get_or, map, add-one, drop-cons, subst, refl, sym, ap, ◌∙◌, arith, Option, Some, None, option_map, if◌then◌else◌, min}
+use Rattle.std.proofs.Common.{◌≡◌, ℕ, ◌+◌, ◌*◌, ◌-◌, ◌≤◌, ◌<◌, Bool, true, false, ◌&&◌, ◌||◌, cond, List, [], ◌∷◌, length, drop, get_or, map, add-one, drop-cons, subst, refl, sym, ap, ◌∙◌, arith, Option, Some, None, option_map, if◌then◌else◌, min}
 use Rattle.std.specs.Prelude.{◌↔◌, IsTrue, unwrap_or, codes, is_some}
 use Rattle.std.proofs.lemmas.Bool.Decides.{same_from_decides}
 use Rattle.std.proofs.lemmas.Slice.Eq.{bytes_eq-Decides}
@@ -47,17 +47,23 @@ second_value : (named : Bool) (n : ℕ) (v : List ℕ) (values : List (List ℕ)
 second_value true n v values = refl
 second_value false n v values = refl
 
--- one line more, by the tests of its name, where further lines are known to tell what they do
-line_more : (encoding long any : Bool) (told n : Option ℕ) (h : List ℕ × List ℕ) (found : List (List ℕ × List ℕ)) (go : Option ℕ → Option ℕ)
-    → number_of h.1 ≡ n → ((t : Option ℕ) → go t ≡ told_unless any t (map (λ (h : List ℕ × List ℕ). h.1) found))
-    → and_on (if encoding then None else (if long then (if is_some told then None else option_map (λ (m : ℕ). Some m) n) else Some told)) go
-    ≡ told_unless (encoding || any) told (map (λ (h : List ℕ × List ℕ). h.1) (cond long (h ∷ found) found))
-line_more true long any told n h found go is rest = refl
-line_more false true any None None h found go is rest = after_value any None h.1 (map (λ (h : List ℕ × List ℕ). h.1) found) is
-line_more false true any None (Some n) h found go is rest =
-    rest (Some n) ∙ after_value any (Some n) h.1 (map (λ (h : List ℕ × List ℕ). h.1) found) is
-line_more false true any (Some m) n h found go is rest = second_value any m h.1 (map (λ (h : List ℕ × List ℕ). h.1) found)
-line_more false false any told n h found go is rest = rest told
+-- what a line tells by the tests of its name, after a length so far, where its value is this number
+abbrev told_by : (encoding long : Bool) (told number : Option ℕ) → Option (Option ℕ)
+told_by encoding long told number =
+    if encoding then None else (if long then (if is_some told then None else option_map (λ (m : ℕ). Some m) number) else Some told)
+
+-- one line more, where further lines are known to tell what they do
+module _ (any : Bool) (h : List ℕ × List ℕ) (found : List (List ℕ × List ℕ)) (go : Option ℕ → Option ℕ)
+    (rest : (t : Option ℕ) → go t ≡ told_unless any t (map (λ (h : List ℕ × List ℕ). h.1) found)) where
+  -- by the tests of its name
+  line_more : (encoding long : Bool) (told n : Option ℕ) → number_of h.1 ≡ n → and_on (told_by encoding long told n) go
+      ≡ told_unless (encoding || any) told (map (λ (h : List ℕ × List ℕ). h.1) (cond long (h ∷ found) found))
+  line_more true long told n is = refl
+  line_more false true None None is = after_value any None h.1 (map (λ (h : List ℕ × List ℕ). h.1) found) is
+  line_more false true None (Some n) is =
+      rest (Some n) ∙ after_value any (Some n) h.1 (map (λ (h : List ℕ × List ℕ). h.1) found) is
+  line_more false true (Some m) n is = second_value any m h.1 (map (λ (h : List ℕ × List ℕ). h.1) found)
+  line_more false false told n is = rest told
 
 -- what is told line by line is what all lines tell together
 told_all : (told : Option ℕ) (hs : List (List ℕ × List ℕ))
@@ -65,9 +71,9 @@ told_all : (told : Option ℕ) (hs : List (List ℕ × List ℕ))
 told_all None [] = refl
 told_all (Some n) [] = refl
 told_all told (h ∷ hs) =
-    line_more (is_named (codes "transfer-encoding") h) (is_named (codes "content-length") h)
-    (list_any (is_named (codes "transfer-encoding")) hs) told (number_of h.1) h (filter (is_named (codes "content-length")) hs)
-    (λ t. told_after t hs) refl (λ t. told_all t hs)
+    line_more (list_any (is_named (codes "transfer-encoding")) hs) h (filter (is_named (codes "content-length")) hs)
+    (λ t. told_after t hs) (λ t. told_all t hs)
+    (is_named (codes "transfer-encoding") h) (is_named (codes "content-length") h) told (number_of h.1) refl
 
 -- what is told line by line is the body's length
 told_is : (hs : List (List ℕ × List ℕ)) → told_after None hs ≡ body_of hs
@@ -105,7 +111,8 @@ held_once : (a d : ℕ) → min (10 * min a 18446744073709551615 + d) 1844674407
 held_once a d = omega arith
 
 -- a number that is held down may as well be held down at the end
-held : (a : ℕ) (cs : List ℕ) → min (digits_after (min a 18446744073709551615) cs) 18446744073709551615 ≡ min (digits_after a cs) 18446744073709551615
+held : (a : ℕ) (cs : List ℕ) → min (digits_after (min a 18446744073709551615) cs) 18446744073709551615 ≡
+    min (digits_after a cs) 18446744073709551615
 held a [] = omega arith
 held a (c ∷ cs) =
     sym (held (10 * min a 18446744073709551615 + (c - 48)) cs)
@@ -133,7 +140,8 @@ CountsOn-more text left c n next counts digit is =
     record {
       same = ap (λ (k : ℕ). number_after k left) same
           ∙ ap (λ (k : ℕ). if all_ascii_digits left then Some k else None) (held (10 * n + (c - 48)) left)
-          ∙ sym (ap (λ (t : Bool). if t && all_ascii_digits left then Some (min (digits_after n (c ∷ left)) 18446744073709551615) else None) digit)
+          ∙ sym (ap (λ (t : Bool). if t && all_ascii_digits left then Some (min (digits_after n (c ∷ left)) 18446744073709551615) else None)
+          digit)
           ∙ counts.same;
       fits = omega arith;
     }
@@ -163,10 +171,12 @@ no_number (c ∷ cs) none = absurd (omega arith)
 -- ---- As the code goes on
 
 -- the next digit of a text is read
-pub CountsOn-step : (text : List ℕ) (i n next : ℕ) → i < length text → CountsOn text (drop i text) n → is_ascii_digit (get_or text i 0) ≡ true
+pub CountsOn-step : (text : List ℕ) (i n next : ℕ) → i < length text → CountsOn text (drop i text) n →
+    is_ascii_digit (get_or text i 0) ≡ true
     → next ≡ min (min (n * 10) 18446744073709551615 + (get_or text i 0 - 48)) 18446744073709551615 → CountsOn text (drop (i + 1) text) next
 CountsOn-step text i n next inside counts digit is =
-    let cut : drop i text ≡ get_or text i 0 ∷ drop (i + 1) text = drop-cons text i 0 inside ∙ ap (λ k. get_or text i 0 ∷ drop k text) (sym (add-one i)) in
+    let cut : drop i text ≡ get_or text i 0 ∷ drop (i + 1) text = drop-cons text i 0 inside
+    ∙ ap (λ k. get_or text i 0 ∷ drop k text) (sym (add-one i)) in
     CountsOn-more text (drop (i + 1) text) (get_or text i 0) n next (subst (λ (l : List ℕ). CountsOn text l n) cut counts) digit is
 
 -- a test that says whether two names are one in small letters is the test of the names

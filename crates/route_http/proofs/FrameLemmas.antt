@@ -1,5 +1,5 @@
 -- Texts that are put together one after the other.
-use Rattle.std.proofs.Common.{◌≡◌, ℕ, List, [], ◌++◌, sym, ap, ◌∙◌, append_assoc}
+use Rattle.std.proofs.Common.{◌≡◌, ℕ, List, [], ◌++◌, ap, ◌∙◌, append_assoc}
 
 -- two texts at the end of one
 joined : (old a b mid new : List ℕ) → mid ≡ old ++ a → new ≡ mid ++ b → new ≡ old ++ (a ++ b)
@@ -15,4 +15,5 @@ pub six_joined : (a b c d e f t u v w x new : List ℕ) → t ≡ [] ++ a → u 
     → new ≡ a ++ (b ++ (c ++ (d ++ (e ++ f))))
 six_joined a b c d e f t u v w x new first second third fourth fifth sixth =
     joined [] a (b ++ (c ++ (d ++ (e ++ f)))) t new first
-    (joined t b (c ++ (d ++ (e ++ f))) u new second (joined u c (d ++ (e ++ f)) v new third (three_joined v d e f w x new fourth fifth sixth)))
+    (joined t b (c ++ (d ++ (e ++ f))) u new second
+    (joined u c (d ++ (e ++ f)) v new third (three_joined v d e f w x new fourth fifth sixth)))

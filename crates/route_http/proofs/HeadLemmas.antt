@@ -1,11 +1,11 @@
 -- What the parts that `httparse` finds say of a head.
-use Rattle.std.proofs.Common.{◌≡◌, ℕ, suc, ◌+◌, ◌-◌, ◌≤◌, ◌<◌, Bool, not, true, false, cond, List, [], ◌∷◌, ◌++◌, length, take, drop, map, refl, sym, ap, ◌∙◌, subst, arith, Option, Some, None, append-nil, length-drop, min}
+use Rattle.std.proofs.Common.{◌≡◌, ℕ, ◌+◌, ◌-◌, ◌≤◌, Bool, not, cond, List, [], ◌∷◌, ◌++◌, length, take, drop, map, sym, ap, ◌∙◌, subst, arith, Some, None, append-nil, length-drop, min}
 use Rattle.std.specs.List.{prefix_len, position_or_len, before_first, after_first}
 use Rattle.std.proofs.lemmas.List.{drop_all, length-take, length-map}
 use Rattle.std.proofs.lemmas.List.Folds.{length-prefix_len}
 use Rattle.httparse.specs.Grammar.{LineEnd, crlf, lf, print_blank, print_request, RequestHead, ReadsRequest}
 use Rattle.httparse.specs.Pieces.{Stops, is_newline}
-use Rattle.httparse.specs.Spans.{span_bytes, header_bytes, name_and_value, IsRequestAt}
+use Rattle.httparse.specs.Spans.{header_bytes, name_and_value, IsRequestAt}
 use Rattle.httparse.specs.declared.spans.HeaderSpan.{HeaderSpan}
 use Rattle.httparse.specs.declared.spans.RequestSpans.{RequestSpans}
 use Rattle.httparse.proofs.GrammarLemmas.{request_pieces}
@@ -43,23 +43,24 @@ pub path_long : (target : List ℕ) → length (before_first is_mark target) ≡
 path_long target = length-prefix_len (λ b. not (is_mark b)) target
 
 -- so many bytes of a target are not its query
-pub query_long : (target : List ℕ) → length target - length (after_first is_mark target) ≡ min (length target) (position_or_len is_mark target + 1)
+pub query_long : (target : List ℕ) →
+    length target - length (after_first is_mark target) ≡ min (length target) (position_or_len is_mark target + 1)
 query_long target = omega (arith, length-drop (position_or_len is_mark target + 1) target)
 
 -- what is told of a request, where each part is that of the request
-pub tells_request : (bytes : List ℕ) (r : RequestHead) (long start : ℕ) (name target : List ℕ) (method : Method) (path query : Span)
-    → ReadsRequest bytes r [] → long ≡ length bytes → name ≡ r.method → target ≡ r.target
-    → start ≡ prefix_len is_newline bytes + length name + 1 → method ≡ method_of name → path ≡ path_at start target
-    → query ≡ query_at start target → Tells bytes r long method path query
-tells_request bytes r long start name target method path query reads long_is name_is target_is start_is method_is path_is query_is =
-    let name_long : length name ≡ length r.method = ap length name_is in
-    let begins : start ≡ target_start r = omega (arith, blank_len bytes r [] reads) in
-    record {
-      long_is = long_is;
-      method_is = method_is ∙ ap method_of name_is;
-      path_is = path_is ∙ ap (λ (k : ℕ). path_at k target) begins ∙ ap (λ (t : List ℕ). path_at (target_start r) t) target_is;
-      query_is = query_is ∙ ap (λ (k : ℕ). query_at k target) begins ∙ ap (λ (t : List ℕ). query_at (target_start r) t) target_is;
-    }
+module _ (bytes : List ℕ) (r : RequestHead) (reads : ReadsRequest bytes r []) where
+  pub tells_request : (long start : ℕ) (name target : List ℕ) (method : Method) (path query : Span) → long ≡ length bytes →
+      name ≡ r.method → target ≡ r.target → start ≡ prefix_len is_newline bytes + length name + 1 → method ≡ method_of name →
+      path ≡ path_at start target → query ≡ query_at start target → Tells bytes r long method path query
+  tells_request long start name target method path query long_is name_is target_is start_is method_is path_is query_is =
+      let name_long : length name ≡ length r.method = ap length name_is in
+      let begins : start ≡ target_start r = omega (arith, blank_len bytes r [] reads) in
+      record {
+        long_is = long_is;
+        method_is = method_is ∙ ap method_of name_is;
+        path_is = path_is ∙ ap (λ (k : ℕ). path_at k target) begins ∙ ap (λ (t : List ℕ). path_at (target_start r) t) target_is;
+        query_is = query_is ∙ ap (λ (k : ℕ). query_at k target) begins ∙ ap (λ (t : List ℕ). query_at (target_start r) t) target_is;
+      }
 
 -- ---- What a head comes to that httparse has read
 
@@ -92,7 +93,8 @@ judged_whole bytes r body head.Bad served whole = elim whole [ ]
 judged_whole bytes r body head.TooLong served whole = elim whole [ ]
 
 -- where a length is told, the head is served
-pub told_some : (bytes : List ℕ) (headers : List HeaderSpan) (parts : RequestSpans) (body : ℕ) (answer : Head) → IsParsed bytes headers parts
+pub told_some : (bytes : List ℕ) (headers : List HeaderSpan) (parts : RequestSpans) (body : ℕ) (answer : Head) →
+    IsParsed bytes headers parts
     → parts.len ≡ length bytes → body_of (map (header_bytes bytes) (take parts.headers headers)) ≡ Some body
     → TellsRequest bytes parts body answer → IsJudged bytes answer
 told_some bytes headers parts body answer parsed long told tells =
@@ -100,7 +102,8 @@ told_some bytes headers parts body answer parsed long told tells =
     let at : IsRequestAt bytes headers parts r = parsed.is.1 in
     let nothing : drop parts.len bytes ≡ [] = drop_all parts.len bytes (omega arith) in
     let reads : ReadsRequest bytes r [] = subst (λ (l : List ℕ). ReadsRequest bytes r l) nothing at.reads in
-    let counted : length (map (header_bytes bytes) (take parts.headers headers)) ≡ length (map name_and_value r.fields) = ap length at.fields in
+    let counted : length (map (header_bytes bytes) (take parts.headers headers)) ≡ length (map name_and_value r.fields) =
+    ap length at.fields in
     let few : length r.fields ≤ 64 =
     omega (
       arith,

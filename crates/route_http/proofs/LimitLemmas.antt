@@ -29,7 +29,8 @@ went (Ok a) go b is = record { value = a; given = refl; rest = is }
 went (Err e) go b is = cc
 
 -- a value that comes once is the value
-once-is : {A B : Type 0} (key : Key) (before : Option B) (value : Result A RequestError) (a : A) → once key before value ≡ Ok a → value ≡ Ok a
+once-is : {A B : Type 0} (key : Key) (before : Option B) (value : Result A RequestError) (a : A) → once key before value ≡ Ok a →
+    value ≡ Ok a
 once-is key None value a is = is
 once-is key (Some b) value a is = cc
 
@@ -58,7 +59,8 @@ refused-ok false a b e is = (refl, cc)
 -- ---- Lists
 
 -- one item more leaves a list within the most
-one-few : {A : Type 0} (key : Key) (most : ℕ) (before : List A) (item : Option A) (items : List A) → one_more key most before item ≡ Ok items → length items ≤ most
+one-few : {A : Type 0} (key : Key) (most : ℕ) (before : List A) (item : Option A) (items : List A) →
+    one_more key most before item ≡ Ok items → length items ≤ most
 one-few key most before None items is = cc
 one-few key most before (Some item) items is =
     let held = holds-ok (nat_lt (length before) most) (before ++ item ∷ []) items (error.TooMany key) is in
@@ -77,7 +79,8 @@ items-few read key most before (text ∷ texts) items few is =
 -- ---- Values
 
 -- two to 100 waypoints
-waypoints-fit : (value : List ℕ) (waypoints : List Place) → waypoints_of value ≡ Ok waypoints → (2 ≤ length waypoints) × (length waypoints ≤ 100)
+waypoints-fit : (value : List ℕ) (waypoints : List Place) → waypoints_of value ≡ Ok waypoints →
+    (2 ≤ length waypoints) × (length waypoints ≤ 100)
 waypoints-fit value waypoints is =
     let w = went (items_of place_of_text Lonlats 100 [] (parts_of value)) some_leg waypoints is in
     let leg = refused-ok (nat_lt (length w.value) 2) w.value waypoints (error.BadValue Lonlats) w.rest in
@@ -147,7 +150,8 @@ keyed-limited Alternativeidx name value p q are is =
     let w = went (once Alternativeidx p.alternative (formed Alternativeidx (digit_of 3 value))) _ q is in
     let new : Parts = record p { alternative = Some w.value } in
     let same : new ≡ q = let rest = w.rest in cc in
-    let given = formed-is Alternativeidx (digit_of 3 value) w.value (once-is Alternativeidx p.alternative (formed Alternativeidx (digit_of 3 value)) w.value w.given) in
+    let given = formed-is Alternativeidx (digit_of 3 value) w.value
+    (once-is Alternativeidx p.alternative (formed Alternativeidx (digit_of 3 value)) w.value w.given) in
     let fits = digit-fits 3 value w.value given in
     subst AreLimited same
     (record {
@@ -233,7 +237,8 @@ finish-limited p asked are is = go p.waypoints refl is
         }
 
     go : (waypoints : Option (List Place)) → p.waypoints ≡ waypoints →
-        (if is_some waypoints then (if is_some p.profile then Ok (whole p) else Err (error.Missing Profile)) else Err (error.Missing Lonlats)) ≡ Ok asked →
+        (if is_some waypoints then (if is_some p.profile then Ok (whole p) else Err (error.Missing Profile)) else Err
+        (error.Missing Lonlats)) ≡ Ok asked →
         IsLimited asked
     go None there e = cc
     go (Some w) there e =

@@ -21,14 +21,17 @@ TakesOn-init query first left left_is few = record {
 }
 
 -- at the end nothing is left to be added
-pub TakesOn-done : (query : List ℕ) (first : Parts) (place : ℕ) (left : List (List ℕ × List ℕ)) (now : Parts) → TakesOn query first place left now
+pub TakesOn-done : (query : List ℕ) (first : Parts) (place : ℕ) (left : List (List ℕ × List ℕ)) (now : Parts) →
+    TakesOn query first place left now
     → left ≡ [] → take_pairs 0 (pairs_of query) first ≡ Ok now
 TakesOn-done query first place left now takes none =
     sym takes.same ∙ ap (λ (l : List (List ℕ × List ℕ)). take_pairs place (map decoded_pair l) now) none
 
 -- where a pair is the next
-module _ (query : List ℕ) (first : Parts) (place : ℕ) (left : List (List ℕ × List ℕ)) (now : Parts) (name value : List ℕ) (rest : List (List ℕ × List ℕ))
-    (n v : List ℕ) (takes : TakesOn query first place left now) (next_is : left ≡ (name, value) ∷ rest) (n_is : n ≡ decoded name) (v_is : v ≡ decoded value) where
+module _ (query : List ℕ) (first : Parts) (place : ℕ) (left : List (List ℕ × List ℕ)) (now : Parts) (name value : List ℕ) (rest :
+    List (List ℕ × List ℕ))
+    (n v : List ℕ) (takes : TakesOn query first place left now) (next_is : left ≡ (name, value) ∷ rest) (n_is : n ≡ decoded name) (v_is :
+    v ≡ decoded value) where
   -- what all pairs add is what this pair leaves to the others
   pair_first : and_then (take_pair place (n, v) now) (take_pairs (suc place) (map decoded_pair rest)) ≡ take_pairs 0 (pairs_of query) first
   pair_first =

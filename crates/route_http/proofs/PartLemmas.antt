@@ -51,7 +51,8 @@ no_bar read key most items (c ∷ cs) none = absurd (omega arith)
 
 -- a text that begins with this part, whose items come after these
 module _ {A : Type 0} (read : List ℕ → Option A) (key : Key) (most : ℕ) (whole : Result (List A) RequestError) (items : List A)
-    (rest part after : List ℕ) (holds : items_of read key most items (parts_of rest) ≡ whole) (first : parts_of rest ≡ part ∷ parts_after after) where
+    (rest part after : List ℕ) (holds : items_of read key most items (parts_of rest) ≡ whole) (first :
+    parts_of rest ≡ part ∷ parts_after after) where
   -- what the whole text comes to is what its first part leaves to the parts after it
   part_first : and_then (one_more key most items (read part)) (λ now. items_of read key most now (parts_after after)) ≡ whole
   part_first = sym (ap (λ ps. items_of read key most items ps) first) ∙ holds

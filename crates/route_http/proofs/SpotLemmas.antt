@@ -25,19 +25,26 @@ seen : (r : Option Spot) (at : Place) → IfSome r (λ spot. place_of spot ≡ a
 seen None at value some = cc
 seen (Some spot) at value some = ap (λ (p : Place). Some p) value
 
--- a spot that was made of two coordinates is the place of their texts
-pub spot_made : (r : Option Spot) (lon_text lat_text : List ℕ) (lon lat : ℤ) → Ok lon ≡ coordinate_of (pos 180000000) lon_text
-    → Ok lat ≡ coordinate_of (pos 90000000) lat_text → unsigned_abs lon ≤ 180000000 → unsigned_abs lat ≤ 90000000
-    → IfSome r (λ spot. place_of spot ≡ place (to_z w64 (of_z w64 lon)) (to_z w64 (of_z w64 lat)))
-    → (IsOnGlobe (place (to_z w64 (of_z w64 lon)) (to_z w64 (of_z w64 lat))) → IsSome r)
-    → option_map place_of r ≡ place_by lon_text lat_text
-spot_made r lon_text lat_text lon lat lon_is lat_is lon_fits lat_fits value some =
-    let lon_same : to_z w64 (of_z w64 lon) ≡ lon = same_coordinate lon lon_fits in
-    let lat_same : to_z w64 (of_z w64 lat) ≡ lat = same_coordinate lat (omega arith) in
-    let lon_on : unsigned_abs (to_z w64 (of_z w64 lon)) ≤ 180000000 = subst (λ (n : ℤ). unsigned_abs n ≤ 180000000) (sym lon_same) lon_fits in
-    let lat_on : unsigned_abs (to_z w64 (of_z w64 lat)) ≤ 90000000 = subst (λ (n : ℤ). unsigned_abs n ≤ 90000000) (sym lat_same) lat_fits in
-    let on : IsOnGlobe (place (to_z w64 (of_z w64 lon)) (to_z w64 (of_z w64 lat))) = record { longitude = lon_on; latitude = lat_on } in
-    seen r (place (to_z w64 (of_z w64 lon)) (to_z w64 (of_z w64 lat))) value (some on)
-    ∙ ap (λ (n : ℤ). Some (place n (to_z w64 (of_z w64 lat)))) lon_same
-    ∙ ap (λ (n : ℤ). Some (place lon n)) lat_same
-    ∙ by_coordinates lon_text lat_text lon lat lon_is lat_is
+-- the place of two coordinates that are handed to a call
+abbrev pub handed_on : (lon lat : ℤ) → Place
+handed_on lon lat = place (to_z w64 (of_z w64 lon)) (to_z w64 (of_z w64 lat))
+
+-- two coordinates of texts
+module _ (lon_text lat_text : List ℕ) (lon lat : ℤ) (lon_is : Ok lon ≡ coordinate_of (pos 180000000) lon_text)
+    (lat_is : Ok lat ≡ coordinate_of (pos 90000000) lat_text) (lon_fits : unsigned_abs lon ≤ 180000000)
+    (lat_fits : unsigned_abs lat ≤ 90000000) where
+  -- a spot that was made of them is the place of the texts
+  pub spot_made : (r : Option Spot) → IfSome r (λ spot. place_of spot ≡ handed_on lon lat) →
+      (IsOnGlobe (handed_on lon lat) → IsSome r) → option_map place_of r ≡ place_by lon_text lat_text
+  spot_made r value some =
+      let lon_same : to_z w64 (of_z w64 lon) ≡ lon = same_coordinate lon lon_fits in
+      let lat_same : to_z w64 (of_z w64 lat) ≡ lat = same_coordinate lat (omega arith) in
+      let lon_on : unsigned_abs (to_z w64 (of_z w64 lon)) ≤ 180000000 =
+      subst (λ (n : ℤ). unsigned_abs n ≤ 180000000) (sym lon_same) lon_fits in
+      let lat_on : unsigned_abs (to_z w64 (of_z w64 lat)) ≤ 90000000 =
+      subst (λ (n : ℤ). unsigned_abs n ≤ 90000000) (sym lat_same) lat_fits in
+      let on : IsOnGlobe (handed_on lon lat) = record { longitude = lon_on; latitude = lat_on } in
+      seen r (handed_on lon lat) value (some on)
+      ∙ ap (λ (n : ℤ). Some (place n (to_z w64 (of_z w64 lat)))) lon_same
+      ∙ ap (λ (n : ℤ). Some (place lon n)) lat_same
+      ∙ by_coordinates lon_text lat_text lon lat lon_is lat_is

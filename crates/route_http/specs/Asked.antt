@@ -3,8 +3,9 @@ use Rattle.std.specs.Prelude.{ℕ, ℤ, Bool, List}
 use Rattle.geo_int.specs.Place.{Place}
 use Rattle.route_http.specs.declared.form.Form.{Form}
 
--- a request: its waypoints, the circles that it keeps out of, each with its radius in millimetres, the name of its
--- profile, which alternative, the form of the reply, the most labels, the overrides, and whether runs are searched
+-- a request: its waypoints, the circles that it keeps out of, each with its radius in millimetres, the name
+-- of its profile, which alternative, the form of the reply, the most labels, the overrides, and whether runs
+-- are searched
 pub record Asked : Type 0 where
   pub waypoints : List Place
   pub circles : List (Place × ℕ)

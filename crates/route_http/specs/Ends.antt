@@ -3,7 +3,8 @@ use Rattle.std.specs.Prelude.{ℕ, suc, List, [], ◌∷◌, if◌then◌else◌
 use Rattle.std.specs.List.{starts_with}
 use Rattle.std.specs.Option.{option_or}
 
--- how many bytes the end of a line and an empty line after it take at the front of these bytes, if they stand there
+-- how many bytes the end of a line and an empty line after it take at the front of these bytes, if they stand
+-- there
 unfoldable pub empty_line : List ℕ → Option ℕ
 empty_line bytes =
     if starts_with nat_eq bytes (codes "\n\n") then Some 2

@@ -20,7 +20,8 @@ values_of name headers = map (λ (h : List ℕ × List ℕ). h.1) (filter (is_na
 -- the number of one digit or more, or the greatest of 64 bits where it is larger
 unfoldable pub number_of : List ℕ → Option ℕ
 number_of [] = None
-number_of (c ∷ cs) = if all_ascii_digits (c ∷ cs) then Some (min (digits_after 0 (c ∷ cs)) 18446744073709551615) else None
+number_of (c ∷ cs) = if all_ascii_digits (c ∷ cs) then Some
+    (min (digits_after 0 (c ∷ cs)) 18446744073709551615) else None
 
 -- the length that lines of Content-Length tell: 0 where there is none, and no length where there are two
 abbrev pub told_length : List (List ℕ) → Option ℕ

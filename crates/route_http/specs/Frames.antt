@@ -1,5 +1,5 @@
--- The frame of a reply: all bytes that a connection gets. This project's own rule, after RFC 9112; each line ends with a
--- carriage return and a line feed.
+-- The frame of a reply: all bytes that a connection gets. This project's own rule, after RFC 9112; each line
+-- ends with a carriage return and a line feed.
 use Rattle.std.specs.Prelude.{ℕ, Bool, ◌==◌, List, [], ◌∷◌, ◌++◌, length, if◌then◌else◌, codes, decimal}
 use Rattle.std.specs.List.{list_any}
 use Rattle.route_http.specs.declared.kind.Kind.{Kind}
@@ -29,7 +29,8 @@ type_of Plain = codes "text/plain"
 
 -- the line of a status
 unfoldable pub status_line : ℕ → List ℕ
-status_line status = codes "HTTP/1.1 " ++ (decimal status ++ (codes " " ++ (reason_of status ++ codes "\r\n")))
+status_line status = codes "HTTP/1.1 " ++
+    (decimal status ++ (codes " " ++ (reason_of status ++ codes "\r\n")))
 
 -- the line of a body's type
 unfoldable pub type_line : Kind → List ℕ

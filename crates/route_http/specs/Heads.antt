@@ -1,5 +1,5 @@
--- What the first bytes of a connection come to. The grammar of heads is that of `httparse`; the limits are this project's
--- own rule.
+-- What the first bytes of a connection come to. The grammar of heads is that of `httparse`; the limits are
+-- this project's own rule.
 use Rattle.std.specs.Prelude.{ℕ, ◌+◌, ◌-◌, ◌≤◌, Bool, ◌==◌, ◌≡◌, nat_lt, ⊤, List, [], length, take, map, if◌then◌else◌, Option, Some, None, codes, bytes_eq}
 use Rattle.std.specs.List.{before_first, after_first}
 use Rattle.httparse.specs.Grammar.{print_blank, RequestHead, ReadsRequest}
@@ -17,7 +17,8 @@ use Rattle.route_http.specs.Fields.{body_of}
 -- the method of its name
 abbrev pub method_of : List ℕ → Method
 method_of name =
-    if bytes_eq name (codes "GET") then method.Get else (if bytes_eq name (codes "POST") then method.Post else method.Other)
+    if bytes_eq name (codes "GET") then method.Get else (if bytes_eq name
+    (codes "POST") then method.Post else method.Other)
 
 -- a question mark, which parts the path of a target from its query
 abbrev pub is_mark : ℕ → Bool
@@ -30,7 +31,11 @@ path_at start target = record { start = start; end = start + length (before_firs
 -- where the query of a target stands that begins here: after its first question mark, or nowhere at its end
 abbrev pub query_at : ℕ → List ℕ → Span
 query_at start target =
-    record { start = start + (length target - length (after_first is_mark target)); end = start + length target }
+    record {
+      start = start + (length target - length (after_first is_mark target));
+      end =
+          start + length target;
+    }
 
 -- where the target of a request begins: after the empty lines in front, the method and a space
 abbrev pub target_start : RequestHead → ℕ
@@ -45,7 +50,8 @@ pub record IsServed (bytes : List ℕ) (r : RequestHead) (body : ℕ) : Type 0 w
   pub told : body_of (map name_and_value r.fields) ≡ Some body
 
 -- the length, the method and the places of path and query are those of this request, which these bytes are
-pub record Tells (bytes : List ℕ) (r : RequestHead) (long : ℕ) (method : Method) (path query : Span) : Type 0 where
+pub record Tells (bytes : List ℕ) (r : RequestHead) (long : ℕ) (method : Method) (path query : Span) :
+    Type 0 where
   pub long_is : long ≡ length bytes
   pub method_is : method ≡ method_of r.method
   pub path_is : path ≡ path_at (target_start r) r.target
@@ -79,7 +85,8 @@ IsHeadOf bytes answer = IsHeadUpTo bytes (head_end bytes) answer
 -- the path and the query stand within the head, and the head within the bytes
 abbrev pub IsHeadWithin : List ℕ → Head → Type 0
 IsHeadWithin bytes (head.Whole long method path query body) =
-    (long ≤ length bytes) × (long ≤ 16384) × (path.start ≤ path.end) × (path.end ≤ long) × (query.start ≤ query.end)
+    (long ≤ length bytes) × (long ≤ 16384) × (path.start ≤ path.end) × (path.end ≤ long) ×
+    (query.start ≤ query.end)
     × (query.end ≤ long)
 IsHeadWithin bytes head.More = ⊤
 IsHeadWithin bytes head.Bad = ⊤

@@ -18,7 +18,8 @@ pub record IsParsed (bytes : List ℕ) (headers : List HeaderSpan) (parts : Requ
 
 -- the answer is a whole head with this length of its body
 abbrev pub IsWholeOf : List ℕ → RequestHead → ℕ → Head → Type 0
-IsWholeOf bytes r body (head.Whole long method path query told) = Tells bytes r long method path query × (told ≡ body)
+IsWholeOf bytes r body (head.Whole long method path query told) = Tells bytes r long method path query ×
+    (told ≡ body)
 IsWholeOf bytes r body head.More = ⊥
 IsWholeOf bytes r body head.Bad = ⊥
 IsWholeOf bytes r body head.TooLong = ⊥

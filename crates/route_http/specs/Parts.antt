@@ -57,7 +57,8 @@ take_keyed Lonlats name value p =
 take_keyed Nogos name value p =
     and_then (once Nogos p.circles (circles_of value)) (λ x. Ok (record p { circles = Some x }))
 take_keyed Profile name value p =
-    and_then (once Profile p.profile (formed Profile (profile_of value))) (λ x. Ok (record p { profile = Some x }))
+    and_then (once Profile p.profile (formed Profile (profile_of value)))
+    (λ x. Ok (record p { profile = Some x }))
 take_keyed Alternativeidx name value p =
     and_then (once Alternativeidx p.alternative (formed Alternativeidx (digit_of 3 value)))
     (λ x. Ok (record p { alternative = Some x }))
@@ -71,7 +72,8 @@ take_keyed Runs name value p =
     and_then (once Runs p.runs (formed Runs (runs_of value))) (λ x. Ok (record p { runs = Some x }))
 
 -- what a pair adds whose name is this key, if it is one
-abbrev pub take_named : Option Key → ℕ → List ℕ → List ℕ → Parts → Result Parts RequestError
+abbrev pub take_named : (key : Option Key) (place : ℕ) (name value : List ℕ) (parts : Parts)
+    → Result Parts RequestError
 take_named None place name value p = Err (error.UnknownKey place)
 take_named (Some key) place name value p = take_keyed key name value p
 

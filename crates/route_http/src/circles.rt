@@ -33,7 +33,8 @@ pub(crate) fn circles_of(alloc: Global, value: &[u8]) -> Result<Items<Circle>, R
 
 /// Puts the circles of a text at the end.
 fn fill_circles(circles: &mut Items<Circle>, text: &[u8]) -> Result<(), RequestError>
-    ensures exact { let items = items_of circle_of_text Nogos 64 (circles_seen circles.old) (parts_of text.now) in
+    ensures exact { let items =
+        items_of circle_of_text Nogos 64 (circles_seen circles.old) (parts_of text.now) in
         Answers (λ _. circles_seen circles.new) items NoMemory result }
 {
     let mut rest = text;
@@ -50,7 +51,8 @@ fn fill_circles(circles: &mut Items<Circle>, text: &[u8]) -> Result<(), RequestE
 
 /// Puts the circle of a text at the end.
 fn take_circle(circles: &mut Items<Circle>, text: &[u8]) -> Result<(), RequestError>
-    ensures exact { let more = one_more Nogos 64 (circles_seen circles.old) (circle_of_text text.now) in
+    ensures exact { let more =
+        one_more Nogos 64 (circles_seen circles.old) (circle_of_text text.now) in
         Answers (λ _. circles_seen circles.new) more NoMemory result }
 {
     let Some(circle) = circle_of(text) else {

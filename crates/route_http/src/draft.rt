@@ -101,7 +101,8 @@ impl Draft {
         _name: &[u8],
         value: &[u8],
     ) -> Result<(), RequestError>
-        ensures exact { let taken = take_keyed key.Lonlats _name.now value.now (parts_seen self.old) in
+        ensures exact { let taken =
+            take_keyed key.Lonlats _name.now value.now (parts_seen self.old) in
             Answers (λ _. parts_seen self.new) taken NoMemory result }
     {
         if self.waypoints.is_some() {
@@ -115,7 +116,8 @@ impl Draft {
     /// Takes the circles.
     #[tactic(auto, unfolding(crate::specs::Parts::take_keyed))]
     fn take_nogos(&mut self, alloc: Global, _name: &[u8], value: &[u8]) -> Result<(), RequestError>
-        ensures exact { let taken = take_keyed key.Nogos _name.now value.now (parts_seen self.old) in
+        ensures exact { let taken =
+            take_keyed key.Nogos _name.now value.now (parts_seen self.old) in
             Answers (λ _. parts_seen self.new) taken NoMemory result }
     {
         if self.circles.is_some() {
@@ -134,7 +136,8 @@ impl Draft {
         _name: &[u8],
         value: &[u8],
     ) -> Result<(), RequestError>
-        ensures exact { let taken = take_keyed key.Profile _name.now value.now (parts_seen self.old) in
+        ensures exact { let taken =
+            take_keyed key.Profile _name.now value.now (parts_seen self.old) in
             Answers (λ _. parts_seen self.new) taken NoMemory result }
     {
         if self.profile.is_some() {
@@ -151,7 +154,8 @@ impl Draft {
     /// Takes the number of the alternative.
     #[tactic(auto, unfolding(crate::specs::Parts::take_keyed))]
     fn take_alternative(&mut self, _name: &[u8], value: &[u8]) -> Result<(), RequestError>
-        ensures exact { let taken = take_keyed key.Alternativeidx _name.now value.now (parts_seen self.old) in
+        ensures exact { let taken =
+            take_keyed key.Alternativeidx _name.now value.now (parts_seen self.old) in
             Answers (λ _. parts_seen self.new) taken NoMemory result }
     {
         if self.alternative.is_some() {
@@ -173,7 +177,8 @@ impl Draft {
     /// Takes the form of the reply.
     #[tactic(auto, unfolding(crate::specs::Parts::take_keyed))]
     fn take_format(&mut self, _name: &[u8], value: &[u8]) -> Result<(), RequestError>
-        ensures exact { let taken = take_keyed key.Format _name.now value.now (parts_seen self.old) in
+        ensures exact { let taken =
+            take_keyed key.Format _name.now value.now (parts_seen self.old) in
             Answers (λ _. parts_seen self.new) taken NoMemory result }
     {
         if self.form.is_some() {
@@ -191,7 +196,8 @@ impl Draft {
     /// Takes the most labels.
     #[tactic(auto, unfolding(crate::specs::Parts::take_keyed))]
     fn take_labels(&mut self, _name: &[u8], value: &[u8]) -> Result<(), RequestError>
-        ensures exact { let taken = take_keyed key.Labels _name.now value.now (parts_seen self.old) in
+        ensures exact { let taken =
+            take_keyed key.Labels _name.now value.now (parts_seen self.old) in
             Answers (λ _. parts_seen self.new) taken NoMemory result }
     {
         if self.labels.is_some() {
@@ -232,7 +238,8 @@ impl Draft {
         name: &[u8],
         value: &[u8],
     ) -> Result<(), RequestError>
-        ensures exact { let taken = take_keyed key.Override name.now value.now (parts_seen self.old) in
+        ensures exact { let taken =
+            take_keyed key.Override name.now value.now (parts_seen self.old) in
             Answers (λ _. parts_seen self.new) taken NoMemory result }
     {
         override_more(alloc, &mut self.overrides, variable_of(name), value)

@@ -2,8 +2,8 @@
 ghost use Rattle.std.specs.Prelude.{◌≡◌, ◌≤◌, length, take, None, IfSome};
 ghost use Rattle.route_http.specs.Ends.{empty_line, end_of};
 
-/// Where the first empty line ends, where none ends within the first `from` bytes. So bytes that come piece by
-/// piece are looked at once: `from` is how many there were before.
+/// Where the first empty line ends, where none ends within the first `from` bytes. So bytes that
+/// come piece by piece are looked at once: `from` is how many there were before.
 pub fn head_end_from(bytes: &[u8], from: usize) -> Option<usize>
     requires fits { from ≤ length bytes.now }
     requires none { end_of (take from bytes.now) ≡ None }

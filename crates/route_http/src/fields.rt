@@ -1,5 +1,5 @@
 //! What the header lines of a request say of its body.
-ghost use Rattle.std.specs.Prelude.{◌≡◌, length, All, map, option_map, codes};
+ghost use Rattle.std.specs.Prelude.{◌≡◌, length, All, map};
 ghost use Rattle.httparse.specs.Spans.{IsHeaderWithin, header_bytes};
 ghost use Rattle.route_http.specs.Fields.{same_name, number_of, body_of};
 ghost use Rattle.route_http.specs.Told.{told_more};
@@ -18,7 +18,8 @@ pub(crate) fn body_of(head: &[u8], headers: &[HeaderSpan]) -> Option<u64>
     Some(told.unwrap_or(0))
 }
 
-/// What is told of the body's length after one more header line; none where it can't be told soundly any more.
+/// What is told of the body's length after one more header line; none where it can't be told
+/// soundly any more.
 fn told_more(told: Option<u64>, name: &[u8], value: &[u8]) -> Option<Option<u64>>
     ensures exact { result ≡ told_more told (name.now, value.now) }
 {

@@ -1,4 +1,5 @@
-//! The requests of the server: the head of a request, what a query asks for or why it is refused, and the frame of a reply.
+//! The requests of the server: the head of a request, what a query asks for or why it is refused,
+//! and the frame of a reply.
 #![tactic(auto)]
 
 mod asked;

@@ -1,7 +1,7 @@
 //! The request of a query.
 ghost use Rattle.std.specs.Prelude.{◌≡◌};
 ghost use Rattle.item_list.specs.Answer.{Answers};
-ghost use Rattle.route_http.specs.Parts.{no_parts, take_pairs};
+ghost use Rattle.route_http.specs.Parts.{take_pairs};
 ghost use Rattle.route_http.specs.Request.{pairs_of, finish, whole, request_of};
 ghost use Rattle.route_http.specs.Seen.{asked, parts_seen};
 ghost use Rattle.route_http.specs.declared.error.RequestError.TheVariants.{NoMemory};

@@ -22,8 +22,9 @@ pub fn head(bytes: &[u8]) -> Head
     head_from(bytes, 0)
 }
 
-/// What the first bytes of a connection come to, where no empty line ends within the first `from` of them. So bytes
-/// that come piece by piece are looked at once: `from` is how many there were when the answer was `More`.
+/// What the first bytes of a connection come to, where no empty line ends within the first `from`
+/// of them. So bytes that come piece by piece are looked at once: `from` is how many there were
+/// when the answer was `More`.
 pub fn head_from(bytes: &[u8], from: usize) -> Head
     requires fits { from ≤ length bytes.now }
     requires none { end_of (take from bytes.now) ≡ None }

@@ -33,7 +33,8 @@ pub(crate) fn waypoints_of(alloc: Global, value: &[u8]) -> Result<Items<Spot>, R
 
 /// Puts the spots of a text at the end.
 fn fill_spots(spots: &mut Items<Spot>, text: &[u8]) -> Result<(), RequestError>
-    ensures exact { let items = items_of place_of_text Lonlats 100 (places spots.old) (parts_of text.now) in
+    ensures exact { let items =
+        items_of place_of_text Lonlats 100 (places spots.old) (parts_of text.now) in
         Answers (λ _. places spots.new) items NoMemory result }
 {
     let mut rest = text;

@@ -2,8 +2,6 @@
 ghost use Rattle.std.specs.Prelude.{◌≡◌, ◌≤◌, length};
 ghost use Rattle.std.specs.List.{prefix_len, position_or_len};
 ghost use Rattle.httparse.specs.Pieces.{is_newline};
-ghost use Rattle.httparse.specs.Spans.{IsRequestWithin};
-ghost use Rattle.httparse.specs.Grammar.{ReadsRequest, RequestHead};
 ghost use Rattle.route_http.specs.Heads.{is_mark, path_at, query_at};
 ghost use Rattle.route_http.specs.Parsed.{TellsRequest};
 
@@ -14,8 +12,10 @@ use httparse::spans::RequestSpans;
 /// What a head tells that is a request as a whole, with a body of this length.
 pub(crate) fn whole(head: &[u8], parts: &RequestSpans, body: u64) -> Head
     requires few { length head.now ≤ 16384 }
-    requires method { (parts.now.method.start ≤ parts.now.method.end) × (parts.now.method.end ≤ length head.now) }
-    requires path { (parts.now.path.start ≤ parts.now.path.end) × (parts.now.path.end ≤ length head.now) }
+    requires method { (parts.now.method.start ≤ parts.now.method.end) ×
+        (parts.now.method.end ≤ length head.now) }
+    requires path { (parts.now.path.start ≤ parts.now.path.end) ×
+        (parts.now.path.end ≤ length head.now) }
     ensures exact { TellsRequest head.now parts.now body result }
 {
     let name = parts.method.of(head);

@@ -1,6 +1,6 @@
 //! The values of the keys that are no lists.
 ghost use Rattle.std.specs.Prelude.{◌≡◌, ◌≤◌, ◌<◌, ◌^◌, length, IsTrue, IfSome, Ok};
-ghost use Rattle.route_http.specs.Value.{digit_of, runs_of, form_of, labels_of, is_count, within_labels, radius_of, millimetres_of};
+ghost use Rattle.route_http.specs.Value.{digit_of, runs_of, form_of, labels_of, is_count, radius_of, millimetres_of};
 ghost use Rattle.fixed_num.specs.Decimal.{digits_after};
 ghost use Rattle.std.specs.Str.{all_ascii_digits};
 

@@ -1,5 +1,6 @@
-//! Runs tables of cases on requests: the top call over files, outputs and hubs in memory, requests answered as a whole and in
-//! turns, replies, profiles made ready, the nodes of waypoints, queries, heads and frames.
+//! Runs tables of cases on requests: the top call over files, outputs and hubs in memory, requests
+//! answered as a whole and in turns, replies, profiles made ready, the nodes of waypoints, queries,
+//! heads and frames.
 #![tactic(auto)]
 
 mod ready;

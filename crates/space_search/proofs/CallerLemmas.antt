@@ -10,6 +10,8 @@ use Rattle.space_search.specs.Searches.{IsSearchOf, IsReadable}
 use Rattle.space_search.specs.Turns.{AreInOrder, EndsFound, IsClosedAndOrdered, IsCoveredBy, IsDone}
 use Rattle.space_search.specs.View.{Reached, view, listed}
 use Rattle.space_search.specs.declared.search.Search.{Search}
+-- where a run ends is valid
+pub use Rattle.space_search.proofs.DoneLemmas.{run-valid}
 use Rattle.space_search.proofs.DoneLemmas.{done-run, run-below_floor, cost-run}
 use Rattle.space_search.proofs.LimitLemmas.{few-keys}
 use Rattle.space_search.proofs.OrderLemmas.{in-order}

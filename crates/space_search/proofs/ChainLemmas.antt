@@ -8,8 +8,9 @@ use Rattle.space_search.specs.Chains.{IsTested}
 use Rattle.space_search.specs.Laws.{IsSpace}
 use Rattle.space_search.specs.Rules.{Rules, LOW_BOUND}
 use Rattle.space_search.specs.declared.label.Label.{Label}
-use Rattle.space_search.proofs.ListLemmas.{slice_get-same, equal-or_not, most-or_below}
+use Rattle.item_list.proofs.ListLemmas.{slice_get-same}
 use Rattle.space_search.proofs.SameLemmas.{settled-unique, settled-within}
+use Rattle.std.proofs.lemmas.Bool.{cases_eq, cases_lt}
 
 -- a test that isn't true is false
 pub false-from_not : (b : Bool) → (IsTrue b → ⊥) → b ≡ false
@@ -164,19 +165,19 @@ module _ {S : Type 0} (rules : Rules S) (kept : Books S) (state : S) (cost curso
       settled-unique kept place label other (subst (λ n. IsSettled kept n label) (sym is) settled) s in
       inl (subst (λ (l : Label S). rules.covers l.state l.cost state cost ≡ false) one uncovers)
   tested-one place other s same later (inr elsewhere) =
-      elim (most-or_below cursor place) [
-        | inl h ↦ t.tested place other s same h
-        | inr h ↦
+      elim (cases_lt place cursor) [
+        | inl h ↦
             elim (behind.last place other s (same ∙ sym cell_is) (omega arith)) [
               | inl early ↦ absurd (omega arith)
               | inr needless ↦ inr needless
             ]
+        | inr h ↦ t.tested place other s same h
       ]
 
   -- so the test goes on
   pub tested-next : IsTested rules kept state cost next
   tested-next =
       record {
-        tested = λ place other s same later. tested-one place other s same later (equal-or_not place (cursor - 1));
+        tested = λ place other s same later. tested-one place other s same later (cases_eq place (cursor - 1));
         here = λ place is. let h = behind.inside place is in (h.1.0, h.1.1, h.1.2 ∙ cell_is);
       }

@@ -73,7 +73,7 @@ module _ {S : Type 0} (rules : Rules S) (laws : IsSpace rules) (even : HasEvenBo
 
 module _ {S : Type 0} (rules : Rules S) (laws : IsSpace rules) where
   -- a run ends at a valid state
-  run-valid : {end : S} {choices : List ℕ} {cost : ℕ} → IsRun rules choices end cost → IsTrue (rules.is_valid end)
+  pub run-valid : {end : S} {choices : List ℕ} {cost : ℕ} → IsRun rules choices end cost → IsTrue (rules.is_valid end)
   run-valid (starts {state = state} {cost = first} {number = number} within is walk) =
       walks-valid rules laws (laws.moves.starts number state first within is).valid walk
 

@@ -12,7 +12,7 @@ use Rattle.space_search.specs.declared.label.Label.{Label}
 use Rattle.space_search.specs.declared.phase.Phase.TheVariants.{Running, Ended}
 use Rattle.space_search.specs.declared.turn.Turn.TheVariants.{More, Found, NoWay}
 use Rattle.space_search.proofs.LeastLemmas.{waits-high, none-below, no_way}
-use Rattle.space_search.proofs.ListLemmas.{Contains-none}
+use Rattle.item_list.proofs.ListLemmas.{Contains-none}
 use Rattle.space_search.proofs.OrderLemmas.{in-order}
 use Rattle.space_search.proofs.RunLemmas.{run-to}
 use Rattle.space_search.proofs.SameLemmas.{settled-within}

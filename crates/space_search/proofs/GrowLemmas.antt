@@ -6,7 +6,7 @@ use Rattle.space_search.specs.Books.{Books, Entry, IsLabel, IsSettled, IsUncover
 use Rattle.space_search.specs.Rules.{Rules}
 use Rattle.space_search.specs.declared.label.Label.{Label}
 use Rattle.space_search.proofs.DropLemmas.{Leaving}
-use Rattle.space_search.proofs.ListLemmas.{slice_get-append, slice_get-pushed, slice_get-push_cases, slice_get-set_cases, slice_get-same}
+use Rattle.item_list.proofs.ListLemmas.{slice_get-append, slice_get-pushed, slice_get-push_cases, slice_get-set_cases, slice_get-same}
 use Rattle.space_search.proofs.SameLemmas.{settled-within, needless-moved}
 
 -- the lists once the front entry's label was settled

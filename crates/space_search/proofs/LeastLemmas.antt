@@ -8,7 +8,7 @@ use Rattle.space_search.specs.Laws.{IsSpace, HasRank}
 use Rattle.space_search.specs.Rules.{Rules}
 use Rattle.space_search.specs.Runs.{Walks, rests, steps, IsRun, starts, Reaches, IsUnreachable}
 use Rattle.space_search.specs.declared.label.Label.{Label}
-use Rattle.space_search.proofs.ListLemmas.{slice_get-same, Contains-none}
+use Rattle.item_list.proofs.ListLemmas.{slice_get-same, Contains-none}
 use Rattle.space_search.proofs.SameLemmas.{settled-within}
 
 -- a walk without steps stays

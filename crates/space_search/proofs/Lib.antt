@@ -7,7 +7,6 @@ pub mod EndLemmas
 pub mod GrowLemmas
 pub mod LeastLemmas
 pub mod LimitLemmas
-pub mod ListLemmas
 pub mod NextLemmas
 pub mod OfferLemmas
 pub mod OrderLemmas

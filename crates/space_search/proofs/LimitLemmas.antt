@@ -7,7 +7,7 @@ use Rattle.space_search.specs.Limits.{IsUncoveredChain, LieIn, HasFewPerCell, Co
 use Rattle.space_search.specs.Rules.{Rules}
 use Rattle.space_search.specs.Turns.{IsSpent}
 use Rattle.space_search.specs.View.{Reached}
-use Rattle.space_search.proofs.ListLemmas.{equal-or_not}
+use Rattle.std.proofs.lemmas.Bool.{cases_eq}
 
 -- one of two choices by a decision
 abbrev either : {A : Type 0} {P Q : Type 0} → P ⊎ Q → A → A → A
@@ -20,7 +20,7 @@ module _ {S : Type 0} (key : Reached S → ℕ) where
   abbrev in_cell : ℕ → List (Reached S) → List (Reached S)
   in_cell cell [] = []
   in_cell cell (label ∷ rest) =
-      either (equal-or_not (key label) cell) (label ∷ in_cell cell rest) (in_cell cell rest)
+      either (cases_eq (key label) cell) (label ∷ in_cell cell rest) (in_cell cell rest)
 
   -- a label has the number, or it doesn't
   abbrev Lies : Reached S → ℕ → Type 0
@@ -38,7 +38,7 @@ module _ {S : Type 0} (key : Reached S → ℕ) where
   -- a label of the number is one of all
   from-cell : (cell : ℕ) (labels : List (Reached S)) → AreFrom (in_cell cell labels) labels
   from-cell cell [] place label at = (place, at)
-  from-cell cell (first ∷ rest) place label at = go (from-cell cell rest) (equal-or_not (key first) cell) place at where
+  from-cell cell (first ∷ rest) place label at = go (from-cell cell rest) (cases_eq (key first) cell) place at where
     go :
         AreFrom (in_cell cell rest) rest → (d : Lies first cell) (place : ℕ) →
         slice_get (with_one cell first rest d) place ≡ Some label → (from : ℕ) × (slice_get (first ∷ rest) from ≡ Some label)
@@ -51,7 +51,7 @@ module _ {S : Type 0} (key : Reached S → ℕ) where
       (cell : ℕ) (labels : List (Reached S)) (place : ℕ) (label : Reached S) →
       slice_get (in_cell cell labels) place ≡ Some label → key label ≡ cell
   has_number cell [] place label at = cc
-  has_number cell (first ∷ rest) place label at = go (has_number cell rest) (equal-or_not (key first) cell) place at where
+  has_number cell (first ∷ rest) place label at = go (has_number cell rest) (cases_eq (key first) cell) place at where
     go :
         ((place : ℕ) (label : Reached S) → slice_get (in_cell cell rest) place ≡ Some label → key label ≡ cell) →
         (d : Lies first cell) (place : ℕ) → slice_get (with_one cell first rest d) place ≡ Some label → key label ≡ cell
@@ -69,7 +69,7 @@ module _ {S : Type 0} (key : Reached S → ℕ) where
       (cell : ℕ) (first : Reached S) (rest : List (Reached S)) →
       ((key first ≡ cell) × (length (in_cell cell (first ∷ rest)) ≡ length (in_cell cell rest) + 1)) ⊎
       ((key first ≢ cell) × (length (in_cell cell (first ∷ rest)) ≡ length (in_cell cell rest)))
-  length-in_cell cell first rest = go (equal-or_not (key first) cell) where
+  length-in_cell cell first rest = go (cases_eq (key first) cell) where
     go :
         (d : Lies first cell) →
         ((key first ≡ cell) × (length (with_one cell first rest d) ≡ length (in_cell cell rest) + 1)) ⊎
@@ -122,7 +122,7 @@ module _ {S : Type 0} (rules : Rules S) where
       (key : Reached S → ℕ) (cell : ℕ) (labels : List (Reached S)) → IsUncoveredChain rules labels →
       IsUncoveredChain rules (in_cell key cell labels)
   chain-in_cell key cell [] chain = tt
-  chain-in_cell key cell (first ∷ rest) chain = go (chain-in_cell key cell rest chain.3) (equal-or_not (key first) cell) where
+  chain-in_cell key cell (first ∷ rest) chain = go (chain-in_cell key cell rest chain.3) (cases_eq (key first) cell) where
     go :
         IsUncoveredChain rules (in_cell key cell rest) →
         (d : Lies key first cell) →
@@ -134,7 +134,7 @@ module _ {S : Type 0} (rules : Rules S) where
   -- and they lie in the cell
   lie-in_cell : (cell : ℕ) (labels : List (Reached S)) → LieIn rules cell (in_cell cell_of cell labels)
   lie-in_cell cell [] = tt
-  lie-in_cell cell (first ∷ rest) = go (lie-in_cell cell rest) (equal-or_not (rules.cell first.state) cell) where
+  lie-in_cell cell (first ∷ rest) = go (lie-in_cell cell rest) (cases_eq (rules.cell first.state) cell) where
     go :
         LieIn rules cell (in_cell cell_of cell rest) →
         (d : Lies cell_of first cell) →

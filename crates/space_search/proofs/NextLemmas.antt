@@ -12,7 +12,7 @@ use Rattle.space_search.specs.Laws.{HasRank}
 use Rattle.space_search.specs.Moves.{IsNext}
 use Rattle.space_search.specs.declared.label.Label.{Label}
 use Rattle.space_search.proofs.DropLemmas.{rank-unique}
-use Rattle.space_search.proofs.ListLemmas.{Contains-cons_cases, Contains-none, slice_get-same}
+use Rattle.item_list.proofs.ListLemmas.{Contains-cons_cases, Contains-none, slice_get-same}
 
 -- what isn't less by its first number has a first number that isn't less
 not_less : (a b : ℕ) (rest : Ordering) → is_lt (ordering_then (nat_cmp a b) rest) ≡ false → b ≤ a

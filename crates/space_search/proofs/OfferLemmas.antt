@@ -10,7 +10,7 @@ use Rattle.space_search.specs.Moves.{Offers}
 use Rattle.space_search.specs.Rules.{Rules}
 use Rattle.space_search.specs.declared.label.Label.{Label}
 use Rattle.space_search.specs.declared.label.TheConstants.{MOST_LABELS}
-use Rattle.space_search.proofs.ListLemmas.{slice_get-append, slice_get-pushed, slice_get-push_cases, Contains-cons_cases, Contains-first, Contains-rest}
+use Rattle.item_list.proofs.ListLemmas.{slice_get-append, slice_get-pushed, slice_get-push_cases, Contains-cons_cases, Contains-first, Contains-rest}
 use Rattle.space_search.proofs.SameLemmas.{follows-moved, keeps-same, keeps-back, stands-same, index-same}
 
 -- nothing changes in no step

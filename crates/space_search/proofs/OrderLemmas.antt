@@ -8,7 +8,7 @@ use Rattle.space_search.specs.Rules.{Rules}
 use Rattle.space_search.specs.Turns.{IsPassed, AreInOrder}
 use Rattle.space_search.specs.View.{Reached, settled_of}
 use Rattle.space_search.proofs.DropLemmas.{rank-unique}
-use Rattle.space_search.proofs.ListLemmas.{slice_get-push_cases}
+use Rattle.item_list.proofs.ListLemmas.{slice_get-push_cases}
 use Rattle.space_search.proofs.RunLemmas.{run-to}
 use Rattle.space_search.proofs.ShownLemmas.{Settled, settled-shown}
 

@@ -9,9 +9,10 @@ use Rattle.space_search.specs.Moves.{Settles, MayLink, Prunes, Relinks}
 use Rattle.space_search.specs.Rules.{Rules}
 use Rattle.space_search.specs.declared.label.Label.{Label}
 use Rattle.space_search.proofs.ChainLemmas.{Names}
-use Rattle.space_search.proofs.ListLemmas.{slice_get-set, slice_get-set_cases, equal-or_not}
+use Rattle.item_list.proofs.ListLemmas.{slice_get-set, slice_get-set_cases}
 use Rattle.space_search.proofs.SameLemmas.{settled-unique, settled-within, keeps-same, keeps-back, stands-same, follows-moved, latest-same}
 use Rattle.space_search.proofs.TakeLemmas.{accounted-extended, extends-trans, settled-extended}
+use Rattle.std.proofs.lemmas.Bool.{cases_eq}
 
 -- a label that a later settled one supersedes is needless
 pub needless-superseded :
@@ -159,7 +160,7 @@ module _ {S : Type 0} (rules : Rules S) (before kept : Books S) (label : Label S
                     elim (linked-here.last q l s same inside) [
                       | inr needless ↦ inr needless
                       | inl early ↦
-                          elim (equal-or_not q (cursor - 1)) [
+                          elim (cases_eq q (cursor - 1)) [
                             | inl is ↦
                                 let one : other ≡ l =
                                 settled-unique kept q other l (subst (λ n. IsSettled kept n other) (sym is) settled) s in

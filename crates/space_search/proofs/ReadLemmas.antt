@@ -12,7 +12,7 @@ use Rattle.space_search.specs.declared.phase.Phase.{Phase}
 use Rattle.space_search.specs.declared.phase.Phase.TheVariants.{New, Running, Ended, Failed}
 use Rattle.space_search.specs.declared.search.Search.{Search}
 use Rattle.space_search.specs.declared.turn.Turn.TheVariants.{More, Found, NoWay, Budget}
-use Rattle.space_search.proofs.ListLemmas.{slice_get-append, slice_get-pushed, slice_get-same}
+use Rattle.item_list.proofs.ListLemmas.{slice_get-append, slice_get-pushed, slice_get-same}
 use Rattle.space_search.proofs.RunLemmas.{run-to}
 use Rattle.space_search.proofs.ShownLemmas.{shown-count, shown-settled}
 

@@ -5,7 +5,7 @@ use Rattle.std.specs.List.{slice_get}
 use Rattle.space_search.specs.Rules.{Rules}
 use Rattle.space_search.specs.Books.{Books, IsLabel, IsSettled, CameFrom, from_start, from_label, Follows, IsLater, IsNeedless, IsLatest, IsIndex, Reads, IsRising, Stands, KeepsLabels, IsSearch, Leaves}
 use Rattle.space_search.specs.declared.label.Label.{Label}
-use Rattle.space_search.proofs.ListLemmas.{slice_get-same}
+use Rattle.item_list.proofs.ListLemmas.{slice_get-same}
 
 -- one place has one label
 pub settled-unique :

@@ -10,7 +10,7 @@ use Rattle.space_search.specs.Rules.{Rules}
 use Rattle.space_search.specs.declared.label.Label.{Label}
 use Rattle.space_search.proofs.DropLemmas.{rank-unique}
 use Rattle.space_search.proofs.GrowLemmas.{Writes, after, longer, now, grows, old-or_new, index-new}
-use Rattle.space_search.proofs.ListLemmas.{slice_get-push_cases}
+use Rattle.item_list.proofs.ListLemmas.{slice_get-push_cases}
 use Rattle.space_search.proofs.SameLemmas.{settled-within, follows-moved}
 use Rattle.space_search.proofs.TakeLemmas.{accounted-popped, left-queued}
 

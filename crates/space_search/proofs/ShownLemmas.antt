@@ -6,7 +6,7 @@ use Rattle.space_search.specs.Books.{Books, IsSettled, CameFrom, from_start, fro
 use Rattle.space_search.specs.Rules.{Rules}
 use Rattle.space_search.specs.View.{Reached, reached, shown_from, choices_in, choices_before, consed, pick, settled_of, KeepsPlaces}
 use Rattle.space_search.specs.declared.label.Label.{Label}
-use Rattle.space_search.proofs.ListLemmas.{slice_get-append, slice_get-pushed, slice_get-same, slice_get-there}
+use Rattle.item_list.proofs.ListLemmas.{slice_get-append, slice_get-pushed, slice_get-same, slice_get-there}
 use Rattle.space_search.proofs.SameLemmas.{settled-within}
 
 -- each of these numbers has a label

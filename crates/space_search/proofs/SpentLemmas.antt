@@ -14,7 +14,7 @@ use Rattle.space_search.specs.declared.turn.Turn.TheVariants.{Budget}
 use Rattle.space_search.proofs.DropLemmas.{rank-unique}
 use Rattle.space_search.proofs.EndLemmas.{below-goals, closed-below}
 use Rattle.space_search.proofs.LeastLemmas.{none-below}
-use Rattle.space_search.proofs.ListLemmas.{slice_get-push_cases}
+use Rattle.item_list.proofs.ListLemmas.{slice_get-push_cases}
 use Rattle.space_search.proofs.OrderLemmas.{in-order, order-more}
 use Rattle.space_search.proofs.RunLemmas.{run-to}
 use Rattle.space_search.proofs.ShownLemmas.{Settled, shown-count, settled-shown}

@@ -7,8 +7,10 @@ use Rattle.std.proofs.lemmas.List.Sorted.{Contains-permutation, IsPermutation-sy
 use Rattle.space_search.specs.Books.{Books, Entry, entry_cmp, IsLabel, IsSettled, IsCovered, IsAccounted, by_label, by_queue, by_bound, HasStarts, HasSteps, HasStepsBelow, IsSearch, IsClosed, Extends, KeepsLabels, Leaves}
 use Rattle.space_search.specs.Rules.{Rules}
 use Rattle.space_search.specs.declared.label.Label.{Label}
-use Rattle.space_search.proofs.ListLemmas.{slice_get-same, Contains-cons_cases, Contains-rest, equal-or_not, below-next}
+use Rattle.item_list.proofs.ListLemmas.{slice_get-same, Contains-cons_cases, Contains-rest}
+use Rattle.item_list.proofs.TestLemmas.{below-next}
 use Rattle.space_search.proofs.SameLemmas.{settled-unique, settled-within, keeps-back}
+use Rattle.std.proofs.lemmas.Bool.{cases_eq}
 
 -- two such changes make one
 pub extends-trans : {S : Type 0} (a b c : Books S) → Extends a b → Extends b c → Extends a c
@@ -76,7 +78,7 @@ module _ {S : Type 0} (rules : Rules S) (before after : Books S) (more : Extends
         starts = λ n s c h is. accounted-extended s c (starts n s c h is);
         steps = λ p l inside s.
             let old : IsSettled before p l = keeps-back rules before after more.labels search.stands more.settled p l s in
-            elim (equal-or_not p place) [
+            elim (cases_eq p place) [
               | inl at ↦
                   let one : label ≡ l =
                   settled-unique before p label l (subst (λ k. IsSettled before k label) (sym at) now) old in

@@ -15,7 +15,7 @@ use Rattle.space_search.specs.declared.search.Search.{Search}
 use Rattle.space_search.specs.declared.turn.Turn.{Turn}
 use Rattle.space_search.specs.declared.turn.Turn.TheVariants.{More, Found, NoWay, Budget}
 use Rattle.space_search.proofs.LimitLemmas.{never-spent}
-use Rattle.space_search.proofs.ListLemmas.{slice_get-pushed}
+use Rattle.item_list.proofs.ListLemmas.{slice_get-pushed}
 use Rattle.space_search.proofs.OrderLemmas.{in-order}
 use Rattle.space_search.proofs.ShownLemmas.{shown-count, places-kept}
 

@@ -159,8 +159,8 @@ pub record IsClosed {S : Type 0} (rules : Rules S) (kept : Books S) : Type 0 whe
   pub starts : HasStarts rules kept rules.starts
   pub steps : HasStepsBelow rules kept (length kept.settled)
 
--- the cursor names a label of a cell that was settled below a place, by its place plus 1; it is 0 where it names
--- none. Those of the cell between the two are needless
+-- the cursor names a label of a cell that was settled below a place, by its place plus 1; it is 0 where it
+-- names none. Those of the cell between the two are needless
 pub record IsLatest {S : Type 0} (rules : Rules S) (kept : Books S) (cell below cursor : ℕ) : Type 0 where
   pub inside :
       (place : ℕ) → cursor ≡ place + 1 →

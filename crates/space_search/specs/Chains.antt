@@ -5,8 +5,8 @@ use Rattle.space_search.specs.Books.{Books, IsSettled, IsNeedless, IsSearch, Ext
 use Rattle.space_search.specs.Rules.{Rules}
 use Rattle.space_search.specs.declared.label.Label.{Label}
 
--- no label of the state's cell at or after the cursor covers the state at this cost, unless it is needless, and
--- before the cursor stands one of that cell, unless the cursor is 0
+-- no label of the state's cell at or after the cursor covers the state at this cost, unless it is needless,
+-- and before the cursor stands one of that cell, unless the cursor is 0
 pub record IsTested {S : Type 0} (rules : Rules S) (kept : Books S) (state : S) (cost cursor : ℕ)
     : Type 0 where
   pub tested :
@@ -17,9 +17,10 @@ pub record IsTested {S : Type 0} (rules : Rules S) (kept : Books S) (state : S) 
       (place : ℕ) → cursor ≡ place + 1 →
       (label : Label S) × IsSettled kept place label × (rules.cell label.state ≡ rules.cell state)
 
--- The pass over the chain of a label that was just settled stands at the label before the cursor, and the link to it
--- goes from this place.
-pub record IsPruning {S : Type 0} (rules : Rules S) (before kept : Books S) (label : Label S) (link cursor : ℕ)
+-- The pass over the chain of a label that was just settled stands at the label before the cursor, and the
+-- link to it goes from this place.
+pub record IsPruning {S : Type 0} (rules : Rules S) (before kept : Books S) (label : Label S) (link cursor :
+    ℕ)
     : Type 0 where
   pub search : IsSearch rules kept
   pub extends : Extends before kept

@@ -89,8 +89,9 @@ pub record HasRank {S : Type 0} (rules : Rules S) (state : S) (cost rank : ℕ) 
   pub is : rules.low state ≡ Some low
   pub sum : rank ≡ cost + low
 
--- what the second state covers at its cost, of the valid states that rank no less than the first, the first covers
--- at its own. So the second is needless in the covering test once all that comes ranks no less than the first
+-- what the second state covers at its cost, of the valid states that rank no less than the first, the first
+-- covers at its own. So the second is needless in the covering test once all that comes ranks no less than
+-- the first
 abbrev pub Supersedes : {S : Type 0} → Rules S → S → ℕ → S → ℕ → Type 0
 Supersedes {S} rules a ca b cb =
     (state : S) (cost low high : ℕ) → IsTrue (rules.is_valid state) →

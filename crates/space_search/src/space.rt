@@ -59,8 +59,8 @@ pub trait Space {
         ensures value { result ≡ (rules self.now).covers a.now ca b.now cb };
 
     /// Whether a settled label makes an older one needless in the covering test: for all that comes
-    /// and ranks no less than the first, the first covers what the second covers. A space may always
-    /// say no; one that says no of a label and itself isn't asked of others.
+    /// and ranks no less than the first, the first covers what the second covers. A space may
+    /// always say no; one that says no of a label and itself isn't asked of others.
     fn supersedes(&self, a: &Self::State, ca: u128, b: &Self::State, cb: u128) -> bool
         requires valid_a { IsTrue ((rules self.now).is_valid a.now) }
         requires valid_b { IsTrue ((rules self.now).is_valid b.now) }

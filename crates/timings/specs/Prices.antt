@@ -18,10 +18,12 @@ pub price-small : (number price : ℕ) → price_of number ≡ Some price → pr
 price-small number price is =
     elim (cases_lt number NONE) [
       | inl below ↦
-          let same : Some number ≡ Some price = sym (ap (λ b. cond b (Some number) None) (lt-ltb number NONE below)) ∙ is in
+          let same : Some number ≡ Some price =
+          sym (ap (λ b. cond b (Some number) None) (lt-ltb number NONE below)) ∙ is in
           let one : number ≡ price = cc in
           omega (arith, one, below)
       | inr above ↦
-          let same : None ≡ Some price = sym (ap (λ b. cond b (Some number) None) (le-ltb number NONE (omega (arith, above)))) ∙ is in
+          let same : None ≡ Some price =
+          sym (ap (λ b. cond b (Some number) None) (le-ltb number NONE (omega (arith, above)))) ∙ is in
           absurd cc
     ]

@@ -1,5 +1,5 @@
-//! The profile for trekking, bound to a map as often as a word says, or once for searches between so many pairs of
-//! its nodes.
+//! The profile for trekking, bound to a map as often as a word says, or once for searches between
+//! so many pairs of its nodes.
 
 ghost use Rattle.way_class.specs.Parts.{HasTags};
 
@@ -132,14 +132,16 @@ fn do_on(rt: &HostRuntime, map: &Map, tiles: &Tiles, task: Task) -> io::Result<(
     }
 }
 
-/// Binds the profile to a map as often as the first word says, with the tile of the second, or one that slopes.
+/// Binds the profile to a map as often as the first word says, with the tile of the second, or one
+/// that slopes.
 pub(crate) fn bind_often(rt: &HostRuntime, map: &Map, words: &[String]) -> io::Result<()> {
     let times = small_at(words, 0, 1);
     let tiles = tiles_at(rt, words, 1, b"bank")?;
     do_on(rt, map, &tiles, Task::Bind { times })
 }
 
-/// Searches over a map by the profile as the first four words say, with the tile of the fifth, or none.
+/// Searches over a map by the profile as the first four words say, with the tile of the fifth, or
+/// none.
 pub(crate) fn search(rt: &HostRuntime, map: &Map, words: &[String]) -> io::Result<()> {
     let plan = plan_of(words);
     let tiles = tiles_at(rt, words, 4, b"none")?;

@@ -104,7 +104,8 @@ impl<'a> Ground<'a> {
         self.settle(rt, &space, plan)
     }
 
-    /// Searches between two nodes, and prints where they lie, the answer and how many labels it took.
+    /// Searches between two nodes, and prints where they lie, the answer and how many labels it
+    /// took.
     fn tell(
         &self,
         rt: &HostRuntime,

@@ -1,5 +1,5 @@
-//! Scans a generated Overpass text of so many blocks of four elements, in pieces of so many bytes, and prints how
-//! many steps it has.
+//! Scans a generated Overpass text of so many blocks of four elements, in pieces of so many bytes,
+//! and prints how many steps it has.
 
 ghost use Rattle.std.specs.Prelude.{◌≡◌, ◌<◌, false, OnOk};
 ghost use Rattle.json_text.specs.Scanner.{fed, has_ended};

@@ -20,7 +20,11 @@ impl LinkPrices for Lengths {
     ghost use Rattle.timings.specs.Prices.{price-small, prices_of};
     ghost use Rattle.std.specs.Prelude.{length};
 
-    ghost priced = { λ l. record { count = length l.lengths.items; price = prices_of l.lengths.items } };
+    ghost priced = { λ l. record {
+      count = length l.lengths.items;
+      price =
+          prices_of l.lengths.items;
+    } };
 
     ghost small = { λ l link price below is. price-small _ price is };
 

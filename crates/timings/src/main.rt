@@ -1,4 +1,5 @@
-//! Times a part of the program, which its first word names; with no word it runs each at a small size.
+//! Times a part of the program, which its first word names; with no word it runs each at a small
+//! size.
 #![tactic(auto)]
 
 mod bound;

@@ -2,8 +2,8 @@
 
 use crate::words::small_at;
 
-/// How many searches, how many labels each may settle, whether descents have a price, and whether it
-/// goes from junction to junction.
+/// How many searches, how many labels each may settle, whether descents have a price, and whether
+/// it goes from junction to junction.
 #[derive(Clone, Copy)]
 pub(crate) struct Plan {
     pub(crate) searches: u32,

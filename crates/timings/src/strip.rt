@@ -8,8 +8,8 @@ use space_search::Space;
 /// Cells in rows of one width, one row behind the other. So many starts lie in the first cell, each
 /// with more due and at less cost than the one before, and each cell has so many steps: 0 goes a
 /// cell ahead, 1 a row ahead, 2 a cell back, and any other a row back.
-/// Where it is `superseding`, it says of each label which older ones it makes needless in the covering
-/// test; else it never says so.
+/// Where it is `superseding`, it says of each label which older ones it makes needless in the
+/// covering test; else it never says so.
 #[derive(Drop)]
 pub struct Strip {
     cells: u32,

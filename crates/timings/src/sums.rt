@@ -51,8 +51,8 @@ fn sums_of(alloc: Global, map: &Map, count: u32) -> Result<u64, AllocError> {
     rounds(alloc, map, &lengths, count)
 }
 
-/// Prints how many nodes and links the map has, and how many nodes have a sum in all, for as many targets as the
-/// words say.
+/// Prints how many nodes and links the map has, and how many nodes have a sum in all, for as many
+/// targets as the words say.
 pub(crate) fn run(rt: &HostRuntime, map: &Map, words: &[String]) -> io::Result<()> {
     let count = small_at(words, 0, 1);
     let all = sums_of(rt.alloc(), map, count)?;

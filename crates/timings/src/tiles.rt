@@ -20,7 +20,8 @@ fn tile_in(rt: &HostRuntime, name: &str) -> io::Result<Tiles> {
     Ok(tile_of(rt.alloc(), name.as_bytes(), bytes.as_slice())?)
 }
 
-/// The tile of the file that the word at a place names; those that are usual where there is no word.
+/// The tile of the file that the word at a place names; those that are usual where there is no
+/// word.
 pub(crate) fn tiles_at(
     rt: &HostRuntime,
     words: &[String],

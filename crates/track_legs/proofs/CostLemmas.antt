@@ -10,6 +10,7 @@ use Rattle.cost_model.specs.declared.facts.LinkFacts.{LinkFacts}
 use Rattle.cost_model.specs.declared.parts.Carry.{Carry}
 use Rattle.cost_model.specs.declared.parts.Parts.{Parts}
 use Rattle.track_legs.specs.Costs.{IsCarriedSoFar, IsKept}
+use Rattle.cost_model.proofs.CallerLemmas.{sum-same}
 
 -- this is what a walk carries so far, and it is kept
 pub record IsPaidSoFar (prices : Prices) (count : ℕ) (facts : ℕ → LinkFacts) (walk : List ℕ) (carry : Option Carry)
@@ -54,11 +55,6 @@ module _ (p : Prices) (f : ℕ → LinkFacts)
     parts-front walk n k h inside =
         rw (before-front walk n k (omega arith), get_or-take n walk k 0 h, front-front walk n k (omega arith) inside)
         refl
-
-    -- sums of the same counts
-    sum-same : (a b : ℕ → ℕ) (n : ℕ) → ((k : ℕ) → k < n → a k ≡ b k) → sum_before a n ≡ sum_before b n
-    sum-same a b zero h = refl
-    sum-same a b (suc n) h = rw (sum-same a b n (λ k below. h k (omega arith)), h n (omega arith)) refl
 
     -- a sum grows
     sum-grows : (a : ℕ → ℕ) (n m : ℕ) → n ≤ m → sum_before a n ≤ sum_before a m

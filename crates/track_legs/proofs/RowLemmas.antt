@@ -40,7 +40,8 @@ module _ (p : Prices) (f : ℕ → LinkFacts)
 
     -- the rows of a walk before a place and the one at it
     pub rows-more : (walk : List ℕ) (place : ℕ) (parts : Parts) (old now new : List Row) →
-        parts ≡ parts_at p f walk place → now ≡ old ++ rows_before p f walk place → new ≡ now ++ record { link = get_or walk place 0; parts = parts } ∷ [] →
+        parts ≡ parts_at p f walk place → now ≡ old ++ rows_before p f walk place →
+        new ≡ now ++ record { link = get_or walk place 0; parts = parts } ∷ [] →
         new ≡ old ++ rows_before p f walk (place + 1)
     rows-more walk place parts old now new is so_far added =
         let row : List Row = row_at p f walk place ∷ [] in

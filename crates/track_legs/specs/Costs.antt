@@ -7,7 +7,8 @@ use Rattle.cost_model.specs.declared.facts.LinkFacts.{LinkFacts}
 use Rattle.cost_model.specs.declared.parts.Carry.{Carry}
 
 -- this is what a walk carries: nothing before its first link
-abbrev pub IsCarriedSoFar : Prices → (ℕ → LinkFacts) → List ℕ → Option Carry → Type 0
+abbrev pub IsCarriedSoFar : (prices : Prices) (facts : ℕ → LinkFacts) (walk : List ℕ)
+    (carry : Option Carry) → Type 0
 IsCarriedSoFar prices facts walk None = walk ≡ []
 IsCarriedSoFar prices facts walk (Some carry) = IsCarriedBy prices facts walk carry
 

@@ -1,5 +1,5 @@
--- What a rider goes by: the roads, which links are open and which turns are forbidden, and what links cost (this
--- project's own rule).
+-- What a rider goes by: the roads, which links are open and which turns are forbidden, and what links cost
+-- (this project's own rule).
 use Rattle.std.specs.Prelude.{ℕ, Bool, List}
 use Rattle.cost_model.specs.Facts.{Links}
 use Rattle.cost_model.specs.OpenLinks.{open_by}
@@ -18,9 +18,10 @@ pub record Ride : Type 0 where
   pub facts : ℕ → LinkFacts
   pub prices : Prices
 
--- what a rider goes by on a map, by the facts of its links, the prices of a profile, the links that are cut, and
--- whether turn restrictions count
-abbrev pub ride_of : MapValue → Links → Prices → List Bool → Bool → Ride
+-- what a rider goes by on a map, by the facts of its links, the prices of a profile, the links that are cut,
+-- and whether turn restrictions count
+abbrev pub ride_of : (map : MapValue) (links : Links) (prices : Prices) (cut : List Bool) (turns : Bool)
+    → Ride
 ride_of map links prices cut turns = record {
   roads = roads_of map;
   is_open = open_by links.facts cut;

@@ -14,7 +14,8 @@ pub record HasReached (roads : Roads) (node link : ℕ) : Type 0 where
   pub arrives : roads.to link ≡ node
 
 -- a link may come next where a walk stands at a node, after its last link if it has one
-pub record MayComeNext (roads : Roads) (is_open : ℕ → Bool) (forbids : ℕ → ℕ → Bool) (node : ℕ) (last : Option ℕ)
+pub record MayComeNext (roads : Roads) (is_open : ℕ → Bool) (forbids : ℕ → ℕ →
+    Bool) (node : ℕ) (last : Option ℕ)
     (link : ℕ) : Type 0 where
   pub leaves : MayLeave roads is_open node link
   pub follows : (before : ℕ) → last ≡ Some before → MayFollow roads forbids before link

@@ -10,9 +10,10 @@ use crate::walks::is_walk;
 use cost_model::{FactsOf, Passages, Rates};
 use overpass_graph::Map;
 
-/// Whether there is one leg fewer than nodes, and each leg is a walk between its nodes that a rider may take, with the
-/// cost that is kept: over links that their facts let a rider take and that aren't cut, never back to where the link
-/// before left, and where `turns` count against no turn restriction. It takes no memory.
+/// Whether there is one leg fewer than nodes, and each leg is a walk between its nodes that a rider
+/// may take, with the cost that is kept: over links that their facts let a rider take and that
+/// aren't cut, never back to where the link before left, and where `turns` count against no turn
+/// restriction. It takes no memory.
 pub fn recheck<F: FactsOf>(
     track: &Track,
     map: &Map,

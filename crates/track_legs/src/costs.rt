@@ -8,8 +8,9 @@ ghost use Rattle.track_legs.specs.Rows.{AreBelow};
 
 use cost_model::{Carry, FactsOf, Parts, Rates, enter, first};
 
-/// What these links cost as a walk, in millionths, by the facts of links and the rates of a profile; none where that is
-/// 2^128 or more. Whether they are a walk isn't asked. It takes no memory.
+/// What these links cost as a walk, in millionths, by the facts of links and the rates of a
+/// profile; none where that is 2^128 or more. Whether they are a walk isn't asked. It takes no
+/// memory.
 pub fn cost_along<F: FactsOf>(facts: &F, rates: &Rates, walk: &[u32]) -> Option<u128>
     requires in_range { AreBelow (F.links facts.now).count walk.now }
     ensures exact { let cost = walk_cost rates.now (F.links facts.now).facts walk.now in
@@ -41,7 +42,8 @@ pub(crate) fn go_on<F: FactsOf>(
     ensures link { result.0.link ≡ link }
     ensures kept { IsKept rates.now (F.links facts.now).count result.0 }
     ensures paid { ArePaid result.1 }
-    ensures along { (walk : List ℕ) → IsCarriedSoFar rates.now (F.links facts.now).facts walk carry →
+    ensures along { (walk : List ℕ) →
+        IsCarriedSoFar rates.now (F.links facts.now).facts walk carry →
         GoesOn rates.now (F.links facts.now).facts walk result.0 result.1 }
 {
     let taken = facts.facts(link);

@@ -10,7 +10,8 @@ use item_list::Items;
 use overpass_graph::Map;
 use std::alloc::{AllocError, Global};
 
-/// A link of a track and the parts of what it costs there, in millionths: the distance once, whatever the rank counts.
+/// A link of a track and the parts of what it costs there, in millionths: the distance once,
+/// whatever the rank counts.
 #[derive(Clone, Copy)]
 pub struct Row {
     /// The link.
@@ -29,7 +30,8 @@ pub fn rows<F: FactsOf>(
 ) -> Result<Items<Row>, AllocError>
     requires counted { (F.links facts.now).count ≡ length map.now.links }
     requires in_range { HasLinksBelow (length map.now.links) track.now }
-    ensures exact { IfOk result (λ rows. rows ≡ rows_of rates.now (F.links facts.now).facts track.now) }
+    ensures exact { IfOk result
+        (λ rows. rows ≡ rows_of rates.now (F.links facts.now).facts track.now) }
 {
     let _ = map;
     let mut rows = Items::new(alloc);

@@ -9,8 +9,8 @@ ghost use Rattle.track_legs.specs.Steps.{HasReached, MayComeNext, MayLeave};
 use cost_model::OpenLinks;
 use overpass_graph::Map;
 
-/// Whether these links are a walk from a node to a node that a rider may take: over open links, and where `turns` count
-/// against no turn restriction.
+/// Whether these links are a walk from a node to a node that a rider may take: over open links, and
+/// where `turns` count against no turn restriction.
 pub(crate) fn is_walk<O: OpenLinks>(
     map: &Map,
     passages: &O,
@@ -20,7 +20,8 @@ pub(crate) fn is_walk<O: OpenLinks>(
     walk: &[u32],
 ) -> bool
     requires same_links { (O.opens passages.now).count ≡ length map.now.links }
-    ensures exact { IsTrue result ↔ IsPermittedWalk (roads_of map.now) (O.opens passages.now).is_open
+    ensures exact { IsTrue result ↔
+        IsPermittedWalk (roads_of map.now) (O.opens passages.now).is_open
         (forbids_where turns (forbids_of map.now)) start target walk.now }
 {
     let mut node = start;
@@ -62,7 +63,8 @@ fn may_come_next<O: OpenLinks>(
 /// Whether a link may be taken at a node.
 fn may_leave<O: OpenLinks>(map: &Map, passages: &O, node: u32, link: u32) -> bool
     requires same_links { (O.opens passages.now).count ≡ length map.now.links }
-    ensures exact { IsTrue result ↔ MayLeave (roads_of map.now) (O.opens passages.now).is_open node link }
+    ensures exact { IsTrue result ↔
+        MayLeave (roads_of map.now) (O.opens passages.now).is_open node link }
 {
     link < map.links() && (passages.is_open(link) && map.link(link).from == node)
 }

@@ -47,6 +47,7 @@ row-written style source row at facts first o1 o2 o3 new ends taken e1 e2 e3 e4 
     first ++ parted (separator_of style) (place_fields source.height p
     ++ (length_fields f ++ (part_fields row.parts ++ tag_fields style source.map source.table row.link f.granted))) in
     let whole : new ≡ text_with at facts =
-    fields-four (separator_of style) (signed_decimal at.lon) (signed_decimal at.lat ∷ height_field (source.height at) ∷ []) (length_fields facts) (part_fields row.parts)
+    fields-four (separator_of style) (signed_decimal at.lon) (signed_decimal at.lat ∷ height_field (source.height at) ∷ [])
+    (length_fields facts) (part_fields row.parts)
     (tag_fields style source.map source.table row.link facts.granted) first o1 o2 o3 new e1 e2 e3 e4 in
     whole ∙ ap (λ p. text_with p facts) ends ∙ ap (λ f. text_with (end_spot source.map row.link) f) taken

@@ -25,7 +25,8 @@ row_lines source rows = header_text Lines ++ (line_end ++ flat_map (row_line sou
 -- the lines of the cost and of the rank
 unfoldable pub sum_lines : List Leg → List ℕ
 sum_lines legs =
-    codes "cost\t" ++ (mil6 (pos (total_cost legs)) ++ (codes "\nrank\t" ++ (mil6 (pos (total_rank legs)) ++ line_end)))
+    codes "cost\t" ++ (mil6 (pos (total_cost legs)) ++
+    (codes "\nrank\t" ++ (mil6 (pos (total_rank legs)) ++ line_end)))
 
 -- the line of a leg
 unfoldable pub leg_line : MapValue → Leg → List ℕ
@@ -46,7 +47,8 @@ alternative_lines map number walks = flat_map (earlier_line map number) walks
 -- the lines of earlier alternatives, numbered from this number on
 abbrev pub lines_from : (map : MapValue) (number : ℕ) (earlier : List (List (List ℕ))) → List ℕ
 lines_from map number [] = []
-lines_from map number (walks ∷ earlier) = alternative_lines map number walks ++ lines_from map (suc number) earlier
+lines_from map number (walks ∷ earlier) = alternative_lines map number walks ++
+    lines_from map (suc number) earlier
 
 -- the lines of earlier alternatives
 unfoldable pub earlier_lines : MapValue → List (List (List ℕ)) → List ℕ

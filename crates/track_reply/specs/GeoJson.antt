@@ -28,7 +28,8 @@ direction_end back = cond back (codes ",1]") (codes ",0]")
 -- a link as `[way,segment,direction]`
 unfoldable pub step_array : MapValue → ℕ → List ℕ
 step_array map link =
-    codes "[" ++ (way_id_of map link ++ (comma ++ (decimal (link_of map link).segment ++ direction_end (link_of map link).back)))
+    codes "[" ++ (way_id_of map link ++
+    (comma ++ (decimal (link_of map link).segment ++ direction_end (link_of map link).back)))
 
 -- a walk as an array of its links
 unfoldable pub walk_array : MapValue → List ℕ → List ℕ
@@ -61,13 +62,17 @@ position_text height at = codes "[" ++ (mil6 at.lon ++ (comma ++ (mil6 at.lat ++
 abbrev pub next_position : (Place → Option ℤ) → Place → List ℕ
 next_position height at = comma ++ position_text height at
 
--- the positions behind that of the first node: the ends of all links, or the first node again where there is no link
-abbrev pub positions_behind : MapValue → (Place → Option ℤ) → Place → List Row → List ℕ
+-- the positions behind that of the first node: the ends of all links, or the first node again where there is
+-- no link
+abbrev pub positions_behind : (map : MapValue) (height : Place → Option ℤ) (first : Place)
+    (rows : List Row) → List ℕ
 positions_behind map height first rows =
-    cond (length rows == 0) (next_position height first) (flat_map (λ row. next_position height (end_spot map row.link)) rows)
+    cond (length rows == 0) (next_position height first)
+    (flat_map (λ row. next_position height (end_spot map row.link)) rows)
 
 -- the positions of a track that begins at a place
-unfoldable pub positions_text : MapValue → (Place → Option ℤ) → Place → List Row → List ℕ
+unfoldable pub positions_text : (map : MapValue) (height : Place → Option ℤ) (first : Place)
+    (rows : List Row) → List ℕ
 positions_text map height first rows = position_text height first ++ positions_behind map height first rows
 
 -- ---- The reply
@@ -79,7 +84,8 @@ row_array source row = codes ",[\"" ++ (row_text Json source row ++ codes "\"]")
 -- what stands before the name
 unfoldable pub name_head : List ℕ
 name_head =
-    codes "{\"type\":\"FeatureCollection\",\"features\":[{\"type\":\"Feature\",\"properties\":{\"creator\":\"route_serve\",\"name\":\""
+    codes
+    "{\"type\":\"FeatureCollection\",\"features\":[{\"type\":\"Feature\",\"properties\":{\"creator\":\"route_serve\",\"name\":\""
 
 -- up to the name: that of the profile, and the number of the alternative
 unfoldable pub name_part : List ℕ → ℕ → List ℕ
@@ -119,9 +125,11 @@ unfoldable pub walks_part : MapValue → Track → List ℕ
 walks_part map track = legs_part map track ++ earlier_part map track
 
 -- the line of a track that begins at a place
-unfoldable pub line_text : MapValue → (Place → Option ℤ) → Place → List Row → List ℕ
+unfoldable pub line_text : (map : MapValue) (height : Place → Option ℤ) (first : Place) (rows : List Row)
+    → List ℕ
 line_text map height first rows =
-    codes ",\"geometry\":{\"type\":\"LineString\",\"coordinates\":[" ++ (positions_text map height first rows ++ codes "]}}]}\n")
+    codes ",\"geometry\":{\"type\":\"LineString\",\"coordinates\":[" ++
+    (positions_text map height first rows ++ codes "]}}]}\n")
 
 -- the bytes of the reply
 unfoldable pub geojson_of : Source → Track → List ℕ
@@ -130,4 +138,5 @@ geojson_of source track =
     let first = spot_of source.map (node_at track 0) in
     name_part source.name source.alternative
     ++ (sums_part (total_length source.links.facts rows) track.legs
-    ++ (messages_part source rows ++ (walks_part source.map track ++ line_text source.map source.height first rows)))
+    ++ (messages_part source rows ++
+    (walks_part source.map track ++ line_text source.map source.height first rows)))

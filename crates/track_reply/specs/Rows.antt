@@ -20,7 +20,8 @@ use Rattle.track_reply.specs.declared.style.Style.TheVariants.{Lines, Json}
 -- the names of the fields
 abbrev pub columns : List (List ℕ)
 columns =
-    codes "Longitude" ∷ codes "Latitude" ∷ codes "Elevation" ∷ codes "Distance" ∷ codes "CostPerKm" ∷ codes "ElevCost"
+    codes "Longitude" ∷ codes "Latitude" ∷ codes "Elevation" ∷ codes "Distance" ∷ codes "CostPerKm" ∷ codes
+    "ElevCost"
     ∷ codes "TurnCost" ∷ codes "NodeCost" ∷ codes "InitialCost" ∷ codes "WayTags" ∷ codes "NodeTags" ∷ []
 
 -- what stands between two fields: a tabulator, or the end of a text in quotes and the beginning of the next
@@ -44,14 +45,16 @@ place_fields height at = signed_decimal at.lon ∷ signed_decimal at.lat ∷ hei
 
 -- Distance and CostPerKm: how long a link is in metres, and its costfactor in thousandths, rounded down
 unfoldable pub length_fields : LinkFacts → List (List ℕ)
-length_fields facts = metres_text facts.arrow.len ∷ signed_decimal (int_div_euclid facts.costfactor (pos 1000)) ∷ []
+length_fields facts = metres_text facts.arrow.len ∷ signed_decimal
+    (int_div_euclid facts.costfactor (pos 1000)) ∷ []
 
 -- ElevCost, TurnCost, NodeCost, InitialCost
 unfoldable pub part_fields : Parts → List (List ℕ)
 part_fields parts = mil6 parts.elevation ∷ mil6 parts.turn ∷ mil6 parts.node ∷ mil6 parts.initial ∷ []
 
 -- WayTags and NodeTags
-unfoldable pub tag_fields : Style → MapValue → TagTable → ℕ → Bool → List (List ℕ)
+unfoldable pub tag_fields : (style : Style) (map : MapValue) (table : TagTable) (link : ℕ) (granted : Bool)
+    → List (List ℕ)
 tag_fields style map table link granted =
     written style (way_field map table link) ∷ written style (node_field map table link granted) ∷ []
 
@@ -59,7 +62,8 @@ tag_fields style map table link granted =
 unfoldable pub fields_of : Style → Source → Row → List (List ℕ)
 fields_of style source row = let facts = source.links.facts row.link in
     place_fields source.height (end_spot source.map row.link)
-    ++ (length_fields facts ++ (part_fields row.parts ++ tag_fields style source.map source.table row.link facts.granted))
+    ++ (length_fields facts ++
+    (part_fields row.parts ++ tag_fields style source.map source.table row.link facts.granted))
 
 -- the text of a row
 unfoldable pub row_text : Style → Source → Row → List ℕ

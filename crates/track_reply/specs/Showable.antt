@@ -32,8 +32,8 @@ AreWalksBelow count walks = (k : ℕ) → k < length walks → AreBelow count (g
 abbrev pub AreAlternativesBelow : ℕ → List (List (List ℕ)) → Type 0
 AreAlternativesBelow count earlier = (k : ℕ) → k < length earlier → AreWalksBelow count (get_or earlier k [])
 
--- it is a track where no link is cut and no turn is forbidden, its nodes and the links of earlier alternatives are the
--- map's, and the costs and the ranks of its legs add up to less than 2^127 each
+-- it is a track where no link is cut and no turn is forbidden, its nodes and the links of earlier
+-- alternatives are the map's, and the costs and the ranks of its legs add up to less than 2^127 each
 pub record IsShowable (source : Source) (track : Track) : Type 0 where
   pub counted : source.links.count ≡ length source.map.links
   pub legs : IsTrack (ride_of source.map source.links source.prices [] false) track

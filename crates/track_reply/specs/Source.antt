@@ -8,8 +8,8 @@ use Rattle.hgt_tiles.specs.declared.tile_set.Tiles.{Tiles}
 use Rattle.lookup_table.specs.First.{TagTable}
 use Rattle.overpass_graph.specs.Maps.{MapValue, link_of, node_at}
 
--- the map, the tag table, the heights of places, the facts of links, the prices of a profile, its name, and the number of
--- the alternative
+-- the map, the tag table, the heights of places, the facts of links, the prices of a profile, its name, and
+-- the number of the alternative
 pub record Source : Type 0 where
   pub map : MapValue
   pub table : TagTable
@@ -20,7 +20,8 @@ pub record Source : Type 0 where
   pub alternative : ℕ
 
 -- what a reply is told from, by the tiles that give heights
-abbrev pub source_of : MapValue → TagTable → Tiles → Links → Prices → List ℕ → ℕ → Source
+abbrev pub source_of : (map : MapValue) (table : TagTable) (tiles : Tiles) (links : Links)
+    (prices : Prices) (name : List ℕ) (alternative : ℕ) → Source
 source_of map table tiles links prices name alternative = record {
   map = map;
   table = table;

@@ -16,7 +16,8 @@ direction_letter back = cond back (codes "b") (codes "f")
 -- a link as `way/segment/f`, or `way/segment/b` where it goes backward
 unfoldable pub step_field : MapValue → ℕ → List ℕ
 step_field map link =
-    way_id_of map link ++ (codes "/" ++ (decimal (link_of map link).segment ++ (codes "/" ++ direction_letter (link_of map link).back)))
+    way_id_of map link ++ (codes "/" ++
+    (decimal (link_of map link).segment ++ (codes "/" ++ direction_letter (link_of map link).back)))
 
 -- a walk as a field for each of its links, each behind a tabulator
 unfoldable pub walk_fields : MapValue → List ℕ → List ℕ

@@ -1,7 +1,8 @@
--- The texts of tags as a profile is asked about them: the first tag is set by the router (this project's own rule).
-use Rattle.std.specs.Prelude.{ℕ, Bool, false, not, ◌||◌, ◌==◌, cond, List, [], ◌∷◌, set}
+-- The texts of tags as a profile is asked about them: the first tag is set by the router (this project's own
+-- rule).
+use Rattle.std.specs.Prelude.{ℕ, Bool, cond, List, [], set}
 use Rattle.lookup_table.specs.First.{TagTable, rows_of}
-use Rattle.lookup_table.specs.Numbers.{tag_numbers, tag_text}
+use Rattle.lookup_table.specs.Numbers.{tag_numbers, tag_text, has_set}
 use Rattle.lookup_table.specs.Tag.{TagRow}
 use Rattle.lookup_table.specs.declared.part.Part.TheVariants.{Way, Node}
 use Rattle.map_tables.specs.Kept.{Tag}
@@ -11,28 +12,20 @@ use Rattle.overpass_graph.specs.Maps.{MapValue, link_of, node_at, way_at}
 abbrev pub numbers_with : List TagRow → List Tag → Bool → List ℕ
 numbers_with rows tags is_set = set (tag_numbers rows tags) 0 (cond is_set 2 0)
 
--- some of these numbers isn't 0
-abbrev pub some_set : List ℕ → Bool
-some_set [] = false
-some_set (n ∷ ns) = not (n == 0) || some_set ns
-
--- a number after the first isn't 0
-abbrev pub has_set : List ℕ → Bool
-has_set [] = false
-has_set (n ∷ ns) = some_set ns
-
 -- the text of a way's tags, taken backward or forward
 unfoldable pub way_text : TagTable → List Tag → Bool → List ℕ
 way_text table tags back = let rows = rows_of table Way in tag_text rows (numbers_with rows tags back)
 
--- the text of a node's tags, reached by a way that grants access or doesn't: empty where none is set after the first
+-- the text of a node's tags, reached by a way that grants access or doesn't: empty where none is set after
+-- the first
 unfoldable pub node_text : TagTable → List Tag → Bool → List ℕ
 node_text table tags granted = let rows = rows_of table Node in
     cond (has_set (tag_numbers rows tags)) (tag_text rows (numbers_with rows tags granted)) []
 
 -- the text of the tags of a link's way, in the link's direction
 unfoldable pub way_field : MapValue → TagTable → ℕ → List ℕ
-way_field map table link = let taken = link_of map link in way_text table (way_at map.ways taken.way).tags taken.back
+way_field map table link = let taken = link_of map link in
+    way_text table (way_at map.ways taken.way).tags taken.back
 
 -- the text of the tags of the node at a link's end, whose way grants access or doesn't
 unfoldable pub node_field : MapValue → TagTable → ℕ → Bool → List ℕ

@@ -34,7 +34,8 @@ pub(crate) fn append_earlier(
     earlier: &[Items<Items<u32>>],
 ) -> Result<(), AllocError>
     requires in_range { AreAlternativesBelow (length map.now.links) earlier.now }
-    ensures exact { OnOk result (out.new.items ≡ out.old.items ++ earlier_text map.now earlier.now) }
+    ensures exact { OnOk result (out.new.items ≡ out.old.items ++
+        earlier_text map.now earlier.now) }
 {
     'alternatives: for place in 0..earlier.len() {
         append_comma(out, place)?;
@@ -47,7 +48,8 @@ pub(crate) fn append_earlier(
 #[tactic(auto, unfolding(crate::specs::GeoJson::alternative_array))]
 fn append_alternative(out: &mut Vec<u8>, map: &Map, walks: &[Items<u32>]) -> Result<(), AllocError>
     requires in_range { AreWalksBelow (length map.now.links) walks.now }
-    ensures exact { OnOk result (out.new.items ≡ out.old.items ++ alternative_array map.now walks.now) }
+    ensures exact { OnOk result (out.new.items ≡ out.old.items ++
+        alternative_array map.now walks.now) }
 {
     out.extend_from_slice(b"[")?;
     append_walks(out, map, walks)?;

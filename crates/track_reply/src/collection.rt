@@ -25,15 +25,16 @@ use overpass_graph::Map;
 use std::alloc::{AllocError, Global};
 use track_legs::{Leg, Row, Track, rows};
 
-/// A track as GeoJSON on one line: its length, cost and rank, a row for each link, the walks of its legs and of those of
-/// earlier alternatives, and its positions.
+/// A track as GeoJSON on one line: its length, cost and rank, a row for each link, the walks of its
+/// legs and of those of earlier alternatives, and its positions.
 #[tactic(auto, unfolding(crate::specs::GeoJson::geojson_of))]
 pub fn geojson<F: FactsOf>(
     alloc: Global,
     shown: &Shown<F>,
     track: &Track,
 ) -> Result<Vec<u8>, AllocError>
-    requires lawful { let source = source_of shown.now.map.now shown.now.table.now shown.now.tiles.now
+    requires lawful { let source =
+        source_of shown.now.map.now shown.now.table.now shown.now.tiles.now
         (F.links shown.now.facts.now) shown.now.rates.now shown.now.name.now shown.now.alternative in
         IsShowable source track.now }
     ensures exact { let source = source_of shown.now.map.now shown.now.table.now shown.now.tiles.now

@@ -20,15 +20,16 @@ use overpass_graph::Map;
 use std::alloc::{AllocError, Global};
 use track_legs::{Leg, Row, Track, rows};
 
-/// A track as lines of fields: a header, a row for each link, the cost, the rank, and the walks of its legs and of
-/// those of earlier alternatives.
+/// A track as lines of fields: a header, a row for each link, the cost, the rank, and the walks of
+/// its legs and of those of earlier alternatives.
 #[tactic(auto, unfolding(crate::specs::Csv::csv_of))]
 pub fn csv<F: FactsOf>(
     alloc: Global,
     shown: &Shown<F>,
     track: &Track,
 ) -> Result<Vec<u8>, AllocError>
-    requires lawful { let source = source_of shown.now.map.now shown.now.table.now shown.now.tiles.now
+    requires lawful { let source =
+        source_of shown.now.map.now shown.now.table.now shown.now.tiles.now
         (F.links shown.now.facts.now) shown.now.rates.now shown.now.name.now shown.now.alternative in
         IsShowable source track.now }
     ensures exact { let source = source_of shown.now.map.now shown.now.table.now shown.now.tiles.now
@@ -144,7 +145,8 @@ fn append_earlier(
     earlier: &[Items<Items<u32>>],
 ) -> Result<(), AllocError>
     requires in_range { AreAlternativesBelow (length map.now.links) earlier.now }
-    ensures exact { OnOk result (out.new.items ≡ out.old.items ++ earlier_lines map.now earlier.now) }
+    ensures exact { OnOk result (out.new.items ≡ out.old.items ++
+        earlier_lines map.now earlier.now) }
 {
     'alternatives: for place in 0..earlier.len() {
         append_alternative(out, map, place as u64, earlier[place].as_slice())?;

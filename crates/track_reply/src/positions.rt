@@ -59,7 +59,8 @@ fn append_behind(
 fn append_ends(out: &mut Vec<u8>, map: &Map, tiles: &Tiles, rows: &[Row]) -> Result<(), AllocError>
     requires in_range { AreRowsBelow (length map.now.links) rows.now }
     ensures exact { OnOk result (out.new.items ≡ out.old.items
-        ++ flat_map (λ row. next_position (height_of tiles.now) (end_spot map.now row.link)) rows.now) }
+        ++ flat_map (λ row. next_position (height_of tiles.now) (end_spot map.now row.link))
+        rows.now) }
 {
     'rows: for place in 0..rows.len() {
         append_next(out, tiles, end_spot(map, row_at(rows, place).link))?;

@@ -25,7 +25,8 @@ pub(crate) fn append_fields(out: &mut Vec<u8>, map: &Map, walk: &[u32]) -> Resul
 #[tactic(auto, unfolding(crate::specs::Steps::step_field))]
 fn append_field(out: &mut Vec<u8>, map: &Map, link: u32) -> Result<(), AllocError>
     requires in_range { link < length map.now.links }
-    ensures exact { OnOk result (out.new.items ≡ out.old.items ++ (tab ++ step_field map.now link)) }
+    ensures exact { OnOk result (out.new.items ≡ out.old.items ++
+        (tab ++ step_field map.now link)) }
 {
     let taken = map.link(link);
     out.push(b'\t')?;

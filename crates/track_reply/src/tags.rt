@@ -3,7 +3,8 @@
 ghost use Rattle.std.specs.Prelude.{◌≡◌, ◌<◌, ◌≤◌, cond, length, set, IfOk};
 ghost use Rattle.lookup_table.specs.First.{rows_of};
 ghost use Rattle.lookup_table.specs.Numbers.{AreNumbersOf};
-ghost use Rattle.track_reply.specs.Tags.{has_set, node_field, node_text, way_field, way_text};
+ghost use Rattle.lookup_table.specs.Numbers.{has_set};
+ghost use Rattle.track_reply.specs.Tags.{node_field, node_text, way_field, way_text};
 
 use lookup_table::{Part, Table, Tags};
 use overpass_graph::Map;

@@ -5,7 +5,7 @@ use Rattle.std.proofs.lemmas.List.{get_or_push, get_or_append_left}
 use Rattle.context_check.specs.Checked.{Subject}
 use Rattle.item_list.specs.Answer.{answer_map}
 use Rattle.lookup_table.specs.First.{TagTable, rows_of}
-use Rattle.lookup_table.specs.Numbers.{tag_numbers}
+use Rattle.lookup_table.specs.Numbers.{tag_numbers, some_set}
 use Rattle.lookup_table.specs.Tag.{TagRow}
 use Rattle.lookup_table.specs.declared.part.Part.TheVariants.{Way, Node}
 use Rattle.map_tables.specs.Kept.{Extends, Tag}
@@ -15,7 +15,7 @@ use Rattle.way_class.specs.Answers.{way_answer, node_answer}
 use Rattle.way_class.specs.Bound.{IsFree}
 use Rattle.way_class.specs.Charges.{charge_result, charged, is_charged}
 use Rattle.way_class.specs.Classes.{IsNumberOf, Keeps, number_in}
-use Rattle.way_class.specs.Numbers.{routed_numbers, some_set}
+use Rattle.way_class.specs.Numbers.{routed_numbers}
 use Rattle.way_class.specs.Parts.{IsKeyClass, IsWayClass, IsKeyCharge, IsNodeClass, key_refusal, charge_refusal}
 use Rattle.way_class.specs.Refusals.{refused_by, way_refused, node_refused, way_refusal, node_refusal, first_below}
 use Rattle.way_class.specs.Sides.{sided, side_result}

@@ -83,12 +83,14 @@ facts-bounded arrow rise side charge arrow_is rise_is bounded charge_is = record
 -- so do the facts of a row
 row-bounded : (ways : List WayClass) (nodes : List NodeClass) (row : Row) → AreFacts (facts_in ways nodes row)
 row-bounded ways nodes row =
-    facts-bounded (arrow_in row) row.rise (side_by (slice_get ways row.way) row.back) _ row.arrow_is row.rise_is
+    facts-bounded (arrow_in row) row.rise (side_by (slice_get ways row.way) row.back) _ row.arrow_is
+    row.rise_is
     (by-bounded (slice_get ways row.way) row.back)
     (charge-cost (slice_get nodes row.node) (side_by (slice_get ways row.way) row.back).granted)
 
 -- so do those of each row that is there
-rows-bounded : (ways : List WayClass) (nodes : List NodeClass) (rows : List Row) (link : ℕ) → link < length rows →
+rows-bounded : (ways : List WayClass) (nodes : List NodeClass) (rows : List Row) (link : ℕ) →
+    link < length rows →
     AreFacts (facts_if ways nodes (slice_get rows link))
 rows-bounded ways nodes [] link below = absurd (omega arith)
 rows-bounded ways nodes (row ∷ rows) zero below = row-bounded ways nodes row

@@ -1,5 +1,6 @@
--- The tag numbers that a way and a node are evaluated on (this project's own rule: the router sets the first number).
-use Rattle.std.specs.Prelude.{ℕ, Bool, false, not, ◌||◌, ◌==◌, cond, List, [], ◌∷◌, set}
+-- The tag numbers that a way and a node are evaluated on (this project's own rule: the router sets the first
+-- number).
+use Rattle.std.specs.Prelude.{ℕ, Bool, cond, List, set}
 use Rattle.lookup_table.specs.Numbers.{tag_numbers}
 use Rattle.lookup_table.specs.Tag.{TagRow}
 use Rattle.map_tables.specs.Kept.{Tag}
@@ -11,13 +12,3 @@ first_number is_set = cond is_set 2 0
 -- the numbers of tags where the router has set the first of them, or has not, whatever the tags say
 abbrev pub routed_numbers : List TagRow → List Tag → Bool → List ℕ
 routed_numbers rows tags is_set = set (tag_numbers rows tags) 0 (first_number is_set)
-
--- one of these numbers isn't 0
-abbrev pub some_set : List ℕ → Bool
-some_set [] = false
-some_set (n ∷ ns) = not (n == 0) || some_set ns
-
--- a number after the first isn't 0
-abbrev pub has_set : List ℕ → Bool
-has_set [] = false
-has_set (n ∷ ns) = some_set ns

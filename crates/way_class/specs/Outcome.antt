@@ -21,12 +21,14 @@ pub record IsLinked (binding : Binding) (globals : List ℤ) (bound : Bound) : T
   pub free : links_refusal binding.subject binding.map ≡ None
   pub globals_are : bound.globals ≡ globals
   pub count : (links_of bound).count ≡ length binding.map.links
-  pub facts : (link : ℕ) → link < length binding.map.links → (links_of bound).facts link ≡ facts_of binding link
+  pub facts : (link : ℕ) → link < length binding.map.links →
+      (links_of bound).facts link ≡ facts_of binding link
 
--- nothing refuses, and the profile is bound: it has the values of its global section, and the facts of each link are
--- the defined ones
+-- nothing refuses, and the profile is bound: it has the values of its global section, and the facts of each
+-- link are the defined ones
 pub record IsBoundTo (binding : Binding) (bound : Bound) : Type 0 where
   pub free : first_refusal binding.subject binding.map ≡ None
   pub globals_are : global_answer binding.subject ≡ Ok bound.globals
   pub count : (links_of bound).count ≡ length binding.map.links
-  pub facts : (link : ℕ) → link < length binding.map.links → (links_of bound).facts link ≡ facts_of binding link
+  pub facts : (link : ℕ) → link < length binding.map.links →
+      (links_of bound).facts link ≡ facts_of binding link

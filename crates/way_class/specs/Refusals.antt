@@ -1,4 +1,5 @@
--- Why a profile can't be bound to a map: the first fault or negative value (this project's own rule for the order).
+-- Why a profile can't be bound to a map: the first fault or negative value (this project's own rule for the
+-- order).
 use Rattle.std.specs.Prelude.{ℕ, zero, suc, ℤ, Bool, true, false, length, Option, Some, None, Result, Ok, Err}
 use Rattle.context_check.specs.Checked.{Subject}
 use Rattle.overpass_graph.specs.Maps.{MapValue, node_at, way_at}
@@ -59,7 +60,8 @@ abbrev pub first_below : (ℕ → Option BindError) → ℕ → Option BindError
 first_below refusal zero = None
 first_below refusal (suc n) = or_else (first_below refusal n) (refusal n)
 
--- the first refusal of a profile on a map: the global section, the ways in the order of the file, the nodes by id
+-- the first refusal of a profile on a map: the global section, the ways in the order of the file, the nodes
+-- by id
 unfoldable pub first_refusal : Subject → MapValue → Option BindError
 first_refusal subject map =
     or_else (global_refused (global_answer subject))

@@ -69,7 +69,8 @@ sided (Err fault) = Err (Faulted fault)
 
 -- what a way with these tags comes to, forward or backward
 abbrev pub side_result : Subject → List Tag → Bool → Result Side WayFault
-side_result subject tags back = sided (way_answer subject (routed_numbers (rows_of subject.table Way) tags back))
+side_result subject tags back =
+    sided (way_answer subject (routed_numbers (rows_of subject.table Way) tags back))
 
 -- nothing costs anything
 abbrev pub no_side : Side

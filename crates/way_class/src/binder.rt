@@ -23,9 +23,9 @@ use overpass_graph::Map;
 use profile_code::{Code, Scratch, run_global};
 use std::alloc::Global;
 
-/// The facts of all links of a map by a profile, of which this is the code and this the table, and by the heights of
-/// these tiles; or the first refusal. Each distinct vector of tag numbers is evaluated once a direction, or once plain
-/// and once granted.
+/// The facts of all links of a map by a profile, of which this is the code and this the table, and
+/// by the heights of these tiles; or the first refusal. Each distinct vector of tag numbers is
+/// evaluated once a direction, or once plain and once granted.
 pub fn bind(
     alloc: Global,
     code: &Code,

@@ -16,10 +16,10 @@ pub enum WayName {
     Downhillcostfactor,
 }
 
-/// The first fault of arithmetic or negative value: of the global section; of the ways in the order of the
-/// file, forward
-/// before backward; of the nodes that have a tag number set, by id, plain before granted. A `variable` is the place of
-/// an assignment in its section, from 0.
+/// The first fault of arithmetic or negative value: of the global section; of the ways in the order
+/// of the file, forward
+/// before backward; of the nodes that have a tag number set, by id, plain before granted. A
+/// `variable` is the place of an assignment in its section, from 0.
 #[derive(Clone, Copy)]
 pub enum BindError {
     Global {

@@ -1,4 +1,5 @@
-//! The facts of a map's links by a profile, worked out once for each distinct vector of tag numbers.
+//! The facts of a map's links by a profile, worked out once for each distinct vector of tag
+//! numbers.
 #![tactic(auto)]
 
 mod binder;

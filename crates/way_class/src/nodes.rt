@@ -26,7 +26,8 @@ use overpass_graph::Map;
 use profile_code::{Code, Scratch};
 use std::alloc::{AllocError, Global};
 
-/// The classes of nodes, and the number of the class of each node: the first class is that of nodes that cost nothing.
+/// The classes of nodes, and the number of the class of each node: the first class is that of nodes
+/// that cost nothing.
 #[derive(Drop)]
 pub(crate) struct Nodes {
     pub(crate) kept: Classes<NodeClass>,
@@ -45,7 +46,8 @@ pub(crate) fn bind_nodes(
     requires fits { HasTags code.now table.now }
     ensures exact { (subject : Subject) → Suits code.now table.now subject → MatchResult result
         (AreNodesBound subject map.now (length map.now.nodes))
-        (λ e. (e ≡ NoMemory) ⊎ (first_below (node_refusal subject map.now) (length map.now.nodes) ≡ Some e)) }
+        (λ e. (e ≡ NoMemory) ⊎ (first_below (node_refusal subject map.now) (length map.now.nodes) ≡
+        Some e)) }
     ensures kept { HoldsGlobals code.now scratch.new }
 {
     let mut nodes = no_nodes(alloc)?;
@@ -59,7 +61,8 @@ pub(crate) fn bind_nodes(
 
 /// No nodes, and the class of those that cost nothing.
 fn no_nodes(alloc: Global) -> Result<Nodes, AllocError>
-    ensures empty { (subject : Subject) (map : MapValue) → IfOk result (AreNodesBound subject map 0) }
+    ensures empty { (subject : Subject) (map : MapValue) →
+        IfOk result (AreNodesBound subject map 0) }
 {
     let mut nodes = Nodes {
         kept: Classes::new(alloc),
@@ -113,7 +116,8 @@ fn node_number(
         MatchResult result
         (IsNumberOf (IsNodeClass subject (node_at map.now.nodes node).tags) kept.new.items.items)
         (λ e. (e ≡ NoMemory) ⊎ (node_refusal subject map.now node ≡ Some e)) }
-    ensures keeps { (subject : Subject) → IsCodeOf subject code.now → Keeps (IsKeyCharge subject) kept.old →
+    ensures keeps { (subject : Subject) → IsCodeOf subject code.now →
+        Keeps (IsKeyCharge subject) kept.old →
         OnOk result (Keeps (IsKeyCharge subject) kept.new) }
     ensures grows { OnOk result (Extends kept.old.items.items kept.new.items.items) }
     ensures held { HoldsGlobals code.now scratch.new }
@@ -141,10 +145,12 @@ fn class_number(
 ) -> Result<u32, BindError>
     requires held { HoldsGlobals code.now scratch.old }
     requires fits { length key.items ≡ tags_of code.now Part.Node }
-    ensures exact { (subject : Subject) → IsCodeOf subject code.now → Keeps (IsKeyCharge subject) kept.old →
+    ensures exact { (subject : Subject) → IsCodeOf subject code.now →
+        Keeps (IsKeyCharge subject) kept.old →
         MatchResult result (IsNumberOf (IsKeyCharge subject key.items) kept.new.items.items)
         (λ e. (e ≡ NoMemory) ⊎ (charge_refusal subject id key.items ≡ Some e)) }
-    ensures keeps { (subject : Subject) → IsCodeOf subject code.now → Keeps (IsKeyCharge subject) kept.old →
+    ensures keeps { (subject : Subject) → IsCodeOf subject code.now →
+        Keeps (IsKeyCharge subject) kept.old →
         OnOk result (Keeps (IsKeyCharge subject) kept.new) }
     ensures grows { OnOk result (Extends kept.old.items.items kept.new.items.items) }
     ensures held { HoldsGlobals code.now scratch.new }

@@ -1,7 +1,7 @@
 //! The first tag number, which the router sets, and whether another is set.
 
 ghost use Rattle.std.specs.Prelude.{◌≡◌, set};
-ghost use Rattle.way_class.specs.Numbers.{has_set};
+ghost use Rattle.lookup_table.specs.Numbers.{has_set};
 
 /// Sets the first number, where there is one.
 pub(crate) fn set_first(numbers: &mut Vec<u16>, number: u16)

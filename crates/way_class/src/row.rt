@@ -3,7 +3,8 @@
 ghost use Rattle.std.specs.Prelude.{◌≤◌, unsigned_abs};
 ghost use Rattle.geo_int.specs.Arrow.{IsArrow};
 
-/// A link, in 32 bytes: its rise, its arrow, the classes of its way and of its end, and its direction.
+/// A link, in 32 bytes: its rise, its arrow, the classes of its way and of its end, and its
+/// direction.
 #[derive(Clone, Copy, Drop)]
 pub(crate) struct Row {
     pub(crate) rise: i64,

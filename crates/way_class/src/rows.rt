@@ -1,6 +1,6 @@
 //! The rows of a map's links.
 
-ghost use Rattle.std.specs.Prelude.{◌≡◌, ◌<◌, ◌≤◌, length, get_or, slice_get, unsigned_abs, IfOk, Some};
+ghost use Rattle.std.specs.Prelude.{◌≡◌, ◌<◌, ◌≤◌, length, get_or, unsigned_abs, IfOk, Some};
 ghost use Rattle.geo_int.specs.Arrow.{IsArrow, arrow_between};
 ghost use Rattle.geo_int.specs.Spot.{place_of};
 ghost use Rattle.overpass_graph.specs.Maps.{IsMap};
@@ -13,7 +13,8 @@ use geo_int::{Arrow, Spot, arrow};
 use overpass_graph::Map;
 use std::alloc::{AllocError, Global};
 
-/// The rows of all links, by the numbers of the classes of ways and nodes and by the heights of nodes.
+/// The rows of all links, by the numbers of the classes of ways and nodes and by the heights of
+/// nodes.
 pub(crate) fn link_rows(
     alloc: Global,
     map: &Map,
@@ -21,7 +22,8 @@ pub(crate) fn link_rows(
     nodes: &[u32],
     heights: &[Height],
 ) -> Result<Vec<Row>, AllocError>
-    ensures exact { let columns : Columns = record { ways = ways.now; nodes = nodes.now; heights = heights.now } in
+    ensures exact { let columns : Columns =
+        record { ways = ways.now; nodes = nodes.now; heights = heights.now } in
         IfOk result (λ rows. AreRows map.now columns (length map.now.links) rows.items) }
     ensures lawful { IsMap map.now }
 {
@@ -36,7 +38,8 @@ pub(crate) fn link_rows(
 fn link_row(map: &Map, ways: &[u32], nodes: &[u32], heights: &[Height], link: u32) -> Row
     requires in_range { link < length map.now.links }
     requires lawful { IsMap map.now }
-    ensures exact { let columns : Columns = record { ways = ways.now; nodes = nodes.now; heights = heights.now } in
+    ensures exact { let columns : Columns =
+        record { ways = ways.now; nodes = nodes.now; heights = heights.now } in
         IsRowOf map.now columns link result }
 {
     let found = map.link(link);

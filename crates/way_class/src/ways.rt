@@ -45,7 +45,8 @@ pub(crate) fn bind_ways(
     requires fits { HasTags code.now table.now }
     ensures exact { (subject : Subject) → Suits code.now table.now subject → MatchResult result
         (AreWaysBound subject map.now (length map.now.ways))
-        (λ e. (e ≡ NoMemory) ⊎ (first_below (way_refusal subject map.now) (length map.now.ways) ≡ Some e)) }
+        (λ e. (e ≡ NoMemory) ⊎ (first_below (way_refusal subject map.now) (length map.now.ways) ≡
+        Some e)) }
     ensures kept { HoldsGlobals code.now scratch.new }
 {
     let mut ways = Ways {
@@ -73,7 +74,8 @@ fn add_way(
     requires held { HoldsGlobals code.now scratch.old }
     requires fits { HasTags code.now table.now }
     requires in_range { way < length map.now.ways }
-    ensures exact { (subject : Subject) → Suits code.now table.now subject → AreWaysBound subject map.now way ways.old →
+    ensures exact { (subject : Subject) → Suits code.now table.now subject →
+        AreWaysBound subject map.now way ways.old →
         MatchResult result (λ _. AreWaysBound subject map.now (way + 1) ways.new)
         (λ e. (e ≡ NoMemory) ⊎ (way_refusal subject map.now way ≡ Some e)) }
     ensures kept { HoldsGlobals code.now scratch.new }
@@ -96,10 +98,12 @@ fn way_number(
     requires held { HoldsGlobals code.now scratch.old }
     requires fits { HasTags code.now table.now }
     requires in_range { way < length map.now.ways }
-    ensures exact { (subject : Subject) → Suits code.now table.now subject → Keeps (IsKeyClass subject) kept.old →
+    ensures exact { (subject : Subject) → Suits code.now table.now subject →
+        Keeps (IsKeyClass subject) kept.old →
         MatchResult result (IsNumberOf (IsWayClass subject (way_at map.now.ways way).tags) kept.new.items.items)
         (λ e. (e ≡ NoMemory) ⊎ (way_refusal subject map.now way ≡ Some e)) }
-    ensures keeps { (subject : Subject) → IsCodeOf subject code.now → Keeps (IsKeyClass subject) kept.old →
+    ensures keeps { (subject : Subject) → IsCodeOf subject code.now →
+        Keeps (IsKeyClass subject) kept.old →
         OnOk result (Keeps (IsKeyClass subject) kept.new) }
     ensures grows { OnOk result (Extends kept.old.items.items kept.new.items.items) }
     ensures held { HoldsGlobals code.now scratch.new }
@@ -120,10 +124,12 @@ fn class_number(
 ) -> Result<u32, BindError>
     requires held { HoldsGlobals code.now scratch.old }
     requires fits { length key.items ≡ tags_of code.now Part.Way }
-    ensures exact { (subject : Subject) → IsCodeOf subject code.now → Keeps (IsKeyClass subject) kept.old →
+    ensures exact { (subject : Subject) → IsCodeOf subject code.now →
+        Keeps (IsKeyClass subject) kept.old →
         MatchResult result (IsNumberOf (IsKeyClass subject key.items) kept.new.items.items)
         (λ e. (e ≡ NoMemory) ⊎ (key_refusal subject id key.items ≡ Some e)) }
-    ensures keeps { (subject : Subject) → IsCodeOf subject code.now → Keeps (IsKeyClass subject) kept.old →
+    ensures keeps { (subject : Subject) → IsCodeOf subject code.now →
+        Keeps (IsKeyClass subject) kept.old →
         OnOk result (Keeps (IsKeyClass subject) kept.new) }
     ensures grows { OnOk result (Extends kept.old.items.items kept.new.items.items) }
     ensures held { HoldsGlobals code.now scratch.new }

@@ -6,8 +6,8 @@ use nogo_areas::{Circle, cut};
 use overpass_graph::Map;
 use std::alloc::{AllocError, Global};
 
-/// The circle of the words from a place on: the longitude and the latitude of its centre in microdegrees, and its radius
-/// in millimetres. None where they are none.
+/// The circle of the words from a place on: the longitude and the latitude of its centre in
+/// microdegrees, and its radius in millimetres. None where they are none.
 fn circle(case: &Case, place: usize) -> Option<Circle> {
     let centre = Spot::new(case.signed(place), case.signed(place.checked_add(1)?))?;
     let radius = case.count(place.checked_add(2)?);

@@ -121,8 +121,8 @@ fn tell_piece(
     }
 }
 
-/// Feeds a piece to a builder that was fed at most so many bytes, and tells what is answered; beyond 2^60 bytes it takes
-/// none.
+/// Feeds a piece to a builder that was fed at most so many bytes, and tells what is answered;
+/// beyond 2^60 bytes it takes none.
 fn feed_told(
     alloc: Global,
     builder: &mut MapBuilder,

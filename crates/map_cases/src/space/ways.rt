@@ -14,7 +14,8 @@ use std::alloc::{AllocError, Global};
 /// The first word of the factors of ways, of which each has four.
 const FACTORS: usize = 17;
 
-/// The facts of the first links of a map, up to one for which the words give none that the calls take.
+/// The facts of the first links of a map, up to one for which the words give none that the calls
+/// take.
 pub(crate) fn given_by_ways(alloc: Global, case: &Case, map: &Map) -> Result<Given, AllocError> {
     let mut given = Given::new(alloc);
     'links: for link in 0..map.links() {

@@ -1,4 +1,5 @@
-//! A walk of least rank by a search whose space is put to rest after each turn, and woken for the next.
+//! A walk of least rank by a search whose space is put to rest after each turn, and woken for the
+//! next.
 
 ghost use Rattle.std.specs.Prelude.{◌≡◌, ◌<◌, ◌^◌};
 ghost use Rattle.bike_space.specs.Kept.{task_of};
@@ -31,8 +32,8 @@ fn found<F: FactsOf>(
     Ok(Walked::Found { walk, rank })
 }
 
-/// What a search over this space answers, which stands on the map, the facts and the rates, in turns
-/// of one label.
+/// What a search over this space answers, which stands on the map, the facts and the rates, in
+/// turns of one label.
 pub(crate) fn least_walk_woken<'a, F: FactsOf>(
     alloc: Global,
     space: BikeSpace<'a, F>,

@@ -26,8 +26,9 @@ pub(crate) fn given_by_words(alloc: Global, map: &Map, words: &str) -> Result<Gi
     Ok(given)
 }
 
-/// The facts of a link by the numbers of a word: costfactor, turncost, initialcost, classifier, charge, rise, and the
-/// factors for climbing and descending, which are costfactor where they don't stand there.
+/// The facts of a link by the numbers of a word: costfactor, turncost, initialcost, classifier,
+/// charge, rise, and the factors for climbing and descending, which are costfactor where they don't
+/// stand there.
 fn facts_of_word(map: &Map, link: u32, word: &str) -> Option<LinkFacts>
     requires in_range { link < length map.now.links }
     ensures found { IfSome result (λ facts. AreFacts facts) }
@@ -67,7 +68,8 @@ fn cost(word: &str, place: usize, otherwise: i64) -> i64
     number(word, place, otherwise).clamp(0, MOST)
 }
 
-/// The number at a place of a word, whose numbers are parted by commas; another one where none stands there.
+/// The number at a place of a word, whose numbers are parted by commas; another one where none
+/// stands there.
 pub(crate) fn number(word: &str, place: usize, otherwise: i64) -> i64 {
     match word.split(',').nth(place) {
         Some(text) => text.parse::<i64>().unwrap_or(otherwise),

@@ -1,5 +1,5 @@
 //! Tags.
-ghost use Rattle.std.specs.Prelude.{ℕ, ◌≡◌, List, [], ◌∷◌, ◌++◌, not, IfOk, OnOk, OnErr};
+ghost use Rattle.std.specs.Prelude.{ℕ, ◌≡◌, List, [], ◌∷◌, ◌++◌, not, IfOk, OnOk};
 ghost use Rattle.map_elements.specs.Fields.{is_among, tags_from, tags_in};
 ghost use Rattle.map_elements.specs.Names.{Holds, has_tag};
 
@@ -10,7 +10,8 @@ use item_list::{Items, Tags};
 use std::alloc::{AllocError, Global};
 use std::collections::HashSet;
 
-/// The names of an object of so many steps are compared with each other; those of a larger one are kept in a set.
+/// The names of an object of so many steps are compared with each other; those of a larger one are
+/// kept in a set.
 const FEW_STEPS: usize = 66;
 
 impl<'a> Part<'a> {

@@ -1,5 +1,5 @@
 //! The entries of an object or array, cut off one by one.
-ghost use Rattle.std.specs.Prelude.{ℕ, zero, ◌≡◌, List, [], ◌∷◌, None, MatchOption, option_map, option_to_list};
+ghost use Rattle.std.specs.Prelude.{zero, ◌≡◌, List, [], ◌∷◌, None, MatchOption, option_map, option_to_list};
 ghost use Rattle.map_elements.specs.Entries.{begun_entry, entries_from, is_named, member};
 ghost use Rattle.map_elements.specs.Cut.{IsNoKey};
 

@@ -14,14 +14,14 @@ use case_rows::Case;
 use context_check::Overrides;
 use cost_model::{FactsOf, Rates};
 use item_list::{append_bytes, append_signed};
-use kept_profiles::KeptProfiles;
 use profile_text::Profile;
 use route_ready::{Ready, World, line, prepare};
+use session_answers::KeptProfiles;
 use std::alloc::{AllocError, Global};
 use way_class::Bound;
 
-/// The answer to a case: its words are the call, a tag table, a profile, a map, waypoints where the call takes some, and
-/// overrides.
+/// The answer to a case: its words are the call, a tag table, a profile, a map, waypoints where the
+/// call takes some, and overrides.
 pub(crate) fn answer(alloc: Global, case: &Case) -> Result<Vec<u8>, AllocError> {
     match world_of(alloc, case.word(1), case.word(3), b"none") {
         Some(world) => in_world(alloc, case, &world),
@@ -59,8 +59,8 @@ fn by_profile(
     }
 }
 
-/// The terms of a profile that is made ready without overrides, then under these, and then under these once more, by way of what is kept; or
-/// the line of its refusal.
+/// The terms of a profile that is made ready without overrides, then under these, and then under
+/// these once more, by way of what is kept; or the line of its refusal.
 fn kept_told(
     alloc: Global,
     world: &World,

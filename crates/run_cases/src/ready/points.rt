@@ -1,8 +1,8 @@
 //! Where waypoints are moved.
 
 ghost use Rattle.std.specs.Prelude.{◌≡◌, ◌<◌, ◌^◌, IfSome, length};
-ghost use Rattle.run_cases.specs.Numbers.{AreBelow};
 ghost use Rattle.route_ready.specs.World.{world_of};
+ghost use Rattle.run_cases.specs.Numbers.{AreBelow};
 ghost use Rattle.way_class.specs.Links.{links_of};
 
 use crate::ready::inputs::{spot_of, spots_of};
@@ -12,10 +12,10 @@ use cost_model::Passages;
 use geo_int::Spot;
 use item_list::{append_bytes, append_signed};
 use overpass_graph::Map;
+use route_engine::waypoint_nodes;
 use route_ready::{World, line};
 use std::alloc::{AllocError, Global};
 use way_class::Bound;
-use waypoint_nodes::waypoint_nodes;
 
 /// The ids of the nodes to which the waypoints of a case are moved, or the line of the refusal.
 pub(crate) fn nodes_told(

@@ -18,8 +18,8 @@ use track_legs::Track;
 use track_reply::{Shown, csv, geojson};
 use way_class::{Bound, bind};
 
-/// The answer to a case: its words are the call, a tag table, a profile, a map, a tile, the profile's name, the number of the
-/// alternative, nodes, legs and earlier alternatives.
+/// The answer to a case: its words are the call, a tag table, a profile, a map, a tile, the
+/// profile's name, the number of the alternative, nodes, legs and earlier alternatives.
 pub(crate) fn answer(alloc: Global, case: &Case) -> Result<Vec<u8>, AllocError> {
     match table_of(alloc, case.word(1)) {
         Some(table) => by_table(alloc, case, &table),

@@ -33,7 +33,8 @@ pub(crate) fn is_showable<F: FactsOf>(shown: &Shown<F>, track: &Track) -> bool
 fn are_within(map: &Map, track: &Track) -> bool
     ensures nodes { IsTrue result →
         (k : ℕ) → k < length track.now.nodes → node_at track.now k < length map.now.nodes }
-    ensures earlier { IsTrue result → AreAlternativesBelow (length map.now.links) track.now.earlier }
+    ensures earlier { IsTrue result →
+        AreAlternativesBelow (length map.now.links) track.now.earlier }
 {
     are_nodes(map, track.nodes.as_slice()) && are_alternatives(map, track.earlier.as_slice())
 }

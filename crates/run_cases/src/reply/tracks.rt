@@ -26,7 +26,8 @@ fn sum(word: &str) -> u128 {
     word.parse::<u128>().unwrap_or(u128::MAX)
 }
 
-/// The leg of a word: its links, and behind `=` its cost and behind another its rank, or its cost again.
+/// The leg of a word: its links, and behind `=` its cost and behind another its rank, or its cost
+/// again.
 fn leg(alloc: Global, word: &str) -> Result<Leg, AllocError> {
     let (links, sums) = word.split_once('=').unwrap_or((word, ""));
     let (cost, rank) = sums.split_once('=').unwrap_or((sums, sums));

@@ -18,8 +18,8 @@ use route_ready::{World, line};
 use std::alloc::{AllocError, Global};
 use track_legs::Track;
 
-/// The answer to a case: its words are the call, the quota where the call has one, a tag table, a profile, a map, a query and a
-/// tile.
+/// The answer to a case: its words are the call, the quota where the call has one, a tag table, a
+/// profile, a map, a query and a tile.
 pub(crate) fn answer(alloc: Global, case: &Case) -> Result<Vec<u8>, AllocError> {
     match world_of(alloc, word(case, 1), word(case, 3), word(case, 5)) {
         Some(world) => in_world(alloc, case, &world),

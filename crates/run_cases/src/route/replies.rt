@@ -1,8 +1,8 @@
 //! Replies to requests, made in turns.
 
 ghost use Rattle.std.specs.Prelude.{◌≡◌, ◌≤◌, length};
-ghost use Rattle.request_reply.specs.Pending.{IsPending};
 ghost use Rattle.route_engine.specs.Jobs.{IsWithin};
+ghost use Rattle.route_engine.specs.Pending.{IsPending};
 ghost use Rattle.route_http.specs.Seen.{asked};
 ghost use Rattle.route_ready.specs.World.{world_of};
 ghost use Rattle.way_class.specs.Links.{links_of};
@@ -12,13 +12,14 @@ use crate::route::turns::MOST_TURNS;
 use crate::told::outside;
 use case_rows::Case;
 use item_list::{append_bytes, append_number};
-use request_reply::{Pending, PendingTurn};
+use route_engine::{Pending, PendingTurn};
 use route_http::Request;
 use route_ready::{Ready, World, line};
 use std::alloc::{AllocError, Global};
 use std::rc::Rc;
 
-/// How long the reply to a request is that is answered in turns, or the line of a waypoint without a node.
+/// How long the reply to a request is that is answered in turns, or the line of a waypoint without
+/// a node.
 pub(crate) fn in_replies(
     alloc: Global,
     case: &Case,

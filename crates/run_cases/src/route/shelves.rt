@@ -4,10 +4,11 @@ use case_inputs::profile_of;
 use case_rows::Case;
 use item_list::{Items, append_bytes, append_named, append_number, bytes_of};
 use profile_text::Profile;
-use route_engine::Shelf;
+use route_ready::Shelf;
 use std::alloc::{AllocError, Global};
 
-/// The answer to a case: the place of the name asked for among the names that are stored, and what is stored there.
+/// The answer to a case: the place of the name asked for among the names that are stored, and what
+/// is stored there.
 pub(crate) fn answer(alloc: Global, case: &Case) -> Result<Vec<u8>, AllocError> {
     let mut shelf = Shelf::new(alloc);
     for name in case.text(1).split(',') {
@@ -16,7 +17,8 @@ pub(crate) fn answer(alloc: Global, case: &Case) -> Result<Vec<u8>, AllocError> 
     shown(alloc, &shelf, case.word(2))
 }
 
-/// Stores a profile under a name, where it isn't there, with one assignment more than there are profiles.
+/// Stores a profile under a name, where it isn't there, with one assignment more than there are
+/// profiles.
 fn store(alloc: Global, shelf: &mut Shelf, name: &[u8]) -> Result<(), AllocError> {
     let text = text_of(alloc, shelf.len())?;
     match profile_of(alloc, text.as_slice()) {

@@ -4,11 +4,11 @@ use crate::run::ended::append_in_brackets;
 use crate::run::world::World;
 use case_rows::Case;
 use item_list::{append_bytes, append_named, append_number};
-use run_stages::Status;
+use run_files::Status;
 use std::alloc::{AllocError, Global};
 
-/// Appends what the top call comes to on the words of a case from a place on: number and line of the status, the output, and how
-/// often files were opened.
+/// Appends what the top call comes to on the words of a case from a place on: number and line of
+/// the status, the output, and how often files were opened.
 pub(crate) fn append_run(
     told: &mut Vec<u8>,
     world: &World,
@@ -19,8 +19,8 @@ pub(crate) fn append_run(
     ended.append_all(told)
 }
 
-/// Appends what the top call comes to where only what a reply costs is compared: number and line of the status, and the cost
-/// and the rank that the output tells.
+/// Appends what the top call comes to where only what a reply costs is compared: number and line of
+/// the status, and the cost and the rank that the output tells.
 pub(crate) fn append_cost(
     told: &mut Vec<u8>,
     world: &World,
@@ -48,7 +48,8 @@ pub(crate) fn append_sums(told: &mut Vec<u8>, reply: &[u8]) -> Result<(), AllocE
     append_bytes(told, between(reply, rank, end).as_bytes())
 }
 
-/// What stands between the first of one mark and the next of another; nothing where they aren't there.
+/// What stands between the first of one mark and the next of another; nothing where they aren't
+/// there.
 fn between<'a>(text: &'a str, mark: &str, end: &str) -> &'a str {
     let Some((_, rest)) = text.split_once(mark) else {
         return "";
@@ -59,8 +60,8 @@ fn between<'a>(text: &'a str, mark: &str, end: &str) -> &'a str {
     }
 }
 
-/// Appends what the top call comes to where it writes much: number and line of the status, how many bytes are written, their
-/// first four and their sum.
+/// Appends what the top call comes to where it writes much: number and line of the status, how many
+/// bytes are written, their first four and their sum.
 pub(crate) fn append_size(
     told: &mut Vec<u8>,
     world: &World,
@@ -97,7 +98,8 @@ fn sum_of(bytes: &[u8]) -> u64 {
     sum
 }
 
-/// Appends what a command line comes to: the exit status, what is told beside the output, and the output.
+/// Appends what a command line comes to: the exit status, what is told beside the output, and the
+/// output.
 pub(crate) fn append_edge(
     told: &mut Vec<u8>,
     world: &World,

@@ -2,10 +2,11 @@
 
 use crate::run::outside::Outside;
 use item_list::{append_bytes, append_named, append_number, bytes_of};
-use run_stages::Status;
+use run_files::Status;
 use std::alloc::{AllocError, Global};
 
-/// How the top call ended: number and line of the status, what was written, and how often files were opened.
+/// How the top call ended: number and line of the status, what was written, and how often files
+/// were opened.
 pub(crate) struct Ended {
     number: u8,
     line: Vec<u8>,

@@ -59,8 +59,8 @@ impl Last {
     }
 }
 
-/// Appends what the top call comes to where call 0 of the files fails, then where call 1 does, and so on for so many calls: a
-/// line for each answer of `run`, and how often in turn it came.
+/// Appends what the top call comes to where call 0 of the files fails, then where call 1 does, and
+/// so on for so many calls: a line for each answer of `run`, and how often in turn it came.
 pub(crate) fn append_reads(
     told: &mut Vec<u8>,
     world: &mut World,
@@ -82,8 +82,8 @@ fn run_of(world: &World, case: &Case) -> Result<Vec<u8>, AllocError> {
     Ok(answer)
 }
 
-/// Appends what the top call comes to where call 0 of the hub fails, then where call 1 does, and so on for so many calls: a
-/// line for each answer, and how often in turn it came.
+/// Appends what the top call comes to where call 0 of the hub fails, then where call 1 does, and so
+/// on for so many calls: a line for each answer, and how often in turn it came.
 pub(crate) fn append_calls(
     told: &mut Vec<u8>,
     world: &mut World,
@@ -105,9 +105,9 @@ fn served_of(world: &World, case: &Case) -> Result<Vec<u8>, AllocError> {
     Ok(answer)
 }
 
-/// Appends what the top call comes to where call 0 of the output fails, then where call 1 does, and so on for so many calls: a
-/// line for each number and line of a status, with how many bytes were written each time, which have to be a front of what
-/// is written where no call fails.
+/// Appends what the top call comes to where call 0 of the output fails, then where call 1 does, and
+/// so on for so many calls: a line for each number and line of a status, with how many bytes were
+/// written each time, which have to be a front of what is written where no call fails.
 pub(crate) fn append_writes(
     told: &mut Vec<u8>,
     world: &mut World,

@@ -1,6 +1,6 @@
 //! What a command line runs over.
 
-use edge_io::{MemFiles, MemSink};
+use edge_memory::{MemFiles, MemSink};
 
 /// Files, the output, and what is told beside the output.
 pub(crate) struct Outside {

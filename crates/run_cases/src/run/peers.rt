@@ -4,7 +4,7 @@ use crate::run::answers::append_sums;
 use crate::run::ended::append_in_brackets;
 use crate::run::world::World;
 use case_rows::{Case, place_of};
-use edge_io::{MemHub, Script};
+use edge_memory::{MemHub, Script};
 use item_list::{Items, append_bytes, append_named, append_number, bytes_of};
 use std::alloc::{AllocError, Global};
 
@@ -126,7 +126,8 @@ fn add_requests(
     Ok(())
 }
 
-/// What is told of a connection: the bytes that were sent to it, how many, or the cost that they tell.
+/// What is told of a connection: the bytes that were sent to it, how many, or the cost that they
+/// tell.
 #[derive(Clone, Copy)]
 pub(crate) enum Told {
     Bytes,
@@ -134,8 +135,8 @@ pub(crate) enum Told {
     Cost,
 }
 
-/// Appends what the top call comes to over the hub: number and line of the status, what was written, and a line for each
-/// connection of the case's word before the words.
+/// Appends what the top call comes to over the hub: number and line of the status, what was
+/// written, and a line for each connection of the case's word before the words.
 pub(crate) fn append_served(
     told: &mut Vec<u8>,
     world: &World,

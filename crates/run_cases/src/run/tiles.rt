@@ -21,8 +21,8 @@ fn slope_row(alloc: Global) -> Result<Vec<u8>, AllocError> {
     Ok(bytes)
 }
 
-/// The bytes of a row of 1,201 heights that is flat up to column 480 and climbs by a metre a column from there; at one column
-/// the height isn't known.
+/// The bytes of a row of 1,201 heights that is flat up to column 480 and climbs by a metre a column
+/// from there; at one column the height isn't known.
 fn bank_row(alloc: Global, unknown: i16) -> Result<Vec<u8>, AllocError> {
     let mut bytes = Vec::new(alloc);
     for column in 0i16..1201 {
@@ -36,7 +36,8 @@ fn bank_row(alloc: Global, unknown: i16) -> Result<Vec<u8>, AllocError> {
     Ok(bytes)
 }
 
-/// The bytes of a tile of such rows, the northern one first; in the third row from the south a height isn't known.
+/// The bytes of a tile of such rows, the northern one first; in the third row from the south a
+/// height isn't known.
 fn bank(alloc: Global) -> Result<Vec<u8>, AllocError> {
     let row = bank_row(alloc, -1)?;
     let unknown = bank_row(alloc, 484)?;
@@ -47,7 +48,8 @@ fn bank(alloc: Global) -> Result<Vec<u8>, AllocError> {
     Ok(bytes)
 }
 
-/// The bytes of a tile of 1,201 rows that slopes up to the east by 20 metres a column, so 24 millimetres a microdegree.
+/// The bytes of a tile of 1,201 rows that slopes up to the east by 20 metres a column, so 24
+/// millimetres a microdegree.
 fn slope(alloc: Global) -> Result<Vec<u8>, AllocError> {
     let row = slope_row(alloc)?;
     rows(alloc, row.as_slice(), 1201)
@@ -63,8 +65,9 @@ fn longer(alloc: Global) -> Result<Vec<u8>, AllocError> {
 /// The words that name tiles.
 const TILES: [&str; 5] = ["slope", "bank", "flat", "largest", "longer"];
 
-/// The bytes of the tile that a word names: `slope`, `bank`, `flat`, which has the height 0 everywhere, `largest`, which is flat too
-/// and has 3,601 rows, or `longer`, which has one byte more; none for another word.
+/// The bytes of the tile that a word names: `slope`, `bank`, `flat`, which has the height 0
+/// everywhere, `largest`, which is flat too and has 3,601 rows, or `longer`, which has one byte
+/// more; none for another word.
 pub(crate) fn tile(alloc: Global, word: &[u8]) -> Result<Vec<u8>, AllocError> {
     match place_of(&TILES, word) {
         0 => slope(alloc),

@@ -1,4 +1,5 @@
-//! Files, an output and a hub in memory, how calls of them fail, and how command lines end over them.
+//! Files, an output and a hub in memory, how calls of them fail, and how command lines end over
+//! them.
 
 ghost use Rattle.std.specs.Prelude.{◌≤◌};
 
@@ -6,10 +7,10 @@ use crate::run::ended::Ended;
 use crate::run::outside::Outside;
 use crate::run::peers::{add_deed, copy_of};
 use case_rows::Case;
-use edge_io::{MemFiles, MemHub, MemSink, Script, can_play};
+use edge_memory::{MemFiles, MemHub, MemSink, Script, can_play};
 use item_list::{Items, Name, bytes_of};
 use route_run::{edge, run};
-use run_stages::Status;
+use run_files::Status;
 use std::alloc::{AllocError, Global};
 
 /// The number of a call that no row makes.
@@ -21,8 +22,9 @@ const HUB_ROOM: usize = 1_000_000;
 /// The most bytes that an output holds.
 const MOST_ROOM: usize = 3_000_000;
 
-/// The files, the most bytes of a read and the reading call that fails; the room of the output, the most bytes of a
-/// write and the writing call that fails; what peers do, the most bytes of a piece and the call of the hub that fails.
+/// The files, the most bytes of a read and the reading call that fails; the room of the output, the
+/// most bytes of a write and the writing call that fails; what peers do, the most bytes of a piece
+/// and the call of the hub that fails.
 pub(crate) struct World {
     files: Vec<(Vec<u8>, Vec<u8>)>,
     script: Vec<Script>,

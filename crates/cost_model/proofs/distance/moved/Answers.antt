@@ -7,29 +7,34 @@ use Rattle.cost_model.proofs.distance.moved.Goals as goal
 
 pub overflow_add-cost : goal.overflow_add-cost
 overflow_add-cost c =
-    let m = moved_fits c.args.facts.now.costfactor c.pull-descending.result c.pull-climbing.result c.requires.facts.costfactor c.pull-descending.ensures.within c.pull-climbing.ensures.within in
+    let m = moved_fits c.args.facts.now.costfactor c.pull-descending.result c.pull-climbing.result c.requires.facts.costfactor
+    c.pull-descending.ensures.within c.pull-climbing.ensures.within in
     simp (to_z-of_z, m.cost_narrow, m.cost_wide, m.millions, m.down_fits) m.one
 
 pub overflow_add-cost-2 : goal.overflow_add-cost-2
 overflow_add-cost-2 c =
-    let m = moved_fits c.args.facts.now.costfactor c.pull-descending.result c.pull-climbing.result c.requires.facts.costfactor c.pull-descending.ensures.within c.pull-climbing.ensures.within in
+    let m = moved_fits c.args.facts.now.costfactor c.pull-descending.result c.pull-climbing.result c.requires.facts.costfactor
+    c.pull-descending.ensures.within c.pull-climbing.ensures.within in
     simp (to_z-of_z, m.cost_narrow, m.cost_wide, m.millions, m.down_fits, m.up_fits, m.one) m.both
 
 -- what was divided is the quotient of the definition
 divided : (c : goal.After-div_euclid) → c.div_euclid.result ≡
     int_div_euclid (c.args.facts.now.costfactor *ℤ pos 1000000 +ℤ c.pull-descending.result +ℤ c.pull-climbing.result) (pos 1000000)
 divided c =
-    let m = moved_fits c.args.facts.now.costfactor c.pull-descending.result c.pull-climbing.result c.requires.facts.costfactor c.pull-descending.ensures.within c.pull-climbing.ensures.within in
+    let m = moved_fits c.args.facts.now.costfactor c.pull-descending.result c.pull-climbing.result c.requires.facts.costfactor
+    c.pull-descending.ensures.within c.pull-climbing.ensures.within in
     simp (to_z-of_z, m.cost_narrow, m.cost_wide, m.millions, m.down_fits, m.up_fits, m.one, m.both) at c.div_euclid.ensures
 
 pub overflow_cast-result : goal.overflow_cast-result
 overflow_cast-result c =
-    let m = moved_fits c.args.facts.now.costfactor c.pull-descending.result c.pull-climbing.result c.requires.facts.costfactor c.pull-descending.ensures.within c.pull-climbing.ensures.within in
+    let m = moved_fits c.args.facts.now.costfactor c.pull-descending.result c.pull-climbing.result c.requires.facts.costfactor
+    c.pull-descending.ensures.within c.pull-climbing.ensures.within in
     rw (divided c) (simp (to_z-of_z, m.wide) m.back)
 
 pub returns-clause-exact : goal.returns-clause-exact
 returns-clause-exact c =
-    let m = moved_fits c.args.facts.now.costfactor c.pull-descending.result c.pull-climbing.result c.requires.facts.costfactor c.pull-descending.ensures.within c.pull-climbing.ensures.within in
+    let m = moved_fits c.args.facts.now.costfactor c.pull-descending.result c.pull-climbing.result c.requires.facts.costfactor
+    c.pull-descending.ensures.within c.pull-climbing.ensures.within in
     let down = cost-fits _ c.requires.facts.downfactor in
     let up = cost-fits _ c.requires.facts.upfactor in
     let d : c.pull-descending.result ≡ (c.args.facts.now.downfactor -ℤ c.args.facts.now.costfactor) *ℤ c.args.down =
@@ -40,5 +45,6 @@ returns-clause-exact c =
 
 pub returns-clause-within : goal.returns-clause-within
 returns-clause-within c =
-    let m = moved_fits c.args.facts.now.costfactor c.pull-descending.result c.pull-climbing.result c.requires.facts.costfactor c.pull-descending.ensures.within c.pull-climbing.ensures.within in
+    let m = moved_fits c.args.facts.now.costfactor c.pull-descending.result c.pull-climbing.result c.requires.facts.costfactor
+    c.pull-descending.ensures.within c.pull-climbing.ensures.within in
     rw (divided c) (simp (to_z-of_z, m.wide, m.back) m.within)

@@ -15,10 +15,14 @@ returns-clause-exact c =
     let reduction = slope-narrow _ c.rates.invariant.reduction in
     let s : SFits w64 c.slope.result = record { sfits = c.slope.type_inv } in
     let r : SFits w64 c.slope-2.result = record { sfits = c.slope-2.type_inv } in
-    let a : SFits w64 (c.args.facts.now.rise -ℤ c.slope.result) = added_fits c.args.facts.now.rise c.slope.result c.requires.facts.rise c.slope.ensures.low c.slope.ensures.high in
-    let is_s : c.slope.result ≡ per_metre c.args.facts.now.arrow.len c.rates.inside.up_cutoff = simp (to_z-of_z, cutoff) at c.slope.ensures.exact in
-    let is_r : c.slope-2.result ≡ per_metre c.args.facts.now.arrow.len c.rates.inside.reduction = simp (to_z-of_z, reduction) at c.slope-2.ensures.exact in
-    subst (λ (p : Prices). c.step.result ≡ step_of p.limits (climb_of p c.args.facts.now).up_added (climb_of p c.args.facts.now).reduction c.args.up)
+    let a : SFits w64 (c.args.facts.now.rise -ℤ c.slope.result) =
+    added_fits c.args.facts.now.rise c.slope.result c.requires.facts.rise c.slope.ensures.low c.slope.ensures.high in
+    let is_s : c.slope.result ≡ per_metre c.args.facts.now.arrow.len c.rates.inside.up_cutoff =
+    simp (to_z-of_z, cutoff) at c.slope.ensures.exact in
+    let is_r : c.slope-2.result ≡ per_metre c.args.facts.now.arrow.len c.rates.inside.reduction =
+    simp (to_z-of_z, reduction) at c.slope-2.ensures.exact in
+    subst (λ (p : Prices). c.step.result ≡
+    step_of p.limits (climb_of p c.args.facts.now).up_added (climb_of p c.args.facts.now).reduction c.args.up)
     c.rates.view_is
     (rw (← is_s, ← is_r) (simp (to_z-of_z, rise, s, r, a, c.ranges.up) at c.step.ensures.exact))
 

@@ -16,10 +16,14 @@ returns-clause-exact c =
     let reduction = slope-narrow _ c.rates.invariant.reduction in
     let s : SFits w64 c.slope.result = record { sfits = c.slope.type_inv } in
     let r : SFits w64 c.slope-2.result = record { sfits = c.slope-2.type_inv } in
-    let a : SFits w64 ((pos 0 -ℤ c.args.facts.now.rise) -ℤ c.slope.result) = added_fits (pos 0 -ℤ c.args.facts.now.rise) c.slope.result sizes.2 c.slope.ensures.low c.slope.ensures.high in
-    let is_s : c.slope.result ≡ per_metre c.args.facts.now.arrow.len c.rates.inside.down_cutoff = simp (to_z-of_z, cutoff) at c.slope.ensures.exact in
-    let is_r : c.slope-2.result ≡ per_metre c.args.facts.now.arrow.len c.rates.inside.reduction = simp (to_z-of_z, reduction) at c.slope-2.ensures.exact in
-    subst (λ (p : Prices). c.step.result ≡ step_of p.limits (climb_of p c.args.facts.now).down_added (climb_of p c.args.facts.now).reduction c.args.down)
+    let a : SFits w64 ((pos 0 -ℤ c.args.facts.now.rise) -ℤ c.slope.result) =
+    added_fits (pos 0 -ℤ c.args.facts.now.rise) c.slope.result sizes.2 c.slope.ensures.low c.slope.ensures.high in
+    let is_s : c.slope.result ≡ per_metre c.args.facts.now.arrow.len c.rates.inside.down_cutoff =
+    simp (to_z-of_z, cutoff) at c.slope.ensures.exact in
+    let is_r : c.slope-2.result ≡ per_metre c.args.facts.now.arrow.len c.rates.inside.reduction =
+    simp (to_z-of_z, reduction) at c.slope-2.ensures.exact in
+    subst (λ (p : Prices). c.step.result ≡
+    step_of p.limits (climb_of p c.args.facts.now).down_added (climb_of p c.args.facts.now).reduction c.args.down)
     c.rates.view_is
     (rw (← is_s, ← is_r) (simp (to_z-of_z, rise, fall, s, r, a, c.ranges.down) at c.step.ensures.exact))
 

@@ -18,5 +18,6 @@ returns-clause-exact c =
     let ch = cost.high in
     let sum : SFits w128 (c.twice.result +ℤ charge) = fits_signed_from_abs w128 _ (omega (arith, ints)) in
     let made = simp (to_z-of_z, d) at c.twice.ensures.exact in
-    let e : c.twice.result ≡ counted c.args.used (least_distance c.args.facts.now) = made ∙ ap (counted c.args.used) c.distance.ensures.exact in
+    let e : c.twice.result ≡ counted c.args.used (least_distance c.args.facts.now) = made
+    ∙ ap (counted c.args.used) c.distance.ensures.exact in
     simp (to_z-of_z, t, cost-fits _ cost, cost-wide _ cost, sum) (least_price-is c.args.used c.args.facts.now c.twice.result e)

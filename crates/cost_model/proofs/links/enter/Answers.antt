@@ -22,7 +22,8 @@ parts-is c =
     e ∙ rw (c.turn.ensures.exact, c.initial.ensures.exact) refl
 
 -- so is what is carried
-carry-is : (c : goal.After-entered) → c.entered.result.0 ≡ carry_after c.args.rates.now c.args.link c.args.facts.now (pair_of c.args.carry.now)
+carry-is : (c : goal.After-entered) →
+    c.entered.result.0 ≡ carry_after c.args.rates.now c.args.link c.args.facts.now (pair_of c.args.carry.now)
 carry-is c =
     let held = c.requires.held in
     let down : SFits w64 c.args.carry.now.down = held-narrow c.args.rates.now _ c.entered.ensures.prices held.down_low held.down_high in
@@ -45,13 +46,17 @@ returns-clause-along c = λ f w is_last is carried.
     (rw before (parts-is c))
 
 pub returns-clause-held : goal.returns-clause-held
-returns-clause-held c = rw (carry-is c) (held-after c.args.rates.now c.args.link c.args.facts.now (pair_of c.args.carry.now) c.entered.ensures.prices c.requires.facts c.requires.held)
+returns-clause-held c = rw (carry-is c)
+    (held-after c.args.rates.now c.args.link c.args.facts.now (pair_of c.args.carry.now) c.entered.ensures.prices c.requires.facts
+    c.requires.held)
 
 -- what holds of the parts
-holds : (c : goal.After-entered) → PartsHold c.args.facts.now (parts_after c.args.rates.now (Some c.args.last.now) c.args.facts.now (pair_of c.args.carry.now))
+holds : (c : goal.After-entered) → PartsHold c.args.facts.now
+    (parts_after c.args.rates.now (Some c.args.last.now) c.args.facts.now (pair_of c.args.carry.now))
 holds c =
     parts-hold c.args.rates.now c.args.facts.now (pair_of c.args.carry.now) _ _ c.entered.ensures.prices c.requires.facts c.requires.held
-    (turn-small (Some c.args.last.now) c.args.facts.now c.requires.facts) (initial-small (Some c.args.last.now) c.args.facts.now c.requires.facts)
+    (turn-small (Some c.args.last.now) c.args.facts.now c.requires.facts)
+    (initial-small (Some c.args.last.now) c.args.facts.now c.requires.facts)
 
 pub returns-clause-paid : goal.returns-clause-paid
 returns-clause-paid c = rw (parts-is c) (holds c).paid

@@ -7,4 +7,7 @@ pub returns : goal.returns
 unfolding turn_price
 returns c =
     let f = price_fits c.args.turncost c.args.cosine c.requires.turncost c.requires.cosine in
-    record { exact = rw c.div_euclid.ensures (simp (to_z-of_z, c.ranges.turncost, c.ranges.cosine, f.cost, f.rest.0, f.rest.1, f.product, f.quotient) cc) }
+    record {
+      exact = rw c.div_euclid.ensures
+          (simp (to_z-of_z, c.ranges.turncost, c.ranges.cosine, f.cost, f.rest.0, f.rest.1, f.product, f.quotient) cc);
+    }

@@ -9,7 +9,8 @@ unreachable-requires c =
     (c.in-None.ensures.refused.0 refl)
 
 pub returns : goal.returns
-returns c =
-    length_list-at _ _ _ _ _ c.in-Some.found _ c.segment-segment.ensures.exact
-    (record { first = c.spot.ensures.exact; second = c.spot-2.ensures.exact })
-    (sym c.in-Some.is ∙ c.arrow.ensures.exact) c.from.ensures
+returns c = record {
+  exact = length_list-at _ _ _ _ _ c.in-Some.found _ c.segment-segment.ensures.exact
+      (record { first = c.spot.ensures.exact; second = c.spot-2.ensures.exact })
+      (sym c.in-Some.is ∙ c.arrow.ensures.exact) c.from.ensures;
+}

@@ -5,7 +5,7 @@ use Rattle.grid_map.proofs.ListLemmas.{length-length_list, length_list-more, len
 use Rattle.grid_map.proofs.lengths.segment_lengths.Goals as goal
 
 pub segments-preserved : goal.segments-preserved
-segments-preserved c = length_list-more _ _ _ _ _ c.segments.invariant c.length_at.ensures c.in_ok-push.ensures.items
+segments-preserved c = length_list-more _ _ _ _ _ c.segments.invariant c.length_at.ensures.exact c.in_ok-push.ensures.items
 
 pub returns-clause-cheap : goal.returns-clause-cheap
 returns-clause-cheap c =

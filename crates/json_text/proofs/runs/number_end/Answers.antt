@@ -7,6 +7,7 @@ pub run-preserved : goal.run-preserved
 run-preserved c = (
   omega (arith, c.run.invariant.0),
   omega (arith, c.run-test.true),
-  parts_at c.args.part c.run.last c.in-Some.next c.args.from c.run.at c.args.bytes.now c.run.invariant.0 (omega (arith, c.run-test.true)) c.run.invariant.2
+  parts_at c.args.part c.run.last c.in-Some.next c.args.from c.run.at c.args.bytes.now c.run.invariant.0 (omega (arith, c.run-test.true))
+      c.run.invariant.2
       (sym c.next_part.ensures.value ∙ c.in-Some.is),
 )

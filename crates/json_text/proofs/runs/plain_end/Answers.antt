@@ -8,5 +8,6 @@ pub run-preserved : goal.run-preserved
 run-preserved c = (
   omega (arith, c.run.invariant.0),
   omega (arith, c.run-test.true),
-  all_at is_plain c.args.from c.run.at c.args.bytes.now c.run.invariant.0 (omega (arith, c.run-test.true)) c.run.invariant.2 (sym c.is_plain.ensures.value ∙ c.if-is_plain.true),
+  all_at is_plain c.args.from c.run.at c.args.bytes.now c.run.invariant.0 (omega (arith, c.run-test.true)) c.run.invariant.2
+      (sym c.is_plain.ensures.value ∙ c.if-is_plain.true),
 )

@@ -23,14 +23,20 @@ returns-in_ok-walk-in-Found-clause-answers g c =
     let space = c.args.space.now in
     let task = task_of space.map.now (g.F.FactsOf.links space.facts.now) space.rates.now space.kept in
     let all =
-    moved c.new-runs.ensures.space (λ s. Answers (run_rules (rules_of (task_of s.map.now (g.F.FactsOf.links s.facts.now) s.rates.now s.kept))) c.args.limit c.in_ok-choices.field-0)
+    moved c.new-runs.ensures.space (λ s.
+    Answers (run_rules (rules_of (task_of s.map.now (g.F.FactsOf.links s.facts.now) s.rates.now s.kept))) c.args.limit
+    c.in_ok-choices.field-0)
     c.in_ok-choices.ensures.answers in
     let answer = subst (Answers (run_rules (rules_of task)) c.args.limit) c.in-Found.is all in
     let walk =
     moved c.new-runs.ensures.space
-    (λ s. c.in_ok-walk-in-Found.walk ≡ walk_by (task_of s.map.now (g.F.FactsOf.links s.facts.now) s.rates.now s.kept).leg (written_of (rules_of (task_of s.map.now (g.F.FactsOf.links s.facts.now) s.rates.now s.kept)) c.as_slice.result.now))
+    (λ s. c.in_ok-walk-in-Found.walk ≡
+    walk_by (task_of s.map.now (g.F.FactsOf.links s.facts.now) s.rates.now s.kept).leg
+    (written_of (rules_of (task_of s.map.now (g.F.FactsOf.links s.facts.now) s.rates.now s.kept)) c.as_slice.result.now))
     c.in_ok-walk-in-Found.ensures.walk in
-    let runs = moved c.new-runs.ensures.space (λ s. IsListOfRuns (task_of s.map.now (g.F.FactsOf.links s.facts.now) s.rates.now s.kept).leg c.in_ok-walk-in-Found.walk) c.in_ok-walk-in-Found.ensures.runs in
+    let runs = moved c.new-runs.ensures.space
+    (λ s. IsListOfRuns (task_of s.map.now (g.F.FactsOf.links s.facts.now) s.rates.now s.kept).leg c.in_ok-walk-in-Found.walk)
+    c.in_ok-walk-in-Found.ensures.runs in
     found-answers task c.in-Found.choices c.in-Found.cost c.in_ok-walk-in-Found.walk c.requires.differ answer.0
     (walk ∙ ap (λ (w : List ℕ). walk_by task.leg (written_of (rules_of task) w)) c.as_slice.ensures.value) runs
 
@@ -39,7 +45,9 @@ returns-in-NoWay-clause-answers g c =
     let space = c.args.space.now in
     let task = task_of space.map.now (g.F.FactsOf.links space.facts.now) space.rates.now space.kept in
     let all =
-    moved c.new-runs.ensures.space (λ s. Answers (run_rules (rules_of (task_of s.map.now (g.F.FactsOf.links s.facts.now) s.rates.now s.kept))) c.args.limit c.in_ok-choices.field-0)
+    moved c.new-runs.ensures.space (λ s.
+    Answers (run_rules (rules_of (task_of s.map.now (g.F.FactsOf.links s.facts.now) s.rates.now s.kept))) c.args.limit
+    c.in_ok-choices.field-0)
     c.in_ok-choices.ensures.answers in
     no-runs task c.requires.differ (subst (Answers (run_rules (rules_of task)) c.args.limit) c.in-NoWay.is all)
 
@@ -48,7 +56,9 @@ returns-in-Budget-clause-answers g c =
     let space = c.args.space.now in
     let task = task_of space.map.now (g.F.FactsOf.links space.facts.now) space.rates.now space.kept in
     let all =
-    moved c.new-runs.ensures.space (λ s. Answers (run_rules (rules_of (task_of s.map.now (g.F.FactsOf.links s.facts.now) s.rates.now s.kept))) c.args.limit c.in_ok-choices.field-0)
+    moved c.new-runs.ensures.space (λ s.
+    Answers (run_rules (rules_of (task_of s.map.now (g.F.FactsOf.links s.facts.now) s.rates.now s.kept))) c.args.limit
+    c.in_ok-choices.field-0)
     c.in_ok-choices.ensures.answers in
     let answer = subst (Answers (run_rules (rules_of task)) c.args.limit) c.in-Budget.is all in (
       _,
@@ -64,7 +74,8 @@ returns-in-Budget-clause-enough g c =
     let task = task_of space.map.now (g.F.FactsOf.links space.facts.now) space.rates.now space.kept in
     let enough =
     moved c.new-runs.ensures.space
-    (λ s. (most : ℕ) → HasFewPerCell (run_rules (rules_of (task_of s.map.now (g.F.FactsOf.links s.facts.now) s.rates.now s.kept))) most → (task_of s.map.now (g.F.FactsOf.links s.facts.now) s.rates.now s.kept).leg.roads.links * most ≤ c.args.limit →
+    (λ s. (most : ℕ) → HasFewPerCell (run_rules (rules_of (task_of s.map.now (g.F.FactsOf.links s.facts.now) s.rates.now s.kept))) most →
+    (task_of s.map.now (g.F.FactsOf.links s.facts.now) s.rates.now s.kept).leg.roads.links * most ≤ c.args.limit →
     IsUnspent c.in_ok-choices.field-0)
     c.in_ok-choices.ensures.enough in
     λ flat within. subst IsUnspent c.in-Budget.is (enough 1 (few-along (rules_of task) 1 (few-flat task flat)) (omega (arith, within)))
@@ -75,7 +86,8 @@ returns-in-Budget-clause-always g c =
     let task = task_of space.map.now (g.F.FactsOf.links space.facts.now) space.rates.now space.kept in
     let enough =
     moved c.new-runs.ensures.space
-    (λ s. (most : ℕ) → HasFewPerCell (run_rules (rules_of (task_of s.map.now (g.F.FactsOf.links s.facts.now) s.rates.now s.kept))) most → (task_of s.map.now (g.F.FactsOf.links s.facts.now) s.rates.now s.kept).leg.roads.links * most ≤ c.args.limit →
+    (λ s. (most : ℕ) → HasFewPerCell (run_rules (rules_of (task_of s.map.now (g.F.FactsOf.links s.facts.now) s.rates.now s.kept))) most →
+    (task_of s.map.now (g.F.FactsOf.links s.facts.now) s.rates.now s.kept).leg.roads.links * most ≤ c.args.limit →
     IsUnspent c.in_ok-choices.field-0)
     c.in_ok-choices.ensures.enough in
     λ within. subst IsUnspent c.in-Budget.is

@@ -2,8 +2,9 @@ use Rattle.std.proofs.Common.{refl, lit<, lit≤}
 use Rattle.overpass_graph.specs.Maps.{roads_of}
 use Rattle.least_sums.specs.States.{state_of}
 use Rattle.least_sums.specs.declared.amount.TheConstants.{NARROW_FAR, WIDE_FAR}
-use Rattle.least_sums.proofs.EndLemmas.{kept-below, kept-least, untrue}
+use Rattle.least_sums.proofs.EndLemmas.{kept-below, kept-least}
 use Rattle.least_sums.proofs.finding.least_sums.Goals as goal
+use Rattle.std.proofs.lemmas.Bool.{not-true}
 
 pub invariant_of-result : goal.invariant_of-result
 invariant_of-result g c =
@@ -17,7 +18,7 @@ returns-then-not-narrow g c =
       exact = kept-least (roads_of c.args.map.now) (g.P.LinkPrices.priced c.args.prices.now).price c.args.target
           NARROW_FAR c.in_ok-narrow.narrow.sums.items
           (state_of (λ n. n) c.in_ok-narrow.narrow) c.in_ok-narrow.ensures.ends refl
-          (untrue c.in_ok-narrow.narrow.cut c.if-not-narrow.true) (lit< tt);
+          (not-true c.in_ok-narrow.narrow.cut c.if-not-narrow.true) (lit< tt);
       small = kept-below (roads_of c.args.map.now) (g.P.LinkPrices.priced c.args.prices.now).price c.args.target
           NARROW_FAR c.in_ok-narrow.narrow.sums.items
           (state_of (λ n. n) c.in_ok-narrow.narrow) c.in_ok-narrow.ensures.ends refl;

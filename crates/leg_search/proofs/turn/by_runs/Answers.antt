@@ -49,15 +49,19 @@ returns-in-Found-clause-answers g c =
     subst (λ s. IsSearchOf (run_rules (rules_of (task_of s.map.now (g.F.FactsOf.links s.facts.now) s.rates.now s.kept))) c.step.new.search)
     c.new.ensures.space c.in_ok-step.ensures.of in
     let all =
-    subst (λ s. IsOutcomeOf (run_rules (rules_of (task_of s.map.now (g.F.FactsOf.links s.facts.now) s.rates.now s.kept))) c.args.search.limit c.in_ok-step.step.outcome)
+    subst (λ s. IsOutcomeOf (run_rules (rules_of (task_of s.map.now (g.F.FactsOf.links s.facts.now) s.rates.now s.kept)))
+    c.args.search.limit c.in_ok-step.step.outcome)
     c.new.ensures.space c.in_ok-step.ensures.answers in
     let answer = subst (Answers (run_rules (rules_of task)) c.args.search.limit) c.in-Found.is
     (subst (Answers (run_rules (rules_of task)) c.args.search.limit) (sym c.in-Some.outcome-is)
     (subst (IsOutcomeOf (run_rules (rules_of task)) c.args.search.limit) c.in-Some.is all)) in
     let walk =
-    subst (λ s. c.in_ok-written-in-Found.written ≡ walk_by (task_of s.map.now (g.F.FactsOf.links s.facts.now) s.rates.now s.kept).leg (written_of (rules_of (task_of s.map.now (g.F.FactsOf.links s.facts.now) s.rates.now s.kept)) c.as_slice.result.now))
+    subst (λ s. c.in_ok-written-in-Found.written ≡
+    walk_by (task_of s.map.now (g.F.FactsOf.links s.facts.now) s.rates.now s.kept).leg
+    (written_of (rules_of (task_of s.map.now (g.F.FactsOf.links s.facts.now) s.rates.now s.kept)) c.as_slice.result.now))
     c.new-in-Found.ensures.space c.in_ok-written-in-Found.ensures.walk in
-    let runs = subst (λ s. IsListOfRuns (task_of s.map.now (g.F.FactsOf.links s.facts.now) s.rates.now s.kept).leg c.in_ok-written-in-Found.written)
+    let runs = subst (λ s. IsListOfRuns (task_of s.map.now (g.F.FactsOf.links s.facts.now) s.rates.now s.kept).leg
+    c.in_ok-written-in-Found.written)
     c.new-in-Found.ensures.space c.in_ok-written-in-Found.ensures.runs in
     runs-found task space.wakes.lawful c.requires.differ c.args.search.limit c.requires.of.small c.in-Found.choices c.in-Found.cost
     c.in_ok-written-in-Found.written answer
@@ -84,7 +88,8 @@ returns-in-NoWay-clause-answers g c =
     subst (λ s. IsSearchOf (run_rules (rules_of (task_of s.map.now (g.F.FactsOf.links s.facts.now) s.rates.now s.kept))) c.step.new.search)
     c.new.ensures.space c.in_ok-step.ensures.of in
     let all =
-    subst (λ s. IsOutcomeOf (run_rules (rules_of (task_of s.map.now (g.F.FactsOf.links s.facts.now) s.rates.now s.kept))) c.args.search.limit c.in_ok-step.step.outcome)
+    subst (λ s. IsOutcomeOf (run_rules (rules_of (task_of s.map.now (g.F.FactsOf.links s.facts.now) s.rates.now s.kept)))
+    c.args.search.limit c.in_ok-step.step.outcome)
     c.new.ensures.space c.in_ok-step.ensures.answers in
     let answer = subst (Answers (run_rules (rules_of task)) c.args.search.limit) c.in-NoWay.is
     (subst (Answers (run_rules (rules_of task)) c.args.search.limit) (sym c.in-Some.outcome-is)
@@ -112,7 +117,8 @@ returns-clause-answers g c =
     subst (λ s. IsSearchOf (run_rules (rules_of (task_of s.map.now (g.F.FactsOf.links s.facts.now) s.rates.now s.kept))) c.step.new.search)
     c.new.ensures.space c.in_ok-step.ensures.of in
     let all =
-    subst (λ s. IsOutcomeOf (run_rules (rules_of (task_of s.map.now (g.F.FactsOf.links s.facts.now) s.rates.now s.kept))) c.args.search.limit c.in_ok-step.step.outcome)
+    subst (λ s. IsOutcomeOf (run_rules (rules_of (task_of s.map.now (g.F.FactsOf.links s.facts.now) s.rates.now s.kept)))
+    c.args.search.limit c.in_ok-step.step.outcome)
     c.new.ensures.space c.in_ok-step.ensures.answers in
     let answer = subst (Answers (run_rules (rules_of task)) c.args.search.limit) c.in-Budget.is
     (subst (Answers (run_rules (rules_of task)) c.args.search.limit) (sym c.in-Some.outcome-is)

@@ -14,6 +14,7 @@ returns-in-Ok c =
 pub returns-in-Err : goal.returns-in-Err
 returns-in-Err c =
     record {
-      exact = handed-on (overpass_text c.args.grid.now) (λ world. IsHillWorld c.args.grid.now (world_of world)) (IsHillTrack c.args.grid.now)
+      exact = handed-on (overpass_text c.args.grid.now) (λ world. IsHillWorld c.args.grid.now (world_of world))
+          (IsHillTrack c.args.grid.now)
           (IsHillsRefusal c.args.grid.now) c.in-Err.error c.in-Err.ensures.exact;
     }

@@ -11,13 +11,15 @@ route-requires c = record { within = corners-within c.args.grid.now (asked c.in_
 pub returns-in-Ok : goal.returns-in-Ok
 returns-in-Ok c =
     record {
-      exact = answers-corners (world_of c.args.world.now) (sections_in c.args.profile.now) c.args.grid.now (asked c.in_ok-request.request) (Ok c.in-Ok.track)
+      exact = answers-corners (world_of c.args.world.now) (sections_in c.args.profile.now) c.args.grid.now (asked c.in_ok-request.request)
+          (Ok c.in-Ok.track)
           c.in_ok-request.ensures.exact c.in-Ok.ensures.exact;
     }
 
 pub returns-in-Err : goal.returns-in-Err
 returns-in-Err c =
     record {
-      exact = refusal-corners (world_of c.args.world.now) (sections_in c.args.profile.now) c.args.grid.now (asked c.in_ok-request.request) c.in-Err.error
+      exact = refusal-corners (world_of c.args.world.now) (sections_in c.args.profile.now) c.args.grid.now (asked c.in_ok-request.request)
+          c.in-Err.error
           c.of_route.result c.in_ok-request.ensures.exact c.of_route.ensures.exact c.in-Err.ensures.exact;
     }

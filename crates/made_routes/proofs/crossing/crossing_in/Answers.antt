@@ -7,6 +7,7 @@ pub returns : goal.returns
 returns c =
     record {
       exact = λ is.
-          hills-told (world_of c.args.world.now) (sections_in c.in_ok-profile.profile) c.args.grid.now c.crossing_by.result c.in_ok-profile.ensures.exact is
+          hills-told (world_of c.args.world.now) (sections_in c.in_ok-profile.profile) c.args.grid.now c.crossing_by.result
+          c.in_ok-profile.ensures.exact is
           c.crossing_by.ensures.exact;
     }

@@ -15,5 +15,6 @@ returns-in-Ok c =
 pub returns : goal.returns
 returns c =
     record {
-      exact = hills-refused (plan_of c.args.seed c.args.w c.args.h) c.in_ok-grid.grid c.in-Err.error c.in_ok-grid.ensures.value c.in-Err.ensures.exact;
+      exact = hills-refused (plan_of c.args.seed c.args.w c.args.h) c.in_ok-grid.grid c.in-Err.error c.in_ok-grid.ensures.value
+          c.in-Err.ensures.exact;
     }

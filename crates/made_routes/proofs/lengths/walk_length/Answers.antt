@@ -10,7 +10,8 @@ pub cells-preserved : goal.cells-preserved
 cells-preserved c =
     record {
       some = omega arith;
-      sum = length-to c.args.grid.now c.args.cells.now c.cells.place c.cells.sum c.distance-sum.result c.cells.invariant.some c.cells-test.true
+      sum = length-to c.args.grid.now c.args.cells.now c.cells.place c.cells.sum c.distance-sum.result c.cells.invariant.some
+          c.cells-test.true
           c.cells.invariant.sum c.distance-sum.ensures.exact;
       few = omega (arith, c.cells.invariant.few, c.distance-sum.ensures.within);
     }

@@ -20,7 +20,8 @@ pieces-init c =
 
 pub feed-requires : goal.feed-requires
 feed-requires c =
-    let made : c.append_parts-next.new.piece.items ++ text_from c.args.grid.now c.append_parts-next.result ≡ text_from c.args.grid.now c.pieces.next =
+    let made : c.append_parts-next.new.piece.items ++
+    text_from c.args.grid.now c.append_parts-next.result ≡ text_from c.args.grid.now c.pieces.next =
     c.append_parts-next.ensures.value ∙ ap (λ (l : List ℕ). l ++ text_from c.args.grid.now c.pieces.next) c.clear.ensures.items in
     let whole =
     text_from-piece c.args.grid.now c.pieces.next c.append_parts-next.result c.pieces.invariant.bytes c.append_parts-next.new.piece.items
@@ -31,7 +32,8 @@ feed-requires c =
         c.pieces.invariant.counted,
         ap length c.as_slice.ensures.value,
         ap length whole,
-        length-append (c.pieces.invariant.bytes ++ c.append_parts-next.new.piece.items) (text_from c.args.grid.now c.append_parts-next.result),
+        length-append (c.pieces.invariant.bytes ++ c.append_parts-next.new.piece.items)
+            (text_from c.args.grid.now c.append_parts-next.result),
         length-append c.pieces.invariant.bytes c.append_parts-next.new.piece.items,
         overpass_text-short c.args.grid.now c.segments-segments.ensures.lawful,
       );
@@ -39,7 +41,8 @@ feed-requires c =
 
 pub returns-in-Err : goal.returns-in-Err
 returns-in-Err c =
-    let made : c.append_parts-next.new.piece.items ++ text_from c.args.grid.now c.append_parts-next.result ≡ text_from c.args.grid.now c.pieces.next =
+    let made : c.append_parts-next.new.piece.items ++
+    text_from c.args.grid.now c.append_parts-next.result ≡ text_from c.args.grid.now c.pieces.next =
     c.append_parts-next.ensures.value ∙ ap (λ (l : List ℕ). l ++ text_from c.args.grid.now c.pieces.next) c.clear.ensures.items in
     let whole =
     text_from-piece c.args.grid.now c.pieces.next c.append_parts-next.result c.pieces.invariant.bytes c.append_parts-next.new.piece.items
@@ -47,22 +50,31 @@ returns-in-Err c =
     record {
       exact = front-told (Unit {0}) (overpass_text c.args.grid.now) (IsMapOfText (overpass_text c.args.grid.now))
           (c.pieces.invariant.bytes ++ c.as_slice.result.now) (text_from c.args.grid.now c.append_parts-next.result) c.in-Err.error
-          (ap (λ (l : List ℕ). (c.pieces.invariant.bytes ++ l) ++ text_from c.args.grid.now c.append_parts-next.result) c.as_slice.ensures.value ∙ whole)
+          (ap (λ (l : List ℕ). (c.pieces.invariant.bytes ++ l) ++ text_from c.args.grid.now c.append_parts-next.result)
+          c.as_slice.ensures.value ∙ whole)
           (c.in-Err.ensures.exact c.pieces.invariant.bytes c.pieces.invariant.stands);
     }
 
 pub pieces-preserved : goal.pieces-preserved
 pieces-preserved c =
-    let made : c.append_parts-next.new.piece.items ++ text_from c.args.grid.now c.append_parts-next.result ≡ text_from c.args.grid.now c.pieces.next =
+    let made : c.append_parts-next.new.piece.items ++
+    text_from c.args.grid.now c.append_parts-next.result ≡ text_from c.args.grid.now c.pieces.next =
     c.append_parts-next.ensures.value ∙ ap (λ (l : List ℕ). l ++ text_from c.args.grid.now c.pieces.next) c.clear.ensures.items in
     record {
       within = c.append_parts-next.ensures.within;
       room = omega (arith, c.pieces.invariant.room, c.clear.ensures.capacity, c.append_parts-next.ensures.kept);
       bytes = c.pieces.invariant.bytes ++ c.as_slice.result.now;
       stands = c.in-Ok.ensures.value c.pieces.invariant.bytes c.pieces.invariant.stands;
-      counted = omega (arith, c.in-Ok.ensures.fed, c.pieces.invariant.counted, length-append c.pieces.invariant.bytes c.as_slice.result.now);
-      whole = ap (λ (l : List ℕ). (c.pieces.invariant.bytes ++ l) ++ text_from c.args.grid.now c.append_parts-next.result) c.as_slice.ensures.value
-          ∙ text_from-piece c.args.grid.now c.pieces.next c.append_parts-next.result c.pieces.invariant.bytes c.append_parts-next.new.piece.items
+      counted = omega (
+        arith,
+        c.in-Ok.ensures.fed,
+        c.pieces.invariant.counted,
+        length-append c.pieces.invariant.bytes c.as_slice.result.now,
+      );
+      whole = ap (λ (l : List ℕ). (c.pieces.invariant.bytes ++ l) ++ text_from c.args.grid.now c.append_parts-next.result)
+          c.as_slice.ensures.value
+          ∙ text_from-piece c.args.grid.now c.pieces.next c.append_parts-next.result c.pieces.invariant.bytes
+          c.append_parts-next.new.piece.items
           (overpass_text c.args.grid.now) made c.pieces.invariant.whole;
     }
 

@@ -6,7 +6,8 @@ use Rattle.made_routes.proofs.priced.walk_in.Goals as goal
 pub returns-in-Ok : goal.returns-in-Ok
 returns-in-Ok c =
     record {
-      exact = ready-told c.args.grid.now c.args.from c.args.to (world_of c.args.world.now) (sections_in c.args.profile.now) _ c.new-overrides.ensures.value
+      exact = ready-told c.args.grid.now c.args.from c.args.to (world_of c.args.world.now) (sections_in c.args.profile.now) _
+          c.new-overrides.ensures.value
           c.in-Ok.ready c.walk_by.result c.in-Ok.ensures.exact c.walk_by.ensures.exact;
     }
 

@@ -9,7 +9,8 @@ pub segments-preserved : goal.segments-preserved
 segments-preserved c =
     record {
       within = omega (arith, c.segments-test.true);
-      costs = prices-more (links_of c.args.bound.now) c.args.which c.segments.place _ _ _ c.segments.invariant.costs c.in_ok-push.ensures.items
+      costs = prices-more (links_of c.args.bound.now) c.args.which c.segments.place _ _ _ c.segments.invariant.costs
+          c.in_ok-push.ensures.items
           c.link_price.ensures.exact;
     }
 
@@ -22,5 +23,6 @@ returns c =
     record {
       exact = whole;
       fits = ap length whole ∙ prices-count (links_of c.args.bound.now) c.args.which c.args.count;
-      cheap = subst AreCheap (sym whole) (prices-cheap (links_of c.args.bound.now) (links_of-sound c.args.bound.now) c.args.which c.args.count);
+      cheap = subst AreCheap (sym whole)
+          (prices-cheap (links_of c.args.bound.now) (links_of-sound c.args.bound.now) c.args.which c.args.count);
     }

@@ -26,8 +26,11 @@ returns-then-is_named-2 c = record {
 -- the value of `elements` has no brackets
 pub returns-then-is_named-3 : goal.returns-then-is_named-3
 returns-then-is_named-3 c = record {
-  value = λ steps s top kind.
-      (plain_stands steps s (subst (λ k. IsKind k c.args.text.now s) c.in-Plain.is kind) (subst (λ b. IsTop steps 0 b) c.if-is_named-3.true top), refl);
+  value = λ steps s top kind. (
+    plain_stands steps s (subst (λ k. IsKind k c.args.text.now s) c.in-Plain.is kind)
+        (subst (λ b. IsTop steps 0 b) c.if-is_named-3.true top),
+    refl,
+  );
 }
 
 -- the top object ends
@@ -44,7 +47,9 @@ returns-in-Names c = record {
   value = λ steps s top kind.
       let is : s ≡ Step.Key c.args.text.now = subst (λ k. IsKind k c.args.text.now s) c.in-Names.is kind in (
         subst (λ x. IsTop (steps ++ x ∷ []) 0 c.eq.result) (sym is)
-            (subst (λ b. IsTop (steps ++ Step.Key c.args.text.now ∷ []) 0 b) (sym (c.eq.ensures ∙ ap (bytes_eq c.args.text.now) c.as_slice.ensures)) (top_names steps c.args.is_named c.args.text.now top)),
+            (subst (λ b. IsTop (steps ++ Step.Key c.args.text.now ∷ []) 0 b)
+            (sym (c.eq.ensures ∙ ap (bytes_eq c.args.text.now) c.as_slice.ensures))
+            (top_names steps c.args.is_named c.args.text.now top)),
         refl,
         refl,
       );

@@ -18,7 +18,10 @@ returns-in-Opens c = record {
 -- an array stands at the top
 pub returns-in-OpensList : goal.returns-in-OpensList
 returns-in-OpensList c = record {
-  value = λ text s kind. (no_object s (not_curly kind_.OpensList text s (λ e. cc) (subst (λ k. IsKind k text s) c.in-OpensList.is kind)), refl);
+  value = λ text s kind. (
+    no_object s (not_curly kind_.OpensList text s (λ e. cc) (subst (λ k. IsKind k text s) c.in-OpensList.is kind)),
+    refl,
+  );
 }
 
 -- a bracket closes

@@ -14,7 +14,8 @@ pub returns-then-is_end-clause-best : goal.returns-then-is_end-clause-best
 returns-then-is_end-clause-best g c =
     let is = c.rank-found.ensures.exact
     ∙ ap (λ (p : Place). held_length (length_between (place_of c.args.at) p) * 2 ^ 32 + c.args.node) c.node_spot.ensures.value in
-    ranked-better (length c.args.map.now.nodes) (place_at c.args.map.now) (IsEnd (roads_of c.args.map.now) (g.O.OpenLinks.opens c.args.passages.now).is_open)
+    ranked-better (length c.args.map.now.nodes) (place_at c.args.map.now)
+    (IsEnd (roads_of c.args.map.now) (g.O.OpenLinks.opens c.args.passages.now).is_open)
     (place_of c.args.at) c.args.node c.rank-found.result c.args.best (omega (arith, c.requires.lawful.roads.few_nodes))
     c.requires.in_range (c.if-is_end.ensures.found refl) c.requires.best is (omega (arith, c.if-found-best.true))
 

@@ -8,9 +8,11 @@ use Rattle.nearest_node.proofs.nearest.downward.Given as goal
 abbrev pub invariant-keys : goal.invariant-keys
 invariant-keys g l = record {
   within : l.place ≤ l.start;
-  best : IsBest (length l.map.nodes) (place_at l.map) (IsEnd (roads_of l.map) (g.O.OpenLinks.opens l.passages).is_open) (place_of l.at) l.best;
+  best : IsBest (length l.map.nodes) (place_at l.map) (IsEnd (roads_of l.map) (g.O.OpenLinks.opens l.passages).is_open) (place_of l.at)
+      l.best;
   better : l.best ≤ l.fn.best;
-  first : IsFirstOf (place_at l.map) (IsEnd (roads_of l.map) (g.O.OpenLinks.opens l.passages).is_open) (place_of l.at) l.keys l.place l.start l.best;
+  first : IsFirstOf (place_at l.map) (IsEnd (roads_of l.map) (g.O.OpenLinks.opens l.passages).is_open) (place_of l.at) l.keys l.place
+      l.start l.best;
 }
 
 abbrev pub decreases-keys : goal.decreases-keys

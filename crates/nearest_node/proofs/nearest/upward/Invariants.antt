@@ -7,7 +7,9 @@ use Rattle.nearest_node.proofs.nearest.upward.Given as goal
 
 abbrev pub invariant-keys : goal.invariant-keys
 invariant-keys g l = record {
-  best : IsBest (length l.map.nodes) (place_at l.map) (IsEnd (roads_of l.map) (g.O.OpenLinks.opens l.passages).is_open) (place_of l.at) l.best;
+  best : IsBest (length l.map.nodes) (place_at l.map) (IsEnd (roads_of l.map) (g.O.OpenLinks.opens l.passages).is_open) (place_of l.at)
+      l.best;
   better : l.best ≤ l.fn.best;
-  first : IsFirstOf (place_at l.map) (IsEnd (roads_of l.map) (g.O.OpenLinks.opens l.passages).is_open) (place_of l.at) l.keys l.start l.place l.best;
+  first : IsFirstOf (place_at l.map) (IsEnd (roads_of l.map) (g.O.OpenLinks.opens l.passages).is_open) (place_of l.at) l.keys l.start
+      l.place l.best;
 }

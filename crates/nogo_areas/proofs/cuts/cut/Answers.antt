@@ -12,7 +12,8 @@ links-preserved c =
       | then-link-eq0 w ↦ w.last-is ∙ w.is_link_cut-last.ensures.exact
       | else-link-eq0 w ↦
           w.last-is ∙ c.links.invariant.last (omega (arith, w.if-link-eq0))
-          ∙ second-cut c.args.map.now c.args.circles.now c.links.link c.links-link-end.ensures.lawful below (λ even. absurd (omega (arith, w.if-link-eq0)))
+          ∙ second-cut c.args.map.now c.args.circles.now c.links.link c.links-link-end.ensures.lawful below
+          (λ even. absurd (omega (arith, w.if-link-eq0)))
     ] in
     record {
       taken = cut-step c.args.map.now c.args.circles.now c.links.link c.links.cut.items c.push.new.self.items c.if-link-eq0.last below
@@ -22,5 +23,6 @@ links-preserved c =
 
 pub returns : goal.returns
 returns c = record {
-  exact = cut-whole c.args.map.now c.args.circles.now c.links.link c.links.cut.items (omega (arith, c.links-link-end.ensures.value)) c.links.invariant.taken;
+  exact = cut-whole c.args.map.now c.args.circles.now c.links.link c.links.cut.items (omega (arith, c.links-link-end.ensures.value))
+      c.links.invariant.taken;
 }

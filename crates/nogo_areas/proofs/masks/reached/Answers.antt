@@ -13,6 +13,7 @@ bounds-preserved c =
       }
       | else-step w ↦ record {
         reached = subst (ReachedBelow c.args.scale c.args.bounds.now c.args.step (c.bounds.k + 1)) (sym w.mask-is)
-            (mask-kept c.args.scale c.args.bounds.now c.args.step c.bounds.k c.bounds.mask (omega (arith, w.if-step, c.step.ensures.value)) c.bounds.invariant.reached);
+            (mask-kept c.args.scale c.args.bounds.now c.args.step c.bounds.k c.bounds.mask (omega (arith, w.if-step, c.step.ensures.value))
+            c.bounds.invariant.reached);
       }
     ]

@@ -6,7 +6,8 @@ use Rattle.nogo_areas.proofs.touch.touch_masked.Goals as goal
 
 pub returns-then-touches_masked : goal.returns-then-touches_masked
 returns-then-touches_masked c =
-    let there = slice_get_read c.args.circles.now (length c.args.circles.now) c.circles.k c.index-circles-k.result refl (omega arith) c.index-circles-k.is in
+    let there = slice_get_read c.args.circles.now (length c.args.circles.now) c.circles.k c.index-circles-k.result refl (omega arith)
+    c.index-circles-k.is in
     record {
       exact = sym (some-touches (place_of c.args.a) (place_of c.args.b) c.args.circles.now c.circles.k c.index-circles-k.result there
           (sym c.touches_masked.ensures.exact ∙ c.if-touches_masked.true));
@@ -14,7 +15,8 @@ returns-then-touches_masked c =
 
 pub circles-preserved : goal.circles-preserved
 circles-preserved c =
-    let there = slice_get_read c.args.circles.now (length c.args.circles.now) c.circles.k c.index-circles-k.result refl (omega arith) c.index-circles-k.is in
+    let there = slice_get_read c.args.circles.now (length c.args.circles.now) c.circles.k c.index-circles-k.result refl (omega arith)
+    c.index-circles-k.is in
     record {
       none = untouched-more (place_of c.args.a) (place_of c.args.b) c.args.circles.now c.circles.k c.index-circles-k.result there
           (sym c.touches_masked.ensures.exact ∙ c.if-touches_masked.false) c.circles.invariant.none;

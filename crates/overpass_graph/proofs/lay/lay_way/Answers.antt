@@ -46,12 +46,15 @@ ids-preserved c =
     let lays = c.in_ok-lay_up_to.ensures.links in
     let back : c.ids.place + 1 - 1 ≡ c.ids.place = omega arith in
     record {
-      none = sym (missing-step c.args.tables.now.draft.nodes (way_at c.args.tables.now.draft.ways c.args.way).content c.ids.place c.in_ok-node.node within here)
+      none = sym (missing-step c.args.tables.now.draft.nodes (way_at c.args.tables.now.draft.ways c.args.way).content c.ids.place
+          c.in_ok-node.node within here)
           ∙ c.ids.invariant.none;
       last = λ some. rw back here;
       sound = lays.sound;
-      links = links-step c.args.tables.now.draft.nodes c.args.order.now.places.items c.args.order.now.numbers.items c.requires.distinct c.requires.order
-          c.args.way (way_at c.args.tables.now.draft.ways c.args.way).content c.ids.place c.ids.last c.in_ok-node.node _ _ _ within c.ids.invariant.last here
+      links = links-step c.args.tables.now.draft.nodes c.args.order.now.places.items c.args.order.now.numbers.items c.requires.distinct
+          c.requires.order
+          c.args.way (way_at c.args.tables.now.draft.ways c.args.way).content c.ids.place c.ids.last c.in_ok-node.node _ _ _ within
+          c.ids.invariant.last here
           (rw (← c.as_slice.ensures.value) lays.links) c.ids.invariant.links;
     }
 
@@ -61,14 +64,16 @@ returns-clause-missing c =
     c.way_nodes-ids.ensures.value _ (slice_get-get_or c.args.tables.now.draft.ways c.args.way no_way c.requires.in_range) in
     let past : length (way_at c.args.tables.now.draft.ways c.args.way).content ≤ c.ids.place = rw (← ids) (omega arith) in
     ap (option_map (MissingNode (way_at c.args.tables.now.draft.ways c.args.way).id))
-    (sym c.ids.invariant.none ∙ missing-end c.args.tables.now.draft.nodes (way_at c.args.tables.now.draft.ways c.args.way).content c.ids.place past)
+    (sym c.ids.invariant.none ∙ missing-end c.args.tables.now.draft.nodes (way_at c.args.tables.now.draft.ways c.args.way).content
+    c.ids.place past)
 
 pub returns-clause-links : goal.returns-clause-links
 returns-clause-links c =
     let ids : c.way_nodes-ids.result.now ≡ (way_at c.args.tables.now.draft.ways c.args.way).content =
     c.way_nodes-ids.ensures.value _ (slice_get-get_or c.args.tables.now.draft.ways c.args.way no_way c.requires.in_range) in
     let past : length (way_at c.args.tables.now.draft.ways c.args.way).content ≤ c.ids.place = rw (← ids) (omega arith) in
-    let none = links_left-end (picked c.args.tables.now.draft.nodes c.args.order.now.places.items) c.args.way (way_at c.args.tables.now.draft.ways c.args.way).content c.ids.place past in
+    let none = links_left-end (picked c.args.tables.now.draft.nodes c.args.order.now.places.items) c.args.way
+    (way_at c.args.tables.now.draft.ways c.args.way).content c.ids.place past in
     record {
       sound = c.ids.invariant.sound;
       links = sym (append-nil (links_now c.ids.laid)) ∙ ap (λ ls. links_now c.ids.laid ++ ls) (sym none) ∙ c.ids.invariant.links;

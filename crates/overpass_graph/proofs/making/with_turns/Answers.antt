@@ -8,13 +8,15 @@ use Rattle.overpass_graph.proofs.making.with_turns.Goals as goal
 -- the parts fit
 pub invariant_of-result : goal.invariant_of-result
 invariant_of-result c =
-    subst (λ h. IsMade h.draft.nodes h.draft.ways c.args.order.places.items c.args.order.numbers.items c.args.links c.args.turns) (sym c.in-Ok.ensures.value)
+    subst (λ h. IsMade h.draft.nodes h.draft.ways c.args.order.places.items c.args.order.numbers.items c.args.links c.args.turns)
+    (sym c.in-Ok.ensures.value)
     (made c.args.tables.draft c.args.order.places.items c.args.order.numbers.items c.args.links c.args.turns
     c.requires.order c.requires.links c.requires.turns c.requires.distinct)
 
 -- they are the map of the tables
 pub returns-in-Ok-clause-exact : goal.returns-in-Ok-clause-exact
 returns-in-Ok-clause-exact c =
-    subst (λ h. IsMapOf c.args.tables.draft (map_value h.draft.nodes h.draft.ways c.args.order.places.items c.args.links c.args.turns)) (sym c.in-Ok.ensures.value)
+    subst (λ h. IsMapOf c.args.tables.draft (map_value h.draft.nodes h.draft.ways c.args.order.places.items c.args.links c.args.turns))
+    (sym c.in-Ok.ensures.value)
     (is_map c.args.tables.draft c.args.order.places.items c.args.order.numbers.items c.args.links c.args.turns
     c.requires.order c.requires.links c.requires.turns)

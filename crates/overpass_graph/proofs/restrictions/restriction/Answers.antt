@@ -11,24 +11,29 @@ use Rattle.overpass_graph.proofs.restrictions.restriction.Goals as goal
 -- it is none for bicycles
 pub returns-in_default-clause-exact : goal.returns-in_default-clause-exact
 returns-in_default-clause-exact c =
-    let tags = c.relation_tags.ensures.value _ (slice_get-get_or c.args.tables.now.draft.relations c.args.relation no_relation c.requires.fits) in
+    let tags = c.relation_tags.ensures.value _
+    (slice_get-get_or c.args.tables.now.draft.relations c.args.relation no_relation c.requires.fits) in
     sym (restriction-no_kind (picked c.args.tables.now.draft.nodes c.args.order.now.places.items) c.args.tables.now.draft.ways
     (relation_at c.args.tables.now.draft.relations c.args.relation) (ap kind_for_bicycles (sym tags) ∙ sym c.in_default.ensures.value))
 
 -- it lacks its node
 pub returns-in_default-via_node-clause-exact : goal.returns-in_default-via_node-clause-exact
 returns-in_default-via_node-clause-exact c =
-    let tags = c.relation_tags.ensures.value _ (slice_get-get_or c.args.tables.now.draft.relations c.args.relation no_relation c.requires.fits) in
+    let tags = c.relation_tags.ensures.value _
+    (slice_get-get_or c.args.tables.now.draft.relations c.args.relation no_relation c.requires.fits) in
     sym (restriction-no_via (picked c.args.tables.now.draft.nodes c.args.order.now.places.items) c.args.tables.now.draft.ways
-    (relation_at c.args.tables.now.draft.relations c.args.relation) c.in-Some.kind (ap kind_for_bicycles (sym tags) ∙ sym c.in-Some.ensures.value)
+    (relation_at c.args.tables.now.draft.relations c.args.relation) c.in-Some.kind (ap kind_for_bicycles (sym tags)
+    ∙ sym c.in-Some.ensures.value)
     (sym c.in_default-via_node.ensures.value))
 
 -- it has both
 pub returns-clause-exact : goal.returns-clause-exact
 returns-clause-exact c =
-    let tags = c.relation_tags.ensures.value _ (slice_get-get_or c.args.tables.now.draft.relations c.args.relation no_relation c.requires.fits) in
+    let tags = c.relation_tags.ensures.value _
+    (slice_get-get_or c.args.tables.now.draft.relations c.args.relation no_relation c.requires.fits) in
     subst (λ y. IfOk c.restriction_at.result (λ r. r ≡ y))
     (sym (restriction-by (picked c.args.tables.now.draft.nodes c.args.order.now.places.items) c.args.tables.now.draft.ways
-    (relation_at c.args.tables.now.draft.relations c.args.relation) c.in-Some.kind c.in-Some-via_node.via (ap kind_for_bicycles (sym tags) ∙ sym c.in-Some.ensures.value)
+    (relation_at c.args.tables.now.draft.relations c.args.relation) c.in-Some.kind c.in-Some-via_node.via (ap kind_for_bicycles (sym tags)
+    ∙ sym c.in-Some.ensures.value)
     (sym c.in-Some-via_node.ensures.value)))
     c.restriction_at.ensures.exact

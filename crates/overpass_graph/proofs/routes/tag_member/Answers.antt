@@ -10,7 +10,8 @@ use Rattle.overpass_graph.proofs.routes.tag_member.Goals as goal
 -- it is none
 pub returns-in-None-clause-value : goal.returns-in-None-clause-value
 returns-in-None-clause-value c k at m among =
-    ap (with_more_tags c.args.tables.now) (sym (once-none (c.args.name.now, codes "yes") m c.args.tables.now.draft.ways (sym (c.in-None.ensures.value k at m among))))
+    ap (with_more_tags c.args.tables.now)
+    (sym (once-none (c.args.name.now, codes "yes") m c.args.tables.now.draft.ways (sym (c.in-None.ensures.value k at m among))))
 
 -- it is one
 pub returns-in-Some-clause-value : goal.returns-in-Some-clause-value
@@ -18,6 +19,7 @@ returns-in-Some-clause-value c =
     let there = slice_get-get_or c.args.tables.now.draft.ways c.in-Some.way no_way c.in-Some.ensures.within in
     on_ok c.tag_way.result
     (λ is k at m among. is ∙ ap (with_more_tags c.args.tables.now)
-    (once-one (c.args.name.now, codes "yes") m c.args.tables.now.draft.ways c.in-Some.way (way_at c.args.tables.now.draft.ways c.in-Some.way)
+    (once-one (c.args.name.now, codes "yes") m c.args.tables.now.draft.ways c.in-Some.way
+    (way_at c.args.tables.now.draft.ways c.in-Some.way)
     c.limits-limits.ensures.distinct.ways (sym (c.in-Some.ensures.value k at m among)) there))
     (c.tag_way.ensures.value (way_at c.args.tables.now.draft.ways c.in-Some.way) there)

@@ -6,4 +6,5 @@ use Rattle.overpass_graph.proofs.routes.tag_routes.Given as goal
 
 abbrev pub invariant-relations : goal.invariant-relations
 invariant-relations l =
-    TagsOn l.initial.tables l.tables (with_routes (drop l.relation l.initial.tables.draft.relations)) (with_routes l.initial.tables.draft.relations)
+    TagsOn l.initial.tables l.tables (with_routes (drop l.relation l.initial.tables.draft.relations))
+    (with_routes l.initial.tables.draft.relations)

@@ -11,13 +11,15 @@ returns-then-is_bicycle c = record {
 
 pub returns-then-end-rest : goal.returns-then-end-rest
 returns-then-end-rest c = record {
-  value = sym (bicycle-nowhere c.pieces.rest.now c.piece_len-end.result c.piece_len-end.ensures.value c.if-end-rest.true c.piece_len-end.ensures.within
+  value = sym (bicycle-nowhere c.pieces.rest.now c.piece_len-end.result c.piece_len-end.ensures.value c.if-end-rest.true
+      c.piece_len-end.ensures.within
       (sym c.is_bicycle.ensures.value ∙ c.if-is_bicycle.false)) ∙ c.pieces.invariant;
 }
 
 pub pieces-preserved : goal.pieces-preserved
 pieces-preserved c =
     let same : names_bicycle (pieces c.behind-rest.result.now) ≡ names_bicycle (pieces c.pieces.rest.now) =
-    rw c.behind-rest.ensures.value (sym (bicycle-behind c.pieces.rest.now c.piece_len-end.result c.piece_len-end.ensures.value c.if-end-rest.false
+    rw c.behind-rest.ensures.value (sym
+    (bicycle-behind c.pieces.rest.now c.piece_len-end.result c.piece_len-end.ensures.value c.if-end-rest.false
     (sym c.is_bicycle.ensures.value ∙ c.if-is_bicycle.false))) in
     same ∙ c.pieces.invariant

@@ -1,4 +1,4 @@
-use Rattle.std.proofs.Common.{sym, ap, ◌∙◌}
+use Rattle.std.proofs.Common.{sym}
 use Rattle.route_http.proofs.EndLemmas.{found_from}
 use Rattle.route_http.proofs.ends.head_end_from.Goals as goal
 

@@ -1,5 +1,4 @@
-use Rattle.std.proofs.Common.{ℕ, List, take, sym, ap, ◌∙◌, min}
-use Rattle.route_http.specs.Ends.{end_of}
+use Rattle.std.proofs.Common.{min}
 use Rattle.route_http.proofs.AnswerLemmas.{cut_none, head_is, head_within}
 use Rattle.route_http.proofs.reading.head_from.Goals as goal
 

@@ -1,5 +1,5 @@
 use Rattle.std.proofs.Common.{◌≡◌, ◌-◌, length, drop}
-use Rattle.track_reply.specs.Tags.{has_set, some_set}
+use Rattle.lookup_table.specs.Numbers.{has_set, some_set}
 use Rattle.track_reply.proofs.tags.is_any_set.Given as goal
 
 abbrev pub invariant-places : goal.invariant-places

@@ -1,5 +1,5 @@
 use Rattle.std.proofs.Common.{◌≡◌, ◌-◌, length, drop}
-use Rattle.way_class.specs.Numbers.{has_set, some_set}
+use Rattle.lookup_table.specs.Numbers.{has_set, some_set}
 use Rattle.way_class.proofs.numbers.is_any_set.Given as goal
 
 abbrev pub invariant-places : goal.invariant-places

@@ -11,7 +11,8 @@ pub returns-then-most-penalty : goal.returns-then-most-penalty
 returns-then-most-penalty c =
     let p : SFits w64 c.value-penalty.result = record { sfits = c.value-penalty.type_inv } in
     let m : SFits w64 c.value-most.result = record { sfits = c.value-most.type_inv } in
-    let order = rates-order c.args.globals.now c.value-penalty.result c.value-most.result (sym c.first_negative.ensures.exact ∙ c.in_default.is)
+    let order = rates-order c.args.globals.now c.value-penalty.result c.value-most.result (sym c.first_negative.ensures.exact
+    ∙ c.in_default.is)
     c.value-penalty.ensures.exact c.value-most.ensures.exact (simp (to_z-of_z, p, m) at c.if-most-penalty.true) in
     record { exact = simp (to_z-of_z, p, m) (sym order) }
 

@@ -6,7 +6,8 @@ use Rattle.grid_map.proofs.grid.Grid.append_part.Goals as goal
 pub returns-then-part-cells-clause-value : goal.returns-then-part-cells-clause-value
 returns-then-part-cells-clause-value c =
     c.append_node.ensures.value
-    ∙ ap (λ (l : List ℕ). c.args.piece.now.items ++ l) (sym (part-node c.args.self.now c.args.part (omega (arith, c.if-part-cells.true, c.cells-cells.ensures.exact))))
+    ∙ ap (λ (l : List ℕ). c.args.piece.now.items ++ l)
+    (sym (part-node c.args.self.now c.args.part (omega (arith, c.if-part-cells.true, c.cells-cells.ensures.exact))))
 
 pub returns-then-part-cells-2-clause-value : goal.returns-then-part-cells-2-clause-value
 returns-then-part-cells-2-clause-value c =
@@ -18,7 +19,16 @@ pub returns-else-part-cells-2-clause-value : goal.returns-else-part-cells-2-clau
 returns-else-part-cells-2-clause-value c =
     c.append_end.ensures.value
     ∙ ap (λ (l : List ℕ). c.args.piece.now.items ++ l)
-    (sym (part-last c.args.self.now c.args.part (omega (arith, c.if-part-cells.false, c.if-part-cells-2.false, c.requires.within, length-parts_of c.args.self.now, c.cells-cells.ensures.exact, c.segments.ensures.exact))))
+    (sym (part-last c.args.self.now c.args.part
+    (omega (
+      arith,
+      c.if-part-cells.false,
+      c.if-part-cells-2.false,
+      c.requires.within,
+      length-parts_of c.args.self.now,
+      c.cells-cells.ensures.exact,
+      c.segments.ensures.exact,
+    ))))
 
 pub append_way-requires-clause-k : goal.append_way-requires-clause-k
 append_way-requires-clause-k c =

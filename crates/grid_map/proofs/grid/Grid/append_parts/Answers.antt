@@ -11,5 +11,6 @@ parts-preserved c =
       room = omega (arith, c.parts.invariant.room, c.append_part.ensures.kept);
       kept = omega (arith, c.parts.invariant.kept, c.append_part.ensures.kept);
       some = inr (search arith);
-      value = text_from-more c.args.self.now c.parts.next c.parts.piece.items c.append_part.new.piece.items _ within c.append_part.ensures.value c.parts.invariant.value;
+      value = text_from-more c.args.self.now c.parts.next c.parts.piece.items c.append_part.new.piece.items _ within
+          c.append_part.ensures.value c.parts.invariant.value;
     }

@@ -4,11 +4,13 @@ use Rattle.grid_map.proofs.AnswerLemmas.{step_backward-none, step_backward-some}
 use Rattle.grid_map.proofs.space.GridSpace.backward_step.Goals as goal
 
 pub returns-in_err-cost : goal.returns-in_err-cost
-returns-in_err-cost c =
-    c.from_residual.ensures
-    ∙ step_backward-none c.args.self.now.grid.now (costs_of c.args.self.now) c.args.k (sym c.cost_in.ensures.exact ∙ c.in_err-cost.was)
+returns-in_err-cost c = record {
+  exact = c.from_residual.ensures
+      ∙ step_backward-none c.args.self.now.grid.now (costs_of c.args.self.now) c.args.k (sym c.cost_in.ensures.exact ∙ c.in_err-cost.was);
+}
 
 pub returns : goal.returns
-returns c =
-    step_backward-some c.args.self.now.grid.now (costs_of c.args.self.now) c.args.k _
-    (sym c.cost_in.ensures.exact ∙ c.in_ok-cost.was) (c.in_ok-cost.ensures.there refl)
+returns c = record {
+  exact = step_backward-some c.args.self.now.grid.now (costs_of c.args.self.now) c.args.k _
+      (sym c.cost_in.ensures.exact ∙ c.in_ok-cost.was) (c.in_ok-cost.ensures.there refl);
+}

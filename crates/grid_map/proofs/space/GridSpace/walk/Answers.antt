@@ -28,5 +28,5 @@ steps-preserved c =
       on = c.steps.invariant.on;
       states = c.steps.invariant.states;
     })
-    c.in_ok-push.ensures.items c.next-cell.ensures in
+    c.in_ok-push.ensures.items c.next-cell.ensures.exact in
     record { on = taken.on; states = taken.states }

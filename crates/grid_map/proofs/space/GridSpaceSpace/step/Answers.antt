@@ -21,17 +21,20 @@ returns-in_err-checked_sub-in_default c =
 
 pub returns-in-0 : goal.returns-in-0
 returns-in-0 c =
-    record { value = c.forward_step.ensures ∙ step_of-is_east c.args.self.now.grid.now (costs_of c.args.self.now) _ _ c.in-0.is }
+    record { value = c.forward_step.ensures.exact ∙ step_of-is_east c.args.self.now.grid.now (costs_of c.args.self.now) _ _ c.in-0.is }
 
 pub returns-in-1 : goal.returns-in-1
 returns-in-1 c =
-    record { value = c.forward_step-in-1.ensures ∙ step_of-is_north c.args.self.now.grid.now (costs_of c.args.self.now) _ _ c.in-1.is }
+    record {
+      value = c.forward_step-in-1.ensures.exact
+          ∙ step_of-is_north c.args.self.now.grid.now (costs_of c.args.self.now) _ _ c.in-1.is;
+    }
 
 pub returns-in_ok-checked_sub-in-2 : goal.returns-in_ok-checked_sub-in-2
 returns-in_ok-checked_sub-in-2 c =
     let found = c.in_ok-checked_sub-in-2.ensures in
     record {
-      value = c.backward_step.ensures
+      value = c.backward_step.ensures.exact
           ∙ ap (λ west. step_backward c.args.self.now.grid.now (costs_of c.args.self.now) (2 * west)) found.1
           ∙ step_of-is_west c.args.self.now.grid.now (costs_of c.args.self.now) _ _ c.in-2.is found.0;
     }
@@ -42,7 +45,7 @@ returns-in_ok-checked_sub-in_default c =
     let found = c.in_ok-checked_sub-in_default.ensures in
     let south = found.1 ∙ ap (λ width. c.args.state.now - width) c.width.ensures.exact in
     record {
-      value = c.backward_step-in_default.ensures
+      value = c.backward_step-in_default.ensures.exact
           ∙ ap (λ south. step_backward c.args.self.now.grid.now (costs_of c.args.self.now) (2 * south + 1)) south
           ∙ step_of-is_south c.args.self.now.grid.now (costs_of c.args.self.now) _ _ last (omega (arith, found.0, c.width.ensures.exact));
     }

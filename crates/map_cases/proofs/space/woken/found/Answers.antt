@@ -4,7 +4,7 @@ use Rattle.bike_space.specs.Kept.{task_of}
 use Rattle.bike_space.specs.Runs.{IsSomeRun}
 use Rattle.bike_space.specs.Tasks.{rules_of}
 use Rattle.space_search.specs.View.{labels_of, view}
-use Rattle.space_search.proofs.ListLemmas.{slice_get-there}
+use Rattle.item_list.proofs.ListLemmas.{slice_get-there}
 use Rattle.map_cases.proofs.space.woken.found.Goals as goal
 
 pub link_of-requires : goal.link_of-requires

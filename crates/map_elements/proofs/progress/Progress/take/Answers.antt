@@ -31,7 +31,8 @@ pub returns-in-Elements : goal.returns-in-Elements
 returns-in-Elements c = record {
   value = λ limits steps s holds is.
       c.take_listed.ensures.value limits steps holds.values s
-      (subst (λ p. IsAt p c.args.self.now.steps steps holds.values) c.in-Elements.is holds.at) holds.taken is (c.kind_of-kind.ensures.value c.args.text.now s is);
+      (subst (λ p. IsAt p c.args.self.now.steps steps holds.values) c.in-Elements.is holds.at) holds.taken is
+      (c.kind_of-kind.ensures.value c.args.text.now s is);
 }
 
 -- a step behind the list

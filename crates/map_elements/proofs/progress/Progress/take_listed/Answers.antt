@@ -9,7 +9,8 @@ pub returns-in-Closes : goal.returns-in-Closes
 returns-in-Closes c = record {
   value = λ limits steps values s inside taken is kind.
       past_holds limits steps c.args.self.now.steps values c.args.text.now s c.args.self.now _
-      (subst (λ d. IsInList steps d c.args.self.now.steps values) c.if-depth-eq0.true inside) taken (subst (λ k. IsKind k c.args.text.now s) c.in-Closes.is kind) refl refl refl;
+      (subst (λ d. IsInList steps d c.args.self.now.steps values) c.if-depth-eq0.true inside) taken
+      (subst (λ k. IsKind k c.args.text.now s) c.in-Closes.is kind) refl refl refl;
 }
 
 -- a name stands there
@@ -17,7 +18,8 @@ pub returns-in-Names : goal.returns-in-Names
 returns-in-Names c = record {
   value = λ limits steps values s inside taken is kind.
       named_holds limits steps c.args.self.now.steps values c.args.text.now s c.args.self.now _
-      (subst (λ d. IsInList steps d c.args.self.now.steps values) c.if-depth-eq0.true inside) taken (subst (λ k. IsKind k c.args.text.now s) c.in-Names.is kind)
+      (subst (λ d. IsInList steps d c.args.self.now.steps values) c.if-depth-eq0.true inside) taken
+      (subst (λ k. IsKind k c.args.text.now s) c.in-Names.is kind)
       refl c.clear.ensures.value refl refl;
 }
 

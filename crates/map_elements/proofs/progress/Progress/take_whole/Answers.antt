@@ -12,7 +12,8 @@ returns-in-Err-clause-value c limits values taken =
     let here : c.in-Some.at ≡ suc (length values) = omega (arith, c.in-Some.ensures.1, taken.count) in
     elim c.in-Err.ensures.exact [
       | inl e ↦ inl e
-      | inr e ↦ inr (shape_refused limits values c.args.self.now.steps c.in-Some.at c.args.self.now.tables.draft here taken.draft c.in-Err.e e)
+      | inr e ↦ inr (shape_refused limits values c.args.self.now.steps c.in-Some.at c.args.self.now.tables.draft here taken.draft c.in-Err.e
+          e)
     ]
 
 -- the element is refused
@@ -35,6 +36,7 @@ returns-clause-value c limits values taken =
       count = omega (arith, here, length_push values c.args.self.now.steps);
       draft = next_taken limits values c.args.self.now.steps c.in-Some.at c.args.self.now.tables.draft here taken.draft
           (seen c.in-Ok.element) c.add.new.tables.draft c.in-Ok.ensures.exact
-          (subst (λ l. take_element l (seen c.in-Ok.element) c.args.self.now.tables.draft ≡ Ok c.add.new.tables.draft) taken.limits_are goes);
+          (subst (λ l. take_element l (seen c.in-Ok.element) c.args.self.now.tables.draft ≡ Ok c.add.new.tables.draft) taken.limits_are
+          goes);
       limits_are = same ∙ taken.limits_are;
     }

@@ -4,8 +4,15 @@ use Rattle.map_elements.proofs.steps.entries.take_entry.Goals as goal
 
 pub returns-else-closes : goal.returns-else-closes
 returns-else-closes c = record {
-  value = cut_entry _ c.args.left.now _ _
-      (sym c.again-behind.ensures.value ∙ c.in-Some.ensures.value) c.requires.no_name
-      (sym (c.closes.ensures.value c.in-Some.field-0-1.now) ∙ c.if-closes.false)
-      _ _ _ _ c.value_size-size.ensures.size c.value_size-size.ensures.ends c.split-value.ensures.front c.split-value.ensures.back;
+  value = cut_entry _ c.args.left.now _ _ _ _ (record {
+    step = _;
+    rest = _;
+    begins = sym c.again-behind.ensures.value ∙ c.in-Some.ensures.value;
+    no_key = c.requires.no_name;
+    opens = sym (c.closes.ensures.value c.in-Some.field-0-1.now) ∙ c.if-closes.false;
+    sized = c.value_size-size.ensures.size;
+    ended = c.value_size-size.ensures.ends;
+    front = c.split-value.ensures.front;
+    back = c.split-value.ensures.back;
+  });
 }

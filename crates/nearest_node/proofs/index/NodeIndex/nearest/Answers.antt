@@ -14,14 +14,16 @@ returns-then-best-lt-NO_RANK g c =
     let keys = c.args.self.now.keys.items in
     let start = c.first_north_of-start.result in
     let best = c.downward-best.result in
-    let behind = subst (λ ks. IsFirstOf places may at ks start (length ks) c.upward-best.result) c.as_slice-2.ensures.value c.upward-best.ensures.first in
+    let behind = subst (λ ks. IsFirstOf places may at ks start (length ks) c.upward-best.result) c.as_slice-2.ensures.value
+    c.upward-best.ensures.first in
     let before = subst (λ ks. IsFirstOf places may at ks 0 start best) c.as_slice-3.ensures.value c.downward-best.ensures.first in
     record {
       exact =
           subst (λ n. IsMovedTo (length c.args.map.now.nodes) places may at (Some n)) (sym c.number.ensures.exact)
           (moved-there (length c.args.map.now.nodes) places may at keys best
           (record { few = omega (arith, c.nodes.ensures.lawful.roads.few_nodes); index = c.requires.index })
-          c.downward-best.ensures.best (first-both places may at keys start c.upward-best.result best behind before c.downward-best.ensures.better)
+          c.downward-best.ensures.best (first-both places may at keys start c.upward-best.result best behind before
+          c.downward-best.ensures.better)
           c.if-best-lt-NO_RANK.true);
     }
 
@@ -33,7 +35,8 @@ returns-else-best-lt-NO_RANK g c =
     let keys = c.args.self.now.keys.items in
     let start = c.first_north_of-start.result in
     let best = c.downward-best.result in
-    let behind = subst (λ ks. IsFirstOf places may at ks start (length ks) c.upward-best.result) c.as_slice-2.ensures.value c.upward-best.ensures.first in
+    let behind = subst (λ ks. IsFirstOf places may at ks start (length ks) c.upward-best.result) c.as_slice-2.ensures.value
+    c.upward-best.ensures.first in
     let before = subst (λ ks. IsFirstOf places may at ks 0 start best) c.as_slice-3.ensures.value c.downward-best.ensures.first in
     record {
       exact =

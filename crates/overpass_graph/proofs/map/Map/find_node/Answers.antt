@@ -16,7 +16,8 @@ returns-in-None c =
 pub returns-in-Some : goal.returns-in-Some
 returns-in-Some c =
     let found = node-found _ _ _ _ _ _ c.args.self.now c.self.invariant c.self.view_is c.args.id in
-    let below : c.in-Some.place < length c.self.inside.order.numbers.items = omega (arith, c.in-Some.ensures.fits, c.self.invariant.order.numbers_length) in
+    let below : c.in-Some.place < length c.self.inside.order.numbers.items =
+    omega (arith, c.in-Some.ensures.fits, c.self.invariant.order.numbers_length) in
     let read = get_or_read c.self.inside.order.numbers.items c.in-Some.place c.index.result.now below c.index.ensures 0 in
     let fits : SFits w64 c.args.id = search rules in
     let here = simp (to_z-of_z, fits) at c.in-Some.ensures.value in

@@ -1,5 +1,5 @@
 use Rattle.route_ready.specs.World.{world_of}
-use Rattle.request_reply.specs.Pending.{IsPending}
+use Rattle.route_engine.specs.Pending.{IsPending}
 use Rattle.run_cases.proofs.route.replies.turned.Given as goal
 
 abbrev pub invariant-turns : goal.invariant-turns
