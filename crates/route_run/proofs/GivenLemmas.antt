@@ -6,7 +6,7 @@ use Rattle.command_words.specs.Fit.{AreProfileFiles}
 use Rattle.command_words.specs.Given.{Named}
 use Rattle.edge_io.specs.Files.{FilesSeen}
 use Rattle.lookup_table.specs.First.{TagTable}
-use Rattle.session_answers.proofs.CallerLemmas.{names_pushed}
+use Rattle.route_ready.proofs.CallerLemmas.{names_pushed}
 use Rattle.route_ready.specs.Entries.{names_of}
 use Rattle.run_files.proofs.StageLemmas.{then-given}
 use Rattle.run_files.specs.Chain.{Settles, TakesEachAfter}
