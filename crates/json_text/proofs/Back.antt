@@ -9,7 +9,8 @@ use Rattle.json_text.specs.Rest.{Kept, keeping, After, BeforeFirst, part_after, 
 use Rattle.json_text.specs.Machine.{letter_after, byte_move, last_move, finish_move}
 use Rattle.json_text.proofs.ByteTests.{eq_of}
 use Rattle.json_text.proofs.Goes.{Goes, Ends, Follows, sides, out_reads, out_stuck, out_finishes}
-use Rattle.json_text.proofs.BackValues.{found_at, value_back, value_found, first_back, colon_back, name_back, after_back, word_back, no_end, number_back}
+use Rattle.json_text.proofs.BackValues.{found_at, value_back, value_found, word_back, no_end, number_back}
+use Rattle.json_text.proofs.BackEntries.{first_back, colon_back, name_back, after_back}
 use Rattle.json_text.proofs.Lists.{append_nil}
 use Rattle.json_text.proofs.BackTexts.{place_back}
 

@@ -4,6 +4,7 @@ pub mod Goes
 pub mod ForthTexts
 pub mod Forth
 pub mod BackValues
+pub mod BackEntries
 pub mod BackTexts
 pub mod Back
 pub mod Lists
@@ -19,4 +20,3 @@ pub mod ScannerLemmas
 pub mod RunLemmas
 pub mod BeginLemmas
 pub mod AnswerLemmas
-pub mod CallerLemmas

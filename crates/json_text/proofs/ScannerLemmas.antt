@@ -1,12 +1,12 @@
 -- What a scanner stands for, move by move.
-use Rattle.std.proofs.Common.{◌≡◌, ℕ, zero, suc, ◌+◌, ◌-◌, ◌≤◌, true, false, List, [], ◌∷◌, ◌++◌, length, drop, vec_len, refl, sym, ◌∙◌, ap, subst, arith, Some, if◌then◌else◌, reverse, ◌<◌, get_or, drop-cons, add-one}
+use Rattle.std.proofs.Common.{◌≡◌, ℕ, zero, suc, ◌+◌, ◌-◌, ◌≤◌, true, false, List, [], ◌∷◌, ◌++◌, length, drop, vec_len, refl, sym, ◌∙◌, ap, subst, arith, if◌then◌else◌, reverse, ◌<◌, get_or, drop-cons, add-one}
 use Rattle.json_text.specs.declared.mode.Taken.{Taken}
 use Rattle.json_text.specs.declared.mode.Taken.TheVariants as taken_
 use Rattle.json_text.specs.declared.mode.Ending.{Ending}
 use Rattle.json_text.specs.declared.mode.Ending.TheVariants as ending_
-use Rattle.json_text.specs.declared.mode.Token.{Token}
 use Rattle.json_text.specs.declared.step.JsonStep.{JsonStep}
 use Rattle.json_text.specs.declared.step.JsonStep.TheVariants as step_
+use Rattle.json_text.specs.declared.step.JsonAnswer.TheVariants as answer_
 use Rattle.json_text.specs.declared.machine.Machine.{Machine}
 use Rattle.json_text.specs.declared.scanner.Scanner.{Scanner}
 use Rattle.json_text.specs.Marks.{Symbol, Byte, End, Step, symbols_of, symbols}
@@ -15,8 +15,8 @@ use Rattle.json_text.specs.Rest.{keeping, holding, IsFrontOf, first_of}
 use Rattle.json_text.specs.Machine.{move_by}
 use Rattle.json_text.specs.Taking.{kept_of, move_of, IsSame, Takes, end_move_of, IsUnchanged, EndStays}
 use Rattle.json_text.specs.Scanner.{is_number, fed, content, pending, symbols_left, Holds}
-use Rattle.json_text.specs.Tokens.{step_of, step_for}
-use Rattle.json_text.specs.Told.{Told, told_step, told_verdict}
+use Rattle.json_text.specs.Steps.{step_for}
+use Rattle.json_text.specs.Told.{Told}
 use Rattle.json_text.proofs.Stops.{Ended, FirstSays, first_says}
 use Rattle.json_text.proofs.HoldLemmas.{move_at, IsLeftSame, read_holds, given_holds, first_holds, holds_more, holds_whole, holds_bad}
 
@@ -35,20 +35,17 @@ module _ (old new : Scanner) (bytes : List ℕ) (steps : List Step) (b : ℕ) (t
   byte_read t p n = read_holds old new bytes steps b h p n (subst (λ x. Moves old new x (Byte b)) t m)
 
   -- a step was given
-  pub byte_given : (token : Token) (answer : JsonStep) → taken ≡ taken_.Given token →
-      ((text : List ℕ) → step_for answer text ≡ Some (step_of token text))
-      → pending old ≡ b ∷ pending new → fed new ≡ fed old → Told answer new bytes steps
-  byte_given token answer t a p n =
-      told_step (step_of token (content new)) (a (content new))
-      (given_holds old new bytes steps b h p n (step_of token (content new)) (subst (λ x. Moves old new x (Byte b)) t m))
+  pub byte_given : (step : JsonStep) → taken ≡ taken_.Given step → pending old ≡ b ∷ pending new → fed new ≡ fed old →
+      Told (answer_.Step step) new bytes steps
+  byte_given step t p n =
+      given_holds old new bytes steps b h p n (step_for step (content new)) (subst (λ x. Moves old new x (Byte b)) t m)
 
   -- a number was given
   pub byte_first : taken ≡ taken_.First → (others : List ℕ) → pending old ≡ b ∷ others → IsLeftSame old new →
-      Told step_.Number new bytes steps
+      Told (answer_.Step step_.Number) new bytes steps
   byte_first t others q s =
-      told_step (Step.Number (content new)) refl
-      (first_holds old new bytes steps (Byte b) (symbols others ++ (if old.ended then End ∷ [] else [])) (Step.Number (content new)) h s
-      (ap (λ ps. symbols ps ++ (if old.ended then End ∷ [] else [])) q) (subst (λ x. Moves old new x (Byte b)) t m))
+      first_holds old new bytes steps (Byte b) (symbols others ++ (if old.ended then End ∷ [] else [])) (Step.Number (content new)) h s
+      (ap (λ ps. symbols ps ++ (if old.ended then End ∷ [] else [])) q) (subst (λ x. Moves old new x (Byte b)) t m)
 
 -- the same place, with the same bytes pending
 pub same_holds : (old new : Scanner) (bytes : List ℕ) (steps : List Step) → Holds old bytes steps → IsLeftSame old new
@@ -84,16 +81,17 @@ IsAt scanner at = (scanner.read ≤ vec_len scanner.input) × (at ≡ scanner.be
 module _ (old new : Scanner) (bytes : List ℕ) (steps : List Step) (h : Holds old bytes steps) (l : IsLeftSame old new) where
   -- no text goes on with a symbol
   pub stuck_told : (x : Symbol) (others : List Symbol) (at : ℕ) → IsSame old.machine new.machine → symbols_left new ≡ x ∷ others
-      → Moves old new taken_.Stuck x → IsAt new at → Told (step_.Bad at) new bytes steps
+      → Moves old new taken_.Stuck x → IsAt new at → Told (answer_.Verdict (BadAt at)) new bytes steps
   stuck_told x others at s q m a =
-      let k = same_holds old new bytes steps h l s in
-      told_verdict (BadAt at) refl k
-      (subst (λ z. Reads bytes new.ended steps (BadAt z)) (sym a.1)
-      (holds_bad new bytes steps x others k a.0 q (same_move old.machine new.machine x s ∙ sym m)))
+      let k = same_holds old new bytes steps h l s in (
+        k,
+        subst (λ z. Reads bytes new.ended steps (BadAt z)) (sym a.1)
+            (holds_bad new bytes steps x others k a.0 q (same_move old.machine new.machine x s ∙ sym m)),
+      )
 
   -- no text goes on with a byte
   pub byte_stuck : (b : ℕ) (taken : Taken) (others : List ℕ) (at : ℕ) → Takes old.machine new.machine (move_at old (Byte b)) taken
-      → taken ≡ taken_.Stuck → pending old ≡ b ∷ others → IsAt new at → Told (step_.Bad at) new bytes steps
+      → taken ≡ taken_.Stuck → pending old ≡ b ∷ others → IsAt new at → Told (answer_.Verdict (BadAt at)) new bytes steps
   byte_stuck b taken others at k t q a =
       let m : Takes old.machine new.machine (move_at old (Byte b)) taken_.Stuck =
       subst (λ y. Takes old.machine new.machine (move_at old (Byte b)) y) t k in
@@ -102,8 +100,8 @@ module _ (old new : Scanner) (bytes : List ℕ) (steps : List Step) (h : Holds o
 
 -- nothing is left, and the end wasn't said
 pub last_more : (scanner : Scanner) (bytes : List ℕ) (steps : List Step) → Holds scanner bytes steps → pending scanner ≡ [] →
-    scanner.ended ≡ false → Told step_.More scanner bytes steps
-last_more scanner bytes steps h p e = told_verdict More refl h (holds_more scanner bytes steps h p e)
+    scanner.ended ≡ false → Told (answer_.Verdict More) scanner bytes steps
+last_more scanner bytes steps h p e = (h, holds_more scanner bytes steps h p e)
 
 -- what a move by the end says
 abbrev pub EndMoves : Scanner → Scanner → Ending → Type 0
@@ -116,22 +114,23 @@ module _ (old new : Scanner) (bytes : List ℕ) (steps : List Step) (ending : En
   left_end = ap (λ ps. symbols ps ++ (if old.ended then End ∷ [] else [])) nil ∙ ap (λ y. if y then End ∷ [] else []) t
 
   -- a number ends the text
-  pub end_number_told : ending ≡ ending_.Number → Told step_.Number new bytes steps
+  pub end_number_told : ending ≡ ending_.Number → Told (answer_.Step step_.Number) new bytes steps
   end_number_told q =
-      told_step (Step.Number (content new)) refl
-      (first_holds old new bytes steps End [] (Step.Number (content new)) h l left_end (subst (λ y. EndMoves old new y) q m))
+      first_holds old new bytes steps End [] (Step.Number (content new)) h l left_end (subst (λ y. EndMoves old new y) q m)
 
   -- the text is whole
-  pub end_whole_told : ending ≡ ending_.Whole → EndStays ending old.machine new.machine → Told step_.Done new bytes steps
+  pub end_whole_told : ending ≡ ending_.Whole → EndStays ending old.machine new.machine → Told (answer_.Verdict Whole) new bytes steps
   end_whole_told q s =
       let u : IsUnchanged old.machine new.machine = subst (λ y. EndStays y old.machine new.machine) q s in
-      let k = same_holds old new bytes steps h l u.place in
-      told_verdict Whole refl k (holds_whole new bytes steps k (l.pending_same ∙ nil) (l.ended_same
-      ∙ t) (same_move old.machine new.machine End u.place ∙ sym (subst (λ y. EndMoves old new y) q m)))
+      let k = same_holds old new bytes steps h l u.place in (
+        k,
+        holds_whole new bytes steps k (l.pending_same ∙ nil) (l.ended_same ∙ t)
+            (same_move old.machine new.machine End u.place ∙ sym (subst (λ y. EndMoves old new y) q m)),
+      )
 
   -- the text isn't whole
   pub end_stuck_told : (at : ℕ) → ending ≡ ending_.Stuck → EndStays ending old.machine new.machine → IsAt new at →
-      Told (step_.Bad at) new bytes steps
+      Told (answer_.Verdict (BadAt at)) new bytes steps
   end_stuck_told at q s a =
       let u : IsUnchanged old.machine new.machine = subst (λ y. EndStays y old.machine new.machine) q s in
       stuck_told old new bytes steps h l End [] at u.place

@@ -6,7 +6,7 @@ pub mod Grammar
 pub mod Reading
 pub mod Rest
 pub mod Machine
-pub mod Tokens
+pub mod Steps
 pub mod Taking
 pub mod Scanner
 pub mod Told

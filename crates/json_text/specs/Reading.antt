@@ -1,18 +1,13 @@
 -- The steps of a text of which so much was seen, and the three verdicts.
 use Rattle.std.specs.Prelude.{ℕ, List, [], ◌∷◌, ◌++◌, ◌≡◌, Bool, true, false, if◌then◌else◌, length}
+pub use Rattle.json_text.specs.declared.step.Verdict.{Verdict}
+pub use Rattle.json_text.specs.declared.step.Verdict.TheVariants.{More, Whole, BadAt}
 use Rattle.json_text.specs.Marks.{Symbol, End, Step, Mark, Seen, symbols_of, steps_of, symbols, Begins}
 use Rattle.json_text.specs.Grammar.{IsText}
 
 -- what was seen of a text: its bytes so far, and its end once that was said
 abbrev pub seen : List ℕ → Bool → List Symbol
 seen bytes ended = symbols bytes ++ (if ended then End ∷ [] else [])
-
--- what there is to say behind the steps that are fixed: more may come, the text is whole, or no text goes on
--- so behind so many bytes
-pub data Verdict : Type 0 where
-  More : Verdict
-  Whole : Verdict
-  BadAt : ℕ → Verdict
 
 -- the bytes begin some text. The front ends with the last byte, or with steps that each such text gives there
 pub record IsMore (bytes : List ℕ) (front : List Mark) : Type 0 where

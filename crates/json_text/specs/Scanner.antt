@@ -1,14 +1,14 @@
 -- What a scanner stands for: the bytes fed to it, whether the end was said, and the steps that it gave.
 use Rattle.std.specs.Prelude.{ℕ, ◌+◌, ◌-◌, ◌*◌, ◌<◌, List, [], ◌∷◌, ◌++◌, ◌≡◌, Bool, false, if◌then◌else◌, length, drop, vec_len}
-use Rattle.json_text.specs.declared.mode.Bracket.TheVariants as bracket_
 use Rattle.json_text.specs.declared.mode.Mode.{Mode}
 use Rattle.json_text.specs.declared.mode.Mode.TheVariants as mode_
-use Rattle.json_text.specs.declared.step.JsonStep.{JsonStep}
-use Rattle.json_text.specs.declared.step.JsonStep.TheVariants as step_
+use Rattle.json_text.specs.declared.step.JsonAnswer.{JsonAnswer}
+use Rattle.json_text.specs.declared.step.JsonAnswer.TheVariants as answer_
 use Rattle.json_text.specs.declared.scanner.Scanner.{Scanner}
-use Rattle.json_text.specs.Marks.{Symbol, End, Yes, No, Null, Step, Mark, symbols_of, steps_of, symbols}
-use Rattle.json_text.specs.Reading.{Verdict, More, Whole, BadAt, Reads, AreFixed}
+use Rattle.json_text.specs.Marks.{Symbol, End, Step, Mark, symbols_of, steps_of, symbols}
+use Rattle.json_text.specs.Reading.{Verdict, Reads, AreFixed}
 use Rattle.json_text.specs.Rest.{IsFrontOf, first_of}
+use Rattle.json_text.specs.Steps.{step_for, KeepsBeside}
 use Rattle.json_text.specs.Taking.{kept_of}
 
 -- how many bytes were fed
@@ -73,32 +73,17 @@ pub record GaveVerdict (verdict : Verdict) (new : Scanner) (bytes : List ℕ) (e
   pub reads : Reads bytes ended steps verdict
 
 -- what an answer says
-abbrev pub Answers : (answer : JsonStep) (new : Scanner) (bytes : List ℕ) (ended : Bool) (steps : List Step) →
-    Type 0
-Answers step_.Open new = GaveStep (Step.Opens bracket_.Curly) new
-Answers step_.Close new = GaveStep (Step.Closes bracket_.Curly) new
-Answers step_.ListOpen new = GaveStep (Step.Opens bracket_.Square) new
-Answers step_.ListClose new = GaveStep (Step.Closes bracket_.Square) new
-Answers step_.Key new = GaveStep (Step.Key (content new)) new
-Answers step_.Text new = GaveStep (Step.Text (content new)) new
-Answers step_.Number new = GaveStep (Step.Number (content new)) new
-Answers step_.True new = GaveStep (Step.Word Yes) new
-Answers step_.False new = GaveStep (Step.Word No) new
-Answers step_.Null new = GaveStep (Step.Word Null) new
-Answers step_.Done new = GaveVerdict Whole new
-Answers step_.More new = GaveVerdict More new
-Answers (step_.Bad at) new = GaveVerdict (BadAt at) new
-
--- an answer is the verdict
-abbrev pub IsVerdict : JsonStep → Verdict → Type 0
-IsVerdict step_.Done verdict = verdict ≡ Whole
-IsVerdict step_.More verdict = verdict ≡ More
-IsVerdict (step_.Bad at) verdict = verdict ≡ BadAt at
-IsVerdict _ verdict = ⊥
+abbrev pub Answers : (answer : JsonAnswer) (new : Scanner) (bytes : List ℕ) (ended : Bool)
+    (steps : List Step) → Type 0
+Answers (answer_.Step step) new = GaveStep (step_for step (content new)) new
+Answers (answer_.Verdict verdict) new = GaveVerdict verdict new
 
 -- an answer that is a step leaves fewer steps
-abbrev pub IsNearer : JsonStep → Scanner → Scanner → Type 0
-IsNearer step_.Done old new = Unit {0}
-IsNearer step_.More old new = Unit {0}
-IsNearer (step_.Bad at) old new = Unit {0}
-IsNearer _ old new = most_steps new < most_steps old
+abbrev pub IsNearer : JsonAnswer → Scanner → Scanner → Type 0
+IsNearer (answer_.Step step) old new = most_steps new < most_steps old
+IsNearer (answer_.Verdict verdict) old new = Unit {0}
+
+-- the last content stays but where a step has content
+abbrev pub KeepsContent : JsonAnswer → Scanner → Scanner → Type 0
+KeepsContent (answer_.Step step) old new = KeepsBeside step (content old) (content new)
+KeepsContent (answer_.Verdict verdict) old new = content new ≡ content old

@@ -13,7 +13,7 @@ use Rattle.json_text.specs.declared.mode.Ending.TheVariants as ending_
 use Rattle.json_text.specs.declared.machine.Machine.{Machine}
 use Rattle.json_text.specs.Marks.{Step}
 use Rattle.json_text.specs.Rest.{Kept, keeping}
-use Rattle.json_text.specs.Tokens.{step_of, KeepsWith}
+use Rattle.json_text.specs.Steps.{step_for, KeepsBeside}
 use Rattle.json_text.specs.Machine.{Move, Reads, Gives, GivesFirst, Finishes, Stuck}
 
 -- how many brackets may open
@@ -41,13 +41,13 @@ rest_of (bracket ∷ opens) = opens
 -- the move that was made, seen by what became of the symbol and by the machine then
 abbrev pub move_of : Taken → Machine → Move
 move_of taken_.Read new = Reads new.mode (kept_of new)
-move_of (taken_.Given token) new = Gives (step_of token new.text.items) new.mode (kept_of new)
+move_of (taken_.Given step) new = Gives (step_for step new.text.items) new.mode (kept_of new)
 move_of taken_.First new = GivesFirst (Step.Number new.text.items) new.mode (kept_of new)
 move_of taken_.Stuck new = Stuck
 
 -- the last content stays where no other is given
 abbrev pub KeepsText : Taken → Machine → Machine → Type 0
-KeepsText (taken_.Given token) old new = KeepsWith token old.text.items new.text.items
+KeepsText (taken_.Given step) old new = KeepsBeside step old.text.items new.text.items
 KeepsText taken_.First old new = Unit {0}
 KeepsText _ old new = new.text.items ≡ old.text.items
 

@@ -1,8 +1,9 @@
 //! How a symbol that begins or ends a value or an entry changes what a scanner keeps.
 
 use crate::bytes::{closing, entry_mode, start_of};
+use crate::given::{close_step, open_step};
 use crate::machine::Machine;
-use crate::mode::{Bracket, Mode, Part, Place, Role, Start, Taken, Token};
+use crate::mode::{Bracket, Mode, Part, Place, Role, Start, Taken};
 use std::alloc::AllocError;
 
 impl Machine {
@@ -26,7 +27,7 @@ impl Machine {
         }
         self.opens.push(bracket)?;
         self.mode = Mode::First;
-        Ok(Taken::Given(Token::Open(bracket)))
+        Ok(Taken::Given(open_step(bracket)))
     }
 
     /// Begins a text between quotation marks.
@@ -105,7 +106,7 @@ impl Machine {
     {
         let _ = self.opens.pop();
         self.mode = Mode::After;
-        Ok(Taken::Given(Token::Close(bracket)))
+        Ok(Taken::Given(close_step(bracket)))
     }
 
     /// Begins an entry.

@@ -1,10 +1,10 @@
 //! JSON texts, in whatever pieces they come, read into steps.
 #![tactic(auto)]
 
-mod answer;
 mod bytes;
 mod content;
 mod entries;
+mod given;
 mod machine;
 mod mode;
 mod quoted;
@@ -15,4 +15,4 @@ mod step;
 
 pub use reading::{few_steps, fixed_steps, lasting_faults, one_reading};
 pub use scanner::Scanner;
-pub use step::JsonStep;
+pub use step::{JsonAnswer, JsonStep, Verdict};

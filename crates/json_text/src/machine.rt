@@ -3,7 +3,8 @@
 ghost use Rattle.std.specs.Prelude.{◌≤◌, vec_len};
 
 use crate::bytes::{is_space, kind_of, letter_after, letters_after, may_end, part_after};
-use crate::mode::{Bracket, Ending, Letters, Mode, Part, Taken, Token};
+use crate::given::word_step;
+use crate::mode::{Bracket, Ending, Letters, Mode, Part, Taken};
 use std::alloc::{AllocError, Global};
 use std::mem;
 
@@ -70,7 +71,7 @@ impl Machine {
             }
             None => {
                 self.mode = Mode::After;
-                Ok(Taken::Given(Token::Word(letters)))
+                Ok(Taken::Given(word_step(letters)))
             }
         }
     }

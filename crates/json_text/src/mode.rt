@@ -1,5 +1,7 @@
 //! Where in a text a scanner stands.
 
+use crate::step::JsonStep;
+
 /// A pair of brackets.
 #[derive(Clone, Copy)]
 pub enum Bracket {
@@ -132,23 +134,13 @@ pub enum Mode {
     Text(Role, Place),
 }
 
-/// A step that a move gives, where the content stands beside it.
-#[derive(Clone, Copy)]
-pub enum Token {
-    Open(Bracket),
-    Close(Bracket),
-    Text(Role),
-    Number,
-    Word(Letters),
-}
-
 /// What became of a symbol.
 #[derive(Clone, Copy)]
 pub enum Taken {
     /// It was read.
     Read,
-    /// It was read, and a step is given.
-    Given(Token),
+    /// It was read, and a step is given, beside its content.
+    Given(JsonStep),
     /// It ends a number, which is given, and is still to be read.
     First,
     /// No text goes on so. Nothing has changed.

@@ -2,8 +2,9 @@
 
 use crate::bytes::{escape_of, fits_tail, is_hex, lead_of, mode_behind, place_after};
 use crate::content::{push_lone, push_unit, unit_of, waits};
+use crate::given::text_step;
 use crate::machine::Machine;
-use crate::mode::{Escape, Lead, Mode, Place, Role, Tail, Taken, Token};
+use crate::mode::{Escape, Lead, Mode, Place, Role, Tail, Taken};
 use std::alloc::AllocError;
 use std::mem;
 
@@ -29,7 +30,7 @@ impl Machine {
         mem::swap(&mut self.content, &mut self.text);
         self.content.clear();
         self.mode = mode_behind(role);
-        Ok(Taken::Given(Token::Text(role)))
+        Ok(Taken::Given(text_step(role)))
     }
 
     /// Reads a byte of a text, and goes to a place there.

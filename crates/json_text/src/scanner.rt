@@ -2,10 +2,9 @@
 
 ghost use Rattle.std.specs.Prelude.{◌≤◌, ◌<◌, ◌+◌, ◌^◌, vec_len};
 
-use crate::answer::json_step;
 use crate::machine::Machine;
 use crate::mode::{Ending, Taken};
-use crate::step::JsonStep;
+use crate::step::{JsonAnswer, JsonStep, Verdict};
 use std::alloc::{AllocError, Global};
 
 mod advance;
@@ -36,13 +35,14 @@ impl Drop for Scanner {
 }
 
 impl Scanner {
-    ghost use Rattle.std.specs.Prelude.{◌≡◌, ◌∷◌, ◌++◌, [], ℕ, List, Bool, true, false, length, OnOk, OnErr, IfOk, IsErr, IsNone};
+    ghost use Rattle.std.specs.Prelude.{◌≡◌, ◌∷◌, ◌++◌, [], ℕ, List, Bool, true, false, length, OnOk, OnErr, IfOk, IsErr, IsNone, MatchOption};
     ghost use Rattle.json_text.specs.Marks.{Step};
-    ghost use Rattle.json_text.specs.Reading.{Reads, Verdict, BadAt};
-    ghost use Rattle.json_text.specs.Tokens.{KeepsContent, KeepsFound};
-    ghost use Rattle.json_text.specs.Scanner.{Stands, Holds, Answers, IsVerdict, IsNearer, fed, has_ended, has_failed};
+    ghost use Rattle.json_text.specs.declared.step.JsonAnswer.TheVariants as answer_;
+    ghost use Rattle.json_text.specs.declared.step.Verdict.{Verdict as Said};
+    ghost use Rattle.json_text.specs.Reading.{Reads, BadAt};
+    ghost use Rattle.json_text.specs.Scanner.{Stands, Holds, Answers, IsNearer, KeepsContent, fed, has_ended, has_failed, most_steps};
     ghost use Rattle.json_text.specs.Scanner as scanner;
-    ghost use Rattle.json_text.specs.Told.{Found, Told, IsNearerBy};
+    ghost use Rattle.json_text.specs.Told.{Told};
 
     /// A scanner of a text of which nothing has come yet.
     pub fn new(alloc: Global) -> Self
@@ -135,19 +135,23 @@ impl Scanner {
         self.before + self.read as u64
     }
 
-    /// Reads the next byte, or gives a step or a verdict.
-    fn step(&mut self) -> Result<Option<JsonStep>, AllocError>
+    /// Reads the next byte, or answers.
+    fn step(&mut self) -> Result<Option<JsonAnswer>, AllocError>
         requires left { self.old.read < vec_len self.old.input }
         ensures value { (bytes : List ℕ) (steps : List Step) → Holds self.old bytes steps →
-            IfOk result (λ found. Found found self.new bytes steps) }
+            IfOk result (λ found. MatchOption found (Holds self.new bytes steps)
+            (λ answer. Told answer self.new bytes steps)) }
         ensures read { IfOk result (λ found. IsNone found → self.new.read ≡ self.old.read + 1) }
-        ensures nearer { IfOk result (λ found. IsNearerBy found self.old self.new) }
+        ensures nearer { IfOk result (λ found.
+            MatchOption found (most_steps self.new < most_steps self.old)
+            (λ answer. IsNearer answer self.old self.new)) }
         ensures input { self.new.input ≡ self.old.input }
         ensures before { self.new.before ≡ self.old.before }
         ensures ended { has_ended self.new ≡ has_ended self.old }
         ensures failed { has_failed self.new ≡ has_failed self.old }
         ensures kept { IfOk result (λ found.
-            KeepsFound found (scanner.content self.old) (scanner.content self.new)) }
+            MatchOption found (scanner.content self.new ≡ scanner.content self.old)
+            (λ answer. KeepsContent answer self.old self.new)) }
         ensures err { OnErr result (scanner.content self.new ≡ scanner.content self.old) }
     {
         let b = self.input[self.read];
@@ -156,17 +160,17 @@ impl Scanner {
                 self.read += 1;
                 Ok(None)
             }
-            Taken::Given(token) => {
+            Taken::Given(step) => {
                 self.read += 1;
-                Ok(Some(json_step(token)))
+                Ok(Some(JsonAnswer::Step(step)))
             }
-            Taken::First => Ok(Some(JsonStep::Number)),
-            Taken::Stuck => Ok(Some(JsonStep::Bad { at: self.at() })),
+            Taken::First => Ok(Some(JsonAnswer::Step(JsonStep::Number))),
+            Taken::Stuck => Ok(Some(JsonAnswer::Verdict(Verdict::BadAt(self.at())))),
         }
     }
 
     /// Where nothing is left, takes the end or wants more.
-    fn last(&mut self) -> JsonStep
+    fn last(&mut self) -> JsonAnswer
         requires none { self.old.read ≡ vec_len self.old.input }
         ensures value { (bytes : List ℕ) (steps : List Step) → Holds self.old bytes steps →
             Told result self.new bytes steps }
@@ -174,28 +178,27 @@ impl Scanner {
         ensures ended { has_ended self.new ≡ has_ended self.old }
         ensures failed { has_failed self.new ≡ has_failed self.old }
         ensures nearer { IsNearer result self.old self.new }
-        ensures kept { KeepsContent result (scanner.content self.old) (scanner.content self.new) }
+        ensures kept { KeepsContent result self.old self.new }
     {
         if !self.ended {
-            return JsonStep::More;
+            return JsonAnswer::Verdict(Verdict::More);
         }
         match self.machine.take_end() {
-            Ending::Number => JsonStep::Number,
-            Ending::Whole => JsonStep::Done,
-            Ending::Stuck => JsonStep::Bad { at: self.at() },
+            Ending::Number => JsonAnswer::Step(JsonStep::Number),
+            Ending::Whole => JsonAnswer::Verdict(Verdict::Whole),
+            Ending::Stuck => JsonAnswer::Verdict(Verdict::BadAt(self.at())),
         }
     }
 
     /// Reads on to the next step, or to the verdict.
-    fn scan(&mut self) -> Result<JsonStep, AllocError>
+    fn scan(&mut self) -> Result<JsonAnswer, AllocError>
         ensures value { (bytes : List ℕ) (steps : List Step) → Holds self.old bytes steps →
             IfOk result (λ answer. Told answer self.new bytes steps) }
         ensures fed { fed self.new ≡ fed self.old }
         ensures ended { has_ended self.new ≡ has_ended self.old }
         ensures failed { has_failed self.new ≡ has_failed self.old }
         ensures nearer { IfOk result (λ answer. IsNearer answer self.old self.new) }
-        ensures kept { IfOk result (λ answer.
-            KeepsContent answer (scanner.content self.old) (scanner.content self.new)) }
+        ensures kept { IfOk result (λ answer. KeepsContent answer self.old self.new) }
         ensures err { OnErr result (scanner.content self.new ≡ scanner.content self.old) }
     {
         'symbols: while self.read < self.input.len() {
@@ -211,29 +214,28 @@ impl Scanner {
 
     /// The next fixed step of the text, or the verdict where there is none. Where memory is
     /// wanting, every later call says so too.
-    pub fn next(&mut self) -> Result<JsonStep, AllocError>
+    pub fn next(&mut self) -> Result<JsonAnswer, AllocError>
         // Either the next step, which is fixed, or the verdict behind all fixed steps.
         ensures value { (bytes : List ℕ) (ended : Bool) (steps : List Step) →
             Stands self.old bytes ended steps →
             IfOk result (λ answer. Answers answer self.new bytes ended steps) }
         // Once all fixed steps were given, the verdict and nothing else, at this call and at each
         // later one.
-        ensures exact { (bytes : List ℕ) (ended : Bool) (steps : List Step) (verdict : Verdict) →
+        ensures exact { (bytes : List ℕ) (ended : Bool) (steps : List Step) (verdict : Said) →
             Stands self.old bytes ended steps → Reads bytes ended steps verdict →
-            IfOk result (λ answer. IsVerdict answer verdict) }
+            IfOk result (λ answer. answer ≡ answer_.Verdict verdict) }
         // What is bad stays bad at the same byte for ever, also where more was fed since, or the
         // end was said.
         ensures stays { (bytes more : List ℕ) (ended : Bool) (steps : List Step) (at : ℕ) →
             Stands self.old (bytes ++ more) ended steps → Reads bytes false steps (BadAt at) →
-            IfOk result (λ answer. IsVerdict answer (BadAt at)) }
+            IfOk result (λ answer. answer ≡ answer_.Verdict (BadAt at)) }
 
         // So the steps that come before more is fed are few, and a loop over them ends.
         ensures nearer { IfOk result (λ answer. IsNearer answer self.old self.new) }
 
         ensures fed { fed self.new ≡ fed self.old }
         ensures ended { has_ended self.new ≡ has_ended self.old }
-        ensures content { IfOk result (λ answer.
-            KeepsContent answer (scanner.content self.old) (scanner.content self.new)) }
+        ensures content { IfOk result (λ answer. KeepsContent answer self.old self.new) }
         ensures kept { OnErr result (scanner.content self.new ≡ scanner.content self.old) }
 
         ensures works { OnOk result (has_failed self.new ≡ false) }

@@ -1,7 +1,7 @@
 //! What a scanner tells of a text.
 
-/// One step of a JSON text, or what there is to say where no step is fixed. The content of a
-/// `Key`, a `Text` and a `Number` is what `Scanner::text` gives.
+/// One step of a JSON text. The content of a `Key`, a `Text` and a `Number` is what
+/// `Scanner::text` gives.
 #[derive(Clone, Copy)]
 pub enum JsonStep {
     /// An object begins.
@@ -24,13 +24,24 @@ pub enum JsonStep {
     False,
     /// The word `null`.
     Null,
-    /// The text is whole.
-    Done,
-    /// The bytes fed so far fix no further step, and more may come.
+}
+
+/// What there is to say of a text behind its fixed steps.
+#[derive(Clone, Copy)]
+pub enum Verdict {
+    /// The bytes so far fix no further step, and more may come.
     More,
-    /// No JSON text goes on so.
-    Bad {
-        /// How many bytes are the beginning of some JSON text.
-        at: u64,
-    },
+    /// The text is whole.
+    Whole,
+    /// No JSON text goes on so; so many bytes are the beginning of some.
+    BadAt(u64),
+}
+
+/// What a scanner answers.
+#[derive(Clone, Copy)]
+pub enum JsonAnswer {
+    /// The next step.
+    Step(JsonStep),
+    /// No further step is fixed.
+    Verdict(Verdict),
 }

@@ -7,14 +7,15 @@ use mathlib.Core.Bool.{false≢true}
 use lib.Chars.{codes}
 use Rattle.json_text.specs.declared.mode.Bracket.{Bracket}
 use Rattle.json_text.specs.declared.mode.Bracket.TheVariants as bracket_
+use Rattle.json_text.specs.declared.step.JsonStep.{JsonStep}
+use Rattle.json_text.specs.declared.step.JsonStep.TheVariants as step_
 use Rattle.json_text.specs.Marks.{Step}
+use Rattle.json_text.specs.Steps.{step_for}
 use Rattle.map_elements.specs.Entries.{Entry, entries_from, whole_entry, items_of, member, is_named, depth_after, by_depth}
 use Rattle.map_elements.specs.Fields.{with_some}
 use Rattle.map_tables.specs.Draft.{empty}
 use Rattle.map_elements.specs.Outcome.{elements_list}
-use Rattle.map_elements.specs.declared.place.Kind.{Kind}
-use Rattle.map_elements.specs.declared.place.Kind.TheVariants as kind_
-use Rattle.map_elements.specs.Reader.{IsKind, goes_on, is_plain, is_other, IsAwaited, IsTop, IsInList, IsNever}
+use Rattle.map_elements.specs.Reader.{goes_on, is_other, IsAwaited, IsTop, IsInList, IsNever}
 use Rattle.map_elements.proofs.EntryLemmas.{items_same}
 
 -- the name of the member that has the elements
@@ -85,28 +86,23 @@ awaited_from steps top rest =
     ∙ ap (λ n. with_some (member the_name (entries_from n top.value 0 rest)) items_of) named
     ∙ ap (λ v. with_some (member the_name (entries_from (Some the_name) v 0 rest)) items_of) empty
 
--- the value of `elements` is an object
-pub object_begins : (steps : List Step) → IsTop steps 0 true → IsNever (steps ++ Step.Opens bracket_.Curly ∷ [])
-object_begins steps top =
-    onto steps (λ rest. with_some (member the_name (entries_from (Some the_name) [] 0 rest)) items_of) (λ rest. None)
-    (Step.Opens bracket_.Curly)
-    (awaited_from steps top)
-    (λ rest. let (more, is) = first_stays rest [] (Step.Opens bracket_.Curly) zero in ap (λ o. with_some o items_of) is)
-
--- the value of `elements` is neither
-pub plain_stands : (steps : List Step) (s : Step) → is_plain s ≡ true → IsTop steps 0 true → IsNever (steps ++ s ∷ [])
-plain_stands steps s plain top =
+-- the value of `elements` is no array
+pub no_list : (steps : List Step) (s : Step) → (s ≡ Step.Opens bracket_.Square → ⊥) → goes_on 0 s ≡ true → IsTop steps 0 true →
+    IsNever (steps ++ s ∷ [])
+no_list steps s other goes top =
     onto steps (λ rest. with_some (member the_name (entries_from (Some the_name) [] 0 rest)) items_of) (λ rest. None) s
-    (awaited_from steps top) (λ rest. by_step s rest plain)
+    (awaited_from steps top) (λ rest. by_step s rest other goes)
   where
-    by_step : (s : Step) (rest : List Step) → is_plain s ≡ true
+    by_step : (s : Step) (rest : List Step) → (s ≡ Step.Opens bracket_.Square → ⊥) → goes_on 0 s ≡ true
         → with_some (member the_name (entries_from (Some the_name) [] 0 (s ∷ rest))) items_of ≡ None
-    by_step (Step.Text text) rest plain = refl
-    by_step (Step.Number text) rest plain = refl
-    by_step (Step.Word word) rest plain = refl
-    by_step (Step.Opens bracket) rest plain = absurd (false≢true plain)
-    by_step (Step.Closes bracket) rest plain = absurd (false≢true plain)
-    by_step (Step.Key text) rest plain = absurd (false≢true plain)
+    by_step (Step.Opens bracket_.Curly) rest other goes =
+        let (more, is) = first_stays rest [] (Step.Opens bracket_.Curly) zero in ap (λ o. with_some o items_of) is
+    by_step (Step.Opens bracket_.Square) rest other goes = absurd (other refl)
+    by_step (Step.Text text) rest other goes = refl
+    by_step (Step.Number text) rest other goes = refl
+    by_step (Step.Word word) rest other goes = refl
+    by_step (Step.Closes bracket) rest other goes = absurd (false≢true goes)
+    by_step (Step.Key text) rest other goes = absurd (false≢true goes)
 
 -- ---- The top object
 
@@ -195,26 +191,27 @@ top_goes_on steps depth s h top = by_after (depth_after depth s) refl
       awaited = top.awaited;
     }
 
--- what doesn't begin an object begins none
-pub not_curly : (kind : Kind) (text : List ℕ) (s : Step) → (kind ≡ kind_.Opens → ⊥) → IsKind kind text s → s ≡ Step.Opens bracket_.Curly → ⊥
-not_curly kind_.Opens text s other h e = other refl
-not_curly kind_.OpensList text s other h e = cc
-not_curly kind_.Closes text s other (bracket, h) e = cc
-not_curly kind_.Names text s other h e = cc
-not_curly kind_.Plain text s other h e = false≢true (subst (λ x. is_plain x ≡ true) e h)
+-- ---- Steps of the code
 
--- a value without brackets stands between the members
-pub top_plain : (steps : List Step) (s : Step) → is_plain s ≡ true → IsTop steps 0 false → IsTop (steps ++ s ∷ []) 0 false
-top_plain steps (Step.Text text) plain top = top_goes_on steps 0 (Step.Text text) refl top
-top_plain steps (Step.Number text) plain top = top_goes_on steps 0 (Step.Number text) refl top
-top_plain steps (Step.Word word) plain top = top_goes_on steps 0 (Step.Word word) refl top
-top_plain steps (Step.Opens bracket) plain top = absurd (false≢true plain)
-top_plain steps (Step.Closes bracket) plain top = absurd (false≢true plain)
-top_plain steps (Step.Key text) plain top = absurd (false≢true plain)
+-- a step that is neither a name nor an end stands between entries alone
+pub between : (depth : ℕ) (s : Step) → goes_on depth s ≡ false → depth ≡ 0
+between zero s h = refl
+between (suc depth) s h = absurd (false≢true (sym h))
 
--- a step within a value, which isn't that of `elements`
-pub top_within : (steps : List Step) (depth : ℕ) (is_named : Bool) (s : Step) → (depth ≡ zero → ⊥) → IsTop steps depth is_named
-    → IsTop (steps ++ s ∷ []) (depth_after depth s) false
-top_within steps zero is_named s inner top = absurd (inner refl)
-top_within steps (suc depth) true s inner top = let (named, empty, none) = top.awaited in absurd (inner none)
-top_within steps (suc depth) false s inner top = top_goes_on steps (suc depth) s refl top
+-- a step between entries that is no name is an end
+pub is_end : (step : JsonStep) (text : List ℕ) → (step ≡ step_.Key → ⊥) → goes_on 0 (step_for step text) ≡ false
+    → (bracket : Bracket) × (step_for step text ≡ Step.Closes bracket)
+is_end step_.Key text other h = absurd (other refl)
+is_end step_.Close text other h = (bracket_.Curly, refl)
+is_end step_.ListClose text other h = (bracket_.Square, refl)
+is_end _ text other h = absurd (false≢true (sym h))
+
+-- a step that begins no object begins none with its content
+pub not_curly : (step : JsonStep) (text : List ℕ) → (step ≡ step_.Open → ⊥) → step_for step text ≡ Step.Opens bracket_.Curly → ⊥
+not_curly step_.Open text other h = other refl
+not_curly _ text other h = cc
+
+-- nor does one that begins no array
+pub not_square : (step : JsonStep) (text : List ℕ) → (step ≡ step_.ListOpen → ⊥) → step_for step text ≡ Step.Opens bracket_.Square → ⊥
+not_square step_.ListOpen text other h = other refl
+not_square _ text other h = cc

@@ -1,17 +1,15 @@
 -- What has been read behind one more step.
 use Rattle.std.proofs.Common.{◌≡◌, ◌⊎◌, ℕ, zero, suc, true, List, [], ◌∷◌, ◌++◌, Result, Ok, Err, refl, ap, sym, subst, inl, inr, ◌∙◌}
 use Rattle.std.specs.Prelude.{MatchResult, OnOk}
+use Rattle.json_text.specs.declared.mode.Bracket.{Bracket}
 use Rattle.json_text.specs.Marks.{Step}
 use Rattle.map_tables.specs.declared.limits.Limits.{Limits}
 use Rattle.map_tables.specs.declared.error.MapError.{MapError}
 use Rattle.map_tables.specs.declared.error.MapError.TheVariants.{NoMemory}
-use mathlib.Core.Bool.{false≢true}
-use Rattle.map_elements.specs.declared.place.Kind.{Kind}
-use Rattle.map_elements.specs.declared.place.Kind.TheVariants as kind_
 use Rattle.map_elements.specs.declared.place.Place.TheVariants.{Elements, Past}
 use Rattle.map_elements.specs.declared.progress.Progress.{Progress}
 use Rattle.map_elements.specs.Entries.{depth_after}
-use Rattle.map_elements.specs.Reader.{goes_on, is_plain, IsKind, IsAt, IsInList, IsPast, IsTaken, IsRefused, IsFault, Holds}
+use Rattle.map_elements.specs.Reader.{goes_on, IsAt, IsInList, IsPast, IsTaken, IsRefused, IsFault, Holds}
 use Rattle.map_elements.proofs.InsideLemmas.{element_goes_on, element_ends, element_refused, list_ends, list_names}
 
 -- what was taken before stays taken where the tables and the count do
@@ -22,30 +20,6 @@ taken_kept limits old new values tables count taken = record {
   draft = taken.draft ∙ ap (λ t. Ok t.draft) (sym tables);
   limits_are = ap (λ t. t.limits) tables ∙ taken.limits_are;
 }
-
--- a step that neither names nor ends anything
-pub goes_on_kind : (kind : Kind) (text : List ℕ) (depth : ℕ) (s : Step) → IsKind kind text s → (kind ≡ kind_.Closes → ⊥) →
-    (kind ≡ kind_.Names → ⊥)
-    → goes_on depth s ≡ true
-goes_on_kind kind_.Opens text zero s is close name = subst (λ x. goes_on 0 x ≡ true) (sym is) refl
-goes_on_kind kind_.OpensList text zero s is close name = subst (λ x. goes_on 0 x ≡ true) (sym is) refl
-goes_on_kind kind_.Closes text zero s is close name = absurd (close refl)
-goes_on_kind kind_.Names text zero s is close name = absurd (name refl)
-goes_on_kind kind_.Plain text zero s is close name = by_step s is
-  where
-    by_step : (s : Step) → is_plain s ≡ true → goes_on 0 s ≡ true
-    by_step (Step.Text t) h = refl
-    by_step (Step.Number t) h = refl
-    by_step (Step.Word w) h = refl
-    by_step (Step.Opens b) h = absurd (false≢true h)
-    by_step (Step.Closes b) h = absurd (false≢true h)
-    by_step (Step.Key t) h = absurd (false≢true h)
-goes_on_kind kind text (suc depth) s is close name = refl
-
--- any step does within an element
-pub goes_on_within : (depth : ℕ) (s : Step) → (depth ≡ 0 → ⊥) → goes_on depth s ≡ true
-goes_on_within zero s inner = absurd (inner refl)
-goes_on_within (suc depth) s inner = refl
 
 -- a step of an element
 module _ (limits : Limits) (steps : List Step) (depth : ℕ) (value : List Step) (values : List (List Step)) (s : Step)
@@ -94,7 +68,7 @@ module _ (limits : Limits) (steps : List Step) (depth : ℕ) (value : List Step)
 module _ (limits : Limits) (steps value : List Step) (values : List (List Step)) (text : List ℕ) (s : Step) (old new : Progress)
     (inside : IsInList steps 0 value values) (taken : IsTaken limits old values) where
   -- the list of elements ends with this step
-  pub past_holds : IsKind kind_.Closes text s → new.place ≡ Past → new.tables ≡ old.tables → new.count ≡ old.count →
+  pub past_holds : (bracket : Bracket) × (s ≡ Step.Closes bracket) → new.place ≡ Past → new.tables ≡ old.tables → new.count ≡ old.count →
       Holds limits new (steps ++ s ∷ [])
   past_holds (bracket, is) place tables count = record {
     values = values;

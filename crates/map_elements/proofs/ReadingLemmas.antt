@@ -5,8 +5,10 @@ use Rattle.std.specs.Prelude.{if◌then◌else◌, is_some}
 use Rattle.std.specs.Str.{bytes_eq}
 use mathlib.Core.Bool.{false≢true}
 use Rattle.item_list.specs.Answer.{and_then}
+use Rattle.json_text.specs.declared.step.Verdict.{Verdict}
+use Rattle.json_text.specs.declared.step.Verdict.TheVariants as verdict_
 use Rattle.json_text.specs.Marks.{Step, Begins}
-use Rattle.json_text.specs.Reading.{Verdict, Reads, AreFixed}
+use Rattle.json_text.specs.Reading.{Reads, AreFixed}
 use Rattle.map_tables.specs.Draft.{Draft, empty}
 use Rattle.map_tables.specs.declared.limits.Limits.{Limits}
 use Rattle.map_tables.specs.declared.error.MapError.{MapError}
@@ -96,24 +98,24 @@ fault_comes limits bytes ended steps all verdict fault fixed reads is =
 
 -- a text that has ended was read to its end
 ended_whole : (bytes : List ℕ) (steps : List Step) (verdict : Verdict) → Reads bytes true steps verdict → refusal_of verdict ≡ None →
-    verdict ≡ Verdict.Whole
-ended_whole bytes steps Verdict.More reads good = absurd (false≢true (sym reads.fits.0))
-ended_whole bytes steps Verdict.Whole reads good = refl
-ended_whole bytes steps (Verdict.BadAt at) reads good = cc
+    verdict ≡ verdict_.Whole
+ended_whole bytes steps verdict_.More reads good = absurd (false≢true (sym reads.fits.0))
+ended_whole bytes steps verdict_.Whole reads good = refl
+ended_whole bytes steps (verdict_.BadAt at) reads good = cc
 
 -- and one that hasn't may go on
 open_more : (bytes : List ℕ) (steps : List Step) (verdict : Verdict) → Reads bytes false steps verdict → refusal_of verdict ≡ None →
-    verdict ≡ Verdict.More
-open_more bytes steps Verdict.More reads good = refl
-open_more bytes steps Verdict.Whole reads good = absurd (false≢true reads.fits.0)
-open_more bytes steps (Verdict.BadAt at) reads good = cc
+    verdict ≡ verdict_.More
+open_more bytes steps verdict_.More reads good = refl
+open_more bytes steps verdict_.Whole reads good = absurd (false≢true reads.fits.0)
+open_more bytes steps (verdict_.BadAt at) reads good = cc
 
 -- a text that has ended comes to its tables where there is a list of elements
 pub ended_tables : (limits : Limits) (reading : Reading) (bytes : List ℕ) → IsRead limits reading bytes true →
     has_list reading.progress.place ≡ true
     → (reading.progress.tables.limits ≡ limits) × ComesTo limits bytes true (Ok reading.progress.tables.draft)
 ended_tables limits reading bytes read list =
-    let whole : read.verdict ≡ Verdict.Whole = ended_whole bytes read.stands.steps read.verdict read.reads read.good in (
+    let whole : read.verdict ≡ verdict_.Whole = ended_whole bytes read.stands.steps read.verdict read.reads read.good in (
       read.stands.holds.taken.limits_are,
       record {
         steps = read.stands.steps;
@@ -121,7 +123,7 @@ ended_tables limits reading bytes read list =
         reads = read.reads;
         same = outcome_is limits reading.progress read.stands.steps read.verdict read.stands.holds
             ∙ ap (λ v. verdict_on reading.progress.tables.draft (has_list reading.progress.place) v) whole
-            ∙ ap (λ b. verdict_on reading.progress.tables.draft b Verdict.Whole) list;
+            ∙ ap (λ b. verdict_on reading.progress.tables.draft b verdict_.Whole) list;
       },
     )
 
@@ -130,21 +132,21 @@ pub ended_shape : (limits : Limits) (reading : Reading) (bytes : List ℕ) → I
     has_list reading.progress.place ≡ false
     → ComesTo limits bytes true (Err (Shape 0))
 ended_shape limits reading bytes read list =
-    let whole : read.verdict ≡ Verdict.Whole = ended_whole bytes read.stands.steps read.verdict read.reads read.good in
+    let whole : read.verdict ≡ verdict_.Whole = ended_whole bytes read.stands.steps read.verdict read.reads read.good in
     record {
       steps = read.stands.steps;
       verdict = read.verdict;
       reads = read.reads;
       same = outcome_is limits reading.progress read.stands.steps read.verdict read.stands.holds
           ∙ ap (λ v. verdict_on reading.progress.tables.draft (has_list reading.progress.place) v) whole
-          ∙ ap (λ b. verdict_on reading.progress.tables.draft b Verdict.Whole) list;
+          ∙ ap (λ b. verdict_on reading.progress.tables.draft b verdict_.Whole) list;
     }
 
 -- the bytes of a text that may go on come to the draft in the tables
 pub open_draft : (limits : Limits) (reading : Reading) (bytes : List ℕ) → IsRead limits reading bytes false
     → ComesTo limits bytes false (Ok reading.progress.tables.draft)
 open_draft limits reading bytes read =
-    let more : read.verdict ≡ Verdict.More = open_more bytes read.stands.steps read.verdict read.reads read.good in
+    let more : read.verdict ≡ verdict_.More = open_more bytes read.stands.steps read.verdict read.reads read.good in
     record {
       steps = read.stands.steps;
       verdict = read.verdict;
@@ -157,13 +159,13 @@ open_draft limits reading bytes read =
 pub bad_comes : (limits : Limits) (reading : Reading) (bytes : List ℕ) (ended : Bool) (verdict : Verdict) (fault : MapError)
     → (stands : StandsWith limits reading bytes ended) → Reads bytes ended stands.steps verdict → refusal_of verdict ≡ Some fault
     → ComesTo limits bytes ended (Err fault)
-bad_comes limits reading bytes ended Verdict.More fault stands reads bad = cc
-bad_comes limits reading bytes ended Verdict.Whole fault stands reads bad = cc
-bad_comes limits reading bytes ended (Verdict.BadAt at) fault stands reads bad = record {
+bad_comes limits reading bytes ended verdict_.More fault stands reads bad = cc
+bad_comes limits reading bytes ended verdict_.Whole fault stands reads bad = cc
+bad_comes limits reading bytes ended (verdict_.BadAt at) fault stands reads bad = record {
   steps = stands.steps;
-  verdict = Verdict.BadAt at;
+  verdict = verdict_.BadAt at;
   reads = reads;
-  same = outcome_is limits reading.progress stands.steps (Verdict.BadAt at) stands.holds ∙ by_some bad;
+  same = outcome_is limits reading.progress stands.steps (verdict_.BadAt at) stands.holds ∙ by_some bad;
 }
   where
     by_some : Some (NotJson at) ≡ Some fault → ◌≡◌ {A = Result Draft MapError} (Err (NotJson at)) (Err fault)

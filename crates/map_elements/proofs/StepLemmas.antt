@@ -4,8 +4,9 @@ use Rattle.std.proofs.lemmas.List.{length-append, map_push, take_all, take-appen
 use Rattle.std.proofs.Math.Seq.{drop-append_seam}
 use Rattle.std.specs.Prelude.{Bool, true, false, if◌then◌else◌}
 use Rattle.map_elements.specs.declared.steps.Row.{Row}
-use Rattle.map_elements.specs.declared.steps.StepKind.{StepKind}
-use Rattle.map_elements.specs.Steps.{content_in, step_in, step_of, steps_in, AreWithin}
+use Rattle.json_text.specs.declared.step.JsonStep.{JsonStep}
+use Rattle.json_text.specs.Steps.{step_for}
+use Rattle.map_elements.specs.Steps.{content_in, step_in, steps_in, AreWithin}
 
 -- rows within bytes are within them when more come
 AreWithin-more : (bytes more : List ℕ) (rows : List Row) → AreWithin bytes rows → AreWithin (bytes ++ more) rows
@@ -30,30 +31,30 @@ content_in-more bytes more row fits =
 pub steps_in-more : (bytes more : List ℕ) (rows : List Row) → AreWithin bytes rows → steps_in (bytes ++ more) rows ≡ steps_in bytes rows
 steps_in-more bytes more [] h = refl
 steps_in-more bytes more (row ∷ rows) h =
-    ap (λ text. step_of row.kind text ∷ steps_in (bytes ++ more) rows) (content_in-more bytes more row h.0)
+    ap (λ text. step_for row.step text ∷ steps_in (bytes ++ more) rows) (content_in-more bytes more row h.0)
     ∙ ap (λ steps. step_in bytes row ∷ steps) (steps_in-more bytes more rows h.1)
 
 -- the row of a content that was put behind the bytes
-abbrev pub next_row : List ℕ → StepKind → ℕ → Row
-next_row bytes kind size = record { start = length bytes; length = size; kind = kind }
+abbrev pub next_row : List ℕ → JsonStep → ℕ → Row
+next_row bytes step size = record { start = length bytes; length = size; step = step }
 
 -- its content is that
-content_in-next : (bytes text : List ℕ) (kind : StepKind) → content_in (bytes ++ text) (next_row bytes kind (length text)) ≡ text
-content_in-next bytes text kind = ap (take (length text)) (drop-append_seam bytes text) ∙ take_all (length text) text (omega arith)
+content_in-next : (bytes text : List ℕ) (step : JsonStep) → content_in (bytes ++ text) (next_row bytes step (length text)) ≡ text
+content_in-next bytes text step = ap (take (length text)) (drop-append_seam bytes text) ∙ take_all (length text) text (omega arith)
 
 -- where a content was put behind the bytes, and its row behind the rows or not, one step is more or none
-module _ (old text new : List ℕ) (rows after : List Row) (kind : StepKind) (row : Row) (within : AreWithin old rows) (bytes : new ≡ old ++
+module _ (old text new : List ℕ) (rows after : List Row) (step : JsonStep) (row : Row) (within : AreWithin old rows) (bytes : new ≡ old ++
     text)
-    (is : row ≡ next_row old kind (length text)) where
+    (is : row ≡ next_row old step (length text)) where
   pub steps_in-push : (pushed : Bool) → after ≡ (if pushed then rows ++ row ∷ [] else rows) →
-      steps_in new after ≡ (if pushed then steps_in old rows ++ step_of kind text ∷ [] else steps_in old rows)
+      steps_in new after ≡ (if pushed then steps_in old rows ++ step_for step text ∷ [] else steps_in old rows)
   steps_in-push true e =
       ap (λ b. steps_in b after) bytes
       ∙ ap (λ r. steps_in (old ++ text) r) e
       ∙ map_push (step_in (old ++ text)) rows row
       ∙ ap (λ s. s ++ step_in (old ++ text) row ∷ []) (steps_in-more old text rows within)
       ∙ ap (λ r. steps_in old rows ++ step_in (old ++ text) r ∷ []) is
-      ∙ ap (λ t. steps_in old rows ++ step_of kind t ∷ []) (content_in-next old text kind)
+      ∙ ap (λ t. steps_in old rows ++ step_for step t ∷ []) (content_in-next old text step)
   steps_in-push false e = ap (λ b. steps_in b after) bytes ∙ ap (λ r. steps_in (old ++ text) r) e ∙ steps_in-more old text rows within
 
   -- and the rows are within the bytes

@@ -3,8 +3,10 @@
 use Rattle.std.specs.Prelude.{ℕ, suc, List, [], ◌∷◌, Bool, Option, Some, None, is_some, Result, Ok, Err, if◌then◌else◌, ◌≡◌}
 use lib.Chars.{codes}
 use Rattle.item_list.specs.Answer.{and_then}
+use Rattle.json_text.specs.declared.step.Verdict.{Verdict}
+use Rattle.json_text.specs.declared.step.Verdict.TheVariants as verdict_
 use Rattle.json_text.specs.Marks.{Step}
-use Rattle.json_text.specs.Reading.{Verdict, Reads}
+use Rattle.json_text.specs.Reading.{Reads}
 use Rattle.map_tables.specs.Draft.{Draft, empty, take_node, take_way, take_relation}
 use Rattle.map_tables.specs.declared.limits.Limits.{Limits}
 use Rattle.map_tables.specs.declared.error.MapError.{MapError}
@@ -46,9 +48,9 @@ draft_of limits steps = take_values limits 1 (whole_elements (elements_list step
 
 -- what there is to say behind all fixed steps, where the whole elements come to this draft
 abbrev pub verdict_on : Draft → Bool → Verdict → Result Draft MapError
-verdict_on draft has_list Verdict.More = Ok draft
-verdict_on draft has_list (Verdict.BadAt at) = Err (NotJson at)
-verdict_on draft has_list Verdict.Whole = if has_list then Ok draft else Err (Shape 0)
+verdict_on draft has_list verdict_.More = Ok draft
+verdict_on draft has_list (verdict_.BadAt at) = Err (NotJson at)
+verdict_on draft has_list verdict_.Whole = if has_list then Ok draft else Err (Shape 0)
 
 -- what a text comes to, of which these are the fixed steps and the verdict behind them: the fault of a whole
 -- element comes first, then that of the JSON text, and the form of the whole at the end

@@ -2,18 +2,16 @@
 use Rattle.std.specs.Prelude.{◌≡◌, ◌⊎◌, ℕ, zero, Bool, true, false, not, List, [], ◌∷◌, ◌++◌, length, Option, Some, None, Ok, Err}
 use Rattle.std.specs.Str.{bytes_eq}
 use lib.Chars.{codes}
-use Rattle.json_text.specs.declared.mode.Bracket.{Bracket}
-use Rattle.json_text.specs.declared.mode.Bracket.TheVariants as bracket_
+use Rattle.json_text.specs.declared.step.Verdict.{Verdict}
+use Rattle.json_text.specs.declared.step.Verdict.TheVariants as verdict_
 use Rattle.json_text.specs.Marks.{Step}
-use Rattle.json_text.specs.Reading.{Verdict, Reads}
+use Rattle.json_text.specs.Reading.{Reads}
 use Rattle.json_text.specs.Scanner.{Stands}
 use Rattle.json_text.specs.Scanner as scanner
 use Rattle.map_tables.specs.Draft.{empty}
 use Rattle.map_tables.specs.declared.limits.Limits.{Limits}
 use Rattle.map_tables.specs.declared.error.MapError.{MapError}
 use Rattle.map_tables.specs.declared.error.MapError.TheVariants.{NotJson, NoMemory}
-use Rattle.map_elements.specs.declared.place.Kind.{Kind}
-use Rattle.map_elements.specs.declared.place.Kind.TheVariants as kind_
 use Rattle.map_elements.specs.declared.place.Place.{Place}
 use Rattle.map_elements.specs.declared.place.Place.TheVariants as place_
 use Rattle.map_elements.specs.declared.progress.Progress.{Progress}
@@ -25,26 +23,11 @@ use Rattle.map_elements.specs.Outcome.{elements_list, outcome_of, take_values, C
 
 -- ---- Steps
 
--- a value without brackets
-abbrev pub is_plain : Step → Bool
-is_plain (Step.Text text) = true
-is_plain (Step.Number text) = true
-is_plain (Step.Word word) = true
-is_plain _ = false
-
 -- a step that is neither a name nor an end between entries
 abbrev pub goes_on : ℕ → Step → Bool
 goes_on zero (Step.Closes bracket) = false
 goes_on zero (Step.Key text) = false
 goes_on _ _ = true
-
--- what a step does to the brackets, whose content is this text
-abbrev pub IsKind : Kind → List ℕ → Step → Type 0
-IsKind kind_.Opens text step = step ≡ Step.Opens bracket_.Curly
-IsKind kind_.OpensList text step = step ≡ Step.Opens bracket_.Square
-IsKind kind_.Closes text step = (bracket : Bracket) × (step ≡ Step.Closes bracket)
-IsKind kind_.Names text step = step ≡ Step.Key text
-IsKind kind_.Plain text step = is_plain step ≡ true
 
 -- ---- Where the steps so far have led
 
@@ -128,9 +111,9 @@ IsFault limits steps fault = (rest : List Step) (verdict : Verdict) →
 
 -- the refusal that a verdict is
 abbrev pub refusal_of : Verdict → Option MapError
-refusal_of Verdict.More = None
-refusal_of Verdict.Whole = None
-refusal_of (Verdict.BadAt at) = Some (NotJson at)
+refusal_of verdict_.More = None
+refusal_of verdict_.Whole = None
+refusal_of (verdict_.BadAt at) = Some (NotJson at)
 
 -- the bytes were scanned, with the end said or not, and what was given of them was read
 pub record StandsWith (limits : Limits) (reading : Reading) (bytes : List ℕ) (ended : Bool) : Type 0 where

@@ -3,10 +3,11 @@
 use Rattle.std.specs.Prelude.{◌≡◌, ℕ, List, [], ◌∷◌, ◌++◌, true, Option, Some, None}
 use Rattle.json_text.specs.declared.mode.Bracket.{Bracket}
 use Rattle.json_text.specs.declared.mode.Bracket.TheVariants as bracket_
+use Rattle.json_text.specs.declared.step.Verdict.TheVariants as verdict_
 use Rattle.json_text.specs.Marks.{Step}
 use Rattle.json_text.specs.Chars.{content_of}
 use Rattle.json_text.specs.Grammar.{Name, Value, Entries, Others, IsValue}
-use Rattle.json_text.specs.Reading.{Verdict, Reads}
+use Rattle.json_text.specs.Reading.{Reads}
 use Rattle.map_elements.specs.Entries.{Entry, whole_entry, members_of, items_of}
 
 -- the step of a name, where an entry has one
@@ -51,7 +52,7 @@ entries_told (Entries.Entry space name value others) =
 
 -- the steps of a text that was read to its end are those of a value of the grammar
 abbrev pub AreOfTree : Type 0
-AreOfTree = (bytes : List ℕ) (steps : List Step) → Reads bytes true steps Verdict.Whole
+AreOfTree = (bytes : List ℕ) (steps : List Step) → Reads bytes true steps verdict_.Whole
     → (value : Value) × IsValue value 64 × (steps ≡ tree_steps value)
 
 -- the members of an object are those of its tree

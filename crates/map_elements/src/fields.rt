@@ -3,9 +3,9 @@ ghost use Rattle.std.specs.Prelude.{◌≡◌, None, Some, MatchOption};
 ghost use Rattle.map_elements.specs.Entries.{member, members_of, items_of};
 ghost use Rattle.map_elements.specs.Fields.{with_some, text_of, number_of, whole_number_of};
 
-use crate::steps::StepKind;
 use crate::steps::entries::Entries;
 use crate::steps::part::Part;
+use json_text::JsonStep;
 use whole::whole_of;
 
 pub(crate) mod element;
@@ -23,7 +23,7 @@ impl<'a> Part<'a> {
     {
         let mut behind = self.again();
         match behind.take_first() {
-            Some((StepKind::Text, text)) => { if behind.is_empty() { Some(text) } else { None } }
+            Some((JsonStep::Text, text)) => { if behind.is_empty() { Some(text) } else { None } }
             _ => None,
         }
     }
@@ -36,7 +36,7 @@ impl<'a> Part<'a> {
     {
         let mut behind = self.again();
         match behind.take_first() {
-            Some((StepKind::Number, text)) => { if behind.is_empty() { Some(text) } else { None } }
+            Some((JsonStep::Number, text)) => { if behind.is_empty() { Some(text) } else { None } }
             _ => None,
         }
     }
@@ -57,7 +57,7 @@ impl<'a> Part<'a> {
     {
         let mut behind = self.again();
         match behind.take_first() {
-            Some((StepKind::Open, _)) => Some(Entries::behind(behind)),
+            Some((JsonStep::Open, _)) => Some(Entries::behind(behind)),
             _ => None,
         }
     }
@@ -68,7 +68,7 @@ impl<'a> Part<'a> {
     {
         let mut behind = self.again();
         match behind.take_first() {
-            Some((StepKind::ListOpen, _)) => Some(Entries::behind(behind)),
+            Some((JsonStep::ListOpen, _)) => Some(Entries::behind(behind)),
             _ => None,
         }
     }

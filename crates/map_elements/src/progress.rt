@@ -1,17 +1,17 @@
 //! What has been read of a map's text, step by step.
 
-ghost use Rattle.std.specs.Prelude.{◌≡◌, ◌⊎◌, true, List, [], ◌∷◌, ◌++◌, None, Some, Ok, Err, OnOk, MatchResult};
+ghost use Rattle.std.specs.Prelude.{◌≡◌, ◌⊎◌, true, List, [], ◌∷◌, ◌++◌, Ok, Err, OnOk, MatchResult};
 ghost use Rattle.json_text.specs.Marks.{Step};
-ghost use Rattle.json_text.specs.Tokens.{step_for, verdict_for};
+ghost use Rattle.json_text.specs.Steps.{step_for};
 ghost use Rattle.map_tables.specs.Held.{Takes};
 ghost use Rattle.map_tables.specs.declared.error.MapError.TheVariants.{NoMemory};
 ghost use Rattle.map_elements.specs.declared.place.Place.TheVariants.{Elements};
 ghost use Rattle.map_elements.specs.Outcome.{take_element};
 ghost use Rattle.map_elements.specs.Seen.{seen};
-ghost use Rattle.map_elements.specs.Reader.{Holds, goes_on, IsFault, IsInList, IsKind, IsRefused, IsTaken};
+ghost use Rattle.map_elements.specs.Reader.{Holds, goes_on, IsFault, IsInList, IsRefused, IsTaken};
 
 use crate::elements::{Element, read_element};
-use crate::place::{Kind, Place, depth_behind, first_place, kind_of, top_place};
+use crate::place::{Place, depth_behind, first_place, goes_on, top_place};
 use crate::steps::StepList;
 use json_text::JsonStep;
 use map_tables::{Limits, MapError, Tables};
@@ -83,26 +83,19 @@ impl Progress {
     }
 
     /// Takes a step of an element.
-    fn take_inner(
-        &mut self,
-        depth: u32,
-        kind: Kind,
-        step: JsonStep,
-        text: &[u8],
-    ) -> Result<(), MapError>
-        requires no_verdict { verdict_for step ≡ None }
-        ensures value { (limits : Limits) (steps : List Step) (values : List (List Step)) (s :
-            Step) →
+    fn take_inner(&mut self, depth: u32, step: JsonStep, text: &[u8]) -> Result<(), MapError>
+        ensures value { (limits : Limits) (steps : List Step) (values : List (List Step)) →
+            let more = steps ++ step_for step text.now ∷ [] in
             IsInList steps depth self.old.steps values → IsTaken limits self.old values →
-            step_for step text.now ≡ Some s → IsKind kind text.now s → goes_on depth s ≡ true →
-            MatchResult result (λ _. Holds limits self.new (steps ++ s ∷ []))
-            (λ e. (e ≡ NoMemory) ⊎ IsFault limits (steps ++ s ∷ []) e) }
+            goes_on depth (step_for step text.now) ≡ true →
+            MatchResult result (λ _. Holds limits self.new more)
+            (λ e. (e ≡ NoMemory) ⊎ IsFault limits more e) }
     {
         match self.steps.push(step, text) {
             Ok(()) => {}
             Err(_) => return Err(MapError::NoMemory),
         }
-        let Some(after) = depth_behind(depth, kind) else {
+        let Some(after) = depth_behind(depth, step) else {
             return Err(MapError::NoMemory);
         };
         if after == 0 {
@@ -113,63 +106,47 @@ impl Progress {
     }
 
     /// Takes a step in the list of elements.
-    fn take_listed(
-        &mut self,
-        depth: u32,
-        kind: Kind,
-        step: JsonStep,
-        text: &[u8],
-    ) -> Result<(), MapError>
-        requires no_verdict { verdict_for step ≡ None }
-        ensures value { (limits : Limits) (steps : List Step) (values : List (List Step)) (s :
-            Step) →
+    fn take_listed(&mut self, depth: u32, step: JsonStep, text: &[u8]) -> Result<(), MapError>
+        ensures value { (limits : Limits) (steps : List Step) (values : List (List Step)) →
+            let more = steps ++ step_for step text.now ∷ [] in
             IsInList steps depth self.old.steps values → IsTaken limits self.old values →
-            step_for step text.now ≡ Some s → IsKind kind text.now s →
-            MatchResult result (λ _. Holds limits self.new (steps ++ s ∷ []))
-            (λ e. (e ≡ NoMemory) ⊎ IsFault limits (steps ++ s ∷ []) e) }
+            MatchResult result (λ _. Holds limits self.new more)
+            (λ e. (e ≡ NoMemory) ⊎ IsFault limits more e) }
     {
-        if depth == 0 {
-            match kind {
-                Kind::Closes => {
-                    self.place = Place::Past;
-                    return Ok(());
-                }
-                Kind::Names => {
-                    self.place = Place::Elements { depth: 0 };
-                    self.steps.clear();
-                    return Ok(());
-                }
-                Kind::Opens => return self.take_inner(depth, kind, step, text),
-                Kind::OpensList => return self.take_inner(depth, kind, step, text),
-                Kind::Plain => return self.take_inner(depth, kind, step, text),
-            }
+        if goes_on(depth, step) {
+            return self.take_inner(depth, step, text);
         }
-        self.take_inner(depth, kind, step, text)
+        match step {
+            JsonStep::Key => {
+                self.place = Place::Elements { depth: 0 };
+                self.steps.clear();
+            }
+            _ => self.place = Place::Past,
+        }
+        Ok(())
     }
 
     /// Takes one more step of the text.
     pub(crate) fn take(&mut self, step: JsonStep, text: &[u8]) -> Result<(), MapError>
-        requires no_verdict { verdict_for step ≡ None }
-        ensures value { (limits : Limits) (steps : List Step) (s : Step) →
+        ensures value { (limits : Limits) (steps : List Step) →
+            let more = steps ++ step_for step text.now ∷ [] in
             Holds limits self.old steps →
-            step_for step text.now ≡ Some s →
-            MatchResult result (λ _. Holds limits self.new (steps ++ s ∷ []))
-            (λ e. (e ≡ NoMemory) ⊎ IsFault limits (steps ++ s ∷ []) e) }
+            MatchResult result (λ _. Holds limits self.new more)
+            (λ e. (e ≡ NoMemory) ⊎ IsFault limits more e) }
     {
-        let kind = kind_of(step);
         match self.place {
             Place::Start => {
-                self.place = first_place(kind);
+                self.place = first_place(step);
                 Ok(())
             }
             Place::Top { depth, is_named } => {
-                let Some(place) = top_place(depth, is_named, kind, text) else {
+                let Some(place) = top_place(depth, is_named, step, text) else {
                     return Err(MapError::NoMemory);
                 };
                 self.place = place;
                 Ok(())
             }
-            Place::Elements { depth } => self.take_listed(depth, kind, step, text),
+            Place::Elements { depth } => self.take_listed(depth, step, text),
             Place::Past => Ok(()),
             Place::Never => Ok(()),
         }

@@ -1,16 +1,14 @@
 //! A map's text that is scanned and read, step by step.
 
-ghost use Rattle.std.specs.Prelude.{◌≡◌, ◌<◌, ℕ, Bool, true, false, List, [], None, Some, Ok, Err, is_some, IfOk, MatchResult, IsTrue};
-ghost use Rattle.json_text.specs.Reading.{Verdict};
-ghost use Rattle.json_text.specs.Scanner.{IsVerdict, fed, has_ended, most_steps};
-ghost use Rattle.json_text.specs.Tokens.{verdict_for};
+ghost use Rattle.std.specs.Prelude.{◌≡◌, ◌<◌, ℕ, Bool, true, false, List, [], None, Some, Ok, Err, IfOk, MatchResult, IsTrue};
+ghost use Rattle.json_text.specs.Scanner.{fed, has_ended, most_steps};
 ghost use Rattle.map_tables.specs.declared.limits.Limits.{Limits as Limited};
 ghost use Rattle.map_elements.specs.Outcome.{ComesTo};
 ghost use Rattle.map_elements.specs.Reader.{IsOn, IsRead, IsRefusal, StandsWith, refusal_of};
 
 use crate::place::has_list;
 use crate::progress::Progress;
-use json_text::{JsonStep, Scanner, one_reading};
+use json_text::{JsonAnswer, Scanner, Verdict, one_reading};
 use map_tables::{Limits, MapError, Tables};
 use std::alloc::Global;
 
@@ -29,27 +27,14 @@ impl Drop for Reading {
     }
 }
 
-/// Whether an answer of a scanner is a verdict and no step.
-fn is_verdict(answer: JsonStep) -> bool
-    ensures value { result ≡ is_some (verdict_for answer) }
-{
-    match answer {
-        JsonStep::Done => true,
-        JsonStep::More => true,
-        JsonStep::Bad { .. } => true,
-        _ => false,
-    }
-}
-
 /// The refusal that a verdict is.
-fn judged(answer: JsonStep) -> Result<(), MapError>
-    requires verdict { is_some (verdict_for answer) ≡ true }
-    ensures value { (verdict : Verdict) → IsVerdict answer verdict →
-        MatchResult result (λ _. refusal_of verdict ≡ None) (λ e. refusal_of verdict ≡ Some e) }
+fn judged(verdict: Verdict) -> Result<(), MapError>
+    ensures value { MatchResult result (λ _. refusal_of verdict ≡ None)
+        (λ e. refusal_of verdict ≡ Some e) }
 {
-    match answer {
-        JsonStep::Bad { at } => Err(MapError::NotJson { at }),
-        _ => Ok(()),
+    match verdict {
+        Verdict::BadAt(at) => Err(MapError::NotJson { at }),
+        Verdict::More | Verdict::Whole => Ok(()),
     }
 }
 
@@ -77,22 +62,22 @@ impl Reading {
         ensures fed { fed self.new.scanner ≡ fed self.old.scanner }
         ensures ended { has_ended self.new.scanner ≡ has_ended self.old.scanner }
     {
-        let step = match self.scanner.next() {
-            Ok(step) => step,
+        let answer = match self.scanner.next() {
+            Ok(answer) => answer,
             Err(_) => return Err(MapError::NoMemory),
         };
-        if is_verdict(step) {
-            return match judged(step) {
+        match answer {
+            JsonAnswer::Step(step) => match self.progress.take(step, self.scanner.text()) {
+                Ok(()) => Ok(true),
+                Err(e) => {
+                    one_reading();
+                    Err(e)
+                }
+            },
+            JsonAnswer::Verdict(verdict) => match judged(verdict) {
                 Ok(()) => Ok(false),
                 Err(e) => Err(e),
-            };
-        }
-        match self.progress.take(step, self.scanner.text()) {
-            Ok(()) => Ok(true),
-            Err(e) => {
-                one_reading();
-                Err(e)
-            }
+            },
         }
     }
 

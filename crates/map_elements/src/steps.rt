@@ -1,8 +1,7 @@
 //! The steps of one element of a text, kept until the element is whole.
-ghost use Rattle.std.specs.Prelude.{◌≡◌, [], ◌∷◌, ◌++◌, length, None, Some, OnOk, OnErr, is_ok, if◌then◌else◌};
+ghost use Rattle.std.specs.Prelude.{◌≡◌, [], ◌∷◌, ◌++◌, length, OnOk, OnErr, is_ok, if◌then◌else◌};
 ghost use Rattle.json_text.specs.Marks.{Step};
-ghost use Rattle.json_text.specs.Tokens.{step_for, verdict_for};
-ghost use Rattle.map_elements.specs.Steps.{step_of};
+ghost use Rattle.json_text.specs.Steps.{step_for};
 
 use crate::steps::part::Part;
 use item_list::append_bytes;
@@ -13,37 +12,12 @@ use std::marker::Model;
 pub(crate) mod entries;
 pub(crate) mod part;
 
-/// What a kept step is.
-#[derive(Clone, Copy)]
-pub(crate) enum StepKind {
-    /// An object begins.
-    Open,
-    /// An object ends.
-    Close,
-    /// An array begins.
-    ListOpen,
-    /// An array ends.
-    ListClose,
-    /// The name of a member.
-    Key,
-    /// A text that stands as a value.
-    Text,
-    /// A number.
-    Number,
-    /// The word `true`.
-    True,
-    /// The word `false`.
-    False,
-    /// The word `null`.
-    Null,
-}
-
 /// A step that is kept, and where its content stands among the bytes.
 #[derive(Clone, Copy)]
 pub(crate) struct Row {
     pub(crate) start: usize,
     pub(crate) length: u32,
-    pub(crate) kind: StepKind,
+    pub(crate) step: JsonStep,
 }
 
 /// A growing list of the steps of a JSON text.
@@ -108,29 +82,19 @@ impl StepList {
     /// Puts a step at the end, with its content if it has one. Where memory runs out, nothing
     /// changes; a content of 2^32 bytes counts as want of memory.
     pub fn push(&mut self, step: JsonStep, text: &[u8]) -> Result<(), AllocError>
-        requires no_verdict { verdict_for step ≡ None }
-        ensures value { OnOk result
-            ((s : Step) → step_for step text.now ≡ Some s → self.new ≡ self.old ++ s ∷ []) }
+        ensures value { OnOk result (self.new ≡ self.old ++ step_for step text.now ∷ []) }
         ensures same { OnErr result (self.new ≡ self.old) }
     {
         match step {
-            JsonStep::Open => self.add(StepKind::Open, &[]),
-            JsonStep::Close => self.add(StepKind::Close, &[]),
-            JsonStep::ListOpen => self.add(StepKind::ListOpen, &[]),
-            JsonStep::ListClose => self.add(StepKind::ListClose, &[]),
-            JsonStep::Key => self.add(StepKind::Key, text),
-            JsonStep::Text => self.add(StepKind::Text, text),
-            JsonStep::Number => self.add(StepKind::Number, text),
-            JsonStep::True => self.add(StepKind::True, &[]),
-            JsonStep::False => self.add(StepKind::False, &[]),
-            JsonStep::Null => self.add(StepKind::Null, &[]),
-            JsonStep::Done | JsonStep::More | JsonStep::Bad { .. } => Ok(()),
+            JsonStep::Key | JsonStep::Text | JsonStep::Number => self.add(step, text),
+            _ => self.add(step, &[]),
         }
     }
-    /// Puts a step of a kind at the end.
-    fn add(&mut self, kind: StepKind, text: &[u8]) -> Result<(), AllocError>
+
+    /// Puts a step at the end, and these bytes as its content.
+    fn add(&mut self, step: JsonStep, text: &[u8]) -> Result<(), AllocError>
         ensures value { self.new
-            ≡ (if is_ok result then self.old ++ step_of kind text.now ∷ [] else self.old) }
+            ≡ (if is_ok result then self.old ++ step_for step text.now ∷ [] else self.old) }
     {
         let Ok(length) = u32::try_from(text.len()) else {
             return Err(AllocError);
@@ -142,7 +106,7 @@ impl StepList {
             Row {
                 start,
                 length,
-                kind,
+                step,
             },
         )
     }

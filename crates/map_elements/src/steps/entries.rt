@@ -3,7 +3,6 @@ ghost use Rattle.std.specs.Prelude.{zero, ◌≡◌, List, [], ◌∷◌, None, 
 ghost use Rattle.map_elements.specs.Entries.{begun_entry, entries_from, is_named, member};
 ghost use Rattle.map_elements.specs.Cut.{IsNoKey};
 
-use crate::steps::StepKind;
 use crate::steps::part::{Part, closes};
 use std::marker::Model;
 
@@ -131,8 +130,8 @@ fn take_entry<'a>(left: &mut Part<'a>, name: Option<&'a [u8]>) -> Option<Field<'
     let mut behind = left.again();
     match behind.take_first() {
         None => begun(left.again(), name),
-        Some((kind, _)) => {
-            if closes(kind) {
+        Some((step, _)) => {
+            if closes(step) {
                 return None;
             }
             let (size, is_whole) = left.value_size();

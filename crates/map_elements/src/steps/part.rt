@@ -1,11 +1,13 @@
 //! A part of a list of steps, read from its front.
 ghost use Rattle.std.specs.Prelude.{ℕ, ◌≡◌, ◌≤◌, ◌<◌, ◌+◌, List, [], ◌∷◌, length, take, drop, MatchOption};
 ghost use Rattle.json_text.specs.Marks.{Key};
-ghost use Rattle.map_elements.specs.Steps.{step_of, steps_in, AreWithin};
+ghost use Rattle.json_text.specs.Steps.{step_for};
+ghost use Rattle.map_elements.specs.Steps.{steps_in, AreWithin};
 ghost use Rattle.map_elements.specs.Entries.{depth_after};
 ghost use Rattle.map_elements.specs.Cut.{size_of, ends_in, has_none, is_close, IsNoKey};
 
-use crate::steps::{Row, StepKind};
+use crate::steps::Row;
+use json_text::JsonStep;
 use std::marker::Model;
 
 /// Some steps that follow each other in a list.
@@ -61,10 +63,10 @@ impl<'a> Part<'a> {
     }
 
     /// Takes the first step away.
-    pub(crate) fn take_first(&mut self) -> Option<(StepKind, &'a [u8])>
+    pub(crate) fn take_first(&mut self) -> Option<(JsonStep, &'a [u8])>
         ensures value { MatchOption result
             ((self.old ≡ []) × (self.new ≡ []))
-            (λ t. self.old ≡ step_of t.0 t.1.now ∷ self.new) }
+            (λ t. self.old ≡ step_for t.0 t.1.now ∷ self.new) }
     {
         let all = self.rows;
         match all.split_first() {
@@ -73,7 +75,7 @@ impl<'a> Part<'a> {
                 let bytes = self.bytes;
                 let text = &bytes[row.start..row.start + row.length as usize];
                 self.rows = rows;
-                Some((row.kind, text))
+                Some((row.step, text))
             }
         }
     }
@@ -86,7 +88,7 @@ impl<'a> Part<'a> {
     {
         let mut behind = self.again();
         match behind.take_first() {
-            Some((StepKind::Key, text)) => {
+            Some((JsonStep::Key, text)) => {
                 *self = behind;
                 Some(text)
             }
@@ -123,8 +125,8 @@ impl<'a> Part<'a> {
         let total = self.len();
         let mut left = self.again();
         let mut depth: usize = 0;
-        'steps: while let Some((kind, _)) = left.take_first() {
-            depth = depth_behind(depth, kind);
+        'steps: while let Some((step, _)) = left.take_first() {
+            depth = depth_behind(depth, step);
             if depth == 0 {
                 return (total - left.len(), true);
             }
@@ -133,25 +135,25 @@ impl<'a> Part<'a> {
     }
 }
 
-/// How many brackets are open behind a step of a kind, where so many are before it.
-fn depth_behind(depth: usize, kind: StepKind) -> usize
+/// How many brackets are open behind a step, where so many are before it.
+fn depth_behind(depth: usize, step: JsonStep) -> usize
     requires few { depth < 18446744073709551615 }
-    ensures value { (text : List ℕ) → result ≡ depth_after depth (step_of kind text) }
+    ensures value { (text : List ℕ) → result ≡ depth_after depth (step_for step text) }
     ensures fits { result ≤ depth + 1 }
 {
-    match kind {
-        StepKind::Open | StepKind::ListOpen => depth + 1,
-        StepKind::Close | StepKind::ListClose => { if depth == 0 { 0 } else { depth - 1 } }
+    match step {
+        JsonStep::Open | JsonStep::ListOpen => depth + 1,
+        JsonStep::Close | JsonStep::ListClose => { if depth == 0 { 0 } else { depth - 1 } }
         _ => depth,
     }
 }
 
-/// Whether a step of a kind closes a bracket.
-pub(crate) fn closes(kind: StepKind) -> bool
-    ensures value { (text : List ℕ) → result ≡ is_close (step_of kind text) }
+/// Whether a step closes a bracket.
+pub(crate) fn closes(step: JsonStep) -> bool
+    ensures value { (text : List ℕ) → result ≡ is_close (step_for step text) }
 {
-    match kind {
-        StepKind::Close | StepKind::ListClose => true,
+    match step {
+        JsonStep::Close | JsonStep::ListClose => true,
         _ => false,
     }
 }

@@ -12,8 +12,8 @@ returns-in-Read-clause-value c bytes steps h =
 
 pub returns-in-Given-clause-value : goal.returns-in-Given-clause-value
 returns-in-Given-clause-value c bytes steps h =
-    byte_given c.args.self.now _ bytes steps c.index-b.result.now c.in_ok-take.field-0 h c.in_ok-take.ensures.exact.moves c.in-Given.token _
-    c.in-Given.is c.json_step.ensures.value
+    byte_given c.args.self.now _ bytes steps c.index-b.result.now c.in_ok-take.field-0 h c.in_ok-take.ensures.exact.moves c.in-Given.step
+    c.in-Given.is
     (pending_byte c.args.self.now.input.items c.args.self.now.read c.index-b.result.now
     (omega (arith, c.requires, c.args.self.now.input.ok.0)) c.index-b.ensures) refl
 
