@@ -138,14 +138,17 @@ impl CommandName {
     {
         match self {
             CommandName::Grid =>
-                "prints a shortest walk across the grid of w by h cells of a seed, or a cheapest one by a profile",
+                "prints a shortest walk across the grid of w by h cells of a seed, or a cheapest \
+                 one by a profile",
             CommandName::Make =>
-                "writes the map of the grid of w by h cells of a seed, or the tile of heights of the seed",
+                "writes the map of the grid of w by h cells of a seed, or the tile of heights of \
+                 the seed",
             CommandName::Code => "prints the flat code of a profile under a tag table",
             CommandName::Route =>
                 "answers a query over a map by a profile, with heights from tiles",
             CommandName::Hills =>
-                "prints what the cheapest track costs from corner to corner of the hilly grid of w by h cells of a seed",
+                "prints what the cheapest track costs from corner to corner of the hilly grid of \
+                 w by h cells of a seed",
             CommandName::Serve => "answers routes over HTTP, and takes profiles",
         }
     }

@@ -47,8 +47,9 @@ pub fn least_walk(
     let space = GridSpace::new(grid, forward, backward, from, to);
     let limit = space.cells() as u64;
     match least(alloc, &space, limit)? {
-        Outcome::Found { choices, cost } => {
-            let cells = space.walk(alloc, choices.as_slice())?;
+        Outcome::Found(run) => {
+            let cells = space.walk(alloc, run.choices.as_slice())?;
+            let cost = run.cost;
             Ok(Some(GridWalk { cells, cost }))
         }
         Outcome::NoWay => Ok(None),

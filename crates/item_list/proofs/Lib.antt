@@ -1,3 +1,4 @@
 pub mod CallerLemmas
 pub mod ListLemmas
 pub mod TestLemmas
+pub mod SaysLemmas

@@ -1,3 +1,4 @@
 pub mod Answer
 pub mod Appended
 pub mod Bytes
+pub mod Turns

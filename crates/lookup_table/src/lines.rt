@@ -1,13 +1,13 @@
 //! The lines of a table, one after the other.
 ghost use Rattle.std.specs.Prelude.{◌≡◌, ◌<◌, ◌≤◌, ◌^◌, ◌∷◌, length};
-ghost use Rattle.std.specs.List.{prefix_len};
 ghost use Rattle.item_list.specs.Answer.{Answers};
 ghost use Rattle.lookup_table.specs.declared.error.LookupError.TheVariants.{NoMemory};
 ghost use Rattle.lookup_table.specs.Draft.{empty_draft, lines_after, take_lines};
-ghost use Rattle.lookup_table.specs.Line.{is_in_line, lines_of};
+ghost use Rattle.lookup_table.specs.Line.{lines_of};
 
 use crate::draft::Draft;
 use crate::error::LookupError;
+use item_list::len_before;
 use std::alloc::Global;
 
 /// What all lines of a text say.
@@ -36,18 +36,5 @@ fn first_line(text: &[u8]) -> (&[u8], &[u8])
     ensures value { lines_of text.now ≡ result.0.now ∷ lines_after result.1.now }
     ensures fits { length result.1.now ≤ length text.now }
 {
-    text.split_at(line_len(text))
-}
-
-/// How long the line at the front is.
-fn line_len(text: &[u8]) -> usize
-    ensures value { result ≡ prefix_len is_in_line text.now }
-    ensures fits { result ≤ length text.now }
-{
-    for (i, c) in text.iter().enumerate() {
-        if *c == b'\n' {
-            return i;
-        }
-    }
-    text.len()
+    text.split_at(len_before(text, b'\n'))
 }

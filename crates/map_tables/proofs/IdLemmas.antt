@@ -5,7 +5,7 @@ use Rattle.std.specs.List.{AllByRecursion, IsDistinct}
 use Rattle.std.specs.Map.{keys_of}
 use Rattle.std.specs.Ordering.{int_eq}
 use Rattle.indexmap.specs.IndexMap.{insert_entry}
-use Rattle.map_tables.proofs.ListLemmas.{position-step}
+use Rattle.item_list.proofs.TestLemmas.{position-step}
 use Rattle.map_tables.specs.Kept.{place_in, AreDifferent}
 
 -- ---- Numbers

@@ -137,7 +137,8 @@ abbrev pub HasMember : List (Kept (List Member)) → ℕ → ℕ → Type 0
 HasMember relations place member = HoldsAt relations place (λ k. member < length k.content)
 
 -- a fact of the member at a place of the relation at a place
-abbrev pub HoldsAtMember : List (Kept (List Member)) → ℕ → ℕ → (Member → Type 0) → Type 0
+abbrev pub HoldsAtMember : (relations : List (Kept (List Member))) (place member : ℕ) → (Member → Type 0) →
+    Type 0
 HoldsAtMember relations place member P =
     HoldsAt relations place (λ k. (m : Member) → slice_get k.content member ≡ Some m → P m)
 

@@ -24,7 +24,8 @@ pub record IsOwn (lists : List (ℕ × List Tag)) (place list : ℕ) : Type 0 wh
 
 -- elements at other places keep their tags, whichever lists their rows name
 abbrev pub KeepsOthers : ℕ → List (ℕ × List Tag) → List (ℕ × List Tag) → Type 0
-KeepsOthers place old new = (other list : ℕ) → (other ≡ place → ⊥) → tags_in new other list ≡ tags_in old other list
+KeepsOthers place old new =
+    (other list : ℕ) → (other ≡ place → ⊥) → tags_in new other list ≡ tags_in old other list
 
 -- ---- A table
 

@@ -1,6 +1,6 @@
 //! The elements so far, each id of a kind once, within limits.
 
-ghost use Rattle.std.specs.Prelude.{◌≡◌, ◌<◌, Bool, length, slice_set, IfErr, OnOk};
+ghost use Rattle.std.specs.Prelude.{◌≡◌, ◌<◌, length, slice_set, IfErr, OnOk};
 ghost use Rattle.geo_int.specs.Spot.{place_of};
 ghost use Rattle.map_tables.specs.Kept.{with_tag, HoldsAt};
 ghost use Rattle.map_tables.specs.Draft.{HasDistinctIds, IsWithin, beyond_members, beyond_nodes, beyond_ways, empty, fault_unless, take_node, take_relation, take_way, with_ways};
@@ -83,7 +83,8 @@ impl Tables {
     /// Adds a node, or gives the one of this id again.
     pub fn add_node(&mut self, id: i64, spot: Spot, tags: Tags) -> Result<(), MapError>
         ensures exact { Takes result self.old self.new
-            (take_node self.old.limits (record { id = id; content = place_of spot; tags = tags }) self.old.draft) }
+            (take_node self.old.limits (record { id = id; content = place_of spot; tags = tags })
+            self.old.draft) }
     {
         let beyond = self.beyond_nodes();
         self.nodes
@@ -93,7 +94,8 @@ impl Tables {
     /// Adds a way, or gives the one of this id again.
     pub fn add_way(&mut self, id: i64, nodes: &[i64], tags: Tags) -> Result<(), MapError>
         ensures exact { Takes result self.old self.new
-            (take_way self.old.limits (record { id = id; content = nodes.now; tags = tags }) self.old.draft) }
+            (take_way self.old.limits (record { id = id; content = nodes.now; tags = tags })
+            self.old.draft) }
     {
         let beyond = self.beyond_ways(nodes);
         let nodes = match Vec::from_slice(self.alloc, nodes) {
@@ -106,7 +108,8 @@ impl Tables {
     /// Adds a relation, or gives the one of this id again.
     pub fn add_relation(&mut self, id: i64, members: &[Member], tags: Tags) -> Result<(), MapError>
         ensures exact { Takes result self.old self.new
-            (take_relation self.old.limits (record { id = id; content = members.now; tags = tags }) self.old.draft) }
+            (take_relation self.old.limits
+            (record { id = id; content = members.now; tags = tags }) self.old.draft) }
     {
         let beyond = self.beyond_members(members);
         let members = match Members::new(self.alloc, members) {
@@ -123,7 +126,8 @@ impl Tables {
         ensures value { HoldsAt self.old.draft.ways way (λ k.
             OnOk result (self.new ≡ record {
               limits = self.old.limits;
-              draft = with_ways self.old.draft (slice_set self.old.draft.ways way (with_tag (name, value) k));
+              draft = with_ways self.old.draft
+                  (slice_set self.old.draft.ways way (with_tag (name, value) k));
             })) }
         ensures kept { IfErr result (λ e. (e ≡ error_.NoMemory) × (self.new ≡ self.old)) }
     {

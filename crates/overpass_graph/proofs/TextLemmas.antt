@@ -1,9 +1,13 @@
 -- Texts of tags.
-use Rattle.std.proofs.Common.{◌≡◌, ◌≢◌, ℕ, zero, suc, ◌+◌, ◌-◌, ◌<◌, ◌≤◌, true, false, inl, inr, List, [], ◌∷◌, ◌++◌, length, get_or, take, drop, refl, sym, ap, ◌∙◌, arith, eq-eqb}
+use Rattle.std.proofs.Common.{◌≡◌, ◌≢◌, ℕ, zero, suc, ◌+◌, ◌-◌, ◌<◌, ◌≤◌, true, false, inl, inr, List, [], ◌∷◌, ◌++◌, length, get_or, take, drop, refl, sym, ap, ◌∙◌, subst, arith, eq-eqb}
 use Rattle.std.proofs.lemmas.Bool.{ne_eqb, cases_eq}
+use Rattle.std.proofs.lemmas.Bool.Decides.{nat_tests}
 use Rattle.std.proofs.lemmas.List.{drop_more, take_more, take_all, drop_all}
+use Rattle.std.proofs.lemmas.List.Sums.{prefix_len_passes, prefix_len_stops}
+use Rattle.std.specs.List.{prefix_len}
 use Rattle.std.specs.Str.{bytes_eq}
-use Rattle.overpass_graph.specs.Texts.{IsPieceEnd, bicycle}
+use Rattle.item_list.specs.Bytes.{is_other}
+use Rattle.overpass_graph.specs.Texts.{bicycle}
 use Rattle.overpass_graph.specs.Restrictions.{begins_with, without_front, without_end, trimmed, pieces, names_bicycle}
 
 -- ---- Fronts
@@ -64,6 +68,27 @@ end-stays text end some within ink =
     ap without_end front ∙ end-ink (take (end - 1) text) (get_or text (end - 1) 0) ink ∙ sym front
 
 -- ---- Pieces
+
+-- there is no semicolon before this place, and one at it, or the text ends there
+pub record IsPieceEnd (text : List ℕ) (end : ℕ) : Type 0 where
+  pub before : (k : ℕ) → k < end → get_or text k 0 ≢ 59
+  pub at : end < length text → get_or text end 0 ≡ 59
+
+-- what passes is no semicolon
+not-semicolon : (c : ℕ) → is_other 59 c ≡ true → c ≢ 59
+not-semicolon c passes e =
+    let never : is_other 59 59 ≡ true = subst (λ x. is_other 59 x ≡ true) e passes in absurd (cc)
+
+-- what stops is one
+is-semicolon : (c : ℕ) → is_other 59 c ≡ false → c ≡ 59
+is-semicolon c stops = grind (arith, nat_tests, stops)
+
+-- a piece ends before the first semicolon
+pub piece-end : (text : List ℕ) (end : ℕ) → end ≡ prefix_len (is_other 59) text → IsPieceEnd text end
+piece-end text end same = record {
+  before = λ k below. not-semicolon _ (prefix_len_passes (is_other 59) text k 0 (omega (arith, below, same)));
+  at = λ below. is-semicolon _ (rw same (prefix_len_stops (is_other 59) text 0 (omega (arith, below, same))));
+}
 
 -- a text without a semicolon is one piece
 pub piece-whole : (text : List ℕ) → IsPieceEnd text (length text) → pieces text ≡ text ∷ []

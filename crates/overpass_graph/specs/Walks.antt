@@ -32,11 +32,6 @@ pub record MayFollow (roads : Roads) (forbids : ℕ → ℕ → Bool) (first sec
   pub goes_ahead : roads.to second ≢ roads.from first
   pub allowed : forbids first second ≡ false
 
--- a list of links that a rider may take from a node to a node
-abbrev pub IsPermittedWalk : (roads : Roads) (is_open : ℕ → Bool) (forbids : ℕ → ℕ → Bool) (from to : ℕ)
-    (links : List ℕ) → Type 0
-IsPermittedWalk roads is_open forbids = IsWalkBy roads is_open (MayFollow roads forbids)
-
 -- a list of open links each of which leaves where the one before it arrived, from a node to a node
 abbrev pub IsJoinedWalk : (roads : Roads) (is_open : ℕ → Bool) (from to : ℕ) (links : List ℕ) → Type 0
 IsJoinedWalk roads is_open = IsWalkBy roads is_open (Joins roads)

@@ -45,9 +45,11 @@ fn lay_way(tables: &Tables, order: &NodeOrder, way: u32, laid: &mut Laid) -> Res
     requires in_range { way < length tables.now.draft.ways }
     requires sound { IsSoundLaid (length tables.now.draft.nodes) laid.old }
     ensures missing { let k = way_at tables.now.draft.ways way in
-        Passes (option_map (MissingNode k.id) (missing_in tables.now.draft.nodes k.content)) NoMemory result }
+        Passes (option_map (MissingNode k.id) (missing_in tables.now.draft.nodes k.content))
+        NoMemory result }
     ensures links { OnOk result (Lays (length tables.now.draft.nodes) laid.old laid.new
-        (links_of_way (picked tables.now.draft.nodes order.now.places.items) way (way_at tables.now.draft.ways way).content)) }
+        (links_of_way (picked tables.now.draft.nodes order.now.places.items) way
+        (way_at tables.now.draft.ways way).content)) }
 {
     let ids = tables.way_nodes(way);
     let mut last = 0;

@@ -70,7 +70,8 @@ impl Model for Links {
 
     ghost Value = { Net };
 
-    ghost view = { λ l. record { nodes = l.ends.groups; links = paired l.ends.keys l.pieces.items } };
+    ghost view = { λ l.
+        record { nodes = l.ends.groups; links = paired l.ends.keys l.pieces.items } };
 
     ghost invariant = { λ l. length l.ends.keys ≡ 2 * length l.pieces.items };
 }

@@ -49,8 +49,10 @@ fn restriction_at(
 ) -> Result<Option<Restriction>, AllocError>
     requires fits { relation < length tables.now.draft.relations }
     ensures exact { IfOk result (λ r. r ≡ restriction_by (Some kind) (Some via)
-        (ways_of tables.now.draft.ways (in_role (codes "from") (relation_at tables.now.draft.relations relation).content))
-        (ways_of tables.now.draft.ways (in_role (codes "to") (relation_at tables.now.draft.relations relation).content))) }
+        (ways_of tables.now.draft.ways (in_role (codes "from")
+        (relation_at tables.now.draft.relations relation).content))
+        (ways_of tables.now.draft.ways (in_role (codes "to")
+        (relation_at tables.now.draft.relations relation).content))) }
 {
     let from = ways_in_role(alloc, tables, relation, b"from".as_slice())?;
     let to = ways_in_role(alloc, tables, relation, b"to".as_slice())?;
@@ -97,7 +99,8 @@ fn add_restriction(
         order.now.numbers.items }
     requires below { AreViasBelow (length tables.now.draft.nodes) list.old.items }
     ensures value { OnOk result (list.new.items ≡ list.old.items ++ option_to_list (restriction_of
-        (picked tables.now.draft.nodes order.now.places.items) tables.now.draft.ways (relation_at tables.now.draft.relations relation))) }
+        (picked tables.now.draft.nodes order.now.places.items) tables.now.draft.ways
+        (relation_at tables.now.draft.relations relation))) }
     ensures below { OnOk result (AreViasBelow (length tables.now.draft.nodes) list.new.items) }
 {
     if let Some(one) = restriction(alloc, tables, order, relation)? {
@@ -116,7 +119,8 @@ pub(crate) fn restrictions(
     requires order { IsNodeOrder tables.now.draft.nodes order.now.places.items
         order.now.numbers.items }
     ensures exact { IfOk result (λ list. list.items ≡ restrictions_of
-        (picked tables.now.draft.nodes order.now.places.items) tables.now.draft.ways tables.now.draft.relations) }
+        (picked tables.now.draft.nodes order.now.places.items) tables.now.draft.ways
+        tables.now.draft.relations) }
     ensures below { IfOk result (λ list. AreViasBelow (length tables.now.draft.nodes) list.items) }
 {
     let mut list = Vec::new(alloc);

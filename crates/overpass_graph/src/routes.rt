@@ -97,7 +97,8 @@ fn tag_member(
 fn tag_ways(alloc: Global, tables: &mut Tables, relation: u32, name: &[u8]) -> Result<(), MapError>
     requires fits { relation < length tables.old.draft.relations }
     ensures value { OnOk result (tables.new ≡ with_more_tags tables.old
-        (tag_members (name.now, codes "yes") (members_at tables.old.draft.relations relation) tables.old.draft.ways)) }
+        (tag_members (name.now, codes "yes") (members_at tables.old.draft.relations relation)
+        tables.old.draft.ways)) }
     ensures refused { IfErr result (λ e. e ≡ NoMemory) }
 {
     'members: for member in 0..tables.members(relation) {

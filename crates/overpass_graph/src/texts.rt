@@ -3,7 +3,9 @@
 ghost use Rattle.std.specs.Prelude.{◌≡◌, ◌+◌, ◌<◌, ◌≤◌, length, drop};
 ghost use Rattle.overpass_graph.specs.Restrictions.{begins_with as begins_with_bytes, without_front as front_cut, without_end as end_cut, trimmed as trimmed_bytes, names_bicycle as names_bicycle_among, pieces};
 ghost use Rattle.std.specs.Str.{bytes_eq};
-ghost use Rattle.overpass_graph.specs.Texts.{IsPieceEnd, bicycle};
+ghost use Rattle.overpass_graph.specs.Texts.{bicycle};
+
+use item_list::len_before;
 
 /// Whether a text begins with these bytes.
 pub(crate) fn begins_with(front: &[u8], text: &[u8]) -> bool
@@ -26,7 +28,7 @@ pub(crate) fn names_bicycle(text: &[u8]) -> bool
 {
     let mut rest = text;
     'pieces: loop {
-        let end = piece_len(rest);
+        let end = len_before(rest, b';');
         if is_bicycle(&rest[..end]) {
             return true;
         }
@@ -44,19 +46,6 @@ fn behind(text: &[u8], place: usize) -> &[u8]
 {
     let here = &text[place..];
     &here[1..]
-}
-
-/// How many bytes stand before the first semicolon.
-fn piece_len(text: &[u8]) -> usize
-    ensures within { result ≤ length text.now }
-    ensures value { IsPieceEnd text.now result }
-{
-    'bytes: for (place, byte) in text.iter().enumerate() {
-        if *byte == b';' {
-            return place;
-        }
-    }
-    text.len()
 }
 
 /// Whether a piece says `bicycle`, spaces at its ends aside.

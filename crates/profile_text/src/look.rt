@@ -1,16 +1,15 @@
 //! The parts of a look: a tag, and the values that it is compared with.
 ghost use Rattle.std.specs.Prelude.{◌≡◌, ◌≤◌, false, length, IfOk};
-ghost use Rattle.std.specs.List.{prefix_len};
-ghost use Rattle.profile_text.specs.Look.{is_look, is_tag_byte, is_value_byte, are_values, are_parted, pieces, tag_of, values_of};
+ghost use Rattle.profile_text.specs.Look.{is_look, are_values, are_parted, pieces, tag_of, values_of};
 
-use item_list::{Items, Name, bytes_of};
+use item_list::{Items, Name, bytes_of, len_before};
 use std::alloc::{AllocError, Global};
 
 /// Whether a token is a nonempty tag, `=`, and nothing or nonempty values parted by `|`.
 pub(crate) fn is_look(text: &[u8]) -> bool
     ensures value { result ≡ is_look text.now }
 {
-    let len = tag_len(text);
+    let len = len_before(text, b'=');
     len > 0 && len < text.len() && are_values(&text[len + 1..])
 }
 
@@ -18,14 +17,14 @@ pub(crate) fn is_look(text: &[u8]) -> bool
 pub(crate) fn tag_of(alloc: Global, text: &[u8]) -> Result<Name, AllocError>
     ensures value { IfOk result (λ n. n ≡ tag_of text.now) }
 {
-    copied(alloc, &text[..tag_len(text)])
+    copied(alloc, &text[..len_before(text, b'=')])
 }
 
 /// The values of a look; none where nothing follows the `=`.
 pub(crate) fn values_of(alloc: Global, text: &[u8]) -> Result<Items<Name>, AllocError>
     ensures value { IfOk result (λ v. v ≡ values_of text.now) }
 {
-    let len = tag_len(text);
+    let len = len_before(text, b'=');
     if len + 1 >= text.len() {
         return Ok(Items::new(alloc));
     }
@@ -39,7 +38,7 @@ fn pieces(alloc: Global, text: &[u8]) -> Result<Items<Name>, AllocError>
     let mut values = Items::new(alloc);
     let mut rest = text;
     'pieces: loop {
-        let (piece, after) = rest.split_at(piece_len(rest));
+        let (piece, after) = rest.split_at(len_before(rest, b'|'));
         let value = copied(alloc, piece)?;
         values.push(value)?;
         if after.is_empty() {
@@ -48,19 +47,6 @@ fn pieces(alloc: Global, text: &[u8]) -> Result<Items<Name>, AllocError>
         let (_, next) = after.split_at(1);
         rest = next;
     }
-}
-
-/// How many bytes stand before the first `|`.
-fn piece_len(text: &[u8]) -> usize
-    ensures value { result ≡ prefix_len is_value_byte text.now }
-    ensures fits { result ≤ length text.now }
-{
-    for (i, byte) in text.iter().enumerate() {
-        if *byte == b'|' {
-            return i;
-        }
-    }
-    text.len()
 }
 
 /// Whether a text is empty, or nonempty values parted by `|`.
@@ -82,19 +68,6 @@ fn are_parted(text: &[u8]) -> bool
         begun = *byte != b'|';
     }
     begun
-}
-
-/// How many bytes stand before the first `=`.
-fn tag_len(text: &[u8]) -> usize
-    ensures value { result ≡ prefix_len is_tag_byte text.now }
-    ensures fits { result ≤ length text.now }
-{
-    for (i, byte) in text.iter().enumerate() {
-        if *byte == b'=' {
-            return i;
-        }
-    }
-    text.len()
 }
 
 /// A name with these bytes.

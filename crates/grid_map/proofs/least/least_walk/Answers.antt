@@ -6,4 +6,4 @@ use Rattle.grid_map.proofs.least.least_walk.Goals as goal
 pub unreachable-requires : goal.unreachable-requires
 unreachable-requires c =
     subst IsUnspent c.in-Budget.is
-    (c.in_ok-choices.ensures.enough 1 (grid_rules-few _ _ _ _) (omega (arith, c.cells-limit.ensures.value)))
+    (c.in_ok-run.ensures.enough 1 (grid_rules-few _ _ _ _) (omega (arith, c.cells-limit.ensures.value)))

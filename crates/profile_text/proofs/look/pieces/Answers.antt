@@ -11,8 +11,8 @@ returns-then-is_empty c =
       value =
           pushed
           ∙ ap (λ w. c.pieces.values ++ w)
-          (sym (last_piece c.pieces.rest.now c.split_at.result.0.now c.split_at.result.1.now c.piece_len.result
-          c.piece_len.ensures.value c.split_at.ensures.front c.split_at.ensures.back c.if-is_empty.ensures))
+          (sym (last_piece c.pieces.rest.now c.split_at.result.0.now c.split_at.result.1.now c.len_before.result
+          c.len_before.ensures.value c.split_at.ensures.front c.split_at.ensures.back c.if-is_empty.ensures))
           ∙ sym c.pieces.invariant;
     }
 
@@ -22,7 +22,7 @@ pieces-preserved c =
     c.in_ok-push.ensures.value ∙ ap (λ v. c.pieces.values ++ v ∷ []) c.in_ok-value.ensures.value in
     c.pieces.invariant
     ∙ ap (λ w. c.pieces.values ++ w)
-    (next_piece c.pieces.rest.now c.split_at.result.0.now c.split_at.result.1.now c.split_at-in-pieces.result.1.now c.piece_len.result
-    c.piece_len.ensures.value c.split_at.ensures.front c.split_at.ensures.back c.if-is_empty.ensures c.split_at-in-pieces.ensures.back)
+    (next_piece c.pieces.rest.now c.split_at.result.0.now c.split_at.result.1.now c.split_at-in-pieces.result.1.now c.len_before.result
+    c.len_before.ensures.value c.split_at.ensures.front c.split_at.ensures.back c.if-is_empty.ensures c.split_at-in-pieces.ensures.back)
     ∙ sym (append_assoc c.pieces.values (c.split_at.result.0.now ∷ []) (pieces c.split_at-in-pieces.result.1.now))
     ∙ ap (λ w. w ++ pieces c.split_at-in-pieces.result.1.now) (sym pushed)
