@@ -6,11 +6,11 @@ use Rattle.space_search.specs.Books.{Books, Entry, Follows, IsCovered, IsAccount
 use Rattle.space_search.specs.Laws.{IsSpace, HasRank}
 use Rattle.space_search.specs.Moves.{IsNext}
 use Rattle.space_search.specs.Rules.{Rules}
-use Rattle.space_search.specs.Turns.{IsDone, covered, hopeless, ranks, RanksBelowGoals, IsClosedAndOrdered, EndsFound, EndsNoWay, Ends}
+use Rattle.space_search.specs.Turns.{IsDone, covered, hopeless, ranks, RanksBelowGoals, IsClosedAndOrdered, EndsFound, EndsNoWay, IsClosedSoFar}
 use Rattle.space_search.specs.View.{Reached, view_of, reached, reached_by, settled_of}
 use Rattle.space_search.specs.declared.label.Label.{Label}
+use Rattle.space_search.specs.declared.outcome.Outcome.TheVariants.{Found, NoWay}
 use Rattle.space_search.specs.declared.phase.Phase.TheVariants.{Running, Ended}
-use Rattle.space_search.specs.declared.turn.Turn.TheVariants.{More, Found, NoWay}
 use Rattle.space_search.proofs.LeastLemmas.{waits-high, none-below, no_way}
 use Rattle.item_list.proofs.ListLemmas.{Contains-none}
 use Rattle.space_search.proofs.OrderLemmas.{in-order}
@@ -85,7 +85,7 @@ module _ {S : Type 0} (rules : Rules S) (laws : IsSpace rules) (kept : Books S)
 
   -- after a turn that settled as many labels as it was given
   pub ends-more :
-      (limit found : ℕ) → Ends rules (view_of (record { limit = limit; kept = kept; found = found; phase = Running })) More
+      (limit found : ℕ) → IsClosedSoFar rules (view_of (record { limit = limit; kept = kept; found = found; phase = Running }))
   ends-more limit found place last rank end at r =
       let s : Settled kept place last = settled-shown rules kept search.stands.reads place last at in
       let mine : HasRank rules s.label.state s.label.cost rank =

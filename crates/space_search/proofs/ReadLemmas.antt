@@ -8,10 +8,10 @@ use Rattle.space_search.specs.Runs.{IsRun}
 use Rattle.space_search.specs.Searches.{IsPhase, IsSearchOf}
 use Rattle.space_search.specs.View.{Reached, Held, held, view, view_of, reached, reached_by, settled_of, goal_of, listed, labels_of, IsShown}
 use Rattle.space_search.specs.declared.label.Label.{Label}
+use Rattle.space_search.specs.declared.outcome.Outcome.TheVariants.{Found, NoWay, Budget}
 use Rattle.space_search.specs.declared.phase.Phase.{Phase}
 use Rattle.space_search.specs.declared.phase.Phase.TheVariants.{New, Running, Ended, Failed}
 use Rattle.space_search.specs.declared.search.Search.{Search}
-use Rattle.space_search.specs.declared.turn.Turn.TheVariants.{More, Found, NoWay, Budget}
 use Rattle.item_list.proofs.ListLemmas.{slice_get-append, slice_get-pushed, slice_get-same}
 use Rattle.space_search.proofs.RunLemmas.{run-to}
 use Rattle.space_search.proofs.ShownLemmas.{shown-count, shown-settled}
@@ -67,16 +67,15 @@ goal-at rules limit kept found Running number b =
     absurd (omega (arith, b.beyond, b.within, length-append (settled_of kept) [], shown-count rules kept b.stands.reads))
 goal-at rules limit kept found Failed number b =
     absurd (omega (arith, b.beyond, b.within, length-append (settled_of kept) [], shown-count rules kept b.stands.reads))
-goal-at rules limit kept found (Ended More) number b = absurd b.is.0
 goal-at rules limit kept found (Ended NoWay) number b =
     absurd (omega (arith, b.beyond, b.within, length-append (settled_of kept) [], shown-count rules kept b.stands.reads))
 goal-at rules limit kept found (Ended Budget) number b =
     absurd (omega (arith, b.beyond, b.within, length-append (settled_of kept) [], shown-count rules kept b.stands.reads))
 goal-at {S} rules limit kept found (Ended (Found last)) number b =
-    let label : Label S = b.is.2.0 in
+    let label : Label S = b.is.1.0 in
     let held : Held S = record { limit = limit; kept = kept; found = found; phase = Ended (Found last) } in
     let goal : goal_of held (Ended (Found last)) ≡ Some (reached (settled_of kept) label) =
-    ap (λ l. reached_by (settled_of kept) l) b.is.2.1 in
+    ap (λ l. reached_by (settled_of kept) l) b.is.1.1 in
     let inside : number < length (settled_of kept ++ reached (settled_of kept) label ∷ []) =
     subst (λ (g : Option (Reached S)). number < length (settled_of kept ++ listed g)) goal b.within in
     let at : number ≡ length (settled_of kept) =
@@ -88,16 +87,16 @@ goal-at {S} rules limit kept found (Ended (Found last)) number b =
       shown-count rules kept
           b.stands.reads,
     ) in
-    let numbered : last ≡ number = omega (arith, at, b.is.1.numbered) in
+    let numbered : last ≡ number = omega (arith, at, b.is.0.numbered) in
     record {
       label = label;
-      there = b.is.2.1;
+      there = b.is.1.1;
       shown =
           subst (λ (g : Option (Reached S)). slice_get (settled_of kept ++ listed g) number ≡ Some (reached (settled_of kept) label))
           (sym goal)
           (subst (λ n. slice_get (settled_of kept ++ reached (settled_of kept) label ∷ []) n ≡ Some (reached (settled_of kept) label))
           (sym at) (slice_get-pushed (settled_of kept) (reached (settled_of kept) label)));
-      follows = subst (λ n. Follows rules kept n label) numbered b.is.2.2;
+      follows = subst (λ n. Follows rules kept n label) numbered b.is.1.2;
     }
 
 -- a number that can be read and isn't a settled label's is the goal's

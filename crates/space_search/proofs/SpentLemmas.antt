@@ -9,8 +9,8 @@ use Rattle.space_search.specs.Rules.{Rules}
 use Rattle.space_search.specs.Turns.{IsPassed, RanksBelowGoals, EndsSpent}
 use Rattle.space_search.specs.View.{Reached, view_of, reached, settled_of}
 use Rattle.space_search.specs.declared.label.Label.{Label}
+use Rattle.space_search.specs.declared.outcome.Outcome.TheVariants.{Budget}
 use Rattle.space_search.specs.declared.phase.Phase.TheVariants.{Ended}
-use Rattle.space_search.specs.declared.turn.Turn.TheVariants.{Budget}
 use Rattle.space_search.proofs.DropLemmas.{rank-unique}
 use Rattle.space_search.proofs.EndLemmas.{below-goals, closed-below}
 use Rattle.space_search.proofs.LeastLemmas.{none-below}

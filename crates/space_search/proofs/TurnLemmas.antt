@@ -1,13 +1,14 @@
 -- What a part of a turn says where it comes to an end.
 use Rattle.std.proofs.Common.{◌≡◌, ℕ, ◌<◌, ◌+◌, length, arith, sym, subst}
+use Rattle.item_list.specs.declared.turn.Turn.TheVariants.{More, Done}
 use Rattle.space_search.specs.Books.{Books, Follows, IsSearch, IsClosed}
 use Rattle.space_search.specs.Laws.{IsSpace}
 use Rattle.space_search.specs.Moves.{Takes, WhatTaken}
 use Rattle.space_search.specs.Rules.{Rules}
 use Rattle.space_search.specs.Searches.{Turns, held_after}
+use Rattle.space_search.specs.declared.outcome.Outcome.TheVariants.{Found, NoWay, Budget}
 use Rattle.space_search.specs.declared.take.Taken.{Taken}
 use Rattle.space_search.specs.declared.take.Taken.TheVariants.{Goal, Empty, Spent}
-use Rattle.space_search.specs.declared.turn.Turn.TheVariants.{More, Found, NoWay, Budget}
 use Rattle.space_search.proofs.EndLemmas.{ends-more, ends-no_way, ends-found}
 use Rattle.space_search.proofs.SpentLemmas.{ends-spent}
 
@@ -16,7 +17,7 @@ module _ {S : Type 0} (rules : Rules S) (laws : IsSpace rules) (limit quota coun
   -- after as many labels as the turn is given
   pub turns-more :
       IsSearch rules between → IsClosed rules between → count ≡ quota →
-      Turns rules quota before (held_after limit between (More, 0)) More
+      Turns rules quota before (held_after limit between (More tt, 0)) (More tt)
   turns-more search closed full =
       record {
         kept = search;
@@ -30,7 +31,7 @@ module _ {S : Type 0} (rules : Rules S) (laws : IsSpace rules) (limit quota coun
     -- at a goal
     pub turns-goal :
         (number label : ℕ) → taken ≡ Goal number → label ≡ length after.settled →
-        Turns rules quota before (held_after limit after (Found label, number)) (Found label)
+        Turns rules quota before (held_after limit after (Done (Found label), number)) (Done (Found label))
     turns-goal number label is numbered =
         let what : WhatTaken rules limit between after (Goal number) = subst (λ t. WhatTaken rules limit between after t) is takes.what in
         record {
@@ -46,7 +47,7 @@ module _ {S : Type 0} (rules : Rules S) (laws : IsSpace rules) (limit quota coun
         }
 
     -- where nothing waits
-    pub turns-empty : taken ≡ Empty → Turns rules quota before (held_after limit after (NoWay, 0)) NoWay
+    pub turns-empty : taken ≡ Empty → Turns rules quota before (held_after limit after (Done NoWay, 0)) (Done NoWay)
     turns-empty is =
         let what : WhatTaken rules limit between after Empty = subst (λ t. WhatTaken rules limit between after t) is takes.what in
         record {
@@ -58,7 +59,7 @@ module _ {S : Type 0} (rules : Rules S) (laws : IsSpace rules) (limit quota coun
         }
 
     -- where the limit is spent
-    pub turns-spent : taken ≡ Spent → Turns rules quota before (held_after limit after (Budget, 0)) Budget
+    pub turns-spent : taken ≡ Spent → Turns rules quota before (held_after limit after (Done Budget, 0)) (Done Budget)
     turns-spent is =
         let what : WhatTaken rules limit between after Spent = subst (λ t. WhatTaken rules limit between after t) is takes.what in
         record {

@@ -1,37 +1,26 @@
 -- What the calls of a search say, from its phase.
 use Rattle.std.proofs.Common.{◌≡◌, ℕ, ◌≤◌, ◌+◌, ◌*◌, List, [], ◌++◌, length, Option, Some, refl, ap, arith, sym, ◌∙◌, subst}
 use Rattle.std.specs.List.{slice_get}
+use Rattle.item_list.proofs.SaysLemmas.{says-map}
+use Rattle.item_list.specs.Turns.{Says, Settles}
+use Rattle.item_list.specs.declared.turn.Turn.{Turn}
 use Rattle.space_search.specs.Books.{Books, books, Reads, Leaves}
 use Rattle.space_search.specs.Laws.{IsSpace}
-use Rattle.space_search.specs.Limits.{HasFewPerCell}
+use Rattle.space_search.specs.Limits.{HasFewPerCell, IsUnspent, IsUnspentTurn}
 use Rattle.space_search.specs.Rules.{Rules}
 use Rattle.space_search.specs.Runs.{IsRun, IsLeastRun}
 use Rattle.space_search.specs.Searches.{IsPhase, IsSearchOf, Turns}
-use Rattle.space_search.specs.Turns.{IsLast, Ends, Counts, IsUnspentTurn, EndsFound, GoesOn}
-use Rattle.space_search.specs.View.{Reached, View, Held, held, view, view_of, shown_from, pick, settled_of, listed, labels_of, IsShown, phase_after}
+use Rattle.space_search.specs.Turns.{EndsFound, EndsSearch, GoesOn, IsClosedSoFar}
+use Rattle.space_search.specs.View.{Reached, View, Held, held, view, view_of, shown_from, pick, settled_of, listed, labels_of, IsShown}
+use Rattle.space_search.specs.declared.outcome.Outcome.{Outcome}
+use Rattle.space_search.specs.declared.outcome.Outcome.TheVariants.{Found, NoWay, Budget}
 use Rattle.space_search.specs.declared.phase.Phase.{Phase}
 use Rattle.space_search.specs.declared.phase.Phase.TheVariants.{Ended}
 use Rattle.space_search.specs.declared.search.Search.{Search}
-use Rattle.space_search.specs.declared.turn.Turn.{Turn}
-use Rattle.space_search.specs.declared.turn.Turn.TheVariants.{More, Found, NoWay, Budget}
 use Rattle.space_search.proofs.LimitLemmas.{never-spent}
 use Rattle.item_list.proofs.ListLemmas.{slice_get-pushed}
 use Rattle.space_search.proofs.OrderLemmas.{in-order}
 use Rattle.space_search.proofs.ShownLemmas.{shown-count, places-kept}
-
--- an answer that is given again settles nothing
-pub counts-again : (quota settled : ℕ) (turn : Turn) → IsLast turn → 1 ≤ quota → Counts quota settled settled turn
-counts-again quota settled More last some = absurd last
-counts-again quota settled (Found label) last some = omega arith
-counts-again quota settled NoWay last some = omega arith
-counts-again quota settled Budget last some = omega arith
-
--- and leaves the search at its end
-pub phase-again : (phase : Phase) (turn : Turn) → IsLast turn → phase ≡ Ended turn → phase ≡ phase_after turn
-phase-again phase More last is = absurd last
-phase-again phase (Found label) last is = is
-phase-again phase NoWay last is = is
-phase-again phase Budget last is = is
 
 -- what a part of a turn leaves goes on from what was shown before it
 pub goes-on :
@@ -76,17 +65,18 @@ goes-through rules before between after of first leaves limit within =
 
 -- and settled as many labels as the last part did
 pub counts-through :
-    {S : Type 0} (rules : Rules S) (before between : Search S) (after : Held S) (quota : ℕ) (turn : Turn) → IsSearchOf rules before →
+    {S : Type 0} (rules : Rules S) (before between : Search S) (after : Held S) (quota : ℕ) (turn : Turn (Unit {0}) (Outcome ℕ)) →
+    IsSearchOf rules before →
     Between rules before between → Turns rules quota (books between.lists) after turn →
-    Counts quota (length (view before).settled) (length (settled_of after.kept)) turn
+    Settles (length (view before).settled + quota) (length (settled_of after.kept)) turn
 counts-through rules before between after quota turn of first turns =
-    subst (λ n. Counts quota n (length (settled_of after.kept)) turn)
+    subst (λ n. Settles (n + quota) (length (settled_of after.kept)) turn)
     (ap length first.settled ∙ sym (shown-count rules (books before.lists) of.stands.reads))
-    (subst (λ n. Counts quota (length between.lists.settled.items) n turn)
+    (subst (λ n. Settles (length between.lists.settled.items + quota) n turn)
     (sym (shown-count rules after.kept turns.kept.stands.reads)) turns.counts)
 
-module _ {S : Type 0} (rules : Rules S) (search : Search S) (number : ℕ) (e : EndsFound rules (view search) number)
-    (within : length (view search).settled ≤ (view search).limit) where
+module _ {S : Type 0} (rules : Rules S) (search : Search S) (of : IsSearchOf rules search) (number : ℕ)
+    (e : EndsFound rules (view search) number) where
   -- the goal that was found can be read
   goal-there : IsShown (view search) number e.goal
   goal-there =
@@ -113,24 +103,33 @@ module _ {S : Type 0} (rules : Rules S) (search : Search S) (number : ℕ) (e : 
               };
           least = λ others other reaches. subst (λ c. c ≤ other) cost_same (e.least.least others other reaches);
         },
-        subst (λ (c : List ℕ). length c ≤ (view search).limit + 1) choices_same (omega (arith, e.least.run.short, e.numbered, within)),
+        subst (λ (c : List ℕ). length c ≤ (view search).limit + 1) choices_same (
+            omega (arith, e.least.run.short, e.numbered, of.within, shown-count rules (books search.lists) of.stands.reads)
+            ),
       )
 
--- where no cell can keep more than the limit divides into, a turn doesn't end with a spent limit
+-- where no cell can keep more than the limit divides into, a search doesn't end with a spent limit
 pub unspent :
-    {S : Type 0} (rules : Rules S) (laws : IsSpace rules) (most : ℕ) (view : View S) (turn : Turn) →
-    HasFewPerCell rules most → rules.cells * most ≤ view.limit → Ends rules view turn → IsUnspentTurn turn
-unspent rules laws most view More few enough ends = tt
+    {S : Type 0} (rules : Rules S) (laws : IsSpace rules) (most : ℕ) (view : View S) (end : Outcome ℕ) →
+    HasFewPerCell rules most → rules.cells * most ≤ view.limit → EndsSearch rules view end → IsUnspent end
 unspent rules laws most view (Found label) few enough ends = tt
 unspent rules laws most view NoWay few enough ends = tt
 unspent rules laws most view Budget few enough ends =
     never-spent rules laws most view.limit _ few enough ends.spent
 
--- what the last answer of a search said still holds
+-- nor does a turn
+pub unspent-turn :
+    {S : Type 0} (rules : Rules S) (laws : IsSpace rules) (most : ℕ) (view : View S) (turn : Turn (Unit {0}) (Outcome ℕ)) →
+    HasFewPerCell rules most → rules.cells * most ≤ view.limit → Says (λ _. IsClosedSoFar rules view) (EndsSearch rules view) turn →
+    IsUnspentTurn turn
+unspent-turn rules laws most view turn few enough =
+    says-map {wider_more = λ _. Unit {0}} (λ next said. tt) (λ end said. unspent rules laws most view end few enough said) turn
+
+-- what the end of a search said still holds
 pub ends-again :
-    {S : Type 0} (rules : Rules S) (search : Search S) (turn : Turn) → IsSearchOf rules search → search.phase ≡ Ended turn →
-    IsPhase rules (held search) (Ended turn)
-ends-again {S} rules search turn of phase =
+    {S : Type 0} (rules : Rules S) (search : Search S) (end : Outcome ℕ) → IsSearchOf rules search → search.phase ≡ Ended end →
+    IsPhase rules (held search) (Ended end)
+ends-again {S} rules search end of phase =
     subst (λ p. IsPhase rules (held search) p) phase of.is_phase
 
 -- lists in which nothing stands show no label

@@ -1,5 +1,6 @@
 pub mod Books
 pub mod Chains
+pub mod Ends
 pub mod Laws
 pub mod Limits
 pub mod Moves

@@ -2,11 +2,13 @@
 use Rattle.std.specs.Bool.{IsTrue}
 use Rattle.std.specs.List.{slice_get}
 use Rattle.std.specs.Prelude.{ℕ, ◌≡◌, ◌≤◌, false, Some, List, [], ◌∷◌, length}
+use Rattle.item_list.specs.Turns.{Says}
+use Rattle.item_list.specs.declared.turn.Turn.{Turn}
+use Rattle.space_search.specs.Ends.{Ends}
 use Rattle.space_search.specs.Laws.{HasRank}
 use Rattle.space_search.specs.Rules.{Rules}
 use Rattle.space_search.specs.View.{Reached}
 use Rattle.space_search.specs.declared.outcome.Outcome.{Outcome}
-use Rattle.space_search.specs.declared.outcome.Outcome.TheVariants.{Found, NoWay, Budget}
 
 -- the first label covers none of these, and none of them ranks below it
 abbrev pub CoversNone : {S : Type 0} → Rules S → Reached S → List (Reached S) → Type 0
@@ -34,11 +36,13 @@ HasFewPerCell {S} rules most =
     (cell : ℕ) (labels : List (Reached S)) → IsUncoveredChain rules labels → LieIn rules cell labels →
     length labels ≤ most
 
--- the answer of a whole search isn't a spent limit
-abbrev pub IsUnspent : Outcome → Type 0
-IsUnspent (Found choices cost) = Unit {0}
-IsUnspent NoWay = Unit {0}
-IsUnspent Budget = ⊥
+-- a search doesn't end with a spent limit
+abbrev pub IsUnspent : {F : Type 0} → Outcome F → Type 0
+IsUnspent = Ends (λ _. Unit {0}) (Unit {0}) ⊥
+
+-- nor does a turn
+abbrev pub IsUnspentTurn : {N F : Type 0} → Turn N (Outcome F) → Type 0
+IsUnspentTurn = Says (λ _. Unit {0}) IsUnspent
 
 -- of two states of one cell with the same key, the one that ranks no higher at its cost covers the other
 abbrev pub CoversByKey : {S : Type 0} → Rules S → (S → ℕ) → Type 0

@@ -2,12 +2,12 @@
 use Rattle.std.specs.Bool.{IsTrue}
 use Rattle.std.specs.List.{slice_get}
 use Rattle.std.specs.Prelude.{ℕ, ◌≡◌, ◌<◌, ◌≤◌, ◌+◌, false, Option, Some, None, List, [], ◌∷◌, ◌++◌, length}
+use Rattle.space_search.specs.Ends.{Ends}
 use Rattle.space_search.specs.Laws.{HasRank}
 use Rattle.space_search.specs.Rules.{Rules}
 use Rattle.space_search.specs.Runs.{IsRun, Reaches, IsUnreachable}
 use Rattle.space_search.specs.View.{Reached, View, KeepsPlaces}
-use Rattle.space_search.specs.declared.turn.Turn.{Turn}
-use Rattle.space_search.specs.declared.turn.Turn.TheVariants.{More, Found, NoWay, Budget}
+use Rattle.space_search.specs.declared.outcome.Outcome.{Outcome}
 
 -- one of these labels covers the state at this cost
 pub record IsCoveredBy {S : Type 0} (rules : Rules S) (labels : List (Reached S)) (state : S) (cost : ℕ)
@@ -114,37 +114,16 @@ pub record EndsNoWay {S : Type 0} (rules : Rules S) (view : View S) : Type 0 whe
   pub unreachable : IsUnreachable rules
   pub closed : IsClosedAndOrdered rules view.settled None
 
--- what an answer of a turn says of the search after it; the last settled label is the floor after `More`
-abbrev pub Ends : {S : Type 0} → Rules S → View S → Turn → Type 0
-Ends {S} rules view More =
+-- what stands after a turn by which a search goes on: the last settled label is the floor
+abbrev pub IsClosedSoFar : {S : Type 0} → Rules S → View S → Type 0
+IsClosedSoFar {S} rules view =
     (place : ℕ) (last : Reached S) (rank : ℕ) → place + 1 ≡ length view.settled →
     slice_get view.settled place ≡ Some last →
     HasRank rules last.state last.cost rank → IsClosedAndOrdered rules view.settled (Some rank)
-Ends rules view (Found label) = EndsFound rules view label
-Ends rules view NoWay = EndsNoWay rules view
-Ends rules view Budget = EndsSpent rules view
 
--- an answer after which nothing is left to do
-abbrev pub IsLast : Turn → Type 0
-IsLast More = ⊥
-IsLast (Found label) = Unit {0}
-IsLast NoWay = Unit {0}
-IsLast Budget = Unit {0}
-
--- the answer of a turn isn't a spent limit
-abbrev pub IsUnspentTurn : Turn → Type 0
-IsUnspentTurn More = Unit {0}
-IsUnspentTurn (Found label) = Unit {0}
-IsUnspentTurn NoWay = Unit {0}
-IsUnspentTurn Budget = ⊥
-
--- which answer comes where: `More` exactly where as many labels were settled as the turn was given, any
--- other where fewer were
-abbrev pub Counts : ℕ → ℕ → ℕ → Turn → Type 0
-Counts quota before after More = after ≡ before + quota
-Counts quota before after (Found _) = after < before + quota
-Counts quota before after NoWay = after < before + quota
-Counts quota before after Budget = after < before + quota
+-- how a search ended: with the label of a goal, without a way, or with a spent limit
+abbrev pub EndsSearch : {S : Type 0} → Rules S → View S → Outcome ℕ → Type 0
+EndsSearch rules view = Ends (EndsFound rules view) (EndsNoWay rules view) (EndsSpent rules view)
 
 -- what stands after a turn, also after want of memory: the limit stays, no more labels are settled than it
 -- allows, each settled label keeps its place, and they are in order

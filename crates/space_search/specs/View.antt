@@ -2,13 +2,15 @@
 -- own rule.
 use Rattle.std.specs.List.{slice_get}
 use Rattle.std.specs.Prelude.{ℕ, zero, suc, ◌≡◌, List, [], ◌∷◌, ◌++◌, Option, Some, None}
+use Rattle.item_list.specs.declared.turn.Turn.{Turn}
+use Rattle.item_list.specs.declared.turn.Turn.TheVariants.{More, Done}
 use Rattle.space_search.specs.Books.{Books, books}
 use Rattle.space_search.specs.declared.label.Label.{Label}
+use Rattle.space_search.specs.declared.outcome.Outcome.{Outcome}
+use Rattle.space_search.specs.declared.outcome.Outcome.TheVariants.{Found, NoWay, Budget}
 use Rattle.space_search.specs.declared.phase.Phase.{Phase}
 use Rattle.space_search.specs.declared.phase.Phase.TheVariants.{New, Running, Ended, Failed}
 use Rattle.space_search.specs.declared.search.Search.{Search}
-use Rattle.space_search.specs.declared.turn.Turn.{Turn}
-use Rattle.space_search.specs.declared.turn.Turn.TheVariants.{More, Found, NoWay, Budget}
 
 -- a label as a search shows it: a state, what a run to it costs, and that run's choices
 pub record Reached (S : Type 0) : Type 0 where
@@ -86,7 +88,6 @@ held search =
 abbrev pub goal_of : {S : Type 0} → Held S → Phase → Option (Reached S)
 goal_of held New = None
 goal_of held Running = None
-goal_of held (Ended More) = None
 goal_of held (Ended (Found label)) = reached_by (settled_of held.kept) (slice_get held.kept.labels held.found)
 goal_of held (Ended NoWay) = None
 goal_of held (Ended Budget) = None
@@ -124,9 +125,7 @@ abbrev pub KeepsPlaces : {S : Type 0} → List (Reached S) → List (Reached S) 
 KeepsPlaces {S} before after =
     (place : ℕ) (label : Reached S) → slice_get before place ≡ Some label → slice_get after place ≡ Some label
 
--- how far a search is after this answer
-abbrev pub phase_after : Turn → Phase
-phase_after More = Running
-phase_after (Found label) = Ended (Found label)
-phase_after NoWay = Ended NoWay
-phase_after Budget = Ended Budget
+-- how far a search is after this turn
+abbrev pub phase_after : {N : Type 0} → Turn N (Outcome ℕ) → Phase
+phase_after (More next) = Running
+phase_after (Done end) = Ended end

@@ -4,10 +4,10 @@ ghost use Rattle.std.specs.Prelude.{ℕ, ◌≡◌, ◌<◌, ◌≤◌, ◌*◌,
 ghost use Rattle.space_search.specs.Limits.{HasFewPerCell, IsUnspent};
 ghost use Rattle.space_search.specs.Outcome.{Answers};
 
-use crate::outcome::Outcome;
+use crate::outcome::{Outcome, Run};
 use crate::search::Search;
 use crate::space::Space;
-use crate::turn::Turn;
+use item_list::Turn;
 use std::alloc::{AllocError, Global};
 
 /// How many labels one turn of `least` settles at most.
@@ -15,7 +15,7 @@ const QUOTA: u32 = 1048576;
 
 /// A run of least cost from a start to a goal, or that no run reaches a goal, or that `limit`
 /// labels are settled and one more would be.
-pub fn least<S: Space>(alloc: Global, space: &S, limit: u64) -> Result<Outcome, AllocError>
+pub fn least<S: Space>(alloc: Global, space: &S, limit: u64) -> Result<Outcome<Run>, AllocError>
     requires small { limit < 2 ^ 32 }
     ensures answers { IfOk result (λ outcome. Answers (S.rules space.now) limit outcome) }
     ensures enough { (most : ℕ) → HasFewPerCell (S.rules space.now) most →
@@ -24,14 +24,8 @@ pub fn least<S: Space>(alloc: Global, space: &S, limit: u64) -> Result<Outcome, 
     let mut search: Search<S::State> = Search::new(alloc, limit);
     'search: loop {
         match search.turn(space, QUOTA)? {
-            Turn::More => {}
-            Turn::Found { label } => {
-                let choices = search.choices(alloc, label)?;
-                let cost = search.cost_of(label);
-                return Ok(Outcome::Found { choices, cost });
-            }
-            Turn::NoWay => return Ok(Outcome::NoWay),
-            Turn::Budget => return Ok(Outcome::Budget),
+            Turn::More(_) => {}
+            Turn::Done(end) => return search.outcome(alloc, end),
         }
     }
 }

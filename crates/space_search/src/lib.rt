@@ -15,12 +15,10 @@ mod search;
 mod settle;
 mod space;
 mod take;
-mod turn;
 mod turns;
 
 pub use finding::least;
-pub use outcome::Outcome;
+pub use outcome::{Outcome, Run};
 pub use phase::Phase;
 pub use search::Search;
 pub use space::Space;
-pub use turn::Turn;

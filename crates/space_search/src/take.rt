@@ -8,9 +8,10 @@ ghost use Rattle.space_search.specs.Searches.{Turns, held_after};
 use crate::lists::Lists;
 use crate::next::next;
 use crate::offer::is_covered;
+use crate::outcome::Outcome;
 use crate::settle::{advance, drop_next, settle_next};
 use crate::space::Space;
-use crate::turn::Turn;
+use item_list::Turn;
 use std::alloc::AllocError;
 
 /// What was done with the next label.
@@ -70,7 +71,7 @@ pub(crate) fn take_many<T: Copy + Drop, S: Space<State = T>>(
     lists: &mut Lists<T>,
     limit: u64,
     quota: u32,
-) -> Result<(Turn, u32), AllocError>
+) -> Result<(Turn<(), Outcome<u32>>, u32), AllocError>
     requires kept { IsSearch (S.rules space.now) (books lists.old) }
     requires closed { IsClosed (S.rules space.now) (books lists.old) }
     requires small { limit < 2 ^ 32 }
@@ -87,11 +88,11 @@ pub(crate) fn take_many<T: Copy + Drop, S: Space<State = T>>(
             Taken::Settled => count += 1,
             Taken::Goal(number) => {
                 let label = lists.settled.len() as u32;
-                return Ok((Turn::Found { label }, number));
+                return Ok((Turn::Done(Outcome::Found(label)), number));
             }
-            Taken::Empty => return Ok((Turn::NoWay, 0)),
-            Taken::Spent => return Ok((Turn::Budget, 0)),
+            Taken::Empty => return Ok((Turn::Done(Outcome::NoWay), 0)),
+            Taken::Spent => return Ok((Turn::Done(Outcome::Budget), 0)),
         }
     }
-    Ok((Turn::More, 0))
+    Ok((Turn::More(()), 0))
 }

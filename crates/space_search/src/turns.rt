@@ -2,23 +2,26 @@
 
 ghost use Rattle.std.specs.Prelude.{ℕ, ◌≡◌, ◌≤◌, ◌*◌, ◌<◌, ◌^◌, ◌+◌, [], IfOk, OnErr, length, Ok, Err, alloc_error};
 ghost use Rattle.space_search.specs.Books.{books, Follows};
-ghost use Rattle.space_search.specs.Limits.{HasFewPerCell};
+ghost use Rattle.item_list.specs.Turns.{Says, Settles};
+ghost use Rattle.item_list.specs.declared.turn.Turn.TheVariants as turns;
+ghost use Rattle.space_search.specs.Limits.{HasFewPerCell, IsUnspent, IsUnspentTurn};
+ghost use Rattle.space_search.specs.Outcome.{Answers};
 ghost use Rattle.space_search.specs.Rules.{Rules};
 ghost use Rattle.space_search.specs.Runs.{IsRun};
 ghost use Rattle.space_search.specs.Searches.{IsSearchOf, IsReadable};
-ghost use Rattle.space_search.specs.Turns.{GoesOn, Ends, Counts, IsUnspentTurn};
+ghost use Rattle.space_search.specs.Turns.{EndsSearch, GoesOn, IsClosedSoFar};
 ghost use Rattle.space_search.specs.View.{Reached, view, reached, IsShown, phase_after};
 
 use crate::begin::begin;
 use crate::choices::choices_of;
 use crate::label::Label;
 use crate::lists::Lists;
-use crate::phase::Phase;
+use crate::outcome::{Outcome, Run};
+use crate::phase::{Phase, after_turn};
 use crate::search::Search;
 use crate::space::Space;
 use crate::take::take_many;
-use crate::turn::Turn;
-use item_list::Items;
+use item_list::{Items, Turn};
 use std::alloc::{AllocError, Global};
 
 impl<T: Copy + Drop> Search<T> {
@@ -43,29 +46,35 @@ impl<T: Copy + Drop> Search<T> {
     ///
     /// After its last answer a search gives that answer again, and after want of memory it answers
     /// want of memory; what it settled before can still be read.
-    pub fn turn<S: Space<State = T>>(&mut self, space: &S, quota: u32) -> Result<Turn, AllocError>
+    pub fn turn<S: Space<State = T>>(
+        &mut self,
+        space: &S,
+        quota: u32,
+    ) -> Result<Turn<(), Outcome<u32>>, AllocError>
         requires of { IsSearchOf (S.rules space.now) self.old }
         requires some { 1 ≤ quota }
 
         ensures of { IsSearchOf (S.rules space.now) self.new }
         ensures kept { GoesOn (S.rules space.now) (view self.old) (view self.new) }
 
-        ensures ends { IfOk result (λ turn. Ends (S.rules space.now) (view self.new) turn) }
-        ensures counts { IfOk result (λ turn.
-            Counts quota (length (view self.old).settled) (length (view self.new).settled) turn) }
+        ensures ends { IfOk result (λ turn. Says
+            (λ _. IsClosedSoFar (S.rules space.now) (view self.new))
+            (EndsSearch (S.rules space.now) (view self.new)) turn) }
+        ensures counts { IfOk result (λ turn. Settles
+            (length (view self.old).settled + quota) (length (view self.new).settled) turn) }
         ensures last { IfOk result (λ turn. (view self.new).phase ≡ phase_after turn) }
         ensures enough { (most : ℕ) → HasFewPerCell (S.rules space.now) most →
             (S.rules space.now).cells * most ≤ (view self.old).limit → IfOk result IsUnspentTurn }
 
-        ensures again { (turn : _) → (view self.old).phase ≡ Phase.Ended turn → (result ≡ Ok turn) ×
-            (self.new ≡ self.old) }
+        ensures again { (end : _) → (view self.old).phase ≡ Phase.Ended end →
+            (result ≡ Ok (turns.Done end)) × (self.new ≡ self.old) }
         ensures failed { OnErr result ((view self.new).phase ≡ Phase.Failed) }
         ensures fails_again { (view self.old).phase ≡ Phase.Failed → result ≡ Err alloc_error }
         ensures same { (view self.old).phase ≡ Phase.Failed → self.new ≡ self.old }
     {
         let phase = self.phase;
         match phase {
-            Phase::Ended(turn) => return Ok(turn),
+            Phase::Ended(end) => return Ok(Turn::Done(end)),
             Phase::Failed => return Err(AllocError),
             Phase::New => {
                 self.phase = Phase::Failed;
@@ -76,10 +85,7 @@ impl<T: Copy + Drop> Search<T> {
         let answer = take_many(space, &mut self.lists, self.limit, quota)?;
         let (turn, found) = answer;
         self.found = found;
-        self.phase = match turn {
-            Turn::More => Phase::Running,
-            _ => Phase::Ended(turn),
-        };
+        self.phase = after_turn(turn);
         Ok(turn)
     }
 
@@ -136,5 +142,24 @@ impl<T: Copy + Drop> Search<T> {
         ensures short { IfOk result (λ choices. length choices ≤ label + 1) }
     {
         choices_of(alloc, &self.lists, *self.label_of(label), label)
+    }
+
+    /// The end of a search, with the run to the goal that was found.
+    pub fn outcome(&self, alloc: Global, end: Outcome<u32>) -> Result<Outcome<Run>, AllocError>
+        requires ends { (rules : Rules T) × IsSearchOf rules self.now ×
+            EndsSearch rules (view self.now) end }
+        ensures answers { IfOk result (λ outcome. (rules : Rules T) → IsSearchOf rules self.now →
+            EndsSearch rules (view self.now) end → Answers rules (view self.now).limit outcome) }
+        ensures unspent { IsUnspent end → IfOk result IsUnspent }
+    {
+        match end {
+            Outcome::Found(label) => {
+                let choices = self.choices(alloc, label)?;
+                let cost = self.cost_of(label);
+                Ok(Outcome::Found(Run { choices, cost }))
+            }
+            Outcome::NoWay => Ok(Outcome::NoWay),
+            Outcome::Budget => Ok(Outcome::Budget),
+        }
     }
 }

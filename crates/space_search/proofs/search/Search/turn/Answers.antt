@@ -1,7 +1,7 @@
 use Rattle.std.proofs.Common.{◌≡◌, refl, ap, length, arith}
 use Rattle.space_search.specs.Books.{books}
 use Rattle.space_search.specs.declared.phase.Phase.TheVariants.{Failed}
-use Rattle.space_search.proofs.TurnsLemmas.{goes-on, goes-same, goes-through, counts-through, Between, between-same, unspent, ends-again}
+use Rattle.space_search.proofs.TurnsLemmas.{goes-on, goes-same, goes-through, counts-through, Between, between-same, unspent, unspent-turn, ends-again}
 use Rattle.space_search.proofs.search.Search.turn.Goals as goal
 use Rattle.space_search.proofs.search.Search.turn.Goals.{in-New+in_ok-begin-in-New, in-Running}
 
@@ -10,8 +10,8 @@ returns-in-Ended-clause-kept g c = goes-same (g.S.Space.rules c.args.space.now) 
 
 pub returns-in-Ended-clause-enough : goal.returns-in-Ended-clause-enough
 returns-in-Ended-clause-enough g c most few enough =
-    unspent (g.S.Space.rules c.args.space.now) (g.met.S.Space.keeps_laws c.args.space.now) most _ c.in-Ended.turn few enough
-    (ends-again (g.S.Space.rules c.args.space.now) c.args.self.now c.in-Ended.turn c.requires.of c.in-Ended.is).1
+    unspent (g.S.Space.rules c.args.space.now) (g.met.S.Space.keeps_laws c.args.space.now) most _ c.in-Ended.end few enough
+    (ends-again (g.S.Space.rules c.args.space.now) c.args.self.now c.in-Ended.end c.requires.of c.in-Ended.is).0
 
 pub returns-in-Failed-clause-kept : goal.returns-in-Failed-clause-kept
 returns-in-Failed-clause-kept g c = goes-same (g.S.Space.rules c.args.space.now) c.args.self.now c.requires.of
@@ -55,7 +55,7 @@ returns-clause-kept g c =
       limit = c.match-phase.self.limit;
       kept = books c.take_many.new.lists;
       found = c.in_ok-answer.answer.1;
-      phase = c.match-turn.self;
+      phase = c.after_turn-self.result;
     })
     c.requires.of first c.in_ok-answer.ensures.leaves refl c.in_ok-answer.ensures.fits
 
@@ -78,5 +78,5 @@ returns-clause-enough g c most few enough =
       | in-New+in_ok-begin-in-New w ↦ rw w.self-is refl
       | in-Running w ↦ rw w.self-is refl
     ] in
-    unspent (g.S.Space.rules c.args.space.now) (g.met.S.Space.keeps_laws c.args.space.now) most _ c.in_ok-answer.answer.0 few
+    unspent-turn (g.S.Space.rules c.args.space.now) (g.met.S.Space.keeps_laws c.args.space.now) most _ c.in_ok-answer.answer.0 few
     (omega (arith, limit, enough)) c.in_ok-answer.ensures.turns.ends
