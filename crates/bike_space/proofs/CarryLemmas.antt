@@ -1,5 +1,5 @@
 -- What is carried, and what a start or a step of it is.
-use Rattle.std.proofs.Common.{◌≡◌, ℕ, ℤ, ◌-◌, ◌<◌, ◌≤◌, ◌≤ℤ◌, Bool, true, false, ◌&&◌, nat_eq, nat_lt, int_le, cond, Some, None, IsTrue, refl, subst, arith}
+use Rattle.std.proofs.Common.{◌≡◌, ℕ, ℤ, ◌<◌, ◌≤ℤ◌, Bool, true, false, ◌&&◌, nat_eq, nat_lt, int_le, cond, Some, None, IsTrue, refl, subst, arith}
 use Rattle.std.specs.Option.{is_some}
 use Rattle.std.proofs.lemmas.Bool.Decides.{nat_tests}
 use Rattle.std.proofs.lemmas.Int.{ints}
@@ -11,8 +11,7 @@ use Rattle.cost_model.specs.Prices.{Prices}
 use Rattle.cost_model.specs.Walks.{pair_of}
 use Rattle.cost_model.specs.declared.parts.Carry.{Carry}
 use Rattle.overpass_graph.proofs.CallerLemmas.{out-sound}
-use Rattle.space_search.specs.Runs.{steps}
-use Rattle.bike_space.specs.Legs.{Leg}
+use Rattle.cost_model.specs.Rides.{Leg}
 use Rattle.bike_space.specs.Spent.{terms_of}
 use Rattle.bike_space.specs.Tasks.{Task, chosen, covers_carry, entered, is_carried, is_within, may_take, rules_of}
 use Rattle.std.proofs.lemmas.Option.{cond_some}
@@ -52,19 +51,19 @@ within-held prices pair h =
 
 -- what is carried has a link of the leg, and held buffers
 pub carried-is : (leg : Leg) (carry : Carry) → IsTrue (is_carried leg carry) →
-    (carry.link < leg.roads.links) × IsHeld leg.prices (pair_of carry)
+    (carry.link < leg.ride.roads.links) × IsHeld leg.ride.prices (pair_of carry)
 unfolding is_carried
 carried-is leg carry h =
     let two = both _ _ h in
-    let below : IsTrue (nat_lt carry.link leg.roads.links) = two.0 in
-    (grind (arith, nat_tests), within-held leg.prices (pair_of carry) two.1)
+    let below : IsTrue (nat_lt carry.link leg.ride.roads.links) = two.0 in
+    (grind (arith, nat_tests), within-held leg.ride.prices (pair_of carry) two.1)
 
 -- a link of the leg with held buffers is what may be carried
-pub is-carried : (leg : Leg) (carry : Carry) → carry.link < leg.roads.links → IsHeld leg.prices (pair_of carry) →
+pub is-carried : (leg : Leg) (carry : Carry) → carry.link < leg.ride.roads.links → IsHeld leg.ride.prices (pair_of carry) →
     IsTrue (is_carried leg carry)
 unfolding is_carried
 is-carried leg carry below held =
-    let inside : IsTrue (nat_lt carry.link leg.roads.links) = grind (arith, nat_tests) in
+    let inside : IsTrue (nat_lt carry.link leg.ride.roads.links) = grind (arith, nat_tests) in
     at-once _ _ inside
     (at-once _ _ (at-once _ _ (test-le _ _ held.down_low) (test-le _ _ held.down_high))
     (at-once _ _ (test-le _ _ held.up_low) (test-le _ _ held.up_high)))
@@ -95,10 +94,10 @@ some-is false x = refl
 
 -- a step from a state whose link is this
 pub record IsStep (task : Task) (last : ℕ) (pair : Pair) (number : ℕ) (next : Carry) (cost : ℕ) : Type 0 where
-  pub within : chosen task.leg.roads (task.leg.roads.to last) number < task.leg.roads.links
-  pub leaves : task.leg.roads.from (chosen task.leg.roads (task.leg.roads.to last) number) ≡ task.leg.roads.to last
-  pub taken : may_take task.leg last (chosen task.leg.roads (task.leg.roads.to last) number) ≡ true
-  pub is : entered task (Some (task.leg.facts last)) (chosen task.leg.roads (task.leg.roads.to last) number) pair ≡
+  pub within : chosen task.leg.ride.roads (task.leg.ride.roads.to last) number < task.leg.ride.roads.links
+  pub leaves : task.leg.ride.roads.from (chosen task.leg.ride.roads (task.leg.ride.roads.to last) number) ≡ task.leg.ride.roads.to last
+  pub taken : may_take task.leg last (chosen task.leg.ride.roads (task.leg.ride.roads.to last) number) ≡ true
+  pub is : entered task (Some (task.leg.ride.facts last)) (chosen task.leg.ride.roads (task.leg.ride.roads.to last) number) pair ≡
       (next, cost)
 
 -- a permitted step is one
@@ -107,6 +106,6 @@ pub step-is : (task : Task) (carry : Carry) (last number : ℕ) (next : Carry) (
     IsStep task last (pair_of carry) number next cost
 step-is task carry last number next cost same within step =
     let P : ℕ → Type 0 = λ l. IsStep task l (pair_of carry) number next cost in
-    let out = out-sound task.leg.roads (task.leg.roads.to carry.link) number within in
+    let out = out-sound task.leg.ride.roads (task.leg.ride.roads.to carry.link) number within in
     let p = cond_some _ _ _ step in
     subst P same (record { within = out.0; leaves = out.1; taken = p.0; is = p.1 })

@@ -27,25 +27,25 @@ use Rattle.std.proofs.lemmas.Option.{cond_some}
 
 module _ (task : Task) (lawful : IsTask task) where
   -- what is carried from a link that is entered is a state, and entering it costs below 2^81
-  entered-move : (before : Option LinkFacts) (link : ℕ) (pair : Pair) → link < task.leg.roads.links →
-      IsHeld task.leg.prices pair →
+  entered-move : (before : Option LinkFacts) (link : ℕ) (pair : Pair) → link < task.leg.ride.roads.links →
+      IsHeld task.leg.ride.prices pair →
       IsTrue (is_carried task.leg (entered task before link pair).0) × ((entered task before link pair).1 < 2 ^ 81)
   unfolding entered
   entered-move before link pair within held =
       let facts = lawful.facts link within in (
-        is-carried task.leg _ within (held-after task.leg.prices link (task.leg.facts link) pair lawful.prices facts
+        is-carried task.leg _ within (held-after task.leg.ride.prices link (task.leg.ride.facts link) pair lawful.prices facts
             held),
-        cost-below task.leg.prices (task.used link) before (task.leg.facts link) pair lawful.prices facts held,
+        cost-below task.leg.ride.prices (task.used link) before (task.leg.ride.facts link) pair lawful.prices facts held,
       )
 
   -- so is what a start gives
   pub start-move : (number : ℕ) (state : Carry) (cost : ℕ) → number < (rules_of task).starts →
       (rules_of task).start number ≡ Some (state, cost) → IsTrue (is_carried task.leg state) × (cost < 2 ^ 81)
   start-move number state cost within is =
-      let out = out-sound task.leg.roads task.leg.start number within in
+      let out = out-sound task.leg.ride.roads task.leg.start number within in
       let p = cond_some _ _ _ is in
       let P : Carry × ℕ → Type 0 = λ e. IsTrue (is_carried task.leg e.0) × (e.1 < 2 ^ 81) in
-      subst P p.1 (entered-move None _ empty_pair out.0 (empty-held task.leg.prices lawful.prices))
+      subst P p.1 (entered-move None _ empty_pair out.0 (empty-held task.leg.ride.prices lawful.prices))
 
   -- and what a step gives
   pub step-move : (from : Carry) (number : ℕ) (state : Carry) (cost : ℕ) → IsTrue (is_carried task.leg from) →
@@ -54,7 +54,7 @@ module _ (task : Task) (lawful : IsTask task) where
   step-move from number state cost valid within step =
       let s = step-is task from from.link number state cost refl within step in
       let P : Carry × ℕ → Type 0 = λ e. IsTrue (is_carried task.leg e.0) × (e.1 < 2 ^ 81) in
-      subst P s.is (entered-move (Some (task.leg.facts from.link)) _ (pair_of from) s.within
+      subst P s.is (entered-move (Some (task.leg.ride.facts from.link)) _ (pair_of from) s.within
       (carried-is task.leg from valid).1)
 
   -- starts and steps lead to states at a bounded cost
@@ -82,24 +82,24 @@ module _ (task : Task) (lawful : IsTask task) where
   has-covering = record {
     one_cell = λ a b ca cb va vb h. (covers-parts task.leg a b ca cb h).0;
     itself = λ a ca va. parts-cover task.leg a a ca ca refl
-        (label-itself task.leg.prices _ a a ca ca refl (omega arith));
+        (label-itself task.leg.ride.prices _ a a ca ca refl (omega arith));
     through = λ a b c ca cb cost va vb vc p q.
         let first = covers-parts task.leg a b ca cb p in
         let second = covers-parts task.leg b c cb cost q in
         parts-cover task.leg a c ca cost (first.0 ∙ second.0)
-        (label-through task.leg.prices _ a b c ca cb cost lawful.prices first.1 second.1);
-    cheaper = λ a b ca cb va vb h. label-cheaper task.leg.prices _ a b ca cb lawful.prices
+        (label-through task.leg.ride.prices _ a b c ca cb cost lawful.prices first.1 second.1);
+    cheaper = λ a b ca cb va vb h. label-cheaper task.leg.ride.prices _ a b ca cb lawful.prices
         (covers-parts task.leg a b ca cb h).1;
   }
 
   -- the modes of the leg allow the facts of each of its links
-  modes-of-leg : (link : ℕ) → link < task.leg.roads.links →
-      AllowsFacts (modes_before task.leg.facts task.leg.roads.links) (task.leg.facts link)
-  modes-of-leg link within = modes-allow task.leg.facts task.leg.roads.links link within
+  modes-of-leg : (link : ℕ) → link < task.leg.ride.roads.links →
+      AllowsFacts (modes_before task.leg.ride.facts task.leg.ride.roads.links) (task.leg.ride.facts link)
+  modes-of-leg link within = modes-allow task.leg.ride.facts task.leg.ride.roads.links link within
 
   -- the covering of two states of one link is kept when both enter the same link
-  entered-covers : (before : Option LinkFacts) (link : ℕ) (a b : Carry) (ca cb : ℕ) → link < task.leg.roads.links →
-      IsHeld task.leg.prices (pair_of a) → IsHeld task.leg.prices (pair_of b) →
+  entered-covers : (before : Option LinkFacts) (link : ℕ) (a b : Carry) (ca cb : ℕ) → link < task.leg.ride.roads.links →
+      IsHeld task.leg.ride.prices (pair_of a) → IsHeld task.leg.ride.prices (pair_of b) →
       IsTrue (covers_label (terms_of task.leg) (label_of a ca) (label_of b cb)) →
       IsTrue (covers_carry task.leg (entered task before link (pair_of a)).0
       (ca + (entered task before link (pair_of a)).1)
@@ -107,108 +107,108 @@ module _ (task : Task) (lawful : IsTask task) where
   unfolding entered
   entered-covers before link a b ca cb within held holds covers =
       parts-cover task.leg _ _ _ _ refl
-      (covers-carried task.leg.prices (modes_before task.leg.facts task.leg.roads.links) (task.used link) before
-      (task.leg.facts link)
+      (covers-carried task.leg.ride.prices (modes_before task.leg.ride.facts task.leg.ride.roads.links) (task.used link) before
+      (task.leg.ride.facts link)
       lawful.prices (lawful.facts link within) (modes-of-leg link within) link a b ca cb held holds covers)
 
   -- covering is kept by every step
   keeps-covering : KeepsCovering (rules_of task)
   keeps-covering a b ca cb va vb h number within first second more other p q =
       let parts = covers-parts task.leg a b ca cb h in
-      let P : ℕ → Type 0 = λ l. number < length (out_links task.leg.roads (task.leg.roads.to l)) in
+      let P : ℕ → Type 0 = λ l. number < length (out_links task.leg.ride.roads (task.leg.ride.roads.to l)) in
       let s = step-is task a b.link number first more parts.0 (subst P (sym parts.0) within) p in
       let t = step-is task b b.link number second other refl within q in
       let Q : Carry × ℕ → Type 0 = λ e. IsTrue (covers_carry task.leg e.0 (ca + e.1) second (cb + other)) in
       let R : Carry × ℕ → Type 0 = λ e. IsTrue (covers_carry task.leg
-      (entered task (Some (task.leg.facts b.link)) (chosen task.leg.roads (task.leg.roads.to b.link) number)
+      (entered task (Some (task.leg.ride.facts b.link)) (chosen task.leg.ride.roads (task.leg.ride.roads.to b.link) number)
       (pair_of a)).0
-      (ca + (entered task (Some (task.leg.facts b.link)) (chosen task.leg.roads (task.leg.roads.to b.link) number)
+      (ca + (entered task (Some (task.leg.ride.facts b.link)) (chosen task.leg.ride.roads (task.leg.ride.roads.to b.link) number)
       (pair_of a)).1)
       e.0 (cb + e.1)) in
       subst Q s.is (subst R t.is
-      (entered-covers (Some (task.leg.facts b.link)) _ a b ca cb t.within (carried-is task.leg a va).1
+      (entered-covers (Some (task.leg.ride.facts b.link)) _ a b ca cb t.within (carried-is task.leg a va).1
       (carried-is task.leg b vb).1 parts.1))
 
   -- states of one link have the same steps and are goals alike
   covered-alike : CoveredAlike (rules_of task)
   covered-alike = record {
     steps = λ a b ca cb va vb h.
-        ap (λ l. length (out_links task.leg.roads (task.leg.roads.to l))) (covers-parts task.leg a b ca cb h).0;
+        ap (λ l. length (out_links task.leg.ride.roads (task.leg.ride.roads.to l))) (covers-parts task.leg a b ca cb h).0;
     permitted = λ a b ca cb va vb h number within.
         some-is _ _
-        ∙ ap (λ l. may_take task.leg l (chosen task.leg.roads (task.leg.roads.to l) number))
+        ∙ ap (λ l. may_take task.leg l (chosen task.leg.ride.roads (task.leg.ride.roads.to l) number))
         (covers-parts task.leg a b ca cb h).0
         ∙ sym (some-is _ _);
-    goal = λ a b ca cb va vb h. ap (λ l. nat_eq (task.leg.roads.to l) task.leg.target)
+    goal = λ a b ca cb va vb h. ap (λ l. nat_eq (task.leg.ride.roads.to l) task.leg.target)
         (covers-parts task.leg a b ca cb h).0;
   }
 
   -- ---- The bound
 
   -- what still has to be paid behind a link
-  low-behind : (link : ℕ) → link < task.leg.roads.links →
-      IsRemaining task.leg task.used (task.leg.roads.to link) (task.low (task.leg.roads.to link))
+  low-behind : (link : ℕ) → link < task.leg.ride.roads.links →
+      IsRemaining task.leg task.used (task.leg.ride.roads.to link) (task.low (task.leg.ride.roads.to link))
   low-behind link within = lawful.low _ (lawful.roads.to_in link within)
 
   -- an open link has its low price
-  priced : (link : ℕ) → IsTrue (task.leg.is_open link) →
-      rest_price task.leg task.used link ≡ Some (least_price (task.used link) (task.leg.facts link))
+  priced : (link : ℕ) → IsTrue (task.leg.ride.is_open link) →
+      rest_price task.leg task.used link ≡ Some (least_price (task.used link) (task.leg.ride.facts link))
   priced link opens = rw opens refl
 
   -- at the target nothing has still to be paid
   rest-target : (low : Option ℕ) → IsRemaining task.leg task.used task.leg.target low → low ≡ Some 0
   rest-target low is = ∥∥₁_elim is (hlevel props)
-      (λ h. least-target task.leg.roads (rest_price task.leg task.used) task.leg.target low h)
+      (λ h. least-target task.leg.ride.roads (rest_price task.leg task.used) task.leg.target low h)
 
   -- there is one least sum from a node
   rest-one : (node : ℕ) (a b : Option ℕ) → IsRemaining task.leg task.used node a →
       IsRemaining task.leg task.used node b → a ≡ b
   rest-one node a b is other =
       ∥∥₁_elim is (hlevel props) (λ h. ∥∥₁_elim other (hlevel props)
-      (λ k. least-one task.leg.roads (rest_price task.leg task.used) task.leg.target node a b h k))
+      (λ k. least-one task.leg.ride.roads (rest_price task.leg task.used) task.leg.target node a b h k))
 
   -- what still has to be paid falls along an open link by no more than its low price
-  rest-step : (link before after : ℕ) → link < task.leg.roads.links → IsTrue (task.leg.is_open link) →
-      IsRemaining task.leg task.used (task.leg.roads.from link) (Some before) →
-      IsRemaining task.leg task.used (task.leg.roads.to link) (Some after) →
-      before ≤ least_price (task.used link) (task.leg.facts link) + after
+  rest-step : (link before after : ℕ) → link < task.leg.ride.roads.links → IsTrue (task.leg.ride.is_open link) →
+      IsRemaining task.leg task.used (task.leg.ride.roads.from link) (Some before) →
+      IsRemaining task.leg task.used (task.leg.ride.roads.to link) (Some after) →
+      before ≤ least_price (task.used link) (task.leg.ride.facts link) + after
   rest-step link before after within opens is other =
       ∥∥₁_elim is (hlevel props) (λ h. ∥∥₁_elim other (hlevel props)
-      (λ k. least-step task.leg.roads (rest_price task.leg task.used) task.leg.target link _ before after within
+      (λ k. least-step task.leg.ride.roads (rest_price task.leg task.used) task.leg.target link _ before after within
       (priced link opens) h k))
 
   -- where the target isn't reached from before an open link, it isn't from behind it
-  rest-none : (link : ℕ) → link < task.leg.roads.links → IsTrue (task.leg.is_open link) →
-      IsRemaining task.leg task.used (task.leg.roads.from link) None →
-      IsRemaining task.leg task.used (task.leg.roads.to link) None
+  rest-none : (link : ℕ) → link < task.leg.ride.roads.links → IsTrue (task.leg.ride.is_open link) →
+      IsRemaining task.leg task.used (task.leg.ride.roads.from link) None →
+      IsRemaining task.leg task.used (task.leg.ride.roads.to link) None
   rest-none link within opens is =
       ∥∥₁_elim is (hlevel props)
-      (λ h. ∣ none-step task.leg.roads (rest_price task.leg task.used) task.leg.target link _ within (priced link opens)
+      (λ h. ∣ none-step task.leg.ride.roads (rest_price task.leg task.used) task.leg.target link _ within (priced link opens)
       h ∣₁)
 
   -- at a goal nothing has still to be paid
   goal-low : (state : Carry) → IsTrue ((rules_of task).is_goal state) → (rules_of task).low state ≡ Some 0
   goal-low state goal =
-      let is : IsTrue (nat_eq (task.leg.roads.to state.link) task.leg.target) = goal in
-      let at : task.leg.roads.to state.link ≡ task.leg.target = grind (arith, nat_tests) in
+      let is : IsTrue (nat_eq (task.leg.ride.roads.to state.link) task.leg.target) = goal in
+      let at : task.leg.ride.roads.to state.link ≡ task.leg.target = grind (arith, nat_tests) in
       ap task.low at ∙ rest-target _ (lawful.low task.leg.target lawful.target_in)
 
   -- the link that a step enters leaves where the last one arrives, is open, and costs no less than its low price
   record IsEntry (last : ℕ) (next : Carry) (cost : ℕ) : Type 0 where
-    within : next.link < task.leg.roads.links
-    leaves : task.leg.roads.from next.link ≡ task.leg.roads.to last
-    opens : IsTrue (task.leg.is_open next.link)
-    dear : least_price (task.used next.link) (task.leg.facts next.link) ≤ cost
+    within : next.link < task.leg.ride.roads.links
+    leaves : task.leg.ride.roads.from next.link ≡ task.leg.ride.roads.to last
+    opens : IsTrue (task.leg.ride.is_open next.link)
+    dear : least_price (task.used next.link) (task.leg.ride.facts next.link) ≤ cost
 
   -- what enters a link costs no less than its low price
-  entered-dear : (before : Option LinkFacts) (link : ℕ) (pair : Pair) → link < task.leg.roads.links →
-      IsHeld task.leg.prices pair →
+  entered-dear : (before : Option LinkFacts) (link : ℕ) (pair : Pair) → link < task.leg.ride.roads.links →
+      IsHeld task.leg.ride.prices pair →
       (link ≡ (entered task before link pair).0.link) ×
-      (least_price (task.used link) (task.leg.facts link) ≤ (entered task before link pair).1)
+      (least_price (task.used link) (task.leg.ride.facts link) ≤ (entered task before link pair).1)
   unfolding entered
   entered-dear before link pair within held = (
     refl,
-    least_price-least task.leg.prices (task.used link) before (task.leg.facts link) pair lawful.prices
+    least_price-least task.leg.ride.prices (task.used link) before (task.leg.ride.facts link) pair lawful.prices
         (lawful.facts link within) held,
   )
 
@@ -218,18 +218,18 @@ module _ (task : Task) (lawful : IsTask task) where
       IsEntry from.link state cost
   step-entry from number state cost valid within step =
       let s = step-is task from from.link number state cost refl within step in
-      let link = chosen task.leg.roads (task.leg.roads.to from.link) number in
-      let e = entered-dear (Some (task.leg.facts from.link)) link (pair_of from) s.within
+      let link = chosen task.leg.ride.roads (task.leg.ride.roads.to from.link) number in
+      let e = entered-dear (Some (task.leg.ride.facts from.link)) link (pair_of from) s.within
       (carried-is task.leg from valid).1 in
       let same : link ≡ state.link = e.0 ∙ ap (λ (m : Carry × ℕ). m.0.link) s.is in
       let f = take-follows task.leg from.link link s.taken s.leaves in
-      let dear : least_price (task.used link) (task.leg.facts link) ≤ cost =
+      let dear : least_price (task.used link) (task.leg.ride.facts link) ≤ cost =
       omega (arith, e.1, ap (λ (m : Carry × ℕ). m.1) s.is) in
       record {
         within = omega (arith, s.within, same);
-        leaves = subst (λ l. task.leg.roads.from l ≡ task.leg.roads.to from.link) same s.leaves;
-        opens = subst (λ l. IsTrue (task.leg.is_open l)) same f.0;
-        dear = subst (λ l. least_price (task.used l) (task.leg.facts l) ≤ cost) same dear;
+        leaves = subst (λ l. task.leg.ride.roads.from l ≡ task.leg.ride.roads.to from.link) same s.leaves;
+        opens = subst (λ l. IsTrue (task.leg.ride.is_open l)) same f.0;
+        dear = subst (λ l. least_price (task.used l) (task.leg.ride.facts l) ≤ cost) same dear;
       }
 
   -- where a state has no bound, none has one behind a step
@@ -238,11 +238,11 @@ module _ (task : Task) (lawful : IsTask task) where
       (rules_of task).low from ≡ None → (rules_of task).low state ≡ None
   low-stays from number state cost valid within step none =
       let e = step-entry from number state cost valid within step in
-      let before : IsRemaining task.leg task.used (task.leg.roads.from state.link) None =
+      let before : IsRemaining task.leg task.used (task.leg.ride.roads.from state.link) None =
       subst (λ n. IsRemaining task.leg task.used n None) (sym e.leaves)
-      (subst (IsRemaining task.leg task.used (task.leg.roads.to from.link)) none
+      (subst (IsRemaining task.leg task.used (task.leg.ride.roads.to from.link)) none
       (low-behind from.link (carried-is task.leg from valid).0)) in
-      rest-one (task.leg.roads.to state.link) _ None (low-behind state.link e.within)
+      rest-one (task.leg.ride.roads.to state.link) _ None (low-behind state.link e.within)
       (rest-none state.link e.within e.opens before)
 
   -- from a state without a bound no goal is reached
@@ -266,12 +266,12 @@ module _ (task : Task) (lawful : IsTask task) where
     hopeless = λ state end cost total numbers valid none walk goal. hopeless valid none walk goal;
     step = λ from number state cost before after valid within is first second.
         let e = step-entry from number state cost valid within is in
-        let here : IsRemaining task.leg task.used (task.leg.roads.from state.link) (Some before) =
+        let here : IsRemaining task.leg task.used (task.leg.ride.roads.from state.link) (Some before) =
         subst (λ n. IsRemaining task.leg task.used n (Some before)) (sym e.leaves)
-        (subst (IsRemaining task.leg task.used (task.leg.roads.to from.link)) first
+        (subst (IsRemaining task.leg task.used (task.leg.ride.roads.to from.link)) first
         (low-behind from.link (carried-is task.leg from valid).0)) in
-        let there : IsRemaining task.leg task.used (task.leg.roads.to state.link) (Some after) =
-        subst (IsRemaining task.leg task.used (task.leg.roads.to state.link)) second (low-behind state.link e.within) in
+        let there : IsRemaining task.leg task.used (task.leg.ride.roads.to state.link) (Some after) =
+        subst (IsRemaining task.leg task.used (task.leg.ride.roads.to state.link)) second (low-behind state.link e.within) in
         let falls = rest-step state.link before after e.within e.opens here there in
         omega (arith, falls, e.dear);
   }
@@ -289,6 +289,6 @@ module _ (task : Task) (lawful : IsTask task) where
   -- states that cover one another have one bound, and where it is none it is none behind every step
   pub even-bound : HasEvenBound (rules_of task)
   even-bound = record {
-    alike = λ a b ca cb va vb h. ap (λ l. task.low (task.leg.roads.to l)) (covers-parts task.leg a b ca cb h).0;
+    alike = λ a b ca cb va vb h. ap (λ l. task.low (task.leg.ride.roads.to l)) (covers-parts task.leg a b ca cb h).0;
     stays = λ from number state cost valid within is none. low-stays from number state cost valid within is none;
   }

@@ -11,7 +11,7 @@ use Rattle.elev_buffer.proofs.CallerLemmas.{covers-refl, covers-test}
 use Rattle.space_search.specs.Laws.{HasRank}
 use Rattle.space_search.specs.Turns.{IsSpent}
 use Rattle.space_search.specs.View.{Reached}
-use Rattle.bike_space.specs.Legs.{Leg}
+use Rattle.cost_model.specs.Rides.{Leg}
 use Rattle.bike_space.specs.LegWalks.{IsLegWalk, IsWalkTo, end_link, leg_rank}
 use Rattle.bike_space.specs.Spent.{AreShown, IsSpentBounded, IsSpentPlain, IsSpentStrong, nth_walk, terms_of, walk_buffers, walk_label}
 use Rattle.bike_space.specs.Remaining.{IsRemaining}
@@ -116,17 +116,17 @@ module _ (task : Task) (lawful : IsTask task) (start : ℕ → Option (Carry × 
     count = length-map shown (walk_as written task) ∙ spent.count;
     each = λ k below.
         let s = shown-at k below in
-        let led : task.leg.roads.to s.one.state.link ≡ task.leg.roads.to (end_link (nth_walk walks k)) =
-        ap task.leg.roads.to (sym (end-at k s)) in
+        let led : task.leg.ride.roads.to s.one.state.link ≡ task.leg.ride.roads.to (end_link (nth_walk walks k)) =
+        ap task.leg.ride.roads.to (sym (end-at k s)) in
         record {
           some = subst (λ (w : List ℕ). 0 < length w) (sym s.walk) s.with.some;
           is_walk = subst (λ n. IsWalkTo task.leg n (nth_walk walks k)) led
-              (subst (IsWalkTo task.leg (task.leg.roads.to s.one.state.link)) (sym s.walk) s.with.is_walk);
+              (subst (IsWalkTo task.leg (task.leg.ride.roads.to s.one.state.link)) (sym s.walk) s.with.is_walk);
         };
     short = λ k below at.
         let s = shown-at k below in
         let goal : IsTrue ((rules_of task).is_goal s.one.state) =
-        (goal-is task s.one.state).1 (ap task.leg.roads.to (sym (end-at k s)) ∙ at) in
+        (goal-is task s.one.state).1 (ap task.leg.ride.roads.to (sym (end-at k s)) ∙ at) in
         let no_goal = s.no_goal in
         let never : ⊥ = cc in
         never;
@@ -142,7 +142,7 @@ module _ (task : Task) (lawful : IsTask task) (start : ℕ → Option (Carry × 
       let s = shown-at i (omega (arith, below)) in
       let t = shown-at j below in
       let one : s.one.state.link ≡ t.one.state.link = sym (end-at i s) ∙ same ∙ end-at j t in
-      let lows : Some s.low ≡ Some t.low = sym s.bound ∙ ap (λ l. task.low (task.leg.roads.to l)) one ∙ t.bound in
+      let lows : Some s.low ≡ Some t.low = sym s.bound ∙ ap (λ l. task.low (task.leg.ride.roads.to l)) one ∙ t.bound in
       let equal : s.low ≡ t.low = cc in
       let order = spent.ordered.rising i j s.one t.one (s.one.cost + s.low) (t.one.cost + t.low) (omega (arith, less))
       s.at t.at (ranked-at i s) (ranked-at j t) in
@@ -179,10 +179,10 @@ module _ (task : Task) (lawful : IsTask task) (start : ℕ → Option (Carry × 
     strong = record { shown = are-shown; rising = rising-at; apart = apart-at };
     bounded = λ k below.
         let s = shown-at k below in
-        let node : task.leg.roads.to s.one.state.link ≡ task.leg.roads.to (end_link (nth_walk walks k)) =
-        ap task.leg.roads.to (sym (end-at k s)) in
-        let rest : IsRemaining task.leg task.used (task.leg.roads.to s.one.state.link) (Some s.low) =
-        subst (IsRemaining task.leg task.used (task.leg.roads.to s.one.state.link)) s.bound
+        let node : task.leg.ride.roads.to s.one.state.link ≡ task.leg.ride.roads.to (end_link (nth_walk walks k)) =
+        ap task.leg.ride.roads.to (sym (end-at k s)) in
+        let rest : IsRemaining task.leg task.used (task.leg.ride.roads.to s.one.state.link) (Some s.low) =
+        subst (IsRemaining task.leg task.used (task.leg.ride.roads.to s.one.state.link)) s.bound
         (lawful.low _ (lawful.roads.to_in s.one.state.link (carried-is task.leg s.one.state s.valid).0)) in
         record {
           rest = s.low;

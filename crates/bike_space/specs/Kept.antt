@@ -1,36 +1,36 @@
 -- What a space of a leg keeps while it rests, and when it may be woken (this project's own rule).
 use Rattle.std.specs.Prelude.{◌≡◌, length}
-use Rattle.cost_model.specs.Facts.{Links}
-use Rattle.cost_model.specs.Modes.{modes_of}
-use Rattle.cost_model.specs.Prices.{Prices}
+use Rattle.cost_model.specs.Rides.{Leg, Setting, Terrain, leg_between}
 use Rattle.least_sums.specs.Sums.{sum_of}
-use Rattle.overpass_graph.specs.Maps.{MapValue}
 use Rattle.space_search.specs.Laws.{IsSpace}
-use Rattle.bike_space.specs.Legs.{Asked, is_marked, leg_of}
+use Rattle.bike_space.specs.Marks.{is_marked}
 use Rattle.bike_space.specs.Tasks.{Task, rules_of}
 use Rattle.bike_space.specs.Lawful.{IsTask}
+use Rattle.bike_space.specs.declared.ask.LegAsk.{LegAsk}
 use Rattle.bike_space.specs.declared.rested.Rested.{Rested}
 
--- what a leg was asked with
-abbrev pub asked_of : Rested → Asked
-asked_of kept =
-    record { cut = kept.cut.items; turns = kept.turns; start = kept.start; target = kept.target }
+-- the leg that is asked for on a terrain
+abbrev pub leg_asked : (terrain : Terrain) (ask : LegAsk) → Leg
+leg_asked terrain ask =
+    leg_between (record { terrain = terrain; cut = ask.cut.now; turns = ask.turns }) ask.start ask.target
 
--- the search on the leg, over a map, the facts of its links and the prices of a profile
-abbrev pub task_of : MapValue → Links → Prices → Rested → Task
-task_of map links prices kept = record {
-  leg = leg_of map links prices (asked_of kept);
+-- the setting of the leg on a terrain
+abbrev pub setting_of : Terrain → Rested → Setting
+setting_of terrain kept = record { terrain = terrain; cut = kept.cut.items; turns = kept.turns }
+
+-- the search on the leg on a terrain
+abbrev pub task_of : Terrain → Rested → Task
+task_of terrain kept = record {
+  leg = leg_between (setting_of terrain kept) kept.start kept.target;
   used = is_marked kept.used.items;
   low = sum_of kept.low;
 }
 
--- what is kept fits a map, the facts of its links and the prices of a profile: its lists have an entry for
--- each link, its modes are those of the facts, and the search is lawful and keeps the laws of a space
-pub record Wakes (map : MapValue) (links : Links) (prices : Prices) (kept : Rested) : Type 0 where
-  pub counted : links.count ≡ length map.links
-  pub cut : length kept.cut.items ≡ length map.links
-  pub used : length kept.used.items ≡ length map.links
-  pub sums : length kept.low ≡ length map.nodes
-  pub modes : kept.modes ≡ modes_of links
-  pub lawful : IsTask (task_of map links prices kept)
-  pub keeps : IsSpace (rules_of (task_of map links prices kept))
+-- what is kept fits a terrain: its lists have an entry for each link or node, and the search is lawful and
+-- keeps the laws of a space
+pub record Wakes (terrain : Terrain) (kept : Rested) : Type 0 where
+  pub cut : length kept.cut.items ≡ length terrain.map.links
+  pub used : length kept.used.items ≡ length terrain.map.links
+  pub sums : length kept.low ≡ length terrain.map.nodes
+  pub lawful : IsTask (task_of terrain kept)
+  pub keeps : IsSpace (rules_of (task_of terrain kept))

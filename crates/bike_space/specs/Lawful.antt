@@ -9,10 +9,11 @@ use Rattle.bike_space.specs.Tasks.{Task}
 
 -- a lawful search on a leg
 pub record IsTask (task : Task) : Type 0 where
-  pub roads : IsRoads task.leg.roads
-  pub facts : (link : ℕ) → link < task.leg.roads.links → AreFacts (task.leg.facts link)
-  pub prices : IsPrices task.leg.prices
-  pub start_in : task.leg.start < task.leg.roads.nodes
-  pub target_in : task.leg.target < task.leg.roads.nodes
-  pub low : (node : ℕ) → node < task.leg.roads.nodes → IsRemaining task.leg task.used node (task.low node)
-  pub low_small : (node low : ℕ) → node < task.leg.roads.nodes → task.low node ≡ Some low → low < 2 ^ 126
+  pub roads : IsRoads task.leg.ride.roads
+  pub facts : (link : ℕ) → link < task.leg.ride.roads.links → AreFacts (task.leg.ride.facts link)
+  pub prices : IsPrices task.leg.ride.prices
+  pub start_in : task.leg.start < task.leg.ride.roads.nodes
+  pub target_in : task.leg.target < task.leg.ride.roads.nodes
+  pub low : (node : ℕ) → node < task.leg.ride.roads.nodes →
+      IsRemaining task.leg task.used node (task.low node)
+  pub low_small : (node low : ℕ) → node < task.leg.ride.roads.nodes → task.low node ≡ Some low → low < 2 ^ 126

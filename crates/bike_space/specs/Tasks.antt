@@ -11,7 +11,7 @@ use Rattle.elev_buffer.specs.Covers.{covers_label}
 use Rattle.elev_buffer.specs.declared.labels.Pair.{Pair}
 use Rattle.overpass_graph.specs.Roads.{Roads, out_links}
 use Rattle.space_search.specs.Rules.{Rules}
-use Rattle.bike_space.specs.Legs.{Leg}
+use Rattle.cost_model.specs.Rides.{Leg}
 use Rattle.bike_space.specs.Spent.{terms_of}
 
 -- a search on a leg: the links whose segments were used, and for each node what still has to be paid from
@@ -33,7 +33,7 @@ links_from roads node (choice ∷ choices) =
 
 -- the walk of choices from the start of a leg
 abbrev pub walk_by : Leg → List ℕ → List ℕ
-walk_by leg choices = links_from leg.roads leg.start choices
+walk_by leg choices = links_from leg.ride.roads leg.start choices
 
 -- both buffers lie within 0 and the most
 abbrev pub is_within : Prices → Pair → Bool
@@ -43,33 +43,34 @@ is_within prices pair =
 
 -- what a walk may carry: its last link is one of the leg, and both buffers are held
 unfoldable pub is_carried : Leg → Carry → Bool
-is_carried leg carry = nat_lt carry.link leg.roads.links && is_within leg.prices (pair_of carry)
+is_carried leg carry = nat_lt carry.link leg.ride.roads.links && is_within leg.ride.prices (pair_of carry)
 
 -- what entering a link costs, after another link or as the first, with these buffers before it
 abbrev pub price_of : Task → Option LinkFacts → ℕ → Pair → ℕ
-price_of task before link pair = entry_cost task.leg.prices (task.used link) before (task.leg.facts link) pair
+price_of task before link pair = entry_cost task.leg.ride.prices (task.used link) before
+    (task.leg.ride.facts link) pair
 
 -- what is carried on from a link that is entered with these buffers, and what entering it costs
 unfoldable pub entered : Task → Option LinkFacts → ℕ → Pair → Carry × ℕ
 entered task before link pair =
-    (carry_after task.leg.prices link (task.leg.facts link) pair, price_of task before link pair)
+    (carry_after task.leg.ride.prices link (task.leg.ride.facts link) pair, price_of task before link pair)
 
 -- a walk may go on by a link after its last link, which leaves the node where that arrives: it is open,
 -- doesn't go back and isn't forbidden
 unfoldable pub may_take : Leg → ℕ → ℕ → Bool
 may_take leg last link =
-    leg.is_open link && (not (nat_eq (leg.roads.to link) (leg.roads.from last)) &&
-    not (leg.forbids last link))
+    leg.ride.is_open link && (not (nat_eq (leg.ride.roads.to link) (leg.ride.roads.from last)) &&
+    not (leg.ride.forbids last link))
 
 -- the start of a link that is open
 abbrev pub start_by : Task → ℕ → Option (Carry × ℕ)
-start_by task link = if task.leg.is_open link then Some (entered task None link empty_pair) else None
+start_by task link = if task.leg.ride.is_open link then Some (entered task None link empty_pair) else None
 
 -- the step by a link
 abbrev pub step_by : Task → Carry → ℕ → Option (Carry × ℕ)
 step_by task carry link =
     if may_take task.leg carry.link link
-    then Some (entered task (Some (task.leg.facts carry.link)) link (pair_of carry)) else None
+    then Some (entered task (Some (task.leg.ride.facts carry.link)) link (pair_of carry)) else None
 
 -- what is carried makes something else that is carried needless: they end in one link, and the one label
 -- covers the other
@@ -81,13 +82,14 @@ covers_carry leg a a_cost b b_cost =
 abbrev pub rules_of : Task → Rules Carry
 rules_of task = record {
   is_valid = is_carried task.leg;
-  cells = task.leg.roads.links;
+  cells = task.leg.ride.roads.links;
   cell = λ carry. carry.link;
-  starts = length (out_links task.leg.roads task.leg.start);
-  start = λ choice. start_by task (chosen task.leg.roads task.leg.start choice);
-  steps = λ carry. length (out_links task.leg.roads (task.leg.roads.to carry.link));
-  step = λ carry choice. step_by task carry (chosen task.leg.roads (task.leg.roads.to carry.link) choice);
-  is_goal = λ carry. nat_eq (task.leg.roads.to carry.link) task.leg.target;
+  starts = length (out_links task.leg.ride.roads task.leg.start);
+  start = λ choice. start_by task (chosen task.leg.ride.roads task.leg.start choice);
+  steps = λ carry. length (out_links task.leg.ride.roads (task.leg.ride.roads.to carry.link));
+  step = λ carry choice. step_by task carry (chosen task.leg.ride.roads (task.leg.ride.roads.to carry.link)
+      choice);
+  is_goal = λ carry. nat_eq (task.leg.ride.roads.to carry.link) task.leg.target;
   covers = covers_carry task.leg;
-  low = λ carry. task.low (task.leg.roads.to carry.link);
+  low = λ carry. task.low (task.leg.ride.roads.to carry.link);
 }

@@ -1,54 +1,84 @@
 //! A walk of least rank, found by a whole search.
 
-ghost use Rattle.std.specs.Prelude.{◌≢◌, ◌*◌, ◌<◌, ◌≤◌, ◌^◌, IfOk, length};
-ghost use Rattle.bike_space.specs.Answers.{AnswersLeg, IsUnspentWalk};
+ghost use Rattle.std.specs.Prelude.{◌≢◌, ℕ, ◌*◌, ◌<◌, ◌≤◌, ◌^◌, IfOk, length};
+ghost use Rattle.bike_space.specs.Answers.{AnswersLeg};
 ghost use Rattle.bike_space.specs.Enough.{IsFlat, held_pairs};
 ghost use Rattle.bike_space.specs.Kept.{task_of};
+ghost use Rattle.bike_space.specs.declared.finding.Walk.{Walk};
+ghost use Rattle.space_search.specs.Limits.{IsUnspent};
+ghost use Rattle.space_search.specs.Outcome.{Answers};
+ghost use Rattle.space_search.specs.declared.outcome.Outcome.{Outcome};
 
 use crate::space::BikeSpace;
-use cost_model::FactsOf;
+use cost_model::TerrainOf;
 use item_list::Items;
-use space_search::{Outcome, least};
+use space_search::{Outcome, Run, Space, least};
 use std::alloc::{AllocError, Global};
 
-/// What a whole search on a leg answers.
+/// A walk with its rank.
 #[derive(Drop)]
-pub enum Walked {
-    /// The links of a walk of least rank, and its rank.
-    Found { walk: Items<u32>, rank: u128 },
-    /// The leg has no walk.
-    NoWay,
-    /// The limit of settled labels is spent.
-    Budget,
+pub struct Walk {
+    /// Its links.
+    pub links: Items<u32>,
+    /// Its rank.
+    pub rank: u128,
+}
+
+/// A space whose runs are walks of a leg.
+pub trait TellsWalks: Space {
+    // What a search that settles at most so many labels answers, in the words of walks.
+    ghost answers: { Self → ℕ → Outcome Walk → Type 0 };
+
+    /// The end of a search over the space, with the walk of the run that was found.
+    fn told(&self, alloc: Global, outcome: Outcome<Run>) -> Result<Outcome<Walk>, AllocError>
+        requires answers { (limit : ℕ) × Answers (Self.rules self.now) limit outcome }
+        ensures told { IfOk result (λ told. (limit : ℕ) → limit < 2 ^ 32 →
+            Answers (Self.rules self.now) limit outcome → answers self.now limit told) }
+        ensures unspent { IsUnspent outcome → IfOk result IsUnspent };
+}
+
+impl<G: TerrainOf> TellsWalks for BikeSpace<G> {
+    ghost use Rattle.std.specs.Prelude.{◌≢◌};
+    ghost use Rattle.bike_space.specs.Answers.{AnswersLeg};
+    ghost use Rattle.bike_space.specs.Kept.{task_of};
+
+    ghost answers = { λ space limit outcome. space.kept.start ≢ space.kept.target →
+        (let task = task_of (G.terrain space.terrain) space.kept in
+        AnswersLeg task.leg task.used limit outcome) };
+
+    fn told(&self, alloc: Global, outcome: Outcome<Run>) -> Result<Outcome<Walk>, AllocError> {
+        match outcome {
+            Outcome::Found(run) => {
+                let links = self.link_of(alloc, run.choices.as_slice())?;
+                let rank = run.cost;
+                Ok(Outcome::Found(Walk { links, rank }))
+            }
+            Outcome::NoWay => Ok(Outcome::NoWay),
+            Outcome::Budget => Ok(Outcome::Budget),
+        }
+    }
 }
 
 /// A walk of least rank of a leg whose nodes differ, or that it has none, or that `limit` labels
 /// are settled and one more would be.
-pub fn least_walk<F: FactsOf>(
+pub fn least_walk<G: TerrainOf>(
     alloc: Global,
-    space: &BikeSpace<F>,
+    space: &BikeSpace<G>,
     limit: u64,
-) -> Result<Walked, AllocError>
+) -> Result<Outcome<Walk>, AllocError>
     requires small { limit < 2 ^ 32 }
     requires differ { space.now.kept.start ≢ space.now.kept.target }
-    ensures answers { IfOk result (λ walked. let task = task_of space.now.map.now
-        (F.links space.now.facts.now) space.now.rates.now space.now.kept in
-        AnswersLeg task.leg task.used limit walked) }
+    ensures answers { IfOk result (λ outcome. let task =
+        task_of (G.terrain space.now.terrain) space.now.kept in
+        AnswersLeg task.leg task.used limit outcome) }
 
     // So many labels are enough: as many as links where climbing costs nothing, and as many as
     // links times pairs of buffers always.
-    ensures enough { IsFlat (task_of space.now.map.now (F.links space.now.facts.now)
-        space.now.rates.now space.now.kept).leg → length space.now.map.now.links ≤ limit →
-        IfOk result IsUnspentWalk }
-    ensures always { length space.now.map.now.links * held_pairs space.now.rates.now ≤ limit →
-        IfOk result IsUnspentWalk }
+    ensures enough { IsFlat (task_of (G.terrain space.now.terrain) space.now.kept).leg →
+        length (G.terrain space.now.terrain).map.links ≤ limit → IfOk result IsUnspent }
+    ensures always { length (G.terrain space.now.terrain).map.links *
+        held_pairs (G.terrain space.now.terrain).prices ≤ limit → IfOk result IsUnspent }
 {
-    match least(alloc, space, limit)? {
-        Outcome::Found { choices, cost } => {
-            let walk = space.link_of(alloc, choices.as_slice())?;
-            Ok(Walked::Found { walk, rank: cost })
-        }
-        Outcome::NoWay => Ok(Walked::NoWay),
-        Outcome::Budget => Ok(Walked::Budget),
-    }
+    let outcome = least(alloc, space, limit)?;
+    space.told(alloc, outcome)
 }

@@ -5,3 +5,4 @@ pub mod Parts
 pub mod Walks
 pub mod Modes
 pub mod Labels
+pub mod Rides

@@ -11,6 +11,7 @@ mod map_modes;
 mod open_links;
 mod parts;
 mod rates;
+mod terrain;
 
 pub use distance::distance_part;
 pub use facts::{FactsOf, LinkFacts};
@@ -20,3 +21,4 @@ pub use map_modes::modes;
 pub use open_links::{OpenLinks, Passages, is_passable};
 pub use parts::{Carry, Parts};
 pub use rates::{RateError, Rates};
+pub use terrain::{PricedMap, TerrainOf};

@@ -1,44 +1,60 @@
 //! A walk of least rank, found by a whole search over junction runs.
 
 ghost use Rattle.std.specs.Prelude.{◌≢◌, ◌*◌, ◌<◌, ◌≤◌, ◌^◌, IfOk, length};
-ghost use Rattle.bike_space.specs.Answers.{IsUnspentWalk};
 ghost use Rattle.bike_space.specs.Enough.{IsFlat, held_pairs};
 ghost use Rattle.bike_space.specs.Kept.{task_of};
 ghost use Rattle.junction_runs.specs.RunAnswers.{AnswersByRuns};
+ghost use Rattle.space_search.specs.Limits.{IsUnspent};
 
 use crate::space::RunSpace;
-use bike_space::{BikeSpace, Walked};
-use cost_model::FactsOf;
-use space_search::{Outcome, least};
+use bike_space::{BikeSpace, TellsWalks, Walk};
+use cost_model::TerrainOf;
+use space_search::{Outcome, Run, least};
 use std::alloc::{AllocError, Global};
+
+impl<'a, G: TerrainOf> TellsWalks for RunSpace<'a, BikeSpace<G>> {
+    ghost use Rattle.std.specs.Prelude.{◌≢◌};
+    ghost use Rattle.bike_space.specs.Kept.{task_of};
+    ghost use Rattle.junction_runs.specs.RunAnswers.{AnswersByRuns};
+
+    ghost answers = { λ runs limit outcome. (let space = runs.space.now in
+        space.kept.start ≢ space.kept.target →
+        (let task = task_of (G.terrain space.terrain) space.kept in
+        AnswersByRuns task.leg task.used limit outcome)) };
+
+    fn told(&self, alloc: Global, outcome: Outcome<Run>) -> Result<Outcome<Walk>, AllocError> {
+        match outcome {
+            Outcome::Found(run) => {
+                let links = self.link_of(alloc, run.choices.as_slice())?;
+                let rank = run.cost;
+                Ok(Outcome::Found(Walk { links, rank }))
+            }
+            Outcome::NoWay => Ok(Outcome::NoWay),
+            Outcome::Budget => Ok(Outcome::Budget),
+        }
+    }
+}
 
 /// A walk of least rank of a leg whose nodes differ, searched from junction to junction, or that
 /// the leg has none, or that `limit` labels at ends of runs are settled and one more would be.
-pub fn least_walk_by_runs<F: FactsOf>(
+pub fn least_walk_by_runs<G: TerrainOf>(
     alloc: Global,
-    space: &BikeSpace<F>,
+    space: &BikeSpace<G>,
     limit: u64,
-) -> Result<Walked, AllocError>
+) -> Result<Outcome<Walk>, AllocError>
     requires small { limit < 2 ^ 32 }
     requires differ { space.now.kept.start ≢ space.now.kept.target }
-    ensures answers { IfOk result (λ walked. let task = task_of space.now.map.now
-        (F.links space.now.facts.now) space.now.rates.now space.now.kept in
-        AnswersByRuns task.leg task.used limit walked) }
+    ensures answers { IfOk result (λ outcome. let task =
+        task_of (G.terrain space.now.terrain) space.now.kept in
+        AnswersByRuns task.leg task.used limit outcome) }
 
     // As many labels are enough as without junction runs.
-    ensures enough { IsFlat (task_of space.now.map.now (F.links space.now.facts.now)
-        space.now.rates.now space.now.kept).leg → length space.now.map.now.links ≤ limit →
-        IfOk result IsUnspentWalk }
-    ensures always { length space.now.map.now.links * held_pairs space.now.rates.now ≤ limit →
-        IfOk result IsUnspentWalk }
+    ensures enough { IsFlat (task_of (G.terrain space.now.terrain) space.now.kept).leg →
+        length (G.terrain space.now.terrain).map.links ≤ limit → IfOk result IsUnspent }
+    ensures always { length (G.terrain space.now.terrain).map.links *
+        held_pairs (G.terrain space.now.terrain).prices ≤ limit → IfOk result IsUnspent }
 {
     let runs = RunSpace::new(space);
-    match least(alloc, &runs, limit)? {
-        Outcome::Found { choices, cost } => {
-            let walk = runs.link_of(alloc, choices.as_slice())?;
-            Ok(Walked::Found { walk, rank: cost })
-        }
-        Outcome::NoWay => Ok(Walked::NoWay),
-        Outcome::Budget => Ok(Walked::Budget),
-    }
+    let outcome = least(alloc, &runs, limit)?;
+    runs.told(alloc, outcome)
 }

@@ -100,7 +100,8 @@ fn way_number(
     requires in_range { way < length map.now.ways }
     ensures exact { (subject : Subject) → Suits code.now table.now subject →
         Keeps (IsKeyClass subject) kept.old →
-        MatchResult result (IsNumberOf (IsWayClass subject (way_at map.now.ways way).tags) kept.new.items.items)
+        MatchResult result
+        (IsNumberOf (IsWayClass subject (way_at map.now.ways way).tags) kept.new.items.items)
         (λ e. (e ≡ NoMemory) ⊎ (way_refusal subject map.now way ≡ Some e)) }
     ensures keeps { (subject : Subject) → IsCodeOf subject code.now →
         Keeps (IsKeyClass subject) kept.old →

@@ -1,0 +1,24 @@
+use Rattle.std.proofs.Common.{length, ap, subst, sym, ◌∙◌}
+use Rattle.cost_model.specs.Prices.{IsPrices}
+use Rattle.overpass_graph.specs.Maps.{IsMap}
+use Rattle.bike_space.proofs.OpenLemmas.{opened-wakes}
+use Rattle.bike_space.proofs.opening.rested.Goals as goal
+
+pub returns-clause-wakes : goal.returns-clause-wakes
+returns-clause-wakes g c =
+    let terrain = g.G.TerrainOf.terrain c.args.terrain.now in
+    let cut = c.in_ok-cut.ensures.items in
+    let used = c.in_ok-used.ensures.items in
+    opened-wakes terrain _
+    (record {
+      is_map = subst IsMap c.map-map.ensures.value c.links-links.ensures.lawful;
+      sound = g.met.G.TerrainOf.sound c.args.terrain.now;
+      is_prices = subst IsPrices c.rates.ensures.value c.down_rate-rate.ensures.lawful;
+      counted = g.met.G.TerrainOf.counted c.args.terrain.now;
+      cut = ap length cut ∙ c.requires.cut;
+      used = ap length used ∙ c.requires.used;
+      start = c.requires.start;
+      target = c.requires.target;
+      sums = rw (cut, used, sym c.map-map.ensures.value) c.in_ok-low.ensures.exact;
+      small = c.in_ok-low.ensures.small;
+    })

@@ -1,0 +1,16 @@
+//! What a leg is asked with.
+
+/// What a leg is asked with, on a terrain.
+#[derive(Clone, Copy)]
+pub struct LegAsk<'a> {
+    /// The links that circles cut.
+    pub cut: &'a [bool],
+    /// The links whose segments earlier alternatives used.
+    pub used: &'a [bool],
+    /// The node that the leg leaves.
+    pub start: u32,
+    /// The node that it reaches.
+    pub target: u32,
+    /// Whether turn restrictions count.
+    pub turns: bool,
+}
