@@ -2,12 +2,10 @@
 //! between them.
 #![tactic(auto)]
 
-mod ask;
 mod opening;
 mod raw;
 mod search;
 mod turn;
 
-pub use ask::LegAsk;
 pub use search::LegSearch;
-pub use turn::{LegAnswer, LegTurn};
+pub use turn::LegTurn;

@@ -4,8 +4,8 @@ use bike_space::Rested;
 use cost_model::Carry;
 use space_search::Search;
 
-/// A search on a leg whose nodes differ, before its end. It borrows no map: each turn is given the
-/// map, the facts and the rates again.
+/// A search on a leg whose nodes differ, before its end. It borrows nothing: each turn is given the
+/// terrain again.
 #[derive(Drop)]
 pub struct LegSearch {
     pub(crate) search: Search<Carry>,
