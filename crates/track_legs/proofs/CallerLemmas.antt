@@ -1,5 +1,5 @@
 -- What crates above may cite of tracks.
-use Rattle.track_legs.specs.Rides.{Ride}
+use Rattle.cost_model.specs.Rides.{Ride}
 use Rattle.track_legs.specs.Rows.{HasLinksBelow}
 use Rattle.track_legs.specs.Tracks.{IsTrack}
 use Rattle.track_legs.specs.declared.track.Track.{Track}

@@ -53,12 +53,12 @@ module _ (p : Prices) (f : ℕ → LinkFacts)
         ∙ ap (λ n. old ++ rows_before p f walk n) (sym one)
 
 -- the links of a leg are below the count
-pub leg-below : (count many : ℕ) (track : Track) (legs : List Leg) (place : ℕ) (leg : Leg) (walk : List ℕ) →
-    many ≡ count → HasLinksBelow count track → legs ≡ track.legs → place < length legs →
-    walk ≡ (get_or legs place leg).links → AreBelow many walk
-leg-below count many track legs place leg walk counts inside same below links =
+pub leg-below : (count : ℕ) (track : Track) (legs : List Leg) (place : ℕ) (leg : Leg) (walk : List ℕ) →
+    HasLinksBelow count track → legs ≡ track.legs → place < length legs → walk ≡ (get_or legs place leg).links →
+    AreBelow count walk
+leg-below count track legs place leg walk inside same below links =
     let within : place < length track.legs = subst (λ (ls : List Leg). place < length ls) same below in
     let there : (leg_at track place).links ≡ walk =
     ap (λ (ls : List Leg). (get_or ls place no_leg).links) (sym same)
     ∙ ap (λ (l : Leg). l.links) (get_or_default legs place no_leg leg below) ∙ sym links in
-    subst (λ n. AreBelow n walk) (sym counts) (subst (λ w. AreBelow count w) there (inside place within))
+    subst (λ w. AreBelow count w) there (inside place within)

@@ -2,9 +2,8 @@
 use Rattle.std.proofs.Common.{◌≡◌, ℕ, suc, ◌+◌, ◌<◌, inl, inr, List, length, get_or, Option, Some, None, SomeIff, sym, ap, ◌∙◌, subst, arith}
 use Rattle.std.proofs.lemmas.Bool.{cases_eq}
 use Rattle.std.proofs.lemmas.List.{get_or_default}
+use Rattle.cost_model.specs.Rides.{IsPermittedWalk, Ride}
 use Rattle.cost_model.specs.Walks.{walk_cost}
-use Rattle.overpass_graph.specs.Walks.{IsPermittedWalk}
-use Rattle.track_legs.specs.Rides.{Ride}
 use Rattle.track_legs.specs.Tracks.{IsLegBetween, leg_at, node_at, no_leg}
 use Rattle.track_legs.specs.declared.track.Leg.{Leg}
 use Rattle.track_legs.specs.declared.track.Track.{Track}
@@ -26,10 +25,10 @@ module _ (ride : Ride) (a b : ℕ) (leg : Leg) (walk : List ℕ) (found : Option
     (is : SomeIff found (walk_cost ride.prices ride.facts walk < bound) (walk_cost ride.prices ride.facts walk))
   where
     -- a walk whose cost is the one that is kept is a leg
-    pub leg-there : IsPermittedWalk ride.roads ride.is_open ride.forbids a b walk → found ≡ Some leg.cost →
+    pub leg-there : IsPermittedWalk ride a b walk → found ≡ Some leg.cost →
         IsLegBetween ride a b leg
     leg-there walks same = record {
-      walk = subst (λ w. IsPermittedWalk ride.roads ride.is_open ride.forbids a b w) links walks;
+      walk = subst (λ w. IsPermittedWalk ride a b w) links walks;
       cost = ap (λ w. walk_cost ride.prices ride.facts w) (sym links)
           ∙ held-cost found bound (walk_cost ride.prices ride.facts walk) leg.cost is same;
     }

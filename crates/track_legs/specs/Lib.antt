@@ -1,4 +1,3 @@
-pub mod Rides
 pub mod Tracks
 pub mod Rows
 pub mod Costs

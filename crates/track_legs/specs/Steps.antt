@@ -1,5 +1,6 @@
 -- Which link a walk may take next, where it stands.
 use Rattle.std.specs.Prelude.{◌≡◌, ℕ, ◌<◌, Bool, Option, Some}
+use Rattle.cost_model.specs.Rides.{Ride}
 use Rattle.overpass_graph.specs.Roads.{Roads}
 use Rattle.overpass_graph.specs.Walks.{IsOpenLink, MayFollow}
 
@@ -14,8 +15,6 @@ pub record HasReached (roads : Roads) (node link : ℕ) : Type 0 where
   pub arrives : roads.to link ≡ node
 
 -- a link may come next where a walk stands at a node, after its last link if it has one
-pub record MayComeNext (roads : Roads) (is_open : ℕ → Bool) (forbids : ℕ → ℕ →
-    Bool) (node : ℕ) (last : Option ℕ)
-    (link : ℕ) : Type 0 where
-  pub leaves : MayLeave roads is_open node link
-  pub follows : (before : ℕ) → last ≡ Some before → MayFollow roads forbids before link
+pub record MayComeNext (ride : Ride) (node : ℕ) (last : Option ℕ) (link : ℕ) : Type 0 where
+  pub leaves : MayLeave ride.roads ride.is_open node link
+  pub follows : (before : ℕ) → last ≡ Some before → MayFollow ride.roads ride.forbids before link

@@ -1,8 +1,7 @@
 -- When a list of nodes and legs is a track (this project's own rule).
 use Rattle.std.specs.Prelude.{◌≡◌, ℕ, suc, ◌<◌, [], length, get_or}
+use Rattle.cost_model.specs.Rides.{IsPermittedWalk, Ride}
 use Rattle.cost_model.specs.Walks.{walk_cost}
-use Rattle.overpass_graph.specs.Walks.{IsPermittedWalk}
-use Rattle.track_legs.specs.Rides.{Ride}
 use Rattle.track_legs.specs.declared.track.Leg.{Leg}
 use Rattle.track_legs.specs.declared.track.Track.{Track}
 
@@ -20,7 +19,7 @@ leg_at track number = get_or track.legs number no_leg
 
 -- a leg between two nodes: a walk that the rider may take from the one to the other, with what it costs
 pub record IsLegBetween (ride : Ride) (a b : ℕ) (leg : Leg) : Type 0 where
-  pub walk : IsPermittedWalk ride.roads ride.is_open ride.forbids a b leg.links
+  pub walk : IsPermittedWalk ride a b leg.links
   pub cost : walk_cost ride.prices ride.facts leg.links ≡ leg.cost
 
 -- a track: a leg between each two waypoints that follow each other, each a walk of its own

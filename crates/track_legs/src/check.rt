@@ -1,30 +1,25 @@
 //! Whether a track is one.
 
-ghost use Rattle.std.specs.Prelude.{◌≡◌, ◌↔◌, ◌<◌, ◌^◌, IsTrue, Some, length, suc};
-ghost use Rattle.track_legs.specs.Rides.{ride_of};
+ghost use Rattle.std.specs.Prelude.{◌≡◌, ◌↔◌, ◌<◌, ◌^◌, IsTrue, Some, suc};
+ghost use Rattle.cost_model.specs.Rides.{ride_of};
 ghost use Rattle.track_legs.specs.Tracks.{IsLegBetween, IsTrack};
 
 use crate::costs::cost_along;
+use crate::terrain_facts::TerrainFacts;
 use crate::track::{Leg, Track};
 use crate::walks::is_walk;
-use cost_model::{FactsOf, Passages, Rates};
-use overpass_graph::Map;
+use cost_model::TerrainOf;
 
 /// Whether there is one leg fewer than nodes, and each leg is a walk between its nodes that a rider
 /// may take, with the cost that is kept: over links that their facts let a rider take and that
 /// aren't cut, never back to where the link before left, and where `turns` count against no turn
 /// restriction. It takes no memory.
-pub fn recheck<F: FactsOf>(
-    track: &Track,
-    map: &Map,
-    facts: &F,
-    rates: &Rates,
-    cut: &[bool],
-    turns: bool,
-) -> bool
-    requires counted { (F.links facts.now).count ≡ length map.now.links }
-    ensures exact { IsTrue result ↔
-        IsTrack (ride_of map.now (F.links facts.now) rates.now cut.now turns) track.now }
+pub fn recheck<G: TerrainOf>(track: &Track, terrain: &G, cut: &[bool], turns: bool) -> bool
+    ensures exact { IsTrue result ↔ IsTrack (ride_of (record {
+      terrain = G.terrain terrain.now;
+      cut = cut.now;
+      turns = turns;
+    })) track.now }
 {
     let nodes = track.nodes.as_slice();
     let legs = track.legs.as_slice();
@@ -33,7 +28,7 @@ pub fn recheck<F: FactsOf>(
     }
     'legs: for place in 0..legs.len() {
         let (start, target) = (nodes[place], nodes[place + 1]);
-        if !is_leg(&legs[place], start, target, map, facts, rates, cut, turns) {
+        if !is_leg(&legs[place], start, target, terrain, cut, turns) {
             return false;
         }
     }
@@ -48,24 +43,24 @@ fn is_one_fewer(count: usize, other: usize) -> bool
 }
 
 /// Whether a leg is a walk between two nodes that a rider may take, with the cost that is kept.
-fn is_leg<F: FactsOf>(
+fn is_leg<G: TerrainOf>(
     leg: &Leg,
     start: u32,
     target: u32,
-    map: &Map,
-    facts: &F,
-    rates: &Rates,
+    terrain: &G,
     cut: &[bool],
     turns: bool,
 ) -> bool
-    requires counted { (F.links facts.now).count ≡ length map.now.links }
-    ensures exact { IsTrue result ↔
-        IsLegBetween (ride_of map.now (F.links facts.now) rates.now cut.now turns) start target leg.now }
+    ensures exact { IsTrue result ↔ IsLegBetween (ride_of (record {
+      terrain = G.terrain terrain.now;
+      cut = cut.now;
+      turns = turns;
+    })) start target leg.now }
 {
-    let passages = Passages { facts, cut };
+    let facts = TerrainFacts { terrain };
     let walk = leg.links.as_slice();
-    is_walk(map, &passages, turns, start, target, walk)
-        && is_kept(cost_along(facts, rates, walk), leg.cost)
+    is_walk(terrain, cut, turns, start, target, walk)
+        && is_kept(cost_along(&facts, terrain.rates(), walk), leg.cost)
 }
 
 /// Whether the cost that was found is the one that is kept.

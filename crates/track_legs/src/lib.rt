@@ -4,6 +4,7 @@
 mod check;
 mod costs;
 mod row;
+mod terrain_facts;
 mod track;
 mod walks;
 

@@ -1,13 +1,12 @@
 //! A row for each link of a track.
 
-ghost use Rattle.std.specs.Prelude.{◌≡◌, ◌++◌, IfOk, length};
+ghost use Rattle.std.specs.Prelude.{◌≡◌, ◌++◌, IfOk};
 ghost use Rattle.track_legs.specs.Rows.{AreBelow, HasLinksBelow, rows_of, rows_of_walk};
 
 use crate::costs::go_on;
 use crate::track::Track;
 use cost_model::{FactsOf, Parts, Rates};
 use item_list::Items;
-use overpass_graph::Map;
 use std::alloc::{AllocError, Global};
 
 /// A link of a track and the parts of what it costs there, in millionths: the distance once,
@@ -20,20 +19,17 @@ pub struct Row {
     pub parts: Parts,
 }
 
-/// The rows of a track over a map: one for each link of each leg, in their order.
+/// The rows of a track: one for each link of each leg, in their order.
 pub fn rows<F: FactsOf>(
     alloc: Global,
     track: &Track,
-    map: &Map,
     facts: &F,
     rates: &Rates,
 ) -> Result<Items<Row>, AllocError>
-    requires counted { (F.links facts.now).count ≡ length map.now.links }
-    requires in_range { HasLinksBelow (length map.now.links) track.now }
+    requires in_range { HasLinksBelow (F.links facts.now).count track.now }
     ensures exact { IfOk result
         (λ rows. rows ≡ rows_of rates.now (F.links facts.now).facts track.now) }
 {
-    let _ = map;
     let mut rows = Items::new(alloc);
     let legs = track.legs.as_slice();
     'legs: for place in 0..legs.len() {

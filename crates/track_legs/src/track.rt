@@ -19,7 +19,7 @@ pub struct Track {
     pub nodes: Items<u32>,
     /// The legs of the alternative that was asked for.
     pub legs: Items<Leg>,
-    /// The alternatives before that one: of each the walks of its legs.
+    /// Of each leg the walks of the alternatives before that one.
     pub earlier: Items<Items<Items<u32>>>,
 }
 

@@ -8,7 +8,7 @@ use Rattle.track_legs.specs.Rows.{AreBelow, row_at, rows_before, rows_of_legs, r
 use Rattle.track_legs.specs.Tracks.{no_leg}
 use Rattle.track_legs.specs.declared.row.Row.{Row}
 use Rattle.track_legs.specs.declared.track.Leg.{Leg}
-use Rattle.track_reply.specs.Showable.{AreAlternativesBelow, AreLegsBelow, AreRowsBelow, AreWalksBelow, no_row}
+use Rattle.track_reply.specs.Showable.{AreLegsBelow, AreRowsBelow, no_row}
 
 -- the item at a place, whatever stands for one that isn't there
 pub at_default : {A : Type 0} (xs : List A) (place : ℕ) (x d other : A) → place < length xs → x ≡ get_or xs place d →
@@ -61,16 +61,3 @@ module _ (count : ℕ)
         leg ≡ get_or legs place leg → AreBelow count leg.links
     leg-below legs place leg below inside is =
         subst (λ (l : Leg). AreBelow count l.links) (sym (is ∙ get_or_default legs place leg no_leg inside)) (below place inside)
-
-    -- the links of a walk among others
-    pub walk-below : (walks : List (List ℕ)) (place : ℕ) (walk same : List ℕ) → AreWalksBelow count walks → place < length walks →
-        walk ≡ get_or walks place walk → same ≡ walk → AreBelow count same
-    walk-below walks place walk same below inside is copied =
-        subst (λ w. AreBelow count w) (sym (copied ∙ is ∙ get_or_default walks place walk [] inside)) (below place inside)
-
-    -- the links of an alternative among others
-    pub alternative-below : (earlier : List (List (List ℕ))) (place : ℕ) (walks same : List (List ℕ)) →
-        AreAlternativesBelow count earlier → place < length earlier → walks ≡ get_or earlier place walks → same ≡ walks →
-        AreWalksBelow count same
-    alternative-below earlier place walks same below inside is copied =
-        subst (λ w. AreWalksBelow count w) (sym (copied ∙ is ∙ get_or_default earlier place walks [] inside)) (below place inside)

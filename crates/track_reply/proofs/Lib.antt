@@ -1,4 +1,5 @@
 pub mod JoinLemmas
+pub mod EarlierLemmas
 pub mod FieldLemmas
 pub mod ShowLemmas
 pub mod ArrayLemmas

@@ -1,12 +1,11 @@
 -- What is known of a track that a reply may show.
-use Rattle.std.proofs.Common.{◌≡◌, ℕ, ◌<◌, false, List, [], length, sym, subst, arith}
-use Rattle.track_legs.specs.Rides.{ride_of}
+use Rattle.std.proofs.Common.{◌≡◌, ℕ, ◌<◌, List, length, sym, subst, arith}
 use Rattle.track_legs.specs.Rows.{HasLinksBelow, rows_of}
 use Rattle.track_legs.specs.Tracks.{node_at}
 use Rattle.track_legs.specs.declared.row.Row.{Row}
 use Rattle.track_legs.specs.declared.track.Track.{Track}
 use Rattle.track_legs.proofs.CallerLemmas.{track-links}
-use Rattle.track_reply.specs.Showable.{AreRowsBelow, IsShowable}
+use Rattle.track_reply.specs.Showable.{AreRowsBelow, IsShowable, terrain_shown, uncut_ride}
 use Rattle.track_reply.specs.Source.{Source}
 use Rattle.track_reply.proofs.BelowLemmas.{legs-rows}
 
@@ -14,7 +13,11 @@ module _ (source : Source) (track : Track) (is : IsShowable source track)
   where
     -- the links of its legs are the map's
     pub show-links : HasLinksBelow (length source.map.links) track
-    show-links = track-links (ride_of source.map source.links source.prices [] false) track is.legs
+    show-links = track-links (uncut_ride (terrain_shown source)) track is.legs
+
+    -- so are they links that have facts
+    pub show-counted : HasLinksBelow source.links.count track
+    show-counted = subst (λ n. HasLinksBelow n track) (sym is.counted) show-links
 
     -- so are those of its rows
     pub show-rows : (rows : List Row) → rows ≡ rows_of source.prices source.links.facts track → AreRowsBelow (length source.map.links) rows

@@ -1,5 +1,5 @@
 -- The reply as lines of fields that are parted by tabulators (this project's own rule).
-use Rattle.std.specs.Prelude.{ℕ, suc, pos, List, [], ◌∷◌, ◌++◌, codes, decimal}
+use Rattle.std.specs.Prelude.{ℕ, pos, List, ◌++◌, codes, decimal}
 use Rattle.std.specs.List.{flat_map}
 use Rattle.fixed_num.specs.Text.{mil6}
 use Rattle.overpass_graph.specs.Maps.{MapValue}
@@ -7,6 +7,7 @@ use Rattle.track_legs.specs.Rows.{rows_of}
 use Rattle.track_legs.specs.declared.row.Row.{Row}
 use Rattle.track_legs.specs.declared.track.Leg.{Leg}
 use Rattle.track_legs.specs.declared.track.Track.{Track}
+use Rattle.track_reply.specs.Earlier.{numbers_of, walks_of}
 use Rattle.track_reply.specs.Joined.{line_end}
 use Rattle.track_reply.specs.Rows.{header_text, row_text}
 use Rattle.track_reply.specs.Source.{Source}
@@ -44,15 +45,10 @@ earlier_line map number walk = codes "earlier\t" ++ (decimal number ++ (walk_fie
 unfoldable pub alternative_lines : MapValue → ℕ → List (List ℕ) → List ℕ
 alternative_lines map number walks = flat_map (earlier_line map number) walks
 
--- the lines of earlier alternatives, numbered from this number on
-abbrev pub lines_from : (map : MapValue) (number : ℕ) (earlier : List (List (List ℕ))) → List ℕ
-lines_from map number [] = []
-lines_from map number (walks ∷ earlier) = alternative_lines map number walks ++
-    lines_from map (suc number) earlier
-
--- the lines of earlier alternatives
+-- the lines of earlier alternatives, one after the other
 unfoldable pub earlier_lines : MapValue → List (List (List ℕ)) → List ℕ
-earlier_lines map earlier = lines_from map 0 earlier
+earlier_lines map earlier =
+    flat_map (λ number. alternative_lines map number (walks_of earlier number)) (numbers_of earlier)
 
 -- the bytes of the reply
 unfoldable pub csv_of : Source → Track → List ℕ

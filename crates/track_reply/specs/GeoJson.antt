@@ -10,6 +10,7 @@ use Rattle.track_legs.specs.Tracks.{node_at}
 use Rattle.track_legs.specs.declared.row.Row.{Row}
 use Rattle.track_legs.specs.declared.track.Leg.{Leg}
 use Rattle.track_legs.specs.declared.track.Track.{Track}
+use Rattle.track_reply.specs.Earlier.{numbers_of, walks_of}
 use Rattle.track_reply.specs.Escapes.{escaped}
 use Rattle.track_reply.specs.Joined.{comma}
 use Rattle.track_reply.specs.Rows.{header_text, row_text}
@@ -39,13 +40,14 @@ walk_array map walk = codes "[" ++ (join_by (step_array map) comma walk ++ codes
 unfoldable pub legs_text : MapValue → List Leg → List ℕ
 legs_text map legs = join_by (λ leg. walk_array map leg.links) comma legs
 
--- an earlier alternative as an array of its walks
+-- the walks of an earlier alternative as an array
 unfoldable pub alternative_array : MapValue → List (List ℕ) → List ℕ
 alternative_array map walks = codes "[" ++ (join_by (walk_array map) comma walks ++ codes "]")
 
--- the earlier alternatives
+-- the earlier alternatives, one after the other
 unfoldable pub earlier_text : MapValue → List (List (List ℕ)) → List ℕ
-earlier_text map earlier = join_by (alternative_array map) comma earlier
+earlier_text map earlier =
+    join_by (λ number. alternative_array map (walks_of earlier number)) comma (numbers_of earlier)
 
 -- ---- Positions
 

@@ -7,4 +7,5 @@ pub mod Steps
 pub mod Sums
 pub mod Showable
 pub mod Csv
+pub mod Earlier
 pub mod GeoJson

@@ -3,10 +3,12 @@
 ghost use Rattle.std.specs.Prelude.{◌≡◌, ◌<◌, ◌++◌, length, OnOk};
 ghost use Rattle.std.specs.List.{join_by};
 ghost use Rattle.track_legs.specs.Rows.{AreBelow};
+ghost use Rattle.track_reply.specs.Earlier.{walks_of};
 ghost use Rattle.track_reply.specs.GeoJson.{alternative_array, direction_end, earlier_text, legs_text, step_array, walk_array};
 ghost use Rattle.track_reply.specs.Joined.{comma, comma_before};
-ghost use Rattle.track_reply.specs.Showable.{AreAlternativesBelow, AreLegsBelow, AreWalksBelow};
+ghost use Rattle.track_reply.specs.Showable.{AreAlternativesBelow, AreLegsBelow};
 
+use crate::earlier::{alternatives, walk_at};
 use crate::steps::append_way_id;
 use item_list::{Items, append_number};
 use overpass_graph::{Link, Map};
@@ -37,34 +39,45 @@ pub(crate) fn append_earlier(
     ensures exact { OnOk result (out.new.items ≡ out.old.items ++
         earlier_text map.now earlier.now) }
 {
-    'alternatives: for place in 0..earlier.len() {
-        append_comma(out, place)?;
-        append_alternative(out, map, earlier[place].as_slice())?;
+    let count = alternatives(earlier);
+    'alternatives: for number in 0..count {
+        append_comma(out, number)?;
+        append_alternative(out, map, earlier, number)?;
     }
     Ok(())
 }
 
 /// Appends an earlier alternative.
 #[tactic(auto, unfolding(crate::specs::GeoJson::alternative_array))]
-fn append_alternative(out: &mut Vec<u8>, map: &Map, walks: &[Items<u32>]) -> Result<(), AllocError>
-    requires in_range { AreWalksBelow (length map.now.links) walks.now }
+fn append_alternative(
+    out: &mut Vec<u8>,
+    map: &Map,
+    earlier: &[Items<Items<u32>>],
+    number: usize,
+) -> Result<(), AllocError>
+    requires in_range { AreAlternativesBelow (length map.now.links) earlier.now }
     ensures exact { OnOk result (out.new.items ≡ out.old.items ++
-        alternative_array map.now walks.now) }
+        alternative_array map.now (walks_of earlier.now number)) }
 {
     out.extend_from_slice(b"[")?;
-    append_walks(out, map, walks)?;
+    append_walks(out, map, earlier, number)?;
     out.extend_from_slice(b"]")
 }
 
-/// Appends walks.
-fn append_walks(out: &mut Vec<u8>, map: &Map, walks: &[Items<u32>]) -> Result<(), AllocError>
-    requires in_range { AreWalksBelow (length map.now.links) walks.now }
+/// Appends the walks of an earlier alternative.
+fn append_walks(
+    out: &mut Vec<u8>,
+    map: &Map,
+    earlier: &[Items<Items<u32>>],
+    number: usize,
+) -> Result<(), AllocError>
+    requires in_range { AreAlternativesBelow (length map.now.links) earlier.now }
     ensures exact { OnOk result (out.new.items ≡
-        out.old.items ++ join_by (walk_array map.now) comma walks.now) }
+        out.old.items ++ join_by (walk_array map.now) comma (walks_of earlier.now number)) }
 {
-    'walks: for place in 0..walks.len() {
-        append_comma(out, place)?;
-        append_walk(out, map, walks[place].as_slice())?;
+    'legs: for leg in 0..earlier.len() {
+        append_comma(out, leg)?;
+        append_walk(out, map, walk_at(earlier, leg, number))?;
     }
     Ok(())
 }

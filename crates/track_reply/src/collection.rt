@@ -35,13 +35,15 @@ pub fn geojson<F: FactsOf>(
 ) -> Result<Vec<u8>, AllocError>
     requires lawful { let source =
         source_of shown.now.map.now shown.now.table.now shown.now.tiles.now
-        (F.links shown.now.facts.now) shown.now.rates.now shown.now.name.now shown.now.alternative in
+        (F.links shown.now.facts.now) shown.now.rates.now shown.now.name.now
+        shown.now.alternative in
         IsShowable source track.now }
     ensures exact { let source = source_of shown.now.map.now shown.now.table.now shown.now.tiles.now
-        (F.links shown.now.facts.now) shown.now.rates.now shown.now.name.now shown.now.alternative in
+        (F.links shown.now.facts.now) shown.now.rates.now shown.now.name.now
+        shown.now.alternative in
         IfOk result (λ bytes. bytes.items ≡ geojson_of source track.now) }
 {
-    let rows = rows(alloc, track, shown.map, shown.facts, shown.rates)?;
+    let rows = rows(alloc, track, shown.facts, shown.rates)?;
     let mut out = Vec::new(alloc);
     append_name(&mut out, shown.name, shown.alternative)?;
     append_sums(
@@ -133,7 +135,8 @@ fn append_messages<F: FactsOf>(
     requires in_range { AreRowsBelow (length shown.now.map.now.links) rows.now }
     requires counted { (F.links shown.now.facts.now).count ≡ length shown.now.map.now.links }
     ensures exact { let source = source_of shown.now.map.now shown.now.table.now shown.now.tiles.now
-        (F.links shown.now.facts.now) shown.now.rates.now shown.now.name.now shown.now.alternative in
+        (F.links shown.now.facts.now) shown.now.rates.now shown.now.name.now
+        shown.now.alternative in
         OnOk result (out.new.items ≡ out.old.items ++ messages_part source rows.now) }
 {
     out.extend_from_slice(b"\",\"messages\":[[\"")?;
@@ -152,7 +155,8 @@ fn append_rows<F: FactsOf>(
     requires in_range { AreRowsBelow (length shown.now.map.now.links) rows.now }
     requires counted { (F.links shown.now.facts.now).count ≡ length shown.now.map.now.links }
     ensures exact { let source = source_of shown.now.map.now shown.now.table.now shown.now.tiles.now
-        (F.links shown.now.facts.now) shown.now.rates.now shown.now.name.now shown.now.alternative in
+        (F.links shown.now.facts.now) shown.now.rates.now shown.now.name.now
+        shown.now.alternative in
         OnOk result (out.new.items ≡ out.old.items ++ flat_map (row_array source) rows.now) }
 {
     'rows: for place in 0..rows.len() {
@@ -171,7 +175,8 @@ fn append_array<F: FactsOf>(
     requires in_range { row.now.link < length shown.now.map.now.links }
     requires counted { row.now.link < (F.links shown.now.facts.now).count }
     ensures exact { let source = source_of shown.now.map.now shown.now.table.now shown.now.tiles.now
-        (F.links shown.now.facts.now) shown.now.rates.now shown.now.name.now shown.now.alternative in
+        (F.links shown.now.facts.now) shown.now.rates.now shown.now.name.now
+        shown.now.alternative in
         OnOk result (out.new.items ≡ out.old.items ++ row_array source row.now) }
 {
     out.extend_from_slice(b",[\"")?;

@@ -3,6 +3,7 @@
 
 mod arrays;
 mod collection;
+mod earlier;
 mod escapes;
 mod lines;
 mod numbers;

@@ -4,10 +4,12 @@ ghost use Rattle.std.specs.Prelude.{◌≡◌, ◌<◌, ◌^◌, ◌++◌, IfOk,
 ghost use Rattle.std.specs.List.{flat_map};
 ghost use Rattle.track_legs.specs.Rows.{AreBelow};
 ghost use Rattle.track_reply.specs.Csv.{alternative_lines, csv_of, earlier_line, earlier_lines, leg_line, leg_lines, row_line, row_lines, sum_lines};
-ghost use Rattle.track_reply.specs.Showable.{AreAlternativesBelow, AreLegsBelow, AreRowsBelow, AreWalksBelow, IsShowable};
+ghost use Rattle.track_reply.specs.Earlier.{walks_of};
+ghost use Rattle.track_reply.specs.Showable.{AreAlternativesBelow, AreLegsBelow, AreRowsBelow, IsShowable};
 ghost use Rattle.track_reply.specs.Source.{source_of};
 ghost use Rattle.track_legs.specs.Sums.{total_cost, total_rank};
 
+use crate::earlier::{alternatives, walk_at};
 use crate::numbers::append_sum;
 use crate::rows::{append_row, header, row_at};
 use crate::shown::Shown;
@@ -30,13 +32,15 @@ pub fn csv<F: FactsOf>(
 ) -> Result<Vec<u8>, AllocError>
     requires lawful { let source =
         source_of shown.now.map.now shown.now.table.now shown.now.tiles.now
-        (F.links shown.now.facts.now) shown.now.rates.now shown.now.name.now shown.now.alternative in
+        (F.links shown.now.facts.now) shown.now.rates.now shown.now.name.now
+        shown.now.alternative in
         IsShowable source track.now }
     ensures exact { let source = source_of shown.now.map.now shown.now.table.now shown.now.tiles.now
-        (F.links shown.now.facts.now) shown.now.rates.now shown.now.name.now shown.now.alternative in
+        (F.links shown.now.facts.now) shown.now.rates.now shown.now.name.now
+        shown.now.alternative in
         IfOk result (λ bytes. bytes.items ≡ csv_of source track.now) }
 {
-    let rows = rows(alloc, track, shown.map, shown.facts, shown.rates)?;
+    let rows = rows(alloc, track, shown.facts, shown.rates)?;
     let mut out = Vec::new(alloc);
     append_rows(alloc, &mut out, shown, rows.as_slice())?;
     append_sums(&mut out, track.legs.as_slice())?;
@@ -56,7 +60,8 @@ fn append_rows<F: FactsOf>(
     requires in_range { AreRowsBelow (length shown.now.map.now.links) rows.now }
     requires counted { (F.links shown.now.facts.now).count ≡ length shown.now.map.now.links }
     ensures exact { let source = source_of shown.now.map.now shown.now.table.now shown.now.tiles.now
-        (F.links shown.now.facts.now) shown.now.rates.now shown.now.name.now shown.now.alternative in
+        (F.links shown.now.facts.now) shown.now.rates.now shown.now.name.now
+        shown.now.alternative in
         OnOk result (out.new.items ≡ out.old.items ++ row_lines source rows.now) }
 {
     out.extend_from_slice(header(Style::Lines))?;
@@ -74,7 +79,8 @@ fn append_lines<F: FactsOf>(
     requires in_range { AreRowsBelow (length shown.now.map.now.links) rows.now }
     requires counted { (F.links shown.now.facts.now).count ≡ length shown.now.map.now.links }
     ensures exact { let source = source_of shown.now.map.now shown.now.table.now shown.now.tiles.now
-        (F.links shown.now.facts.now) shown.now.rates.now shown.now.name.now shown.now.alternative in
+        (F.links shown.now.facts.now) shown.now.rates.now shown.now.name.now
+        shown.now.alternative in
         OnOk result (out.new.items ≡ out.old.items ++ flat_map (row_line source) rows.now) }
 {
     'rows: for place in 0..rows.len() {
@@ -93,7 +99,8 @@ fn append_line<F: FactsOf>(
     requires in_range { row.now.link < length shown.now.map.now.links }
     requires counted { row.now.link < (F.links shown.now.facts.now).count }
     ensures exact { let source = source_of shown.now.map.now shown.now.table.now shown.now.tiles.now
-        (F.links shown.now.facts.now) shown.now.rates.now shown.now.name.now shown.now.alternative in
+        (F.links shown.now.facts.now) shown.now.rates.now shown.now.name.now
+        shown.now.alternative in
         OnOk result (out.new.items ≡ out.old.items ++ row_line source row.now) }
 {
     append_row(alloc, out, Style::Lines, shown, row)?;
@@ -148,8 +155,9 @@ fn append_earlier(
     ensures exact { OnOk result (out.new.items ≡ out.old.items ++
         earlier_lines map.now earlier.now) }
 {
-    'alternatives: for place in 0..earlier.len() {
-        append_alternative(out, map, place as u64, earlier[place].as_slice())?;
+    let count = alternatives(earlier);
+    'alternatives: for number in 0..count {
+        append_alternative(out, map, earlier, number)?;
     }
     Ok(())
 }
@@ -159,15 +167,15 @@ fn append_earlier(
 fn append_alternative(
     out: &mut Vec<u8>,
     map: &Map,
-    number: u64,
-    walks: &[Items<u32>],
+    earlier: &[Items<Items<u32>>],
+    number: usize,
 ) -> Result<(), AllocError>
-    requires in_range { AreWalksBelow (length map.now.links) walks.now }
+    requires in_range { AreAlternativesBelow (length map.now.links) earlier.now }
     ensures exact { OnOk result (out.new.items ≡
-        out.old.items ++ alternative_lines map.now number walks.now) }
+        out.old.items ++ alternative_lines map.now number (walks_of earlier.now number)) }
 {
-    'walks: for place in 0..walks.len() {
-        append_earlier_leg(out, map, number, walks[place].as_slice())?;
+    'legs: for leg in 0..earlier.len() {
+        append_earlier_leg(out, map, number as u64, walk_at(earlier, leg, number))?;
     }
     Ok(())
 }

@@ -50,7 +50,8 @@ pub(crate) fn append_row<F: FactsOf>(
     requires in_range { row.now.link < length shown.now.map.now.links }
     requires counted { row.now.link < (F.links shown.now.facts.now).count }
     ensures exact { let source = source_of shown.now.map.now shown.now.table.now shown.now.tiles.now
-        (F.links shown.now.facts.now) shown.now.rates.now shown.now.name.now shown.now.alternative in
+        (F.links shown.now.facts.now) shown.now.rates.now shown.now.name.now
+        shown.now.alternative in
         OnOk result (out.new.items ≡ out.old.items ++ row_text style source row.now) }
 {
     let link = row.link;
@@ -83,7 +84,8 @@ pub(crate) fn row_at(rows: &[Row], place: usize) -> Row
 #[tactic(auto, unfolding(crate::specs::Rows::place_fields))]
 fn append_place(out: &mut Vec<u8>, style: Style, tiles: &Tiles, at: Spot) -> Result<(), AllocError>
     ensures exact { OnOk result (out.new.items ≡
-        out.old.items ++ parted (separator_of style) (place_fields (height_of tiles.now) (place_of at))) }
+        out.old.items ++ parted (separator_of style)
+        (place_fields (height_of tiles.now) (place_of at))) }
 {
     append_signed(out, at.lon())?;
     append_separator(out, style)?;

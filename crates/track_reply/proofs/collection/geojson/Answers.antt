@@ -2,11 +2,11 @@ use Rattle.std.proofs.Common.{◌<◌, ◌^◌, ◌∙◌, List, subst, sym}
 use Rattle.track_legs.specs.declared.track.Leg.{Leg}
 use Rattle.track_reply.specs.Showable.{AreRowsBelow}
 use Rattle.track_legs.specs.Sums.{total_cost, total_rank}
-use Rattle.track_reply.proofs.ShowLemmas.{show-links, show-rows, show-some, show-start}
+use Rattle.track_reply.proofs.ShowLemmas.{show-counted, show-links, show-rows, show-some, show-start}
 use Rattle.track_reply.proofs.collection.geojson.Goals as goal
 
 pub rows-requires : goal.rows-requires
-rows-requires g c = record { counted = c.requires.lawful.counted; in_range = show-links _ _ c.requires.lawful }
+rows-requires g c = record { in_range = show-counted _ _ c.requires.lawful }
 
 pub total_length-requires : goal.total_length-requires
 total_length-requires g c = record {

@@ -2,11 +2,11 @@ use Rattle.std.proofs.Common.{◌<◌, ◌^◌, ◌∙◌, List, length, subst, 
 use Rattle.track_legs.specs.declared.track.Leg.{Leg}
 use Rattle.track_reply.specs.Showable.{AreAlternativesBelow, AreLegsBelow}
 use Rattle.track_legs.specs.Sums.{total_cost, total_rank}
-use Rattle.track_reply.proofs.ShowLemmas.{show-links, show-rows}
+use Rattle.track_reply.proofs.ShowLemmas.{show-counted, show-links, show-rows}
 use Rattle.track_reply.proofs.lines.csv.Goals as goal
 
 pub rows-requires : goal.rows-requires
-rows-requires g c = record { counted = c.requires.lawful.counted; in_range = show-links _ _ c.requires.lawful }
+rows-requires g c = record { in_range = show-counted _ _ c.requires.lawful }
 
 pub append_rows-requires : goal.append_rows-requires
 append_rows-requires g c = record {
