@@ -53,7 +53,8 @@ fn hill_text() -> &'static [u8]
     ensures exact { result.now ≡ hill_text }
     ensures fits { length result.now < 2 ^ 32 }
 {
-    b"---context:global assign uphillcost 100 assign uphillcutoff 1.5 ---context:way assign costfactor 1"
+    b"---context:global assign uphillcost 100 assign uphillcutoff 1.5 \
+      ---context:way assign costfactor 1"
 }
 
 /// The name of the tile.

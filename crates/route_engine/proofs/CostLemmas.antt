@@ -22,8 +22,8 @@ found-there (Some x) P value is holds = ap Some is.1
 
 -- it costs less than 2^120
 pub next-cheap :
-    (plan : Plan) (walked : Walked) (walk : List ℕ) (rank : ℕ) → IsNext plan walked walk rank → IsPrices plan.setting.prices →
-    AreLinks plan.setting.links → plan.setting.links.count ≡ length plan.setting.map.links →
+    (plan : Plan) (walked : Walked) (walk : List ℕ) (rank : ℕ) → IsNext plan walked walk rank → IsPrices plan.setting.terrain.prices →
+    AreLinks plan.setting.terrain.links → plan.setting.terrain.links.count ≡ length plan.setting.terrain.map.links →
     leg_cost (next_leg plan walked) walk < 2 ^ 120
 next-cheap plan walked walk rank next prices links count =
     let below = cost-below_rank (next_leg plan walked) prices (λ link within. links link (omega (arith, within, count)))

@@ -1,5 +1,6 @@
 -- The turns of a job, by the turns of its searches.
-use Rattle.std.proofs.Common.{◌≡◌, ℕ, ◌+◌, ◌<◌, ◌≤◌, Bool, true, false, Option, None, refl, subst}
+use Rattle.std.proofs.Common.{◌≡◌, ℕ, ◌+◌, ◌<◌, ◌≤◌, Bool, true, false, Option, None, Ok, Err, refl, subst}
+use Rattle.item_list.specs.declared.turn.Turn.TheVariants.{Done}
 use Rattle.leg_search.specs.declared.search.LegSearch.{LegSearch}
 use Rattle.route_ready.specs.declared.error.RouteError.{RouteError}
 use Rattle.track_legs.specs.declared.track.Track.{Track}
@@ -7,7 +8,6 @@ use Rattle.route_engine.specs.Jobs.{AnswersJob, track_at}
 use Rattle.route_engine.specs.Plans.{Plan}
 use Rattle.route_engine.specs.Progress.{Advances, GoesOnAt, IsStage, StepsTo, allowed, searches_left, settled_in}
 use Rattle.route_engine.specs.declared.advance.Advanced.{Advanced}
-use Rattle.route_engine.specs.declared.job.JobTurn.TheVariants as turns
 use Rattle.route_engine.specs.declared.stage.Stage.{Stage}
 use Rattle.route_engine.specs.declared.stage.Stage.TheVariants.{Searching, Found, Refused}
 use Rattle.route_engine.specs.declared.walked.Walked.{Walked}
@@ -55,11 +55,11 @@ module _ (plan : Plan) (walked : Walked) (search : Option LegSearch) (quota tota
 -- the answer where the track is found
 pub found-answers :
     (plan : Plan) (stage : Stage) (track : Track) → stage ≡ Found track → IsStage plan stage →
-    AnswersJob plan (track_at (Found track)) turns.Found
+    AnswersJob plan (track_at (Found track)) (Done (Ok tt))
 found-answers plan stage track same is = (track, refl, subst (IsStage plan) same is)
 
 -- the answer where there is none
 pub refused-answers :
     (plan : Plan) (stage : Stage) (e : RouteError) → stage ≡ Refused e → IsStage plan stage →
-    AnswersJob plan (track_at (Refused e)) (turns.Refused e)
+    AnswersJob plan (track_at (Refused e)) (Done (Err e))
 refused-answers plan stage e same is = (refl, subst (IsStage plan) same is)

@@ -11,6 +11,5 @@ pub mod ShowLemmas
 pub mod StageLemmas
 pub mod SumLemmas
 pub mod TrackLemmas
-pub mod TransposeLemmas
 pub mod WalkedLemmas
 pub mod WaypointLemmas

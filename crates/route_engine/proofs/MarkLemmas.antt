@@ -4,7 +4,7 @@ use Rattle.std.proofs.Math.Bool.{or_assoc, or-false, or-true}
 use Rattle.std.proofs.lemmas.Bool.{ne_eqb, cases_eq}
 use Rattle.std.proofs.lemmas.List.{get_or-set_same, get_or-set_other, get_or_read, take_more}
 use Rattle.bike_space.specs.Alternatives.{is_used, uses}
-use Rattle.bike_space.specs.Legs.{is_marked}
+use Rattle.bike_space.specs.Marks.{is_marked}
 use Rattle.bike_space.proofs.CallerLemmas.{used-pushed}
 use Rattle.overpass_graph.specs.Roads.{twin_of}
 use Rattle.overpass_graph.proofs.CallerLemmas.{twin-twin}

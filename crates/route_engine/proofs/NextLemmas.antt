@@ -1,15 +1,20 @@
 -- What a turn of the search for the next walk says of the walks of its leg.
 use Rattle.std.proofs.Common.{◌≡◌, ◌≢◌, ℕ, ◌+◌, ◌≤◌, List, [], refl, ap, arith, sym, ◌∙◌, subst}
 use Rattle.bike_space.specs.Alternatives.{is_used}
-use Rattle.bike_space.specs.Legs.{Leg, is_marked}
+use Rattle.cost_model.specs.Rides.{Leg}
+use Rattle.bike_space.specs.Marks.{is_marked}
 use Rattle.bike_space.specs.LegWalks.{HasNoWalk}
+use Rattle.bike_space.specs.declared.finding.Walk.{Walk}
 use Rattle.bike_space.proofs.CallerLemmas.{AgreeOn, alternative-marked, bounded-agrees, empty-least, walk-agrees}
-use Rattle.leg_search.specs.Quests.{AnswersLeg, GoesOnAs, IsFoundFor, IsSpentFor, SettlesLeg, quest_of, settled_of}
+use Rattle.item_list.specs.Turns.{Says}
+use Rattle.item_list.specs.declared.turn.Turn.{Turn}
+use Rattle.item_list.specs.declared.turn.Turn.TheVariants.{More, Done}
+use Rattle.leg_search.specs.Quests.{AnswersQuest, GoesOnAs, IsFoundFor, IsSpentFor, quest_of, settled_of}
 use Rattle.leg_search.specs.declared.search.LegSearch.{LegSearch}
-use Rattle.leg_search.specs.declared.turn.LegAnswer.{LegAnswer}
-use Rattle.leg_search.specs.declared.turn.LegAnswer.TheVariants.{More, Found, NoWay, Budget}
+use Rattle.space_search.specs.declared.outcome.Outcome.{Outcome}
+use Rattle.space_search.specs.declared.outcome.Outcome.TheVariants.{Found, NoWay, Budget}
 use Rattle.route_engine.specs.Plans.{Plan}
-use Rattle.route_engine.specs.Progress.{AnswersNext, IsHunt, IsNext, IsSpentNext, next_leg, next_quest}
+use Rattle.route_engine.specs.Progress.{AnswersNext, EndsNext, IsHunt, IsNext, IsSpentNext, next_leg, next_quest}
 use Rattle.route_engine.specs.declared.walked.Walked.{Walked}
 
 -- where the nodes of the next leg are one, the walk without links comes next
@@ -25,7 +30,7 @@ stays-next plan walked same = record {
 
 module _ (plan : Plan) (walked : Walked) (search : LegSearch) (hunt : IsHunt plan walked search) where
   -- the leg that is searched is the next one
-  leg-same : (quest_of plan.setting.map plan.setting.links plan.setting.prices search).leg ≡ next_leg plan walked
+  leg-same : (quest_of plan.setting.terrain search).leg ≡ next_leg plan walked
   leg-same = ap (λ q. q.leg) hunt.quest
 
   -- its nodes differ
@@ -33,14 +38,14 @@ module _ (plan : Plan) (walked : Walked) (search : LegSearch) (hunt : IsHunt pla
   nodes-differ = subst (λ (l : Leg). l.start ≢ l.target) leg-same hunt.on.differ
 
   -- marks and walks agree on the used segments
-  agree : AgreeOn (next_leg plan walked).roads (is_marked hunt.marks) (is_used walked.walks)
+  agree : AgreeOn (next_leg plan walked).ride.roads (is_marked hunt.marks) (is_used walked.walks)
   agree = hunt.agree
 
   -- the search goes on
   pub more-next :
       (next : LegSearch) →
-      GoesOnAs plan.setting.map plan.setting.links plan.setting.prices
-      (quest_of plan.setting.map plan.setting.links plan.setting.prices search) next →
+      GoesOnAs plan.setting.terrain
+      (quest_of plan.setting.terrain search) next →
       settled_of next ≤ plan.limit → IsHunt plan walked next
   more-next next goes within = record {
     on = goes.on;
@@ -52,25 +57,24 @@ module _ (plan : Plan) (walked : Walked) (search : LegSearch) (hunt : IsHunt pla
 
   -- a walk that is found comes next
   pub found-next :
-      (walk : List ℕ) (rank : ℕ) →
-      IsFoundFor (quest_of plan.setting.map plan.setting.links plan.setting.prices search) walk rank →
-      IsNext plan walked walk rank
-  found-next walk rank given =
-      let found : IsFoundFor (next_quest plan walked (is_marked hunt.marks)) walk rank =
-      subst (λ q. IsFoundFor q walk rank) hunt.quest given in
+      (walk : Walk) → IsFoundFor (quest_of plan.setting.terrain search) walk →
+      IsNext plan walked walk.links walk.rank
+  found-next walk given =
+      let found : IsFoundFor (next_quest plan walked (is_marked hunt.marks)) walk = subst (λ q. IsFoundFor q walk) hunt.quest given in
+      let least = found.found.least in
       record {
-        is = alternative-marked (next_leg plan walked) (is_marked hunt.marks) walked.walks walk agree found.least;
+        is = alternative-marked (next_leg plan walked) (is_marked hunt.marks) walked.walks walk.links agree least;
         ranks =
-            sym (walk-agrees (next_leg plan walked) (is_marked hunt.marks) (is_used walked.walks) walk agree found.least.is_walk)
-            ∙ found.ranks;
-        small = found.small;
+            sym (walk-agrees (next_leg plan walked) (is_marked hunt.marks) (is_used walked.walks) walk.links agree least.is_walk)
+            ∙ found.found.ranks;
+        small = found.found.small;
         stays = λ same. absurd (nodes-differ same);
       }
 
   -- a spent limit is one on the next walk
   pub spent-next :
       (walks : List (List ℕ)) →
-      IsSpentFor (quest_of plan.setting.map plan.setting.links plan.setting.prices search) walks →
+      IsSpentFor (quest_of plan.setting.terrain search) walks →
       IsSpentNext plan walked
   spent-next walks given =
       let spent : IsSpentFor (next_quest plan walked (is_marked hunt.marks)) walks =
@@ -85,14 +89,21 @@ module _ (plan : Plan) (walked : Walked) (search : LegSearch) (hunt : IsHunt pla
         };
       }
 
+  -- how the search ends is how that for the next walk does
+  pub ends-next :
+      (end : Outcome Walk) → AnswersQuest (quest_of plan.setting.terrain search) end →
+      EndsNext plan walked end
+  ends-next (Found walk) found = found-next walk found
+  ends-next NoWay none = subst HasNoWalk leg-same none
+  ends-next Budget is = spent-next is.0 is.1
+
   -- what a turn of the search answers is what comes next
   pub answers-next :
-      (quota settled : ℕ) (answer : LegAnswer) →
-      AnswersLeg plan.setting.map plan.setting.links plan.setting.prices
-      (quest_of plan.setting.map plan.setting.links plan.setting.prices search) answer →
-      SettlesLeg quota (settled_of search) settled answer → settled_of search + settled ≤ plan.limit →
-      AnswersNext plan walked answer
-  answers-next quota settled (More next) goes settles within = more-next next goes (omega (arith, settles.1, within))
-  answers-next quota settled (Found walk rank) found settles within = found-next walk rank found
-  answers-next quota settled NoWay none settles within = subst HasNoWalk leg-same none
-  answers-next quota settled Budget is settles within = spent-next is.0 is.1
+      (settled : ℕ) (turn : Turn LegSearch (Outcome Walk)) →
+      Says (GoesOnAs plan.setting.terrain
+      (quest_of plan.setting.terrain search))
+      (AnswersQuest (quest_of plan.setting.terrain search)) turn →
+      Says (λ next. settled_of next ≡ settled_of search + settled) (λ _. Unit {0}) turn → settled_of search + settled ≤ plan.limit →
+      AnswersNext plan walked turn
+  answers-next settled (More next) goes count within = more-next next goes (omega (arith, count, within))
+  answers-next settled (Done end) ends count within = ends-next end ends

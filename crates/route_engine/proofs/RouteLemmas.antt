@@ -11,7 +11,8 @@ use Rattle.route_engine.specs.Waypoints.{RefusesWaypoint}
 use Rattle.route_engine.specs.Answers.{IsAnswer, Replies, found, plan_for, refused, trackless, unmapped}
 use Rattle.route_engine.specs.Jobs.{IsPlanFor, IsTrackOver, setting_of}
 use Rattle.route_engine.specs.Plans.{IsRefusal, IsTrackFor, Plan}
-use Rattle.route_engine.specs.Settings.{IsSettingOf, Question, Setting, open_map_of}
+use Rattle.cost_model.specs.Rides.{Setting}
+use Rattle.route_engine.specs.Settings.{IsSettingOf, Question, open_map_of}
 
 -- a profile that is refused answers the request
 pub profile-answer : (question : Question) (e : RouteError) → (e ≡ NoMemory) ⊎ (ready_of question.binding ≡ Err e) →

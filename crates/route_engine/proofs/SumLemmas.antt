@@ -13,7 +13,7 @@ use Rattle.cost_model.specs.Prices.{Prices, IsPrices}
 use Rattle.cost_model.specs.Walks.{buffers_along, buffers_before, cost_at, empty_pair, link_at, parts_at, rank_at, sum_before}
 use Rattle.cost_model.specs.declared.facts.LinkFacts.{LinkFacts}
 use Rattle.cost_model.proofs.CallerLemmas.{empty-held, held-after, paid-whole, ranked-paid}
-use Rattle.bike_space.specs.Legs.{Leg as SearchedLeg}
+use Rattle.cost_model.specs.Rides.{Leg as SearchedLeg}
 use Rattle.bike_space.specs.LegWalks.{IsLegWalk, leg_cost, leg_rank}
 use Rattle.track_legs.specs.Tracks.{no_leg}
 use Rattle.track_legs.specs.declared.track.Leg.{Leg}
@@ -78,11 +78,11 @@ sum-below f g (suc n) each =
 
 -- a walk of a leg costs at most what it ranks, whatever segments were used
 pub cost-below_rank :
-    (leg : SearchedLeg) → IsPrices leg.prices → ((link : ℕ) → link < leg.roads.links → AreFacts (leg.facts link)) →
+    (leg : SearchedLeg) → IsPrices leg.ride.prices → ((link : ℕ) → link < leg.ride.roads.links → AreFacts (leg.ride.facts link)) →
     (used : ℕ → Bool) (walk : List ℕ) → IsLegWalk leg walk → leg_cost leg walk ≤ leg_rank leg used walk
 cost-below_rank leg prices facts used walk is =
-    sum-below (cost_at leg.prices leg.facts walk) (rank_at leg.prices leg.facts used walk) (length walk)
-    (λ k below. position-below leg.prices prices leg.facts used walk k
+    sum-below (cost_at leg.ride.prices leg.ride.facts walk) (rank_at leg.ride.prices leg.ride.facts used walk) (length walk)
+    (λ k below. position-below leg.ride.prices prices leg.ride.facts used walk k
     (λ n within. facts (link_at walk n) (is.open_links n within).in_range) below)
 
 -- ---- Sums over legs

@@ -4,7 +4,7 @@ use Rattle.std.proofs.lemmas.Bool.{cases_lt}
 use Rattle.std.proofs.lemmas.List.{get_or_append_left}
 use Rattle.std.proofs.Math.Seq.{get_or-append_seam}
 use Rattle.bike_space.specs.Alternatives.{AreAlternatives}
-use Rattle.bike_space.specs.Legs.{Leg}
+use Rattle.cost_model.specs.Rides.{Leg}
 use Rattle.bike_space.specs.LegWalks.{leg_cost}
 use Rattle.bike_space.proofs.CallerLemmas.{alternatives-none, alternatives-pushed}
 use Rattle.track_legs.specs.Tracks.{no_leg}
@@ -33,7 +33,7 @@ have-walks plan walked is k below =
     ((get_or walked.legs k no_leg).links, leg.found.is.is_walk)
 
 -- alternatives are walks on the map
-pub walks-on_map : (leg : Leg) (walks : List (List ℕ)) → AreAlternatives leg walks → AreOnMap leg.roads.links walks
+pub walks-on_map : (leg : Leg) (walks : List (List ℕ)) → AreAlternatives leg walks → AreOnMap leg.ride.roads.links walks
 walks-on_map leg walks are k below position inside = ((are k below).is_walk.open_links position inside).in_range
 
 module _ (plan : Plan) (before after : Walked) (so_far : IsSoFar plan before) (walk : List ℕ) (rank : ℕ)

@@ -6,7 +6,8 @@ use Rattle.route_ready.specs.declared.error.RouteError.TheVariants.{NoMemory, No
 use Rattle.track_legs.specs.declared.track.Track.{Track}
 use Rattle.route_engine.specs.Waypoints.{AreNodes, IsUnmapped}
 use Rattle.route_engine.specs.Plans.{IsRefusal, IsTrackFor, Plan}
-use Rattle.route_engine.specs.Settings.{IsSettingOf, Question, Setting, open_map_of}
+use Rattle.cost_model.specs.Rides.{Setting}
+use Rattle.route_engine.specs.Settings.{IsSettingOf, Question, open_map_of}
 
 -- the plan of a request over its setting, between these nodes
 abbrev pub plan_for : Question → Setting → List ℕ → Plan

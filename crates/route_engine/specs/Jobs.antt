@@ -1,9 +1,13 @@
 -- What a job stands for, and what its turns answer (this project's own rule).
-use Rattle.std.specs.Prelude.{◌≡◌, ◌⊎◌, ℕ, ◌+◌, ◌<◌, ◌≤◌, ◌^◌, ◌*◌, Bool, List, length, get_or, Option, Some, None}
+use Rattle.std.specs.Prelude.{◌≡◌, ◌⊎◌, ℕ, ◌+◌, ◌<◌, ◌≤◌, ◌^◌, ◌*◌, Bool, List, length, get_or, Option, Some, None, Result, Ok, Err, MatchResult}
 use Rattle.cost_model.specs.Modes.{modes_of}
+use Rattle.cost_model.specs.Rides.{Terrain, Setting}
 use Rattle.geo_int.specs.Place.{Place}
+use Rattle.item_list.specs.Turns.{Says, Settles}
+use Rattle.item_list.specs.declared.turn.Turn.{Turn}
 use Rattle.route_http.specs.Asked.{Asked}
 use Rattle.route_ready.specs.Worlds.{WorldValue}
+use Rattle.route_ready.specs.declared.error.RouteError.{RouteError}
 use Rattle.route_ready.specs.declared.error.RouteError.TheVariants.{NoMemory}
 use Rattle.route_ready.specs.declared.ready.Ready.{Ready}
 use Rattle.track_legs.specs.declared.track.Track.{Track}
@@ -11,25 +15,21 @@ use Rattle.way_class.specs.Links.{links_of}
 use Rattle.route_engine.specs.Waypoints.{AreNodes}
 use Rattle.route_engine.specs.Plans.{IsRefusal, IsTrackFor, Plan}
 use Rattle.route_engine.specs.Progress.{IsStage, allowed, walk_count}
-use Rattle.route_engine.specs.Settings.{Setting, cut_links, open_map_of}
+use Rattle.route_engine.specs.Settings.{cut_links, open_map_of}
 use Rattle.route_engine.specs.declared.job.Job.{Job}
-use Rattle.route_engine.specs.declared.job.JobTurn.{JobTurn}
-use Rattle.route_engine.specs.declared.job.JobTurn.TheVariants.{More, Found, Refused}
 use Rattle.route_engine.specs.declared.plan.JobPlan.{JobPlan}
 use Rattle.route_engine.specs.declared.stage.Stage.{Stage}
 use Rattle.route_engine.specs.declared.stage.Stage.TheVariants as stages
 
 -- ---- Plans
 
+-- the terrain of a profile that is ready for a world
+abbrev pub terrain_of : WorldValue → Ready → Terrain
+terrain_of world ready = record { map = world.map; links = links_of ready.bound; prices = ready.rates }
+
 -- what legs go over on a world, by a profile that is ready and the links that are cut
 abbrev pub setting_by : WorldValue → Ready → List Bool → Setting
-setting_by world ready cut = record {
-  map = world.map;
-  links = links_of ready.bound;
-  prices = ready.rates;
-  cut = cut;
-  turns = ready.turns;
-}
+setting_by world ready cut = record { terrain = terrain_of world ready; cut = cut; turns = ready.turns }
 
 -- what legs go over on a world, by a profile that is ready and the circles of a request
 abbrev pub setting_of : WorldValue → Ready → List (Place × ℕ) → Setting
@@ -108,28 +108,31 @@ track_at (stages.Refused e) = None
 abbrev pub track_of : Job → Option Track
 track_of job = track_at job.stage
 
--- the last answer of a stage, where it is one after which nothing is left to do
-abbrev pub last_answer : Stage → Option JobTurn
+-- the end of a stage, where it is one after which nothing is left to do
+abbrev pub last_answer : Stage → Option (Result (Unit {0}) RouteError)
 last_answer (stages.Searching walked search) = None
-last_answer (stages.Found track) = Some Found
-last_answer (stages.Refused e) = Some (Refused e)
+last_answer (stages.Found track) = Some (Ok tt)
+last_answer (stages.Refused e) = Some (Err e)
 
--- the last answer of a job that is at its end
-abbrev pub ended_with : Job → Option JobTurn
+-- the end of a job that is at its end
+abbrev pub ended_with : Job → Option (Result (Unit {0}) RouteError)
 ended_with job = last_answer job.stage
 
 -- ---- Turns
 
--- it goes on; or the track is found that the plan asks for; or there is none for this reason, or memory ran
+-- how a job ends: the track is found that the plan asks for; or there is none for this reason, or memory ran
 -- out
-abbrev pub AnswersJob : Plan → Option Track → JobTurn → Type 0
-AnswersJob plan track More = track ≡ None
-AnswersJob plan track Found = (found : Track) × (track ≡ Some found) × IsTrackFor plan found
-AnswersJob plan track (Refused e) = (track ≡ None) × ((e ≡ NoMemory) ⊎ IsRefusal plan e)
+abbrev pub EndsJob : Plan → Option Track → Result (Unit {0}) RouteError → Type 0
+EndsJob plan track end =
+    MatchResult end (λ _. (found : Track) × (track ≡ Some found) × IsTrackFor plan found)
+    (λ e. (track ≡ None) × ((e ≡ NoMemory) ⊎ IsRefusal plan e))
+
+-- a job goes on, and there is no track yet; or it ends
+abbrev pub AnswersJob : Plan → Option Track → Turn (Unit {0}) (Result (Unit {0}) RouteError) → Type 0
+AnswersJob plan track = Says (λ _. track ≡ None) (EndsJob plan track)
 
 -- the labels that are settled after a turn, by those before it: the whole quota more where the job goes on,
 -- and else fewer
-abbrev pub CountsJob : ℕ → ℕ → ℕ → JobTurn → Type 0
-CountsJob quota before after More = after ≡ before + quota
-CountsJob quota before after Found = (before ≤ after) × (after < before + quota)
-CountsJob quota before after (Refused e) = (before ≤ after) × (after < before + quota)
+pub record CountsJob {N E : Type 0} (quota before after : ℕ) (turn : Turn N E) : Type 0 where
+  pub grows : before ≤ after
+  pub settles : Settles (before + quota) after turn

@@ -9,5 +9,4 @@ pub mod Replies
 pub mod Settings
 pub mod Sums
 pub mod Told
-pub mod Transposed
 pub mod Waypoints

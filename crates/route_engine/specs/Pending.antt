@@ -1,19 +1,18 @@
 -- What a request that is answered in turns stands for, and what its turns tell (this project's own rule).
-use Rattle.std.specs.Prelude.{◌≡◌, ◌⊎◌, ℕ, ◌+◌, List, Err, Some, length}
+use Rattle.std.specs.Prelude.{◌≡◌, ◌⊎◌, ℕ, ◌+◌, List, Result, Err, MatchResult, Vec, length}
+use Rattle.item_list.specs.Turns.{Says}
+use Rattle.item_list.specs.declared.turn.Turn.{Turn}
 use Rattle.profile_text.specs.Tree.{Sections}
+use Rattle.std.specs.declared.alloc.Global.{Global}
 use Rattle.route_engine.specs.Replies.{IsReady, IsReply, question_of}
 use Rattle.route_engine.specs.Told.{TellsOf}
 use Rattle.route_engine.specs.declared.pending.Pending.{Pending}
-use Rattle.route_engine.specs.declared.pending.PendingTurn.{PendingTurn}
-use Rattle.route_engine.specs.declared.pending.PendingTurn.TheVariants.{More, Reply, Refused}
 use Rattle.route_engine.specs.Answers.{IsAnswer}
-use Rattle.route_engine.specs.Jobs.{IsJobOn, IsPlanFor, plan_in, setting_of, settled_by, track_of}
-use Rattle.route_engine.specs.Plans.{IsTrackFor}
+use Rattle.route_engine.specs.Jobs.{IsJobOn, IsPlanFor, plan_in, setting_of, settled_by}
 use Rattle.route_http.specs.Asked.{Asked}
 use Rattle.route_ready.specs.Worlds.{WorldValue}
 use Rattle.route_ready.specs.declared.error.RouteError.{RouteError}
 use Rattle.route_ready.specs.declared.error.RouteError.TheVariants.{NoMemory}
-use Rattle.track_legs.specs.declared.track.Track.{Track}
 use Rattle.way_class.specs.Links.{links_of}
 
 -- its job has the plan of a request over a world, by the facts and prices that it keeps
@@ -37,13 +36,6 @@ pub record IsFor (world : WorldValue) (sections : Sections) (asked : Asked) (p :
 abbrev pub settled_of : Pending → ℕ
 settled_of p = settled_by p.job
 
--- its track is found
-pub record IsFound (world : WorldValue) (p : Pending) : Type 0 where
-  pub pending : IsPending world p
-  pub track : Track
-  pub there : track_of p.job ≡ Some track
-  pub is : IsTrackFor (plan_in world p.job) track
-
 -- ---- Turns
 
 -- what a turn of a request comes to: it goes on and stays what it is
@@ -63,14 +55,14 @@ RefusesTo world p e =
     (sections : Sections) (asked : Asked) → IsFor world sections asked p →
     (e ≡ NoMemory) ⊎ IsAnswer (question_of world sections asked) (Err e)
 
+-- what the end of a request tells of it
+abbrev pub TellsEnd : WorldValue → Pending → Result (Vec ℕ Global) RouteError → Type 0
+TellsEnd world p end = MatchResult end (λ bytes. RepliesTo world p bytes.items) (RefusesTo world p)
+
 -- what a turn tells of the request that it was given to
-abbrev pub TellsTurn : WorldValue → Pending → PendingTurn → Type 0
-TellsTurn world p (More next) = IsPending world next × StaysFor world p next
-TellsTurn world p (Reply bytes) = RepliesTo world p bytes.items
-TellsTurn world p (Refused e) = RefusesTo world p e
+abbrev pub TellsTurn : WorldValue → Pending → Turn Pending (Result (Vec ℕ Global) RouteError) → Type 0
+TellsTurn world p = Says (λ next. IsPending world next × StaysFor world p next) (TellsEnd world p)
 
 -- the whole quota is settled where it goes on
-abbrev pub CountsTurn : ℕ → ℕ → PendingTurn → Type 0
-CountsTurn quota before (More next) = settled_of next ≡ before + quota
-CountsTurn quota before (Reply bytes) = Unit {0}
-CountsTurn quota before (Refused e) = Unit {0}
+abbrev pub CountsTurn : {E : Type 0} → ℕ → ℕ → Turn Pending E → Type 0
+CountsTurn quota before = Says (λ next. settled_of next ≡ before + quota) (λ _. Unit {0})

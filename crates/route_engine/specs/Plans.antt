@@ -1,7 +1,7 @@
 -- What a job is to find, leg by leg, and what it may answer (this project's own rule).
 use Rattle.std.specs.Prelude.{◌≡◌, ◌≢◌, ℕ, suc, ◌-◌, ◌<◌, ◌≤◌, ◌^◌, Bool, List, [], length, get_or}
 use Rattle.bike_space.specs.Alternatives.{AreAlternatives, IsAlternative, is_used}
-use Rattle.bike_space.specs.Legs.{Leg}
+use Rattle.cost_model.specs.Rides.{Leg, Setting, leg_between}
 use Rattle.bike_space.specs.LegWalks.{HasNoWalk, IsLegWalk, leg_cost, leg_rank}
 use Rattle.leg_search.specs.Quests.{IsSpentFor}
 use Rattle.route_ready.specs.declared.error.RouteError.{RouteError}
@@ -9,9 +9,7 @@ use Rattle.route_ready.specs.declared.error.RouteError.TheVariants.{Budget, NoTr
 use Rattle.track_legs.specs.Tracks.{leg_at}
 use Rattle.track_legs.specs.declared.track.Leg.{Leg as TrackLeg}
 use Rattle.track_legs.specs.declared.track.Track.{Track}
-use Rattle.route_engine.specs.Settings.{Setting, leg_between}
 use Rattle.track_legs.specs.Sums.{total_cost, total_rank}
-use Rattle.route_engine.specs.Transposed.{walks_of}
 
 -- what a job is to find: the legs between these nodes over a setting, each in the alternative of this number,
 -- with so many labels a search at most, and by junction runs or not
@@ -79,9 +77,10 @@ pub record IsFound (leg : Leg) (earlier : List (List ℕ)) (found : TrackLeg) : 
 pub record IsTrackFor (plan : Plan) (track : Track) : Type 0 where
   pub nodes : track.nodes ≡ plan.nodes
   pub legs : suc (length track.legs) ≡ length plan.nodes
-  pub earlier : length track.earlier ≡ plan.alternative
-  pub walks : (k : ℕ) → k < plan.alternative → length (get_or track.earlier k []) ≡ length track.legs
+  pub earlier : length track.earlier ≡ length track.legs
+  pub walks : (number : ℕ) → number < length track.legs →
+      length (get_or track.earlier number []) ≡ plan.alternative
   pub each : (number : ℕ) → number < length track.legs →
-      IsFound (nth_leg plan number) (walks_of track.earlier number) (leg_at track number)
+      IsFound (nth_leg plan number) (get_or track.earlier number []) (leg_at track number)
   pub costs : total_cost track.legs < 2 ^ 127
   pub ranks : total_rank track.legs < 2 ^ 127

@@ -1,13 +1,17 @@
 -- How far a job is: the walks that it has found, and the search for the next one (this project's own rule).
 use Rattle.std.specs.Prelude.{◌≡◌, ◌≢◌, ℕ, suc, ◌+◌, ◌-◌, ◌*◌, ◌<◌, ◌≤◌, ◌^◌, ◌⊎◌, Bool, true, false, List, [], ◌∷◌, ◌++◌, length, get_or, Option, Some, None}
 use Rattle.bike_space.specs.Alternatives.{AreAlternatives, IsAlternative, is_used}
-use Rattle.bike_space.specs.Legs.{Leg, is_marked}
+use Rattle.cost_model.specs.Rides.{Leg}
+use Rattle.bike_space.specs.Marks.{is_marked}
 use Rattle.bike_space.specs.LegWalks.{HasNoWalk, leg_rank}
+use Rattle.bike_space.specs.declared.finding.Walk.{Walk}
+use Rattle.item_list.specs.Turns.{Says}
+use Rattle.item_list.specs.declared.turn.Turn.{Turn}
 use Rattle.leg_search.specs.Quests.{IsSearchOn, IsSpentFor, Quest, quest_of, settled_of}
 use Rattle.leg_search.specs.declared.search.LegSearch.{LegSearch}
-use Rattle.leg_search.specs.declared.turn.LegAnswer.{LegAnswer}
-use Rattle.leg_search.specs.declared.turn.LegAnswer.TheVariants as answer
 use Rattle.route_ready.specs.declared.error.RouteError.TheVariants.{NoMemory}
+use Rattle.space_search.specs.Ends.{Ends}
+use Rattle.space_search.specs.declared.outcome.Outcome.{Outcome}
 use Rattle.track_legs.specs.Tracks.{no_leg}
 use Rattle.track_legs.specs.declared.track.Leg.{Leg as TrackLeg}
 use Rattle.route_engine.specs.Plans.{IsFound, IsRefusal, IsTrackFor, Plan, leg_count, nth_leg}
@@ -81,12 +85,11 @@ next_quest plan walked used =
 
 -- it is a search for the next walk, over marks of the segments that the walks before it used
 pub record IsHunt (plan : Plan) (walked : Walked) (search : LegSearch) : Type 0 where
-  pub on : IsSearchOn plan.setting.map plan.setting.links plan.setting.prices search
+  pub on : IsSearchOn plan.setting.terrain search
   pub marks : List Bool
-  pub agree : (link : ℕ) → link < length plan.setting.map.links →
+  pub agree : (link : ℕ) → link < length plan.setting.terrain.map.links →
       is_marked marks link ≡ is_used walked.walks link
-  pub quest : quest_of plan.setting.map plan.setting.links plan.setting.prices search
-      ≡ next_quest plan walked (is_marked marks)
+  pub quest : quest_of plan.setting.terrain search ≡ next_quest plan walked (is_marked marks)
   pub within : settled_of search ≤ plan.limit
 
 -- there is a search for the next walk, or the nodes of its leg are one
@@ -105,12 +108,15 @@ pub record IsSpentNext (plan : Plan) (walked : Walked) : Type 0 where
   pub walks : List (List ℕ)
   pub evidence : IsSpentFor (next_quest plan walked (is_used walked.walks)) walks
 
+-- how the search for the next walk ends
+abbrev pub EndsNext : Plan → Walked → Outcome Walk → Type 0
+EndsNext plan walked =
+    Ends (λ walk. IsNext plan walked walk.links walk.rank) (HasNoWalk (next_leg plan walked))
+    (IsSpentNext plan walked)
+
 -- what a turn of the search for the next walk answers
-abbrev pub AnswersNext : Plan → Walked → LegAnswer → Type 0
-AnswersNext plan walked (answer.More next) = IsHunt plan walked next
-AnswersNext plan walked (answer.Found walk rank) = IsNext plan walked walk rank
-AnswersNext plan walked answer.NoWay = HasNoWalk (next_leg plan walked)
-AnswersNext plan walked answer.Budget = IsSpentNext plan walked
+abbrev pub AnswersNext : Plan → Walked → Turn LegSearch (Outcome Walk) → Type 0
+AnswersNext plan walked = Says (IsHunt plan walked) (EndsNext plan walked)
 
 -- ---- Stages
 

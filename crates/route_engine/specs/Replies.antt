@@ -4,7 +4,8 @@ use Rattle.std.specs.declared.alloc.Global.{Global}
 use Rattle.item_list.specs.Answer.{answer_map}
 use Rattle.profile_text.specs.Tree.{Sections}
 use Rattle.route_engine.specs.Answers.{IsAnswer}
-use Rattle.route_engine.specs.Settings.{IsSettingOf, Question, Setting}
+use Rattle.cost_model.specs.Rides.{Setting}
+use Rattle.route_engine.specs.Settings.{IsSettingOf, Question}
 use Rattle.route_http.specs.Asked.{Asked}
 use Rattle.route_http.specs.declared.form.Form.{Form}
 use Rattle.route_http.specs.declared.form.Form.TheVariants.{GeoJson, Csv}
@@ -32,8 +33,8 @@ reply_of Csv source track = csv_of source track
 -- its legs go by
 abbrev pub source_for : Question → Setting → Source
 source_for question setting =
-    source_of question.binding.map question.binding.subject.table question.binding.tiles setting.links
-    setting.prices
+    source_of question.binding.map question.binding.subject.table question.binding.tiles setting.terrain.links
+    setting.terrain.prices
     question.asked.profile question.asked.alternative
 
 -- these bytes tell a track that answers the request, in the form that is asked for

@@ -1,9 +1,7 @@
 -- What the legs of a request go over (this project's own rule).
 use Rattle.std.specs.Prelude.{◌≡◌, ℕ, ◌<◌, Bool, false, ◌||◌, List, [], ◌∷◌, map, length, Ok}
-use Rattle.bike_space.specs.Legs.{Leg, leg_of}
-use Rattle.cost_model.specs.Facts.{Links}
 use Rattle.cost_model.specs.OpenLinks.{open_by}
-use Rattle.cost_model.specs.Prices.{Prices}
+use Rattle.cost_model.specs.Rides.{Setting}
 use Rattle.geo_int.specs.Circle.{circle_touches}
 use Rattle.geo_int.specs.Place.{Place}
 use Rattle.overpass_graph.specs.Maps.{MapValue, node_at}
@@ -17,15 +15,6 @@ use Rattle.way_class.specs.Facts.{Binding, facts_of}
 pub record Question : Type 0 where
   pub binding : Binding
   pub asked : Asked
-
--- what legs go over: a map, the facts of its links, the prices of climbing, whether each link is cut by a
--- circle, and whether turn restrictions count
-pub record Setting : Type 0 where
-  pub map : MapValue
-  pub links : Links
-  pub prices : Prices
-  pub cut : List Bool
-  pub turns : Bool
 
 -- ---- Which links circles cut
 
@@ -49,19 +38,15 @@ cut_links roads circles = map (is_link_cut roads circles) roads.links
 -- this is what the legs of a request go over: the profile is accepted with these prices, each link of the map
 -- has the facts that are defined (beyond the map they say nothing), and the request's circles cut these links
 pub record IsSettingOf (question : Question) (setting : Setting) : Type 0 where
-  pub accepted : ready_of question.binding ≡ Ok (record { prices = setting.prices; turns = setting.turns })
-  pub map : setting.map ≡ question.binding.map
-  pub count : setting.links.count ≡ length question.binding.map.links
+  pub accepted : ready_of question.binding ≡
+      Ok (record { prices = setting.terrain.prices; turns = setting.turns })
+  pub map : setting.terrain.map ≡ question.binding.map
+  pub count : setting.terrain.links.count ≡ length question.binding.map.links
   pub facts : (link : ℕ) → link < length question.binding.map.links →
-      setting.links.facts link ≡ facts_of question.binding link
+      setting.terrain.links.facts link ≡ facts_of question.binding link
   pub cut : setting.cut ≡ cut_links question.binding.map question.asked.circles
-
--- the leg between two nodes
-abbrev pub leg_between : Setting → ℕ → ℕ → Leg
-leg_between setting a b =
-    leg_of setting.map setting.links setting.prices
-    (record { cut = setting.cut; turns = setting.turns; start = a; target = b })
 
 -- what waypoints are moved on: the map, and which of its links are open
 abbrev pub open_map_of : Setting → OpenMap
-open_map_of setting = record { map = setting.map; is_open = open_by setting.links.facts setting.cut }
+open_map_of setting =
+    record { map = setting.terrain.map; is_open = open_by setting.terrain.links.facts setting.cut }

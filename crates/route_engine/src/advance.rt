@@ -2,8 +2,7 @@
 
 ghost use Rattle.std.specs.Prelude.{◌≡◌, ◌<◌, ◌≤◌, ◌^◌, IfOk, length, false};
 ghost use Rattle.route_engine.specs.Jobs.{IsPlanOn, plan_of};
-ghost use Rattle.route_engine.specs.Progress.{Advances, IsBegun, IsSoFar, IsStage, IsWalked, StartsAt, settled_in};
-ghost use Rattle.route_engine.specs.declared.stage.Stage.TheVariants as stages;
+ghost use Rattle.route_engine.specs.Progress.{Advances, ComesNextAt, EndsNext, IsBegun, IsSoFar, IsStage, IsWalked, StartsAt, settled_in};
 ghost use Rattle.route_ready.specs.declared.error.RouteError.TheVariants as route;
 ghost use Rattle.route_ready.specs.World.{world_of};
 
@@ -11,9 +10,11 @@ use crate::begin::{begin, turn_of};
 use crate::plan::JobPlan;
 use crate::stage::Stage;
 use crate::walked::Walked;
-use item_list::Items;
-use leg_search::{LegAnswer, LegSearch, LegTurn};
+use bike_space::Walk;
+use item_list::Turn;
+use leg_search::{LegSearch, LegTurn};
 use route_ready::{RouteError, World};
+use space_search::Outcome;
 use std::alloc::{AllocError, Global};
 
 /// What a turn of a search came to for its job.
@@ -69,9 +70,9 @@ fn try_advance(
     ensures advances { IfOk result
         (Advances (plan_of (world_of world.now) plan.now) walked (settled_in search) quota) }
 {
-    let LegTurn { settled, answer } = turn_of(alloc, world, plan, search, quota)?;
-    match answer {
-        LegAnswer::More(next) => Ok(Advanced {
+    let LegTurn { settled, turn } = turn_of(alloc, world, plan, search, quota)?;
+    match turn {
+        Turn::More(next) => Ok(Advanced {
             settled,
             stage: Stage::Searching {
                 walked,
@@ -79,30 +80,39 @@ fn try_advance(
             },
             more: true,
         }),
-        LegAnswer::Found { walk, rank } => {
-            let walked = walked.with(alloc, world, plan, walk, rank)?;
-            let stage = next_stage(alloc, world, plan, walked)?;
+        Turn::Done(end) => {
+            let stage = stage_after(alloc, world, plan, walked, end)?;
             Ok(Advanced {
                 settled,
                 stage,
                 more: false,
             })
         }
-        LegAnswer::NoWay => Ok(refused(settled, trackless(&walked))),
-        LegAnswer::Budget => Ok(refused(settled, spent(&walked))),
     }
 }
 
-/// There is no track.
-fn refused(settled: u64, error: RouteError) -> Advanced
-    ensures settled { result.settled ≡ settled }
-    ensures stage { result.stage ≡ stages.Refused error }
-    ensures ended { result.more ≡ false }
+/// The stage after the end of a search.
+fn stage_after(
+    alloc: Global,
+    world: &World,
+    plan: &JobPlan,
+    walked: Walked,
+    end: Outcome<Walk>,
+) -> Result<Stage, AllocError>
+    requires on { IsPlanOn (world_of world.now) plan.now }
+    requires so_far { IsSoFar (plan_of (world_of world.now) plan.now) walked }
+    requires ends { EndsNext (plan_of (world_of world.now) plan.now) walked end }
+    ensures stage { IfOk result (IsStage (plan_of (world_of world.now) plan.now)) }
+    ensures next { IfOk result (ComesNextAt (plan_of (world_of world.now) plan.now) walked) }
 {
-    Advanced {
-        settled,
-        stage: Stage::Refused(error),
-        more: false,
+    match end {
+        Outcome::Found(walk) => {
+            let Walk { links, rank } = walk;
+            let walked = walked.with(alloc, world, plan, links, rank)?;
+            next_stage(alloc, world, plan, walked)
+        }
+        Outcome::NoWay => Ok(Stage::Refused(trackless(&walked))),
+        Outcome::Budget => Ok(Stage::Refused(spent(&walked))),
     }
 }
 

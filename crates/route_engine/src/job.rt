@@ -5,7 +5,7 @@ ghost use Rattle.route_engine.specs.Jobs.{AnswersJob, CountsJob, IsJobOn, IsPlan
 ghost use Rattle.route_engine.specs.Jobs.{ended_with, most_settled, plan_in, plan_of, setting_of, settled_by, track_of};
 ghost use Rattle.route_engine.specs.Settings.{cut_links, open_map_of};
 ghost use Rattle.route_engine.specs.Waypoints.{RefusesWaypoint};
-ghost use Rattle.route_engine.specs.declared.job.JobTurn.{JobTurn};
+ghost use Rattle.item_list.specs.declared.turn.Turn.TheVariants as turns;
 ghost use Rattle.route_http.specs.Seen.{asked};
 ghost use Rattle.route_ready.specs.World.{world_of};
 ghost use Rattle.route_ready.specs.declared.error.RouteError.TheVariants.{NoMemory};
@@ -17,7 +17,7 @@ use crate::stage::Stage;
 use crate::walked::Walked;
 use crate::waypoints::waypoint_nodes;
 use cost_model::{Passages, modes};
-use item_list::Items;
+use item_list::{Items, Turn};
 use nogo_areas::cut;
 use route_http::Request;
 use route_ready::{Ready, RouteError, World};
@@ -45,17 +45,6 @@ impl Drop for Job {
             stage: _,
         } = self;
     }
-}
-
-/// What a turn of a job answers.
-#[derive(Clone, Copy)]
-pub enum JobTurn {
-    /// As many labels were settled as the turn was given, and the job isn't at its end.
-    More,
-    /// The track is found.
-    Found,
-    /// There is no track.
-    Refused(RouteError),
 }
 
 impl Job {
@@ -91,8 +80,9 @@ impl Job {
         })
     }
 
-    /// Settles at most `quota` labels. After its last answer a job gives that answer again.
-    pub fn turn(&mut self, world: &World, quota: u32) -> JobTurn
+    /// Settles at most `quota` labels. It goes on where as many were settled, and is at its end
+    /// where the track is found or there is none. After its end a job gives that end again.
+    pub fn turn(&mut self, world: &World, quota: u32) -> Turn<(), Result<(), RouteError>>
         requires on { IsJobOn (world_of world.now) self.old }
         requires some { 1 ≤ quota }
 
@@ -107,8 +97,8 @@ impl Job {
         ensures bounded { settled_by self.new ≤ most_settled
             (plan_in (world_of world.now) self.new) }
 
-        ensures again { (answer : JobTurn) → ended_with self.old ≡ Some answer →
-            (result ≡ answer) × (self.new ≡ self.old) }
+        ensures again { (end : _) → ended_with self.old ≡ Some end →
+            (result ≡ turns.Done end) × (self.new ≡ self.old) }
     {
         let mut left = quota;
         'searches: loop {
@@ -118,17 +108,17 @@ impl Job {
                     self.settled += step.settled;
                     self.stage = step.stage;
                     if step.more {
-                        return JobTurn::More;
+                        return Turn::More(());
                     }
                     left -= step.settled as u32;
                 }
                 Stage::Found(track) => {
                     self.stage = Stage::Found(track);
-                    return JobTurn::Found;
+                    return Turn::Done(Ok(()));
                 }
                 Stage::Refused(error) => {
                     self.stage = Stage::Refused(error);
-                    return JobTurn::Refused(error);
+                    return Turn::Done(Err(error));
                 }
             }
         }

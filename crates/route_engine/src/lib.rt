@@ -12,12 +12,11 @@ mod replying;
 mod routing;
 mod stage;
 mod told;
-mod transposing;
 mod walked;
 mod waypoints;
 
-pub use job::{Job, JobTurn};
-pub use pending::{Pending, PendingTurn};
+pub use job::Job;
+pub use pending::Pending;
 pub use replying::reply;
 pub use routing::{route, route_by};
 pub use waypoints::waypoint_nodes;

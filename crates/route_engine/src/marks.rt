@@ -2,7 +2,7 @@
 
 ghost use Rattle.std.specs.Prelude.{◌≡◌, ℕ, ◌<◌, IfOk, [], ◌∷◌, length};
 ghost use Rattle.bike_space.specs.Alternatives.{is_used, uses};
-ghost use Rattle.bike_space.specs.Legs.{is_marked};
+ghost use Rattle.bike_space.specs.Marks.{is_marked};
 ghost use Rattle.route_engine.specs.Marked.{AreOnMap, ArePaired, MarksAlso};
 ghost use Rattle.track_legs.specs.Rows.{AreBelow};
 

@@ -1,9 +1,9 @@
 //! A request that is answered in turns, by the bytes of its reply.
 
-ghost use Rattle.std.specs.Prelude.{◌≡◌, ◌≤◌, ℕ, IfErr, IfOk, length};
+ghost use Rattle.std.specs.Prelude.{◌≡◌, ◌≤◌, IfErr, IfOk, length};
 ghost use Rattle.profile_text.specs.Tree.{Sections};
-ghost use Rattle.route_engine.specs.Jobs.{IsWithin};
-ghost use Rattle.route_engine.specs.Pending.{CountsTurn, IsFor, IsFound, IsPending, TellsTurn, settled_of};
+ghost use Rattle.route_engine.specs.Jobs.{EndsJob, IsWithin, plan_in, track_of};
+ghost use Rattle.route_engine.specs.Pending.{CountsTurn, IsFor, IsPending, TellsEnd, TellsTurn, settled_of};
 ghost use Rattle.route_engine.specs.Refusals.{RefusesEarly};
 ghost use Rattle.route_engine.specs.Replies.{IsReady, question_of};
 ghost use Rattle.route_http.specs.Asked.{Asked};
@@ -12,9 +12,10 @@ ghost use Rattle.route_ready.specs.World.{world_of};
 ghost use Rattle.route_ready.specs.Worlds.{WorldValue};
 ghost use Rattle.way_class.specs.Links.{links_of};
 
-use crate::job::{Job, JobTurn};
+use crate::job::Job;
 use crate::replying::shown;
 use crate::told::{Told, told_of};
+use item_list::Turn;
 use route_http::{Form, Request};
 use route_ready::{Ready, RouteError, World};
 use std::alloc::Global;
@@ -37,17 +38,6 @@ impl Drop for Pending {
     }
 }
 
-/// What a turn comes to.
-#[derive(Drop)]
-pub enum PendingTurn {
-    /// As many labels were settled as the turn was given, and the request isn't answered.
-    More(Pending),
-    /// The bytes of the reply.
-    Reply(Vec<u8>),
-    /// There is no track, for this reason.
-    Refused(RouteError),
-}
-
 impl Pending {
     /// A request over a world, by a profile that was made ready for it under the request's
     /// overrides. It is refused where a waypoint is moved to no node.
@@ -67,7 +57,8 @@ impl Pending {
         ensures fresh { IfOk result (λ p. settled_of p ≡ 0) }
         ensures cause { (sections : Sections) →
             IsReady (world_of world.now) sections (asked request) ready.value →
-            IfErr result (RefusesEarly (question_of (world_of world.now) sections (asked request))) }
+            IfErr result (RefusesEarly
+            (question_of (world_of world.now) sections (asked request))) }
     {
         let told = told_of(alloc, &request)?;
         let kept = ready.clone()?;
@@ -96,8 +87,14 @@ impl Pending {
         self.told.form
     }
 
-    /// Settles at most `quota` labels for it.
-    pub fn turn(self, alloc: Global, world: &World, quota: u32) -> PendingTurn
+    /// Settles at most `quota` labels for it. It goes on where as many were settled, and is at its
+    /// end with the bytes of its reply, or where there is no track.
+    pub fn turn(
+        self,
+        alloc: Global,
+        world: &World,
+        quota: u32,
+    ) -> Turn<Pending, Result<Vec<u8>, RouteError>>
         requires pending { IsPending (world_of world.now) self }
         requires some { 1 ≤ quota }
         ensures tells { TellsTurn (world_of world.now) self result }
@@ -105,23 +102,30 @@ impl Pending {
     {
         let mut pending = self;
         match pending.job.turn(world, quota) {
-            JobTurn::More => PendingTurn::More(pending),
-            JobTurn::Refused(error) => PendingTurn::Refused(error),
-            JobTurn::Found => pending.into_reply(alloc, world),
+            Turn::More(_) => Turn::More(pending),
+            Turn::Done(end) => Turn::Done(pending.reply_after(alloc, world, end)),
         }
     }
 
-    /// The reply by its track.
-    fn into_reply(self, alloc: Global, world: &World) -> PendingTurn
-        requires found { IsFound (world_of world.now) self }
-        ensures tells { TellsTurn (world_of world.now) self result }
-        ensures counts { (quota before : ℕ) → CountsTurn quota before result }
+    /// The reply after the end of its job.
+    fn reply_after(
+        self,
+        alloc: Global,
+        world: &World,
+        end: Result<(), RouteError>,
+    ) -> Result<Vec<u8>, RouteError>
+        requires pending { IsPending (world_of world.now) self }
+        requires ends { EndsJob (plan_in (world_of world.now) self.job) (track_of self.job) end }
+        ensures tells { TellsEnd (world_of world.now) self result }
     {
         let Pending { told, ready, job } = self;
-        let track = job.into_track().unwrap();
-        match shown(alloc, world, &ready, &told, &track) {
-            Ok(bytes) => PendingTurn::Reply(bytes),
-            Err(_) => PendingTurn::Refused(RouteError::NoMemory),
+        match end {
+            Err(cause) => Err(cause),
+            Ok(_) => {
+                let track = job.into_track().unwrap();
+                let bytes = shown(alloc, world, &ready, &told, &track)?;
+                Ok(bytes)
+            }
         }
     }
 }

@@ -14,7 +14,8 @@ ghost use Rattle.route_ready.specs.declared.error.RouteError.TheVariants.{NoMemo
 ghost use Rattle.way_class.specs.Facts.{Binding};
 ghost use Rattle.way_class.specs.Links.{links_of};
 
-use crate::job::{Job, JobTurn};
+use crate::job::Job;
+use item_list::Turn;
 use profile_text::Profile;
 use route_http::Request;
 use route_ready::{Ready, RouteError, World, prepare};
@@ -59,7 +60,8 @@ pub fn route_by(
     requires within { IsWithin (asked request) }
     ensures exact { (binding : Binding) → (world_of world.now).map ≡ binding.map →
         IsReadyBy binding (ready_of binding) ready.value →
-        let question : Question = record { binding = binding; asked = asked request } in Replies question result }
+        let question : Question = record { binding = binding; asked = asked request } in
+        Replies question result }
     ensures found { let setting =
         setting_of (world_of world.now) ready.value (asked request).circles in
         IfOk result (IsTrackOver setting (asked request)) }
@@ -79,9 +81,9 @@ fn finish(job: Job, world: &World) -> Result<Track, RouteError>
     let mut job = job;
     'turns: loop {
         match job.turn(world, QUOTA) {
-            JobTurn::More => {}
-            JobTurn::Found => return Ok(job.into_track().unwrap()),
-            JobTurn::Refused(error) => return Err(error),
+            Turn::More(_) => {}
+            Turn::Done(Ok(_)) => return Ok(job.into_track().unwrap()),
+            Turn::Done(Err(error)) => return Err(error),
         }
     }
 }

@@ -8,7 +8,6 @@ ghost use Rattle.route_engine.specs.Progress.{HasLegMore, IsNext, IsSoFar, IsWal
 ghost use Rattle.route_ready.specs.World.{world_of};
 
 use crate::plan::JobPlan;
-use crate::transposing::by_alternative;
 use item_list::{Items, TryClone};
 use route_ready::World;
 use std::alloc::{AllocError, Global};
@@ -112,7 +111,6 @@ impl Walked {
             walks: _,
         } = self;
         let nodes = plan.nodes.try_clone(alloc)?;
-        let earlier = by_alternative(alloc, plan.alternative as usize, earlier.as_slice())?;
         Ok(Track {
             nodes,
             legs,

@@ -13,6 +13,7 @@ mod frames;
 mod heads;
 mod key;
 mod kind;
+mod listed;
 mod parts;
 mod query;
 mod reading;

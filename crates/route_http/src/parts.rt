@@ -1,9 +1,10 @@
 //! Texts that are parted at commas and bars.
 ghost use Rattle.std.specs.Prelude.{◌≡◌, ◌∷◌, ◌≤◌, length};
-ghost use Rattle.std.specs.List.{prefix_len};
 ghost use Rattle.route_http.specs.Value.{before_comma, after_comma};
 ghost use Rattle.route_http.specs.List.{parts_of};
-ghost use Rattle.route_http.specs.Bars.{is_in_part, parts_after};
+ghost use Rattle.route_http.specs.Bars.{parts_after};
+
+use item_list::len_before;
 
 /// The bytes before the first comma, and those after it.
 pub(crate) fn at_comma(text: &[u8]) -> (&[u8], &[u8])
@@ -21,18 +22,5 @@ pub(crate) fn at_bar(text: &[u8]) -> (&[u8], &[u8])
     ensures value { parts_of text.now ≡ result.0.now ∷ parts_after result.1.now }
     ensures fits { length result.1.now ≤ length text.now }
 {
-    text.split_at(part_len(text))
-}
-
-/// How many bytes stand before the first bar.
-fn part_len(text: &[u8]) -> usize
-    ensures value { result ≡ prefix_len is_in_part text.now }
-    ensures fits { result ≤ length text.now }
-{
-    for (i, byte) in text.iter().enumerate() {
-        if *byte == b'|' {
-            return i;
-        }
-    }
-    text.len()
+    text.split_at(len_before(text, b'|'))
 }

@@ -56,7 +56,8 @@ fn accepted(alloc: Global, world: &World, checked: &Checked) -> Result<Ready, Ro
 fn evaluated(alloc: Global, world: &World, code: &Code) -> Result<Ready, RouteError>
     requires fits { HasTags code.now (world_of world.now).table }
     ensures exact { (subject : Subject) → Suits code.now (world_of world.now).table subject →
-        let binding = binding_of (world_of world.now) subject in Readies binding (global_terms binding) result }
+        let binding = binding_of (world_of world.now) subject in
+        Readies binding (global_terms binding) result }
 {
     let mut scratch = Scratch::new(alloc, code)?;
     match run_global(code, &mut scratch) {
@@ -120,7 +121,8 @@ fn linked(
     requires fits { HasTags code.now (world_of world.now).table }
     ensures exact { (subject : Subject) → Suits code.now (world_of world.now).table subject →
         (globals : List ℤ) → global_answer subject ≡ Ok globals → turns ≡ turns_of subject →
-        let binding = binding_of (world_of world.now) subject in Readies binding (linked_terms binding rates) result }
+        let binding = binding_of (world_of world.now) subject in
+        Readies binding (linked_terms binding rates) result }
 {
     match bind(alloc, code, world.table(), world.map(), world.tiles()) {
         Ok(bound) => Ok(Ready {

@@ -27,7 +27,8 @@ pub fn edge<F: Files, O: Sink, H: Hub, E: Sink>(
 ) -> u8
     ensures outcome { IsEnd (args_in args)
         (reach (F.seen files.old) (O.seen out.old) (H.seen hub.old))
-        (reach (F.seen files.new) (O.seen out.new) (H.seen hub.new)) (E.seen err.old) (E.seen err.new) result }
+        (reach (F.seen files.new) (O.seen out.new) (H.seen hub.new)) (E.seen err.old)
+        (E.seen err.new) result }
 {
     let status = match args {
         Ok(words) => reply(alloc, words.as_slice(), files, out, hub),

@@ -1,6 +1,9 @@
 -- What a query comes to at once, and what a turn of the search for it comes to. This project's own rule.
-use Rattle.std.specs.Prelude.{◌≡◌, ℕ, ◌+◌, List, Some, slice_get}
+use Rattle.std.specs.Prelude.{◌≡◌, ℕ, ◌+◌, List, Some, Vec, slice_get}
+use Rattle.item_list.specs.Turns.{Says}
+use Rattle.item_list.specs.declared.turn.Turn.{Turn}
 use Rattle.session_answers.specs.Kept.{IsKept}
+use Rattle.std.specs.declared.alloc.Global.{Global}
 use Rattle.session_answers.specs.declared.kept.KeptProfiles.{KeptProfiles}
 use Rattle.profile_text.specs.Tree.{Sections}
 use Rattle.route_engine.specs.Pending.{IsFor, IsPending, settled_of}
@@ -12,8 +15,6 @@ use Rattle.session_answers.specs.Rows.{Asks, IsEarlyFrame, IsQueryFrame, IsSearc
 use Rattle.session_answers.specs.Stored.{Stored}
 use Rattle.session_answers.specs.declared.beginning.Begun.{Begun}
 use Rattle.session_answers.specs.declared.beginning.Begun.TheVariants as begun
-use Rattle.session_answers.specs.declared.turning.Turned.{Turned}
-use Rattle.session_answers.specs.declared.turning.Turned.TheVariants as turned
 
 -- ---- A query that is searched for
 
@@ -46,12 +47,11 @@ Begins world stored query (begun.Frame frame) = IsEarlyFrame world stored query 
 Begins world stored query (begun.Job p place) = IsBegun world stored query place p
 
 -- what a turn comes to: its request, which goes on, or a frame that answers it
-abbrev pub TurnsTo : (world : WorldValue) (stored : List Stored) (query : List ℕ) (place : ℕ)
-    (turned : Turned) → Type 0
-TurnsTo world stored query place (turned.More next) = IsJobOf world stored query place next
-TurnsTo world stored query place (turned.Frame frame) = IsQueryFrame world stored query frame.items
+abbrev pub TurnsTo : (world : WorldValue) (stored : List Stored) (query : List ℕ) (place : ℕ) →
+    Turn Pending (Vec ℕ Global) → Type 0
+TurnsTo world stored query place =
+    Says (IsJobOf world stored query place) (λ frame. IsQueryFrame world stored query frame.items)
 
 -- the whole quota is settled where it goes on
-abbrev pub CountsTo : ℕ → ℕ → Turned → Type 0
-CountsTo quota before (turned.More next) = settled_of next ≡ before + quota
-CountsTo quota before (turned.Frame frame) = Unit {0}
+abbrev pub CountsTo : {E : Type 0} → ℕ → ℕ → Turn Pending E → Type 0
+CountsTo quota before = Says (λ next. settled_of next ≡ before + quota) (λ _. Unit {0})

@@ -4,7 +4,8 @@ use Rattle.profile_text.specs.Tree.{Sections}
 use Rattle.route_engine.specs.Refusals.{IsEarly}
 use Rattle.route_engine.specs.Replies.{IsReply, question_of}
 use Rattle.route_engine.specs.Answers.{IsAnswer}
-use Rattle.route_engine.specs.Settings.{IsSettingOf, Setting, open_map_of}
+use Rattle.cost_model.specs.Rides.{Setting}
+use Rattle.route_engine.specs.Settings.{IsSettingOf, open_map_of}
 use Rattle.route_http.specs.Asked.{Asked}
 use Rattle.route_http.specs.Frames.{frame_of}
 use Rattle.route_http.specs.Lines.{request_line}

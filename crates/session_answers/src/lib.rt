@@ -21,6 +21,6 @@ pub use kept::KeptProfiles;
 pub use profiles::Profiles;
 pub use received::Received;
 pub use refusal::Refusal;
-pub use turning::{Turned, turn};
+pub use turning::turn;
 pub use uploading::upload;
 pub use verdict::Verdict;

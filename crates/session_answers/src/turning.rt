@@ -10,30 +10,23 @@ ghost use Rattle.session_answers.specs.Rows.{kind_of};
 ghost use Rattle.session_answers.specs.Stored.{Stored};
 
 use crate::routes::route_frame;
+use item_list::Turn;
 use profile_text::Profile;
-use route_engine::{Pending, PendingTurn};
+use route_engine::Pending;
 use route_http::{Form, Kind, frame};
 use route_ready::World;
 use std::alloc::{AllocError, Global};
 
-/// What a turn of the search for a request comes to.
-#[derive(Drop)]
-pub enum Turned {
-    /// It goes on; as many labels were settled as the turn was given.
-    More(Pending),
-    /// The request is answered by this frame.
-    Frame(Vec<u8>),
-}
-
 /// Settles at most `quota` labels in the search for a request, which goes by this stored profile.
-/// An error is want of memory.
+/// It goes on where as many were settled, and is at its end with the frame that answers the
+/// request. An error is want of memory.
 pub fn turn(
     alloc: Global,
     world: &World,
     profile: &Profile,
     pending: Pending,
     quota: u32,
-) -> Result<Turned, AllocError>
+) -> Result<Turn<Pending, Vec<u8>>, AllocError>
     requires pending { IsPending (world_of world.now) pending }
     requires some { 1 ≤ quota }
     ensures exact { (stored : List Stored) (query : List ℕ) (place : ℕ) →
@@ -44,14 +37,14 @@ pub fn turn(
 {
     let kind = kind_of(pending.form());
     match pending.turn(alloc, world, quota) {
-        PendingTurn::More(pending) => Ok(Turned::More(pending)),
-        PendingTurn::Reply(bytes) => {
+        Turn::More(pending) => Ok(Turn::More(pending)),
+        Turn::Done(Ok(bytes)) => {
             let answer = frame(alloc, 200, kind, bytes.as_slice())?;
-            Ok(Turned::Frame(answer))
+            Ok(Turn::Done(answer))
         }
-        PendingTurn::Refused(error) => {
+        Turn::Done(Err(error)) => {
             let answer = route_frame(alloc, profile, error)?;
-            Ok(Turned::Frame(answer))
+            Ok(Turn::Done(answer))
         }
     }
 }

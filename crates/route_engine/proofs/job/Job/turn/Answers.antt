@@ -65,9 +65,9 @@ searches-preserved c =
 pub returns-in-Found-clause-counts : goal.returns-in-Found-clause-counts
 returns-in-Found-clause-counts c =
     let i = c.searches.invariant in
-    (omega (arith, i.settled, i.few), omega (arith, i.settled, i.some))
+    record { grows = omega (arith, i.settled, i.few); settles = omega (arith, i.settled, i.some) }
 
 pub returns-in-Refused-clause-counts : goal.returns-in-Refused-clause-counts
 returns-in-Refused-clause-counts c =
     let i = c.searches.invariant in
-    (omega (arith, i.settled, i.few), omega (arith, i.settled, i.some))
+    record { grows = omega (arith, i.settled, i.few); settles = omega (arith, i.settled, i.some) }
