@@ -1,6 +1,7 @@
 //! What the program needs of the outside, as traits whose calls fail only where they count it.
 #![tactic(auto)]
 
+mod door;
 mod event;
 mod failed;
 mod files;

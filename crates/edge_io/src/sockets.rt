@@ -1,44 +1,19 @@
-//! The listening socket and the connections that are held.
+//! The connections that are held, and who is next in turn.
 
 ghost use Rattle.std.specs.Prelude.{ℕ, ◌<◌, ◌≤◌, List, length, IfOk, IfSome};
 ghost use Rattle.edge_io.specs.Hub.{FitsBuffer};
 
+use crate::door::{DOOR, Door};
 use crate::event::Event;
 use crate::failed::Failed;
 use crate::replies::{Arrival, Reading, address_of, arrived, came, nap, taken, waited};
 use crate::turns::Turns;
+use mio::Token;
 use mio::net::{TcpListener, TcpStream};
-use mio::{Events, Interest, Poll, Token};
 use std::alloc::Global;
 use std::collections::BTreeMap;
-use std::io;
 use std::io::{Read, Write};
 use std::net::Net;
-
-/// The number in line of the listening socket; connections have numbers from 1.
-const DOOR: u64 = 0;
-
-/// The most events that are asked for at a time; more come the next time.
-const EVENTS: usize = 128;
-
-/// A listening socket, and what tells which sockets are ready.
-struct Door {
-    listener: TcpListener,
-    poll: Poll,
-    events: Events,
-    in_line: bool,
-}
-
-impl Drop for Door {
-    fn drop(self) {
-        let Door {
-            listener: _,
-            poll: _,
-            events: _,
-            in_line: _,
-        } = self;
-    }
-}
 
 /// A connection that is held.
 #[derive(Drop)]
@@ -249,49 +224,6 @@ impl Sockets {
     /// Lets a connection go, which ends it.
     pub fn close(&mut self, id: u64) {
         self.peers.remove(&id);
-    }
-}
-
-impl Door {
-    /// A door at this listening socket.
-    fn new<N: Net>(alloc: Global, net: &N, listener: TcpListener) -> Result<Door, Failed> {
-        let Ok(poll) = Poll::new(net) else {
-            return Err(Failed);
-        };
-        let Ok(events) = Events::with_capacity(alloc, EVENTS) else {
-            return Err(Failed);
-        };
-        let mut door = Door {
-            listener,
-            poll,
-            events,
-            in_line: false,
-        };
-        let watched = door.poll.registry().register(
-            &mut door.listener,
-            Token(DOOR as usize),
-            Interest::READABLE,
-        );
-        waited(watched)?;
-        Ok(door)
-    }
-
-    /// Another listening socket in place of the one before.
-    fn replace(&mut self, mut listener: TcpListener) -> Result<(), Failed> {
-        waited(
-            self.poll
-                .registry()
-                .register(&mut listener, Token(DOOR as usize), Interest::READABLE),
-        )?;
-        self.listener = listener;
-        Ok(())
-    }
-
-    /// Has a connection reported when there is something to read.
-    fn watch(&self, stream: &mut TcpStream, id: u64) -> io::Result<()> {
-        self.poll
-            .registry()
-            .register(stream, Token(id as usize), Interest::READABLE)
     }
 }
 

@@ -55,8 +55,8 @@ fn a_file_of_several_pieces_is_written_and_read_back(rt: HostRuntime) -> Result<
 
 #[test]
 fn files_of_the_system_are_missing_empty_or_no_files(rt: HostRuntime) -> Result<(), Fail> {
-    let rows =
-        "/no/such/file (missing)\n/dev/null \n/dev/zero (too long)\n/dev (fault)\n/dev/null/x (fault)";
+    let rows = "/no/such/file (missing)\n/dev/null \n/dev/zero (too long)\n/dev (fault)\n\
+         /dev/null/x (fault)";
     for row in rows.split('\n') {
         let Some((name, what)) = row.split_once(' ') else {
             return Ok(());

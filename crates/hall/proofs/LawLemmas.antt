@@ -24,31 +24,31 @@ record IsFine (service : Service) (given : List Stored) (s : State) (acts : List
   all : AllStand service given s acts
 
 -- so it is after a turn
-turn_fine : (service : Service) (given : List Stored) (s next : State) (n : ℕ) (acts own : List Act) (event : Event) (bytes : List ℕ) →
+turn_fine : (service : Service) (given : List Stored) (s new : State) (n : ℕ) (acts own : List Act) (event : Event) (bytes : List ℕ) →
     Turns service (empty_hall given) n acts s → OpensOnce (acts ++ own) → IsFine service given s acts →
-    Turn service s event bytes own next → IsFine service given next (acts ++ own)
-turn_fine service given s next n acts own event bytes turns once fine turn =
+    Turn service s event bytes own new → IsFine service given new (acts ++ own)
+turn_fine service given s new n acts own event bytes turns once fine turn =
     let first : List Act = Gave event bytes ∷ shut turn.at_once in
     let is : acts ++ own ≡ acts ++ (first ++ turn.served) = ap (λ (xs : List Act). acts ++ xs) turn.acts_are in
     let anew : OpensAnew acts event =
     λ id opens. once acts (shut turn.at_once ++ turn.served) id bytes
     (is ∙ ap (λ (e : Event). acts ++ (Gave e bytes ∷ (shut turn.at_once ++ turn.served))) opens) in
-    let stepped = step_stands service given s turn.stepped fine.sound n acts event bytes turn.at_once turns anew fine.all turn.step in
+    let stepped = step_stands service given s turn.stepped fine.sound n acts turns fine.all event bytes turn.at_once anew turn.step in
     let sound = sound_works service turn.stepped (sound_step service s fine.sound event bytes turn.stepped turn.at_once turn.step)
     turn.worked turn.work in
     record {
-      sound = sound_each service turn.worked next turn.order turn.served sound turn.serves;
+      sound = sound_each service turn.worked new turn.order turn.served sound turn.serves;
       all = λ id.
-          let of = turn_of service s next event bytes own turn id in
+          let of = turn_of service s new event bytes own turn id in
           let worked = work_stands service given turn.stepped.stored id (acts ++ first) (turn.stepped.known id) (turn.worked.known id)
           of.work (stepped id) in
           let kept : turn.worked.stored ≡ turn.stepped.stored = works_stored service turn.stepped turn.worked turn.work in
           let here = subst (λ (l : List Stored). Stands service given l id (acts ++ first) (turn.worked.known id)) (sym kept) worked in
-          let served = served_stands service given turn.worked.stored id (acts ++ first) turn.served (turn.worked.known id) (next.known id)
+          let served = served_stands service given turn.worked.stored id (acts ++ first) turn.served (turn.worked.known id) (new.known id)
           (sound.sound id) here of.serves in
-          subst (λ (l : List Stored). Stands service given l id (acts ++ own) (next.known id))
-          (sym (each_stored turn.worked next turn.order turn.served turn.serves))
-          (subst (λ (xs : List Act). Stands service given turn.worked.stored id xs (next.known id)) (append_assoc acts first turn.served
+          subst (λ (l : List Stored). Stands service given l id (acts ++ own) (new.known id))
+          (sym (each_stored turn.worked new turn.order turn.served turn.serves))
+          (subst (λ (xs : List Act). Stands service given turn.worked.stored id xs (new.known id)) (append_assoc acts first turn.served
           ∙ sym is) served);
     }
 

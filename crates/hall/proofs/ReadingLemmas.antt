@@ -84,10 +84,14 @@ module _ (desk : Desk) (kept : KeptProfiles) (are : AreKept (world_of desk.world
       (subst (IsSearchIn (world_of desk.world) (stored_of desk.profiles) (received_of made.received) made.ended made.before) (sym reads) tt)
       takes
 
+-- a seat is answered by the frame of a refusal, or of want of memory
+abbrev pub IsRefusedBy : Seat → Seat → Refusal → Type 0
+IsRefusedBy seat made r =
+    (frame : Frame) × (made ≡ answered_by seat frame) × ((frame_in frame ≡ refusal_frame r) ⊎ (frame_in frame ≡ memory_frame))
+
 -- a refusal, or want of memory
 pub settles_refused : (desk : Desk) (are : AreReadied desk) (before : Connection) (seat made : Seat) (r : Refusal) →
-    IsVerdict (received_of seat.received) seat.ended (Refused r) →
-    (frame : Frame) × (made ≡ answered_by seat frame) × ((frame_in frame ≡ refusal_frame r) ⊎ (frame_in frame ≡ memory_frame)) →
+    IsVerdict (received_of seat.received) seat.ended (Refused r) → IsRefusedBy seat made r →
     Settles desk desk before (connection_of seat) seat.id seat.away made
 settles_refused desk are before seat made r is answer =
     settles_frame desk desk.kept are before (connection_of seat) seat.id seat.away made seat answer.0 answer.1 refl refl (by_frame answer.2)

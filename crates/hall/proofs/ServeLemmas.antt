@@ -5,7 +5,7 @@ use Rattle.std.proofs.lemmas.Bool.{eq-eqb, ne_eqb}
 use Rattle.std.proofs.lemmas.List.{length-take, take_all, take-take}
 use Rattle.edge_io.specs.Acts.{Act, Took, Broke, Closed, Traffic, told}
 use Rattle.hall.proofs.OneLemmas.{ServedOf, WorkedOf, goes, other, own_acts, rests}
-use Rattle.hall.proofs.SoundLemmas.{IsLeft, is_gone, is_same, is_more, further_sound, left_sends}
+use Rattle.hall.proofs.SoundInLemmas.{IsLeft, is_gone, is_same, is_more, further_sound, left_sends}
 use Rattle.hall.proofs.StandLemmas.{GetsOwn-held, GetsOwn-more, IsFrontOf-more, Stands-apart, held_at}
 use Rattle.hall.proofs.Status.{AllStand, FitsPhase, IsHeldSo, Stands, held, gone}
 use Rattle.hall.proofs.TrafficLemmas.{AreApart, AreApart-more, AreApart-none, AreApart-one, EndsSilent-more, OpensThen-more, opened-more, told-grows, told-own}
@@ -146,10 +146,13 @@ module _ (service : Service) (given stored : List Stored) (id : ℕ) (acts : Lis
       silent (ap (λ (v : Traffic). v.sent) t ∙ fits.1) (OpensThen-more id acts at.since (Closed id ∷ []) at.opening)
       (EndsSilent-more id at.since (Closed id ∷ []) fits.0)
 
+-- what is known of a connection is sound, where it is held
+abbrev IsSoundWhere : Service → List Stored → Option Connection → Type 0
+IsSoundWhere service stored x = (c : Connection) → x ≡ Some c → IsSoundIn service stored c c.phase
+
 -- it stands after its close
 closes_stand : (service : Service) (given stored : List Stored) (id : ℕ) (acts more : List Act) (between left : Option Connection) →
-    ((d : Connection) → between ≡ Some d → IsSoundIn service stored d d.phase) → Stands service given stored id acts between →
-    Closes id between more left →
+    IsSoundWhere service stored between → Stands service given stored id acts between → Closes id between more left →
     Stands service given stored id (acts ++ more) left
 closes_stand service given stored id acts more between left sound stands sending.gone =
     subst (λ (xs : List Act). Stands service given stored id xs None) (sym (append-nil acts)) stands

@@ -5,9 +5,12 @@ use Rattle.edge_io.specs.Acts.{Took, Broke, Closed}
 use Rattle.edge_io.specs.Hub.{Breaks, Closes as ClosesAt, HubSeen, IsLive, Takes as TakesAt}
 use Rattle.edge_io.proofs.CallerLemmas.{Tells-live, Tells-none}
 use Rattle.hall.proofs.LiveLemmas.{live_more, sends_own, serves_live}
-use Rattle.hall.proofs.RoomLemmas.{few_alike, gone_state, held_now, lifted_known, places_at, state_now, gone_becomes}
-use Rattle.hall.proofs.SeatLemmas.{all_ids, ids_of, seat_is, seats_long}
-use Rattle.hall.proofs.SoundLemmas.{left_serves, piece_fits, sound_left}
+use Rattle.hall.proofs.GoneLemmas.{WaitsNoMore, gone_state, gone_becomes}
+use Rattle.hall.proofs.RoomLemmas.{IsReplaced, few_alike, held_now, lifted_known, places_at, state_now}
+use Rattle.hall.proofs.SeatCountLemmas.{all_ids, ids_of}
+use Rattle.hall.proofs.SeatLemmas.{seat_is, seats_long}
+use Rattle.hall.proofs.SoundInLemmas.{left_serves, piece_fits}
+use Rattle.hall.proofs.SoundLemmas.{sound_left}
 use Rattle.hall.specs.Parts.{AreReadied, FitsUnsent, IsHeld, IsSearchAt, IsSearchIn, Keeps, KeepsOthers, connection_of, phase_in, seats_of, sent_in, service_at, service_in, state_in}
 use Rattle.hall.specs.Sends.{IsDone, IsPiece, nothing, taken, broken, stays, done, sent_more}
 use Rattle.hall.specs.Served.{AreLive, ClosedDone, SentPiece, ServedAll, ServedEach, ServedOne, ServedSeat}
@@ -166,44 +169,42 @@ module _ (room new : Room) (held : IsHeld room) (k : ℕ) (seat : Seat) (left : 
       (left_serves seat.id (connection_of seat) one.acts (option_map connection_of left) one.serves)
 
 -- a connection is put back
-pub seat_kept : (room new : Room) (held : IsHeld room) (k : ℕ) (seat made : Seat) → get_or room.seats.items k None ≡ Some seat →
-    new.seats.items ≡ set room.seats.items k (Some made) → new.desk ≡ room.desk →
-    (old seen : HubSeen) → AreLive (state_in room) old → Keeps seat (Some made) →
+pub seat_kept : (room new : Room) (held : IsHeld room) (k : ℕ) (seat made : Seat) → IsReplaced room new k seat (Some made) →
+    new.desk ≡ room.desk → (old seen : HubSeen) → AreLive (state_in room) old → Keeps seat (Some made) →
     ServedOne seat.id (connection_of seat) old (Some (connection_of made)) seen → SeatServed room new k old seen
-seat_kept room new held k seat made has now desk old seen live keeps one =
-    let places = places_at room new k seat (Some made) held has keeps.0 now in
+seat_kept room new held k seat made back desk old seen live keeps one =
+    let places = places_at room new k seat (Some made) held back.has keeps.0 back.now in
     let stored = ap (λ (d : Desk). stored_of d.profiles) desk in
     let same = ap service_at desk in
     let state : state_in new ≡ put (state_in room) seat.id (Some (connection_of made)) =
     state_now room new k seat.id (Some made) places (stored_of room.desk.profiles) room.desk.queue.items stored
     (ap (λ (d : Desk). d.queue.items) desk) in
-    let sound = left_is_sound room new held k seat (Some made) has now old seen live one in
-    seat_left room new held k seat (Some made) has now old seen live one
+    let sound = left_is_sound room new held k seat (Some made) back.has back.now old seen live one in
+    seat_left room new held k seat (Some made) back.has back.now old seen live one
     (held_now room new k seat.id (Some made) places held
     (subst (λ (v : Service). IsSound v (state_in new)) (sym same) (subst (IsSound (service_in room)) (sym state) sound))
-    (few_alike room new k seat.id seat made places held has keeps.1)
+    (few_alike room new k seat.id seat made places held back.has keeps.1)
     (λ other is.
     let alike : made ≡ other = cc in
     subst (IsSearchAt new.desk) alike
     (subst (λ (d : Desk). IsSearchAt d made) (sym desk)
-    (keeps.2 (world_of room.desk.world) (stored_of room.desk.profiles) (held.searching k seat has))))
+    (keeps.2 (world_of room.desk.world) (stored_of room.desk.profiles) (held.searching k seat back.has))))
     [] (ap (λ (d : Desk). world_of d.world) desk) (stored
     ∙ sym (append-nil (stored_of room.desk.profiles))) (subst AreReadied (sym desk) held.kept))
     same state
 
 -- a connection is gone
-pub seat_gone : (room new : Room) (held : IsHeld room) (k : ℕ) (seat : Seat) → get_or room.seats.items k None ≡ Some seat →
-    new.seats.items ≡ set room.seats.items k None →
-    stored_of new.desk.profiles ≡ stored_of room.desk.profiles → new.desk.queue.items ≡ without seat.id room.desk.queue.items →
-    service_in new ≡ service_in room → AreReadied new.desk →
-    (old seen : HubSeen) → AreLive (state_in room) old → ServedOne seat.id (connection_of seat) old None seen →
+pub seat_gone : (room new : Room) (held : IsHeld room) (k : ℕ) (seat : Seat) → IsReplaced room new k seat None →
+    WaitsNoMore room new seat.id → (old seen : HubSeen) → AreLive (state_in room) old →
+    ServedOne seat.id (connection_of seat) old None seen →
     SeatServed room new k old seen
-seat_gone room new held k seat has now stored queue same readied old seen live one =
-    let places = places_at room new k seat None held has tt now in
-    let state = gone_state room new held k seat.id places stored queue same readied in
-    let sound = subst (IsSound (service_in room)) (sym state) (left_is_sound room new held k seat None has now old seen live one) in
-    let becomes = gone_becomes room new held k seat.id places stored queue same readied (λ (s : State). s ≡ state_in new) refl sound in
-    seat_left room new held k seat None has now old seen live one becomes.held same state
+seat_gone room new held k seat back left old seen live one =
+    let places = places_at room new k seat None held back.has tt back.now in
+    let state = gone_state room new held k seat.id places left in
+    let sound = subst (IsSound (service_in room)) (sym state)
+    (left_is_sound room new held k seat None back.has back.now old seen live one) in
+    let becomes = gone_becomes room new held k seat.id places left (λ (s : State). s ≡ state_in new) refl sound in
+    seat_left room new held k seat None back.has back.now old seen live one becomes.held left.same state
 
 -- ---- All seats
 

@@ -1,21 +1,21 @@
 -- How all connections stand after an event.
-use Rattle.std.proofs.Common.{◌≡◌, ◌≢◌, ◌⊎◌, ◌==◌, ℕ, true, false, List, [], ◌∷◌, ◌++◌, Option, Some, None, inl, inr, refl, sym, ◌∙◌, ap, subst, append-nil, append_assoc}
+use Rattle.std.proofs.Common.{◌≡◌, ◌≢◌, ◌⊎◌, ◌==◌, ℕ, true, false, List, [], ◌∷◌, ◌++◌, Option, Some, None, inl, inr, refl, sym, ◌∙◌, ap, subst, append-nil}
 use Rattle.std.proofs.lemmas.Bool.{eq-eqb, ne_eqb}
-use Rattle.edge_io.specs.Acts.{Act, Gave, Closed, Traffic, after_own, is_act_on, told}
-use Rattle.edge_io.specs.declared.event.Event.{Event}
+use Rattle.edge_io.specs.Acts.{Act, Gave, Traffic, is_act_on, told}
 use Rattle.edge_io.specs.declared.event.Event.TheVariants.{Opened, Bytes, Ended, Lost, Quiet, Over}
-use Rattle.hall.proofs.ChangeLemmas.{changes_gone, changes_now, changes_put}
-use Rattle.hall.proofs.SoundLemmas.{read_sound}
-use Rattle.hall.proofs.StandLemmas.{AllStand-by, AllStand-quiet, AllStand-same, GetsOwn-held, GetsOwn-more, held_at, held_more, is_new, new_is_none}
-use Rattle.hall.proofs.Status.{AllStand, Fits, FitsPhase, IsHeldSo, IsNew, Stands, unheard, held, gone}
-use Rattle.hall.proofs.TrafficLemmas.{AreApart, AreApart-more, AreApart-one, OpensThen-more, SendsNone-event, opened-more, told-own}
+use Rattle.edge_io.specs.declared.event.Event.{Event}
+use Rattle.hall.proofs.ChangeLemmas.{changes_gone, changes_now}
+use Rattle.hall.proofs.OpenStandLemmas.{opening_stands}
+use Rattle.hall.proofs.SoundInLemmas.{read_sound}
+use Rattle.hall.proofs.StandLemmas.{AllStand-by, AllStand-quiet, AllStand-same, GetsOwn-held, GetsOwn-more, held_at, held_more}
+use Rattle.hall.proofs.Status.{AllStand, Fits, FitsPhase, IsHeldSo, Stands, unheard, held, gone}
+use Rattle.hall.proofs.TrafficLemmas.{AreApart, AreApart-one, OpensThen-more, SendsNone-event, opened-more, told-own}
 use Rattle.hall.proofs.VerdictLemmas.{silent_by}
-use Rattle.hall.specs.Held.{IsFull}
-use Rattle.hall.specs.Law.{EndsSilent, GetsOwn, IsFrontOf, no_seat}
+use Rattle.hall.specs.Law.{EndsSilent, GetsOwn, IsFrontOf}
 use Rattle.hall.specs.Sound.{IsSound}
-use Rattle.hall.specs.State.{Connection, Reading, Service, State, changed, empty_hall, freed, put, with_frame}
-use Rattle.hall.specs.Steps.{Hears, Loses, Opens, Step, Takes, full_frame, memory_frame, session, turned_away, uploaded, whole_in, with_bytes, with_end}
+use Rattle.hall.specs.State.{Connection, Reading, Service, State, changed, empty_hall, freed, with_frame}
 use Rattle.hall.specs.Steps as steps
+use Rattle.hall.specs.Steps.{Hears, Loses, Step, Takes, memory_frame, session, uploaded, whole_in, with_bytes, with_end}
 use Rattle.hall.specs.Turns.{Turns, shut}
 use Rattle.session_answers.specs.Frames.{refusal_frame}
 use Rattle.session_answers.specs.Stored.{Stored}
@@ -200,81 +200,6 @@ loss_stands service given s sound id acts bytes all next (steps.stranger none) =
 loss_stands service given s sound id acts bytes all next (steps.gone {c} known) =
     lost_stands service given s sound id acts (Lost id) bytes all (λ j ne. event_apart id j (Lost id) bytes refl ne) c known
 
--- ---- Openings
-
--- what was told of a connection when it opened
-opened_now : (id : ℕ) (acts : List Act) (bytes : List ℕ) →
-    told id (acts ++ (Gave (Opened id) bytes ∷ [])) ≡ record (told id acts) { opened = true; live = true }
-opened_now id acts bytes = told-own id acts (Gave (Opened id) bytes) (eq-eqb id id refl)
-
--- a connection that is held now stands, where nothing is kept of it and nothing is sent
-opened_stands : (service : Service) (given : List Stored) (s : State) (id : ℕ) (acts : List Act) (bytes : List ℕ) (c : Connection) →
-    AllStand service given s acts → c.bytes ≡ [] → c.ended ≡ false →
-    ((t u : Traffic) → t.sent ≡ [] → u.came ≡ [] → FitsPhase c id [] t u c.phase) → IsNew id acts →
-    AllStand service given (put s id (Some c)) (acts ++ (Gave (Opened id) bytes ∷ []))
-opened_stands service given s id acts bytes c all empty goes_on fits fresh =
-    let now = opened_now id acts bytes in
-    AllStand-by service given s (put s id (Some c)) id (Some c) [] acts (Gave (Opened id) bytes ∷ []) (changes_put s id (Some c))
-    (λ j ne. AreApart-one j (Gave (Opened id) bytes) (ne_eqb id j (λ e. ne (sym e)))) all
-    (held (record {
-      opened = ap (λ (t : Traffic). t.opened) now;
-      since = [];
-      opening = record { before = acts; bytes = bytes; acts_are = refl };
-      fits = record {
-        front = ([], sym (append-nil c.bytes ∙ empty));
-        ends = λ h. absurd (let clash : true ≡ false = sym h ∙ goes_on in cc);
-        unclosed = ap (λ (t : Traffic). t.closed) now ∙ fresh.unclosed;
-        by_phase = fits (told id (acts ++ (Gave (Opened id) bytes ∷ []))) (told id []) (ap (λ (t : Traffic). t.sent) now ∙ fresh.none) refl;
-      };
-    }))
-
--- a connection that is closed at once, since there is no room, stands
-full_stands : (service : Service) (given : List Stored) (s : State) (id n : ℕ) (acts : List Act) (bytes : List ℕ) →
-    Turns service (empty_hall given) n acts s → AllStand service given s acts → IsNew id acts → s.known id ≡ None → IsFull s false →
-    IsFull s true → AllStand service given s (acts ++ (Gave (Opened id) bytes ∷ (Closed id ∷ [])))
-full_stands service given s id n acts bytes turns all fresh none many turned =
-    let more : List Act = Gave (Opened id) bytes ∷ (Closed id ∷ []) in
-    let both : told id (acts ++ more) ≡ record (told id acts) { opened = true; live = false; closed = true } =
-    ap (λ (xs : List Act). told id xs) (sym (append_assoc acts (Gave (Opened id) bytes ∷ []) (Closed id ∷ [])))
-    ∙ told-own id (acts ++ (Gave (Opened id) bytes ∷ [])) (Closed id) (eq-eqb id id refl)
-    ∙ ap (λ (t : Traffic). after_own t (Closed id)) (opened_now id acts bytes) in
-    AllStand-same service given s id acts more
-    (λ j ne.
-    let off = ne_eqb id j (λ e. ne (sym e)) in
-    AreApart-more j (Gave (Opened id) bytes ∷ []) (Closed id ∷ [])
-    (AreApart-one j (Gave (Opened id) bytes) off) (AreApart-one j (Closed id) off)) all
-    (subst (λ (x : Option Connection). Stands service given s.stored id (acts ++ more) x) (sym none)
-    (gone (ap (λ (t : Traffic). t.opened) both)
-    (no_seat (ap (λ (t : Traffic). t.sent) both ∙ fresh.none)
-    (record {
-      n = n;
-      before = acts;
-      state = s;
-      turns = turns;
-      bytes = bytes;
-      after = Closed id ∷ [];
-      acts_are = refl;
-      sessions_full = many;
-      aways_full = turned;
-    }))))
-
--- an opening
-opening_stands : (service : Service) (given : List Stored) (s : State) (id n : ℕ) (acts : List Act) (bytes : List ℕ) →
-    Turns service (empty_hall given) n acts s → (told id acts).opened ≡ false → AllStand service given s acts →
-    (next : State) (at_once : Option ℕ) → Opens s id next at_once →
-    AllStand service given next (acts ++ (Gave (Opened id) bytes ∷ shut at_once))
-opening_stands service given s id n acts bytes turns never all next at_once (steps.again {c} known) =
-    absurd (new_is_none service given s.stored id acts (s.known id) c never known (all id))
-opening_stands service given s id n acts bytes turns never all next at_once (steps.held none room) =
-    opened_stands service given s id acts bytes session all refl refl (λ t u sent came. (sym came, sent))
-    (is_new service given s.stored id acts (s.known id) never (all id))
-opening_stands service given s id n acts bytes turns never all next at_once (steps.away none many room) =
-    opened_stands service given s id acts bytes turned_away all refl refl (λ t u sent came. sent)
-    (is_new service given s.stored id acts (s.known id) never (all id))
-opening_stands service given s id n acts bytes turns never all next at_once (steps.full none many turned) =
-    full_stands service given s id n acts bytes turns all (is_new service given s.stored id acts (s.known id) never (all id)) none many
-    turned
-
 -- ---- A step
 
 -- where no connection is closed at once
@@ -289,24 +214,26 @@ abbrev pub OpensAnew : List Act → Event → Type 0
 OpensAnew acts event = (id : ℕ) → event ≡ Opened id → (told id acts).opened ≡ false
 
 -- all stand after a step
-pub step_stands : (service : Service) (given : List Stored) (s next : State) → IsSound service s →
-    (n : ℕ) (acts : List Act) (event : Event) (bytes : List ℕ) (at_once : Option ℕ) → Turns service (empty_hall given) n acts s →
-    OpensAnew acts event → AllStand service given s acts → Step service s event bytes next at_once →
-    AllStand service given next (acts ++ (Gave event bytes ∷ shut at_once))
-step_stands service given s next sound n acts (Opened id) bytes at_once turns anew all step =
-    opening_stands service given s id n acts bytes turns (anew id refl) all next at_once step
-step_stands service given s next sound n acts (Bytes id m) bytes at_once turns anew all step =
-    without_shut service given next acts (Bytes id m) bytes at_once step.1
-    (bytes_stand service given s sound id acts all m bytes next step.0)
-step_stands service given s next sound n acts (Ended id) bytes at_once turns anew all step =
-    without_shut service given next acts (Ended id) bytes at_once step.1 (end_stands service given s sound id acts all bytes next step.0)
-step_stands service given s next sound n acts (Lost id) bytes at_once turns anew all step =
-    without_shut service given next acts (Lost id) bytes at_once step.1 (loss_stands service given s sound id acts bytes all next step.0)
-step_stands service given s next sound n acts Quiet bytes at_once turns anew all step =
-    without_shut service given next acts Quiet bytes at_once step.1
-    (subst (λ (x : State). AllStand service given x (acts ++ (Gave Quiet bytes ∷ []))) (sym step.0)
-    (AllStand-quiet service given s acts (Gave Quiet bytes ∷ []) (λ j t. refl) all))
-step_stands service given s next sound n acts Over bytes at_once turns anew all step =
-    without_shut service given next acts Over bytes at_once step.1
-    (subst (λ (x : State). AllStand service given x (acts ++ (Gave Over bytes ∷ []))) (sym step.0)
-    (AllStand-quiet service given s acts (Gave Over bytes ∷ []) (λ j t. refl) all))
+module _ (service : Service) (given : List Stored) (s next : State) (sound : IsSound service s) (n : ℕ) (acts : List Act)
+    (turns : Turns service (empty_hall given) n acts s) (all : AllStand service given s acts) where
+  pub step_stands : (event : Event) (bytes : List ℕ) (at_once : Option ℕ) → OpensAnew acts event →
+      Step service s event bytes next at_once → AllStand service given next (acts ++ (Gave event bytes ∷ shut at_once))
+  step_stands (Opened id) bytes at_once anew step =
+      opening_stands service given s id acts bytes all n turns (anew id refl) next at_once step
+  step_stands (Bytes id m) bytes at_once anew step =
+      without_shut service given next acts (Bytes id m) bytes at_once step.1
+      (bytes_stand service given s sound id acts all m bytes next step.0)
+  step_stands (Ended id) bytes at_once anew step =
+      without_shut service given next acts (Ended id) bytes at_once step.1
+      (end_stands service given s sound id acts all bytes next step.0)
+  step_stands (Lost id) bytes at_once anew step =
+      without_shut service given next acts (Lost id) bytes at_once step.1
+      (loss_stands service given s sound id acts bytes all next step.0)
+  step_stands Quiet bytes at_once anew step =
+      without_shut service given next acts Quiet bytes at_once step.1
+      (subst (λ (x : State). AllStand service given x (acts ++ (Gave Quiet bytes ∷ []))) (sym step.0)
+      (AllStand-quiet service given s acts (Gave Quiet bytes ∷ []) (λ j t. refl) all))
+  step_stands Over bytes at_once anew step =
+      without_shut service given next acts Over bytes at_once step.1
+      (subst (λ (x : State). AllStand service given x (acts ++ (Gave Over bytes ∷ []))) (sym step.0)
+      (AllStand-quiet service given s acts (Gave Over bytes ∷ []) (λ j t. refl) all))

@@ -6,7 +6,7 @@ use Rattle.edge_io.specs.Hub.{HubSeen, IsFresh, IsFreshAmong, Tells}
 use Rattle.edge_io.specs.declared.event.Event.{Event}
 use Rattle.edge_io.specs.declared.event.Event.TheVariants.{Over}
 use Rattle.edge_io.proofs.CallerLemmas.{IsFresh-later, OpensOnce-more, OpensOnce-none, Tells-more, Tells-none}
-use Rattle.hall.proofs.SeatLemmas.{id_of}
+use Rattle.hall.proofs.SeatCountLemmas.{id_of}
 use Rattle.hall.specs.Sends.{Closes, Sends, nothing, taken, broken, gone, stays, done}
 use Rattle.hall.specs.Served.{ClosedDone, Goes, OpenOnceIn, SentPiece, Served, ServedAll, ServedEach, ServedOne, ServedSeat, Stepped, Takes, TookTurn, TookTurns, Turned}
 use Rattle.hall.specs.State.{Connection, Service, State}

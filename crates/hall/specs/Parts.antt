@@ -153,7 +153,8 @@ pub record IsSearchOf (world : WorldValue) (stored : List Stored) (bytes : List 
   pub job : IsJobOf world (take before stored) (part bytes span) place pending
 
 -- where the search of a seat waits, it is that of its connection
-abbrev pub IsSearchIn : WorldValue → List Stored → List ℕ → Bool → Option ℕ → Kept → Type 0
+abbrev pub IsSearchIn : (world : WorldValue) (stored : List Stored) (bytes : List ℕ) (ended : Bool) (whole :
+    Option ℕ) → Kept → Type 0
 IsSearchIn world stored bytes ended whole phases.Reading = Unit {0}
 IsSearchIn world stored bytes ended whole (phases.Waits pending place) =
     IsSearchOf world stored bytes ended whole place pending
@@ -218,7 +219,7 @@ pub record Makes (old new : Desk) (relation : Connection → List Stored →
   pub same : service_at new ≡ service_at old
 
 -- a session is given what is fixed for it
-abbrev pub Settles : Desk → Desk → Connection → Connection → ℕ → Bool → Seat → Type 0
+abbrev pub Settles : (old new : Desk) (before c : Connection) (id : ℕ) (away : Bool) (made : Seat) → Type 0
 Settles old new before c id away made =
     Makes old new (Takes (service_at old) (stored_of old.profiles) before c) id away made
 

@@ -34,7 +34,7 @@ OpenOnceIn (Some before) acts = OpensOnce acts
 
 -- why it ends after so many whole turns, of at most so many: the last event came; all turns are spent and
 -- none of their events was the last; or the hub failed to give an event
-abbrev pub EndsBy : ServeEnd → ℕ → ℕ → Bool → HubSeen → HubSeen → Type 0
+abbrev pub EndsBy : ServeEnd → (turns n : ℕ) (over : Bool) (old new : HubSeen) → Type 0
 EndsBy why.Over turns n over old new = (n < turns) × (over ≡ true) × (new.faults ≡ old.faults)
 EndsBy why.TurnsSpent turns n over old new = (n ≡ turns) × (over ≡ false) × (new.faults ≡ old.faults)
 EndsBy why.HubFault turns n over old new = (n < turns) × (over ≡ false) × CountRose old.faults new.faults
@@ -81,7 +81,7 @@ pub record ServedSeated (x : Seated) (s : State) (old : HubSeen) (left : State) 
   pub one : ServedOne x.id x.known old rest new
   pub left_is : left ≡ left_as s x.id rest
 
-abbrev pub ServedSeat : Option Seated → State → HubSeen → State → HubSeen → Type 0
+abbrev pub ServedSeat : Option Seated → (s : State) (old : HubSeen) (left : State) (new : HubSeen) → Type 0
 ServedSeat None s old left new = (left ≡ s) × Goes old new []
 ServedSeat (Some x) s old left new = ServedSeated x s old left new
 
@@ -128,7 +128,8 @@ pub record TookTurn (service : Service) (s : State) (old : HubSeen) (left : Stat
   pub goes : Goes old new acts
 
 -- what a turn comes to, which ends the server or not
-abbrev pub Takes : Service → State → HubSeen → Option ServeEnd → State → HubSeen → Type 0
+abbrev pub Takes : (service : Service) (s : State) (old : HubSeen) → Option ServeEnd → (left : State) (new :
+    HubSeen) → Type 0
 Takes service s old None left new = TookTurn service s old left new
 Takes service s old (Some why.Over) left new = (left ≡ s) × Goes old new (Gave events.Over [] ∷ [])
 Takes service s old (Some why.TurnsSpent) left new = ⊥

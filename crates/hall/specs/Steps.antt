@@ -95,7 +95,8 @@ pub data Loses (s : State) (id : ℕ) : State → Type 0 where
   gone : {c : Connection} → s.known id ≡ Some c → Loses s id (freed s id)
 
 -- what an event changes, with the bytes that came, and which connection is to be closed at once
-abbrev pub Step : Service → State → Event → List ℕ → State → Option ℕ → Type 0
+abbrev pub Step : (service : Service) (s : State) → Event → (bytes : List ℕ) (new : State) (shut : Option ℕ) →
+    Type 0
 Step service s (event.Opened id) bytes new shut = Opens s id new shut
 Step service s (event.Bytes id n) bytes new shut = Hears service s id (with_bytes bytes) new × (shut ≡ None)
 Step service s (event.Ended id) bytes new shut = Hears service s id with_end new × (shut ≡ None)

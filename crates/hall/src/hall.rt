@@ -110,25 +110,21 @@ impl Hall {
         work(&mut self.room);
     }
 
-    /// Sends and closes what each connection has to send and to close.
+    /// Sends and closes what each connection has to send and to close. So after each turn no more
+    /// than 64 sessions are held, no more than 64 connections are turned away, and each frame is
+    /// allowed for its own connection.
     pub fn serve_all<H: Hub>(&mut self, hub: &mut H)
         requires live { AreLive (state_of self.old) (H.seen hub.old) }
         ensures served { ServedAll (state_of self.old) (H.seen hub.old) (state_of self.new)
             (H.seen hub.new) }
         ensures live { AreLive (state_of self.new) (H.seen hub.new) }
         ensures same { service_of self.new ≡ service_of self.old }
+
+        ensures sound { IsSound (service_of self.new) (state_of self.new) }
+        ensures few { (away : Bool) → AreFew (state_of self.new) away }
+        ensures allowed { AreAllowed (service_of self.new) (state_of self.new) }
     {
         serve_seats(&mut self.room, &self.ready, hub);
-    }
-
-    /// What is true of every hall at any moment: no more than 64 sessions are held, and no more
-    /// than 64 connections turned away; and each frame is allowed for its own connection.
-    pub fn is_sound(&self)
-        ensures sound { IsSound (service_of self.now) (state_of self.now) }
-        ensures few { (away : Bool) → AreFew (state_of self.now) away }
-        ensures allowed { AreAllowed (service_of self.now) (state_of self.now) }
-    {
-        let _ = &self.room;
     }
 }
 

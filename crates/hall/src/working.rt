@@ -14,8 +14,9 @@ use crate::room::Room;
 use crate::seat::{Frame, Phase, Seat};
 use crate::seating::answered;
 use crate::seats::{lifted, put, seat_of};
+use item_list::Turn;
 use route_engine::Pending;
-use session_answers::{Turned, turn};
+use session_answers::turn;
 use std::mem::replace;
 
 /// How many labels a turn settles.
@@ -64,8 +65,8 @@ fn turned(desk: &mut Desk, seat: Seat, place: u32, pending: Pending) -> Seat
 {
     let profile = desk.profiles.profile(place);
     match turn(desk.alloc, &desk.world, profile, pending, WORK_QUOTA) {
-        Ok(Turned::More(pending)) => joined(&mut desk.queue, seat, place, pending),
-        Ok(Turned::Frame(frame)) => answered(seat, Frame::Own(frame)),
+        Ok(Turn::More(pending)) => joined(&mut desk.queue, seat, place, pending),
+        Ok(Turn::Done(frame)) => answered(seat, Frame::Own(frame)),
         Err(_) => answered(seat, Frame::Memory),
     }
 }

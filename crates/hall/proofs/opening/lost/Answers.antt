@@ -1,5 +1,5 @@
 use Rattle.std.proofs.Common.{List, None, Option, Some, refl, subst}
-use Rattle.hall.proofs.RoomLemmas.{loses_by}
+use Rattle.hall.proofs.GoneLemmas.{loses_by}
 use Rattle.hall.proofs.SeatLemmas.{known_none}
 use Rattle.hall.proofs.opening.lost.Goals as goal
 use Rattle.hall.specs.Parts.{IsSeatOf, seats_of}
@@ -18,6 +18,6 @@ returns c =
     let new : Room = record { seats = c.put.new.seats; desk = record room.desk { queue = c.left.new.queue } } in
     let found = subst (λ (l : List (Option Seat)). IsSeatOf (seats_of l) c.args.id (Some c.in-Some.k)) c.deref.ensures.value
     c.in-Some.ensures.exact in
-    let lost = loses_by room new c.requires.held c.in-Some.k c.args.id found c.put.ensures.value refl c.left.ensures.value refl
-    c.requires.held.kept in
+    let lost = loses_by room new c.requires.held c.in-Some.k c.args.id found c.put.ensures.value
+    (record { stored = refl; queue = c.left.ensures.value; same = refl; kept = c.requires.held.kept }) in
     record { loses = lost.is; held = lost.held; same = lost.same }

@@ -1,5 +1,5 @@
 use Rattle.std.proofs.Common.{List, None, Option, Some, refl, subst}
-use Rattle.hall.proofs.RoomLemmas.{found_known}
+use Rattle.hall.proofs.GoneLemmas.{found_known}
 use Rattle.hall.proofs.SeatLemmas.{known_none}
 use Rattle.hall.proofs.opening.opened.Goals as goal
 use Rattle.hall.specs.Parts.{IsSeatOf, seats_of}

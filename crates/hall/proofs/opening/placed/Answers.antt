@@ -1,5 +1,6 @@
 use Rattle.std.proofs.Common.{List, Option, arith, subst}
-use Rattle.hall.proofs.SeatLemmas.{free_some, placed_in, seats_long}
+use Rattle.hall.proofs.SeatCountLemmas.{free_some, placed_in}
+use Rattle.hall.proofs.SeatLemmas.{seats_long}
 use Rattle.hall.proofs.opening.placed.Goals as goal
 use Rattle.hall.specs.Parts.{IsFreeSeat, seats_of}
 use Rattle.hall.specs.declared.seat.Seat.{Seat}

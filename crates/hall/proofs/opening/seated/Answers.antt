@@ -1,5 +1,5 @@
 use Rattle.std.proofs.Common.{◌<◌, List, Option, arith, false, subst, true}
-use Rattle.hall.proofs.RoomLemmas.{is_full, opens_away, opens_held}
+use Rattle.hall.proofs.OpeningLemmas.{is_full, opens_away, opens_held}
 use Rattle.hall.proofs.opening.seated.Goals as goal
 use Rattle.hall.specs.Held.{most_sessions}
 use Rattle.hall.specs.Parts.{count_of, seats_of}
@@ -14,8 +14,14 @@ returns-then-count-lt-MOST_SESSIONS c =
     let new : Room = record { seats = c.placed.new.seats; desk = room.desk } in
     let few = subst (λ (l : List (Option Seat)). count_of (seats_of l) false < most_sessions) c.deref.ensures.value
     (omega (arith, c.count.ensures.exact, c.if-count-lt-MOST_SESSIONS.true)) in
-    let opens = opens_held room new c.requires.held c.args.id c.requires.new c.session-seat.result refl c.placed.ensures.placed
-    c.session-seat.ensures.value few in
+    let opens = opens_held room new c.requires.held c.args.id
+    (record {
+      none = c.requires.new;
+      seat = c.session-seat.result;
+      desk = refl;
+      placed = c.placed.ensures.placed;
+      is = c.session-seat.ensures.value;
+    }) few in
     record { opens = opens.is; held = opens.held; same = opens.same }
 
 pub returns-then-count-lt-MOST_SESSIONS-2 : goal.returns-then-count-lt-MOST_SESSIONS-2
@@ -27,8 +33,14 @@ returns-then-count-lt-MOST_SESSIONS-2 c =
     (omega (arith, c.count.ensures.exact, c.if-count-lt-MOST_SESSIONS.false)) in
     let few = subst (λ (l : List (Option Seat)). count_of (seats_of l) true < most_sessions) c.deref-2.ensures.value
     (omega (arith, c.count-2.ensures.exact, c.if-count-lt-MOST_SESSIONS-2.true)) in
-    let opens = opens_away room new c.requires.held c.args.id c.requires.new c.turned_away-seat.result refl placed.ensures.placed
-    c.turned_away-seat.ensures.value many few in
+    let opens = opens_away room new c.requires.held c.args.id
+    (record {
+      none = c.requires.new;
+      seat = c.turned_away-seat.result;
+      desk = refl;
+      placed = placed.ensures.placed;
+      is = c.turned_away-seat.ensures.value;
+    }) many few in
     record { opens = opens.is; held = opens.held; same = opens.same }
 
 pub returns-clause-opens : goal.returns-clause-opens

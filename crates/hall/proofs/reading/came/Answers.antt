@@ -1,11 +1,12 @@
 use Rattle.std.proofs.Common.{List, Option, Some, None, refl, subst, sym, arith}
-use Rattle.hall.proofs.RoomLemmas.{hears_by, reader_is}
+use Rattle.hall.proofs.ReaderLemmas.{hears_by, reader_is}
 use Rattle.hall.proofs.SeatLemmas.{seat_taken, seats_long}
 use Rattle.hall.specs.Parts.{HaveOneSeat, IsReaderOf, seats_of}
 use Rattle.hall.specs.Steps.{ignored, with_bytes}
 use Rattle.hall.specs.declared.room.Room.{Room}
 use Rattle.hall.specs.declared.seat.Seat.{Seat}
 use Rattle.hall.proofs.reading.came.Goals as goal
+use Rattle.hall.proofs.RoomLemmas.{IsReplaced, replaced}
 
 pub reader_of-requires : goal.reader_of-requires
 reader_of-requires c = record {
@@ -36,8 +37,9 @@ returns c =
     let new : Room = record { seats = c.put.new.seats; desk = c.read-seat.new.desk } in
     let found = subst (λ (l : List (Option Seat)). IsReaderOf (seats_of l) c.args.id (Some c.in-Some.k)) c.deref.ensures.value
     c.in-Some.ensures.exact in
-    let heard = hears_by room new c.requires.held c.in-Some.k c.args.id c.lifted-seat.result c.read-seat.result
-    c.lifted-seat.new.seats.items
-    (with_bytes c.args.bytes.now) (λ d. (refl, refl)) found c.lifted-seat.ensures.exact c.lifted-seat.ensures.left c.put.ensures.value
-    c.read-seat.ensures.settles in
+    let back : IsReplaced room new c.in-Some.k c.lifted-seat.result (Some c.read-seat.result) =
+    replaced room new c.in-Some.k c.lifted-seat.result (Some c.read-seat.result) c.lifted-seat.new.seats.items c.lifted-seat.ensures.exact
+    c.lifted-seat.ensures.left c.put.ensures.value in
+    let heard = hears_by room new c.requires.held c.in-Some.k c.lifted-seat.result c.read-seat.result back c.args.id
+    (with_bytes c.args.bytes.now) (λ d. (refl, refl)) found c.read-seat.ensures.settles in
     record { hears = heard.is; held = heard.held; same = heard.same }

@@ -1,5 +1,6 @@
 use Rattle.std.proofs.Common.{arith}
-use Rattle.hall.proofs.SeatLemmas.{reader_none, reader_unread, seats_long}
+use Rattle.hall.proofs.SeatFindLemmas.{reader_none, reader_unread}
+use Rattle.hall.proofs.SeatLemmas.{seats_long}
 use Rattle.hall.proofs.seats.reader_of.Goals as goal
 use Rattle.hall.specs.Parts.{seats_of}
 

@@ -1,5 +1,5 @@
 use Rattle.std.proofs.Common.{◌≡◌, ◌≢◌, ℕ, get_or, Some, None, below_more}
-use Rattle.hall.proofs.SeatLemmas.{seat_has, seat_misses}
+use Rattle.hall.proofs.SeatFindLemmas.{seat_has, seat_misses}
 use Rattle.hall.specs.Parts.{seats_of}
 use Rattle.hall.specs.View.{Seated}
 use Rattle.hall.proofs.seats.seat_of.Goals as goal

@@ -1,6 +1,6 @@
 -- A connection is lifted, served, and put back or dropped.
 use Rattle.std.proofs.Common.{Some, refl, ◌∙◌}
-use Rattle.hall.proofs.RoomLemmas.{lifted_known, put_back}
+use Rattle.hall.proofs.RoomLemmas.{IsReplaced, lifted_known, replaced}
 use Rattle.hall.proofs.SeatLemmas.{free_none, seat_lifts, seats_read}
 use Rattle.hall.proofs.ServingLemmas.{seat_free, seat_gone, seat_kept}
 use Rattle.hall.proofs.serving.serve_seat.Goals as goal
@@ -35,9 +35,10 @@ returns-in-Some g c =
     let room = c.args.room.now in
     let new : Room = record { seats = c.put.new.seats; desk = room.desk } in
     let made = c.in-Some.seat in
-    let served = seat_kept room new c.requires.held c.args.k c.lifted-seat.result made c.lifted-seat.ensures.exact
-    (put_back room.seats.items c.lifted-seat.new.seats.items c.put.new.seats.items c.args.k (Some made) c.lifted-seat.ensures.left
-    c.put.ensures.value) refl
+    let back : IsReplaced room new c.args.k c.lifted-seat.result (Some made) =
+    replaced room new c.args.k c.lifted-seat.result (Some made) c.lifted-seat.new.seats.items c.lifted-seat.ensures.exact
+    c.lifted-seat.ensures.left c.put.ensures.value in
+    let served = seat_kept room new c.requires.held c.args.k c.lifted-seat.result made back refl
     (g.H.Hub.seen c.args.hub.now) (g.H.Hub.seen c.served.new.hub) c.requires.live c.in-Some.ensures.kept c.in-Some.ensures.served in
     record { served = served.served; others = served.others; live = served.live; held = served.held; same = served.same }
 
@@ -45,7 +46,8 @@ pub returns-in-None : goal.returns-in-None
 returns-in-None g c =
     let room = c.args.room.now in
     let new : Room = record { seats = c.lifted-seat.new.seats; desk = record room.desk { queue = c.left.new.queue } } in
-    let served = seat_gone room new c.requires.held c.args.k c.lifted-seat.result c.lifted-seat.ensures.exact c.lifted-seat.ensures.left
-    refl c.left.ensures.value refl
-    c.requires.held.kept (g.H.Hub.seen c.args.hub.now) (g.H.Hub.seen c.served.new.hub) c.requires.live c.in-None.ensures.served in
+    let served = seat_gone room new c.requires.held c.args.k c.lifted-seat.result
+    (record { has = c.lifted-seat.ensures.exact; now = c.lifted-seat.ensures.left })
+    (record { stored = refl; queue = c.left.ensures.value; same = refl; kept = c.requires.held.kept })
+    (g.H.Hub.seen c.args.hub.now) (g.H.Hub.seen c.served.new.hub) c.requires.live c.in-None.ensures.served in
     record { served = served.served; others = served.others; live = served.live; held = served.held; same = served.same }

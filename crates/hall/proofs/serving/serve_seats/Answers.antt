@@ -1,6 +1,7 @@
 -- No seat, and then one more.
 use Rattle.std.proofs.Common.{◌≡◌, ◌∙◌, ℕ, List, Option, None, add-one, ap, get_or, option_map, refl, subst, sym, take, arith}
-use Rattle.hall.proofs.SeatLemmas.{ids_next, ids_of, seats_get, seats_long}
+use Rattle.hall.proofs.SeatCountLemmas.{ids_next, ids_of}
+use Rattle.hall.proofs.SeatLemmas.{seats_get, seats_long}
 use Rattle.hall.proofs.ServingLemmas.{all_served}
 use Rattle.hall.proofs.TurnLemmas.{none_served, one_more_seat}
 use Rattle.hall.proofs.serving.serve_seats.Goals as goal

@@ -1,6 +1,6 @@
 -- So many seats are served.
 use Rattle.std.proofs.Common.{◌≡◌, ◌≤◌, ℕ, None, get_or, take}
-use Rattle.hall.proofs.SeatLemmas.{ids_of}
+use Rattle.hall.proofs.SeatCountLemmas.{ids_of}
 use Rattle.hall.proofs.serving.serve_seats.Given as goal
 use Rattle.hall.specs.Parts.{IsHeld, seats_of, service_in, state_in}
 use Rattle.hall.specs.Served.{AreLive, ServedEach}

@@ -41,8 +41,8 @@ returns-in-Ok-More c =
           c.joined.result c.joined.ensures.joins;
     }
 
-pub returns-in-Ok-Frame : goal.returns-in-Ok-Frame
-returns-in-Ok-Frame c =
+pub returns-in-Ok-Done : goal.returns-in-Ok-Done
+returns-in-Ok-Done c =
     let desk = c.args.desk.now in
     let search = c.requires.search in
     let world = world_of desk.world in
@@ -50,11 +50,11 @@ returns-in-Ok-Frame c =
     let query = part (received_of c.args.seat.received) search.span in
     let there = job_profile world query c.args.place c.args.pending search.before (stored_of desk.profiles) search.job
     (sections_in c.profile-profile.result.now) c.profile-profile.ensures.value in
-    let turned = subst (TurnsTo world stored query c.args.place) c.in-Ok-Frame.field-0-is
-    (c.in-Ok-Frame.ensures.exact stored query c.args.place search.job there) in
+    let turned = subst (TurnsTo world stored query c.args.place) c.in-Ok-Done.field-0-is
+    (c.in-Ok-Done.ensures.exact stored query c.args.place search.job there) in
     record {
       works = works_frame desk c.args.seat c.args.place c.args.pending search c.requires.kept c.answered.result
-          (frames.Own c.in-Ok-Frame.frame) turned c.answered.ensures.value;
+          (frames.Own c.in-Ok-Done.frame) turned c.answered.ensures.value;
     }
 
 pub returns-in-Err : goal.returns-in-Err

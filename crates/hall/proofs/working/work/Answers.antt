@@ -1,5 +1,5 @@
-use Rattle.std.proofs.Common.{List, Option, arith, refl, subst}
-use Rattle.hall.proofs.RoomLemmas.{front_seat, front_waits, works_by}
+use Rattle.std.proofs.Common.{List, Option, arith, refl, subst, Some}
+use Rattle.hall.proofs.FrontLemmas.{front_seat, front_waits, works_by}
 use Rattle.hall.proofs.SeatLemmas.{seat_taken, seats_long}
 use Rattle.hall.proofs.WorkingLemmas.{works_idle}
 use Rattle.hall.proofs.working.work.Goals as goal
@@ -7,6 +7,7 @@ use Rattle.hall.specs.Parts.{IsSeatOf, seats_of}
 use Rattle.hall.specs.declared.desk.Desk.{Desk}
 use Rattle.hall.specs.declared.room.Room.{Room}
 use Rattle.hall.specs.declared.seat.Seat.{Seat}
+use Rattle.hall.proofs.RoomLemmas.{IsReplaced, replaced}
 
 pub unwrap-k-requires : goal.unwrap-k-requires
 unwrap-k-requires c =
@@ -54,7 +55,9 @@ returns c =
     c.seat_of.ensures.exact) in
     let front = front_waits room c.requires.held c.in-Some.id c.pop_front.new.self.items c.in-Some.ensures.items k seat found
     c.lifted-seat.ensures.exact in
-    let worked = works_by room new c.requires.held k c.in-Some.id seat c.worked-seat.result c.lifted-seat.new.seats.items desk
-    c.in-Some.ensures.items front.0
-    c.lifted-seat.ensures.exact c.lifted-seat.ensures.left c.put.ensures.value c.worked-seat.ensures.works refl refl in
+    let back : IsReplaced room new k seat (Some c.worked-seat.result) =
+    replaced room new k seat (Some c.worked-seat.result) c.lifted-seat.new.seats.items c.lifted-seat.ensures.exact
+    c.lifted-seat.ensures.left c.put.ensures.value in
+    let worked = works_by room new c.requires.held k seat c.worked-seat.result back c.in-Some.id desk c.in-Some.ensures.items front.0
+    c.worked-seat.ensures.works refl refl in
     record { works = worked.is; held = worked.held; same = worked.same }

@@ -1,6 +1,8 @@
-use Rattle.std.proofs.Common.{ap, subst, sym, ◌∙◌}
+use Rattle.std.proofs.Common.{ap, refl, subst, sym, ◌∙◌}
+use Rattle.hall.proofs.SeatCountLemmas.{counts}
+use Rattle.hall.proofs.SoundLemmas.{are_allowed}
 use Rattle.hall.proofs.hall.Hall.serve_all.Goals as goal
-use Rattle.hall.specs.Parts.{state_in}
+use Rattle.hall.specs.Parts.{count_of, seats_of, service_in, state_in}
 use Rattle.hall.specs.Served.{AreLive, ServedAll}
 use Rattle.hall.specs.View.{HallValue, service_of, state_of}
 
@@ -25,3 +27,22 @@ returns-clause-live g c = c.serve_seats.ensures.live
 pub returns-clause-same : goal.returns-clause-same
 unfolding service_of
 returns-clause-same g c = c.serve_seats.ensures.same ∙ ap service_of c.self.view_is
+
+-- what is left is sound
+pub returns-clause-sound : goal.returns-clause-sound
+unfolding state_of service_of
+returns-clause-sound g c = c.serve_seats.ensures.held.sound
+
+pub returns-clause-few : goal.returns-clause-few
+unfolding state_of
+returns-clause-few g c = λ away.
+    let room = c.serve_seats.new.room in
+    let held = c.serve_seats.ensures.held in
+    let seats = seats_of room.seats.items in
+    (count_of seats away, counts (state_in room) seats away refl held.once, held.few away)
+
+pub returns-clause-allowed : goal.returns-clause-allowed
+unfolding state_of service_of
+returns-clause-allowed g c =
+    let room = c.serve_seats.new.room in
+    are_allowed (service_in room) (state_in room) c.serve_seats.ensures.held.sound
