@@ -1,6 +1,12 @@
 //! What texts come to.
 
-ghost use Rattle.std.specs.Prelude.{IfSome};
+ghost use Rattle.std.specs.Prelude.{◌≡◌, ◌⊎◌, ◌<◌, ◌^◌, [], length, Ok, IfErr, IfOk, IfSome};
+ghost use Rattle.case_inputs.specs.Inputs.{IsCodeIn};
+ghost use Rattle.lookup_table.specs.Table as table;
+ghost use Rattle.map_tables.specs.declared.error.MapError.TheVariants.{NoMemory};
+ghost use Rattle.overpass_graph.specs.Builder.{IsFaultOfBeginning, IsFaultOfText, IsMapOfText};
+ghost use Rattle.profile_text.specs.Expr.{sections_in};
+ghost use Rattle.profile_text.specs.Read as read;
 ghost use Rattle.way_class.specs.Parts.{HasTags};
 
 use context_check::{Overrides, check};
@@ -11,7 +17,9 @@ use profile_text::Profile;
 use std::alloc::Global;
 
 /// The tag table of a text; none where it is refused.
-pub fn table_of(alloc: Global, text: &[u8]) -> Option<Table> {
+pub fn table_of(alloc: Global, text: &[u8]) -> Option<Table>
+    ensures only { IfSome result (λ rows. table.table_of text.now ≡ Ok rows) }
+{
     if text.len() >= 1 << 32 {
         return None;
     }
@@ -19,7 +27,9 @@ pub fn table_of(alloc: Global, text: &[u8]) -> Option<Table> {
 }
 
 /// The profile of a text; none where it is refused.
-pub fn profile_of(alloc: Global, text: &[u8]) -> Option<Profile> {
+pub fn profile_of(alloc: Global, text: &[u8]) -> Option<Profile>
+    ensures only { IfSome result (λ profile. read.profile_of text.now ≡ Ok (sections_in profile)) }
+{
     if text.len() >= 1 << 31 {
         return None;
     }
@@ -28,6 +38,7 @@ pub fn profile_of(alloc: Global, text: &[u8]) -> Option<Profile> {
 
 /// The code of a profile's text under a table; none where it is refused.
 pub fn code_of(alloc: Global, table: &Table, text: &[u8]) -> Option<Code>
+    ensures only { IfSome result (IsCodeIn table.now text.now []) }
     ensures fits { IfSome result (λ code. HasTags code table.now) }
 {
     code_with(alloc, table, text, &Overrides::new(alloc))
@@ -35,6 +46,7 @@ pub fn code_of(alloc: Global, table: &Table, text: &[u8]) -> Option<Code>
 
 /// The code of a profile's text under a table and overrides; none where it is refused.
 pub fn code_with(alloc: Global, table: &Table, text: &[u8], overrides: &Overrides) -> Option<Code>
+    ensures only { IfSome result (IsCodeIn table.now text.now overrides.now) }
     ensures fits { IfSome result (λ code. HasTags code table.now) }
 {
     let profile = profile_of(alloc, text)?;
@@ -48,10 +60,17 @@ pub fn code_with(alloc: Global, table: &Table, text: &[u8], overrides: &Override
 }
 
 /// The map of a text, or its first fault; of a text of 2^60 bytes and more nothing is read.
-pub fn map_of(alloc: Global, text: &[u8]) -> Result<Map, MapError> {
+pub fn map_of(alloc: Global, text: &[u8]) -> Result<Map, MapError>
+    ensures found { length text.now < 2 ^ 60 → IfOk result (IsMapOfText text.now) }
+    ensures cause { length text.now < 2 ^ 60 → IfErr result (λ e.
+        e ≡ NoMemory ⊎ (IsFaultOfBeginning text.now e ⊎ IsFaultOfText text.now e)) }
+{
     let mut builder = MapBuilder::new(alloc);
-    if text.len() < 1 << 60 {
-        builder.feed(text)?;
+    if text.len() >= 1 << 60 {
+        return builder.finish();
     }
-    builder.finish()
+    match builder.feed(text) {
+        Ok(()) => builder.finish(),
+        Err(fault) => Err(fault),
+    }
 }

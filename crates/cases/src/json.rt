@@ -5,7 +5,7 @@ ghost use Rattle.json_text.specs.Scanner.{fed, has_ended};
 
 use crate::texts::{NO_CALL, text_of};
 use case_rows::{Case, place_of};
-use json_text::{JsonStep, Scanner};
+use json_text::{JsonAnswer, JsonStep, Scanner, Verdict};
 use std::alloc::{AllocError, Global};
 
 /// The calls on JSON texts.
@@ -21,7 +21,7 @@ pub(crate) fn answer(alloc: Global, case: &Case) -> Result<String, AllocError> {
     }
 }
 
-/// The sign of a step or a verdict.
+/// The sign of a step.
 fn sign(step: JsonStep) -> &'static [u8] {
     match step {
         JsonStep::Open => b"{",
@@ -34,27 +34,25 @@ fn sign(step: JsonStep) -> &'static [u8] {
         JsonStep::True => b"T",
         JsonStep::False => b"F",
         JsonStep::Null => b"N",
-        JsonStep::Done => b".",
-        JsonStep::More => b"?",
-        JsonStep::Bad { .. } => b"!",
     }
 }
 
-/// Appends a step with its content behind it, or a verdict with its byte.
-fn tell(
-    alloc: Global,
-    told: &mut Vec<u8>,
-    scanner: &Scanner,
-    step: JsonStep,
-) -> Result<(), AllocError> {
+/// Appends a step with its content behind it.
+fn tell_step(told: &mut Vec<u8>, scanner: &Scanner, step: JsonStep) -> Result<(), AllocError> {
     told.extend_from_slice(sign(step))?;
     if matches!(step, JsonStep::Key | JsonStep::Text | JsonStep::Number) {
         told.extend_from_slice(scanner.text())?;
     }
-    if let JsonStep::Bad { at } = step {
-        told.extend_from_slice(format!(in alloc; "{at}")?.as_bytes())?;
+    told.extend_from_slice(b" ")
+}
+
+/// Appends a verdict with its byte.
+fn tell_verdict(alloc: Global, told: &mut Vec<u8>, verdict: Verdict) -> Result<(), AllocError> {
+    match verdict {
+        Verdict::Whole => told.extend_from_slice(b"."),
+        Verdict::More => told.extend_from_slice(b"?"),
+        Verdict::BadAt(at) => told.extend_from_slice(format!(in alloc; "!{at}")?.as_bytes()),
     }
-    Ok(())
 }
 
 /// Takes every step that is fixed, and tells it; behind them the verdict, if it is to be told.
@@ -68,15 +66,15 @@ fn take_steps(
     ensures ended { has_ended scanner.new ≡ has_ended scanner.old }
 {
     'steps: for _ in 0..u32::MAX {
-        let step = scanner.next()?;
-        if matches!(step, JsonStep::Done | JsonStep::More | JsonStep::Bad { .. }) {
-            if verdict {
-                tell(alloc, told, scanner, step)?;
+        match scanner.next()? {
+            JsonAnswer::Step(step) => tell_step(told, scanner, step)?,
+            JsonAnswer::Verdict(said) => {
+                if verdict {
+                    tell_verdict(alloc, told, said)?;
+                }
+                return Ok(());
             }
-            return Ok(());
         }
-        tell(alloc, told, scanner, step)?;
-        told.push(b' ')?;
     }
     Ok(())
 }

@@ -5,12 +5,15 @@ ghost use Rattle.cases.specs.LineSpace.{rules_of};
 ghost use Rattle.cases.specs.Toll.{toll_rules};
 ghost use Rattle.space_search.specs.Rules.{Rules};
 ghost use Rattle.space_search.specs.Searches.{IsSearchOf, IsReadable};
+ghost use Rattle.space_search.specs.Turns.{EndsSearch};
+ghost use Rattle.space_search.specs.View.{view};
 
 use crate::line::Line;
 use crate::texts::{NO_CALL, yes_or_no};
 use crate::toll::Toll;
 use case_rows::{Case, place_of};
-use space_search::{Outcome, Search, Turn, least};
+use item_list::Turn;
+use space_search::{Outcome, Search, least};
 use std::alloc::{AllocError, Global};
 
 /// The calls on searches, of which the last three are on whole searches.
@@ -50,19 +53,22 @@ fn number(case: &Case, place: usize) -> u32
 fn whole(alloc: Global, case: &Case) -> Result<String, AllocError> {
     let line = Line::new(number(case, 1), number(case, 2));
     match least(alloc, &line, u64::from(number(case, 3)))? {
-        Outcome::Found { choices, cost } => format!(in alloc; "{:?} {cost}", choices.as_slice()),
+        Outcome::Found(run) => {
+            let cost = run.cost;
+            format!(in alloc; "{:?} {cost}", run.choices.as_slice())
+        }
         Outcome::NoWay => String::from_str(alloc, "none"),
         Outcome::Budget => String::from_str(alloc, "spent"),
     }
 }
 
 /// What an answer of a turn is called.
-fn word_of(turn: Turn) -> &'static str {
+fn word_of(turn: Turn<(), Outcome<u32>>) -> &'static str {
     match turn {
-        Turn::More => "more",
-        Turn::Found { .. } => "found",
-        Turn::NoWay => "none",
-        Turn::Budget => "spent",
+        Turn::More(_) => "more",
+        Turn::Done(Outcome::Found(_)) => "found",
+        Turn::Done(Outcome::NoWay) => "none",
+        Turn::Done(Outcome::Budget) => "spent",
     }
 }
 
@@ -98,10 +104,26 @@ fn told_tolls(
     tell_labels(alloc, &mut text, search)?;
     let second = search.turn(toll, 1)?;
     write!(text, " {}", word_of(second))?;
-    if let Turn::Found { label } = second {
-        tell_label(alloc, &mut text, search, label)?;
+    if let Turn::Done(end) = second {
+        tell_goal(alloc, &mut text, search, end)?;
     }
     Ok(text)
+}
+
+/// Writes the goal of a search at its end, where one was found.
+fn tell_goal(
+    alloc: Global,
+    text: &mut String,
+    search: &Search<(u32, u32)>,
+    end: Outcome<u32>,
+) -> Result<(), AllocError>
+    requires ends { (rules : Rules (ℕ × ℕ)) × IsSearchOf rules search.now ×
+        EndsSearch rules (view search.now) end }
+{
+    match end {
+        Outcome::Found(label) => tell_label(alloc, text, search, label),
+        _ => Ok(()),
+    }
 }
 
 /// Writes the settled labels of a search.

@@ -10,11 +10,12 @@ use crate::answers::OUTSIDE;
 use crate::given::{Given, rates_of};
 use crate::space::ways::given_by_ways;
 use crate::space::woken::least_walk_woken;
-use bike_space::{BikeSpace, Walked, least_walk};
+use bike_space::{BikeSpace, LegAsk, Walk, least_walk};
 use case_rows::{Case, place_of};
-use cost_model::{FactsOf, Rates, modes};
+use cost_model::{FactsOf, PricedMap, Rates, TerrainOf, modes};
 use junction_runs::least_walk_by_runs;
 use overpass_graph::Map;
+use space_search::Outcome;
 use std::alloc::{AllocError, Global};
 
 /// The searches for a walk: from link to link, from junction to junction, and with a space that
@@ -95,57 +96,49 @@ fn walk(
     given: &Given,
     rates: &Rates,
     ends: Ends,
-) -> Result<Walked, AllocError>
+) -> Result<Outcome<Walk>, AllocError>
     requires counted { length given.now.facts.items ≡ length map.now.links }
     requires ends { AreEnds (length map.now.nodes) ends.from ends.target ends.limit }
 {
     let cut = marks(alloc, case.word(15), map.links())?;
     let used = marks(alloc, case.word(16), map.links())?;
-    let space = BikeSpace::new(
-        alloc,
-        map,
-        given,
-        rates,
-        modes(given),
-        cut.as_slice(),
-        used.as_slice(),
-        ends.from,
-        ends.target,
-        case.count(4) == 1,
-    )?;
-    walked(alloc, case, space, map, given, rates, ends.limit)
+    let terrain = PricedMap::new(map, given, rates, modes(given));
+    let ask = LegAsk {
+        cut: cut.as_slice(),
+        used: used.as_slice(),
+        start: ends.from,
+        target: ends.target,
+        turns: case.count(4) == 1,
+    };
+    let space = BikeSpace::new(alloc, terrain, &ask)?;
+    walked(alloc, case, space, terrain, ends.limit)
 }
 
-/// What a search over this space answers, which stands on the map, the facts and the rates, by the
-/// case's first word.
-fn walked<'a>(
+/// What a search over this space of a terrain answers, by the case's first word.
+fn walked<G: TerrainOf>(
     alloc: Global,
     case: &Case,
-    space: BikeSpace<'a, Given>,
-    map: &'a Map,
-    given: &'a Given,
-    rates: &'a Rates,
+    space: BikeSpace<G>,
+    terrain: G,
     limit: u64,
-) -> Result<Walked, AllocError>
+) -> Result<Outcome<Walk>, AllocError>
     requires small { limit < 2 ^ 32 }
     requires differ { space.kept.start ≢ space.kept.target }
-    requires map { space.map.now ≡ map.now }
-    requires facts { space.facts.now ≡ given.now }
-    requires rates { space.rates.now ≡ rates.now }
+    requires terrain { space.terrain ≡ terrain }
 {
     match place_of(&SEARCHES, case.word(0)) {
         1 => least_walk_by_runs(alloc, &space, limit),
-        2 => least_walk_woken(alloc, space, map, given, rates, limit),
+        2 => least_walk_woken(alloc, space, terrain, limit),
         _ => least_walk(alloc, &space, limit),
     }
 }
 
 /// The answer as a line.
-fn told(alloc: Global, walked: Walked) -> Result<String, AllocError> {
-    match walked {
-        Walked::NoWay => String::from_str(alloc, "no way"),
-        Walked::Budget => String::from_str(alloc, "limit spent"),
-        Walked::Found { walk, rank } => walk_told(alloc, walk.as_slice(), rank),
+fn told(alloc: Global, outcome: Outcome<Walk>) -> Result<String, AllocError> {
+    match outcome {
+        Outcome::NoWay => String::from_str(alloc, "no way"),
+        Outcome::Budget => String::from_str(alloc, "limit spent"),
+        Outcome::Found(walk) => walk_told(alloc, walk.links.as_slice(), walk.rank),
     }
 }
 

@@ -11,7 +11,7 @@ use crate::given::{Given, rates_of};
 use crate::track::facts::{given_by_words, number};
 use crate::track::legs::{numbers, track};
 use case_rows::{Case, place_of};
-use cost_model::{FactsOf, Rates};
+use cost_model::{FactsOf, PricedMap, Rates, modes};
 use item_list::Items;
 use overpass_graph::Map;
 use std::alloc::{AllocError, Global};
@@ -100,7 +100,8 @@ fn with_cut(
 {
     let cut = cut_of(alloc, case.word(5))?;
     let turns = case.word(4) == b"turns".as_slice();
-    let is_track = recheck(track, map, given, rates, cut.as_slice(), turns);
+    let terrain = PricedMap::new(map, given, rates, modes(given));
+    let is_track = recheck(track, &terrain, cut.as_slice(), turns);
     String::from_str(alloc, if is_track { "yes" } else { "no" })
 }
 
@@ -116,25 +117,19 @@ fn rows_told(
     requires counted { length given.now.facts.items ≡ length map.now.links }
 {
     let track = track(alloc, case.text(4), case.text(5))?;
-    if recheck(&track, map, given, rates, &[], false) {
-        rows_of(alloc, map, given, rates, &track)
+    let terrain = PricedMap::new(map, given, rates, modes(given));
+    if recheck(&track, &terrain, &[], false) {
+        rows_of(alloc, given, rates, &track)
     } else {
         String::from_str(alloc, "no track")
     }
 }
 
 /// The rows of a track.
-fn rows_of(
-    alloc: Global,
-    map: &Map,
-    given: &Given,
-    rates: &Rates,
-    track: &Track,
-) -> Result<String, AllocError>
-    requires counted { length given.now.facts.items ≡ length map.now.links }
-    requires in_range { HasLinksBelow (length map.now.links) track.now }
+fn rows_of(alloc: Global, given: &Given, rates: &Rates, track: &Track) -> Result<String, AllocError>
+    requires in_range { HasLinksBelow (length given.now.facts.items) track.now }
 {
-    told(alloc, &rows(alloc, track, map, given, rates)?)
+    told(alloc, &rows(alloc, track, given, rates)?)
 }
 
 /// Rows in a line: of each its link and its five parts.

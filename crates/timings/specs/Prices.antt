@@ -10,8 +10,8 @@ abbrev pub price_of : ℕ → Option ℕ
 price_of number = if nat_lt number NONE then Some number else None
 
 -- the prices of links by a list of lengths
-abbrev pub prices_of : List ℕ → ℕ → Option ℕ
-prices_of numbers link = price_of (get_or numbers link 0)
+abbrev pub length_prices : List ℕ → ℕ → Option ℕ
+length_prices numbers link = price_of (get_or numbers link 0)
 
 -- each price is below the bound
 pub price-small : (number price : ℕ) → price_of number ≡ Some price → price < PRICE_BOUND

@@ -7,12 +7,12 @@ ghost use Rattle.way_class.specs.Links.{links_of};
 use crate::draws::Draws;
 use crate::plan::Plan;
 use crate::searching::{Ended, settle, word_of};
-use bike_space::BikeSpace;
-use cost_model::{FactsOf, Rates, modes};
+use bike_space::{BikeSpace, LegAsk};
+use cost_model::{FactsOf, PricedMap, Rates, modes};
 use elev_buffer::Modes;
 use junction_runs::RunSpace;
 use overpass_graph::Map;
-use space_search::Turn;
+use space_search::Outcome;
 use std::alloc::AllocError;
 use std::io;
 use way_class::Bound;
@@ -47,7 +47,7 @@ impl Totals {
     fn add(&mut self, ended: &Ended) {
         self.searches = self.searches.wrapping_add(1);
         self.labels = self.labels.wrapping_add(ended.labels as u64);
-        if matches!(ended.last, Turn::Found { .. }) {
+        if matches!(ended.last, Outcome::Found(_)) {
             self.found = self.found.wrapping_add(1);
             self.ranks = self.ranks.wrapping_add(ended.rank);
         }
@@ -80,7 +80,7 @@ impl<'a> Ground<'a> {
     fn settle(
         &self,
         rt: &HostRuntime,
-        space: &BikeSpace<Bound>,
+        space: &BikeSpace<PricedMap<'a, Bound>>,
         plan: Plan,
     ) -> Result<Ended, AllocError> {
         if plan.by_runs {
@@ -96,11 +96,15 @@ impl<'a> Ground<'a> {
         requires to { to < length self.now.map.now.nodes }
     {
         let marks = self.unmarked.as_slice();
-        let (map, bound, rates, modes) = (self.map, self.bound, self.rates, self.modes);
-        let alloc = rt.alloc();
-        let space = BikeSpace::new(
-            alloc, map, bound, rates, modes, marks, marks, from, to, true,
-        )?;
+        let terrain = PricedMap::new(self.map, self.bound, self.rates, self.modes);
+        let ask = LegAsk {
+            cut: marks,
+            used: marks,
+            start: from,
+            target: to,
+            turns: true,
+        };
+        let space = BikeSpace::new(rt.alloc(), terrain, &ask)?;
         self.settle(rt, &space, plan)
     }
 
@@ -157,7 +161,7 @@ impl<'a> Ground<'a> {
 /// Prints what a search answered.
 fn tell_answer(rt: &HostRuntime, ended: &Ended) -> io::Result<()> {
     match ended.last {
-        Turn::Found { .. } => println!(rt; "Found {{ rank: {} }}", ended.rank),
+        Outcome::Found(_) => println!(rt; "Found {{ rank: {} }}", ended.rank),
         last => println!(rt; "{}", word_of(last)),
     }
 }

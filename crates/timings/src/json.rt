@@ -5,17 +5,19 @@ ghost use Rattle.std.specs.Prelude.{◌≡◌, ◌<◌, false, OnOk};
 ghost use Rattle.json_text.specs.Scanner.{fed, has_ended};
 
 use crate::words::number_at;
-use json_text::{JsonStep, Scanner};
+use json_text::{JsonAnswer, Scanner, Verdict};
 use std::alloc::{AllocError, Global};
 use std::io;
 
 const HEAD: &str = "{\n  \"version\": 0.6,\n  \"elements\": [\n\n";
 
-const NODE: &str =
-    "{\n  \"type\": \"node\",\n  \"id\": 240092010,\n  \"lat\": 49.0069134,\n  \"lon\": 8.4036527\n},\n";
+const NODE: &str = "{\n  \"type\": \"node\",\n  \"id\": 240092010,\n  \"lat\": 49.0069134,\n  \
+     \"lon\": 8.4036527\n},\n";
 
-const WAY: &str =
-    "{\n  \"type\": \"way\",\n  \"id\": 4040540,\n  \"nodes\": [\n    21385236,\n    21385237,\n    21385238,\n    21385239\n  ],\n  \"tags\": {\n    \"highway\": \"residential\",\n    \"name\": \"Kaiserstra\u{df}e\",\n    \"surface\": \"asphalt\"\n  }\n},\n";
+const WAY: &str = "{\n  \"type\": \"way\",\n  \"id\": 4040540,\n  \"nodes\": [\n    21385236,\n    \
+     21385237,\n    21385238,\n    21385239\n  ],\n  \"tags\": {\n    \
+     \"highway\": \"residential\",\n    \"name\": \"Kaiserstra\u{df}e\",\n    \
+     \"surface\": \"asphalt\"\n  }\n},\n";
 
 const LAST: &str =
     "{\n  \"type\": \"node\",\n  \"id\": 1,\n  \"lat\": 49.0,\n  \"lon\": -8.5\n}\n\n  ]\n}\n";
@@ -28,19 +30,18 @@ struct Counts {
 }
 
 /// Takes the steps that are fixed, counts them, and returns the verdict behind them.
-fn take_steps(scanner: &mut Scanner, counts: &mut Counts) -> Result<JsonStep, AllocError>
+fn take_steps(scanner: &mut Scanner, counts: &mut Counts) -> Result<Verdict, AllocError>
     ensures fed { fed scanner.new ≡ fed scanner.old }
     ensures ended { has_ended scanner.new ≡ has_ended scanner.old }
     ensures counted { counts.new.bytes ≡ counts.old.bytes }
 {
     'steps: for _ in 0..u32::MAX {
-        let step = scanner.next()?;
-        if matches!(step, JsonStep::Done | JsonStep::More | JsonStep::Bad { .. }) {
-            return Ok(step);
+        match scanner.next()? {
+            JsonAnswer::Step(_) => counts.steps = counts.steps.wrapping_add(1),
+            JsonAnswer::Verdict(verdict) => return Ok(verdict),
         }
-        counts.steps = counts.steps.wrapping_add(1);
     }
-    Ok(JsonStep::More)
+    Ok(Verdict::More)
 }
 
 /// Feeds a piece, and takes the steps that it fixes.
@@ -115,7 +116,7 @@ fn scan(
     blocks: u64,
     size: usize,
     counts: &mut Counts,
-) -> Result<JsonStep, AllocError>
+) -> Result<Verdict, AllocError>
     requires size { 0 < size }
     requires counted { fed scanner.old ≡ counts.old.bytes }
     requires open { has_ended scanner.old ≡ false }
@@ -127,11 +128,11 @@ fn scan(
 }
 
 /// The word for a verdict.
-fn word_of(verdict: JsonStep) -> &'static str {
+fn word_of(verdict: Verdict) -> &'static str {
     match verdict {
-        JsonStep::Done => "Done",
-        JsonStep::More => "More",
-        _ => "Bad",
+        Verdict::Whole => "Done",
+        Verdict::More => "More",
+        Verdict::BadAt(_) => "Bad",
     }
 }
 

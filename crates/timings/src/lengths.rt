@@ -17,13 +17,13 @@ pub(crate) struct Lengths {
 }
 
 impl LinkPrices for Lengths {
-    ghost use Rattle.timings.specs.Prices.{price-small, prices_of};
+    ghost use Rattle.timings.specs.Prices.{price-small, length_prices};
     ghost use Rattle.std.specs.Prelude.{length};
 
     ghost priced = { λ l. record {
       count = length l.lengths.items;
       price =
-          prices_of l.lengths.items;
+          length_prices l.lengths.items;
     } };
 
     ghost small = { λ l link price below is. price-small _ price is };

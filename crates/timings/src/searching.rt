@@ -1,16 +1,20 @@
 //! A whole search over a space, with how many labels it settled.
 
-ghost use Rattle.std.specs.Prelude.{◌≤◌, IfOk};
-ghost use Rattle.space_search.specs.Turns.{IsLast};
+ghost use Rattle.std.specs.Prelude.{◌≡◌, ◌≤◌, IfOk};
+ghost use Rattle.space_search.specs.Rules.{Rules};
+ghost use Rattle.space_search.specs.Searches.{IsSearchOf};
+ghost use Rattle.space_search.specs.Turns.{EndsSearch};
+ghost use Rattle.space_search.specs.View.{View, view};
 
-use space_search::{Search, Space, Turn};
+use item_list::Turn;
+use space_search::{Outcome, Search, Space};
 use std::alloc::{AllocError, Global};
 
 /// How a search ended.
 #[derive(Clone, Copy)]
 pub(crate) struct Ended {
-    /// Its last answer.
-    pub(crate) last: Turn,
+    /// Its end.
+    pub(crate) last: Outcome<u32>,
     /// The least rank of a goal, where one was found; else 0.
     pub(crate) rank: u128,
     /// How many labels were settled.
@@ -25,38 +29,38 @@ pub(crate) fn settle<S: Space>(
     limit: u32,
 ) -> Result<Ended, AllocError>
     requires some { 1 ≤ quota }
-    ensures last { IfOk result (λ ended. IsLast ended.last) }
+    ensures last { IfOk result (λ ended. (after : View S.State) ×
+        EndsSearch (S.rules space.now) after ended.last) }
 {
     let limit = limit as u64;
     let mut search: Search<S::State> = Search::new(alloc, limit);
     'search: loop {
         match search.turn(space, quota)? {
-            Turn::More => {}
-            Turn::Found { label } => {
-                let rank = search.cost_of(label);
-                return Ok(Ended {
-                    last: Turn::Found { label },
-                    rank,
-                    labels: search.labels(),
-                });
-            }
-            last => {
-                return Ok(Ended {
-                    last,
-                    rank: 0,
-                    labels: search.labels(),
-                });
-            }
+            Turn::More(_) => {}
+            Turn::Done(last) => return Ok(end_of(&search, last)),
         }
     }
 }
 
+/// How this search ended.
+fn end_of<T: Copy + Drop>(search: &Search<T>, last: Outcome<u32>) -> Ended
+    requires ends { (rules : Rules T) × IsSearchOf rules search.now ×
+        EndsSearch rules (view search.now) last }
+    ensures last { result.last ≡ last }
+{
+    let rank = match last {
+        Outcome::Found(label) => search.cost_of(label),
+        _ => 0,
+    };
+    let labels = search.labels();
+    Ended { last, rank, labels }
+}
+
 /// The word for what a search answered.
-pub(crate) fn word_of(turn: Turn) -> &'static str {
-    match turn {
-        Turn::More => "More",
-        Turn::Found { .. } => "Found",
-        Turn::NoWay => "NoWay",
-        Turn::Budget => "Budget",
+pub(crate) fn word_of(last: Outcome<u32>) -> &'static str {
+    match last {
+        Outcome::Found(_) => "Found",
+        Outcome::NoWay => "NoWay",
+        Outcome::Budget => "Budget",
     }
 }

@@ -12,7 +12,8 @@ pub(crate) struct Tariff {
 }
 
 impl LinkPrices for Tariff {
-    ghost priced = { λ t. record { count = length t.prices.items; price = prices_of t.prices.items } };
+    ghost priced = { λ t.
+        record { count = length t.prices.items; price = prices_of t.prices.items } };
 
     ghost small = { λ t link price below is. price-small _ price is };
 

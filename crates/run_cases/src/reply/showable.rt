@@ -7,7 +7,7 @@ ghost use Rattle.track_reply.specs.Showable.{AreAlternativesBelow, AreWalksBelow
 ghost use Rattle.track_reply.specs.Source.{source_of};
 ghost use Rattle.track_legs.specs.Sums.{total_cost, total_rank};
 
-use cost_model::FactsOf;
+use cost_model::{FactsOf, PricedMap, modes};
 use item_list::Items;
 use overpass_graph::Map;
 use track_legs::{Leg, Track, recheck};
@@ -16,14 +16,16 @@ use track_reply::Shown;
 /// Whether a reply may show a track.
 pub(crate) fn is_showable<F: FactsOf>(shown: &Shown<F>, track: &Track) -> bool
     ensures found { let source = source_of shown.now.map.now shown.now.table.now shown.now.tiles.now
-        (F.links shown.now.facts.now) shown.now.rates.now shown.now.name.now shown.now.alternative in
+        (F.links shown.now.facts.now) shown.now.rates.now shown.now.name.now
+        shown.now.alternative in
         IsTrue result → IsShowable source track.now }
 {
     let _links = shown.map.links();
     if shown.facts.count() != shown.map.links() {
         return false;
     }
-    if !recheck(track, shown.map, shown.facts, shown.rates, &[], false) {
+    let terrain = PricedMap::new(shown.map, shown.facts, shown.rates, modes(shown.facts));
+    if !recheck(track, &terrain, &[], false) {
         return false;
     }
     are_within(shown.map, track) && are_sums_small(track)
@@ -84,7 +86,7 @@ fn are_walks(map: &Map, walks: &[Items<u32>]) -> bool
     true
 }
 
-/// Whether the links of all these alternatives are a map's.
+/// Whether the links of the alternatives of all these legs are a map's.
 fn are_alternatives(map: &Map, earlier: &[Items<Items<u32>>]) -> bool
     ensures found { IsTrue result → AreAlternativesBelow (length map.now.links) earlier.now }
 {

@@ -59,7 +59,7 @@ fn walks(alloc: Global, word: &str) -> Result<Items<Items<u32>>, AllocError> {
     Ok(list)
 }
 
-/// The alternatives of a word, parted by `/`.
+/// The walks of earlier alternatives of the legs of a word, which are parted by `/`.
 fn alternatives(alloc: Global, word: &str) -> Result<Items<Items<Items<u32>>>, AllocError> {
     let mut list = Items::new(alloc);
     if word == "-" {

@@ -11,8 +11,8 @@ use crate::route::inputs::quota;
 use crate::route::turns::MOST_TURNS;
 use crate::told::outside;
 use case_rows::Case;
-use item_list::{append_bytes, append_number};
-use route_engine::{Pending, PendingTurn};
+use item_list::{Turn, append_bytes, append_number};
+use route_engine::Pending;
 use route_http::Request;
 use route_ready::{Ready, World, line};
 use std::alloc::{AllocError, Global};
@@ -59,9 +59,9 @@ fn turned(alloc: Global, world: &World, pending: Pending, quota: u32) -> Result<
     let mut pending = pending;
     'turns: for _ in 1..MOST_TURNS {
         match pending.turn(alloc, world, quota) {
-            PendingTurn::More(next) => pending = next,
-            PendingTurn::Reply(bytes) => return told(alloc, bytes.len()),
-            PendingTurn::Refused(error) => return line(alloc, &error, None),
+            Turn::More(next) => pending = next,
+            Turn::Done(Ok(bytes)) => return told(alloc, bytes.len()),
+            Turn::Done(Err(error)) => return line(alloc, &error, None),
         }
     }
     Vec::from_slice(alloc, b"not at its end")

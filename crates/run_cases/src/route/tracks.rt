@@ -78,22 +78,39 @@ fn append_earlier(
     map: &Map,
     earlier: &[Items<Items<u32>>],
 ) -> Result<(), AllocError> {
-    'alternatives: for place in 0..earlier.len() {
+    let count = match earlier.get(0) {
+        Some(walks) => walks.len(),
+        None => 0,
+    };
+    'alternatives: for number in 0..count {
         append_bytes(text, b" earlier ")?;
-        append_walks(text, map, earlier[place].as_slice())?;
+        append_walks(text, map, earlier, number)?;
     }
     Ok(())
 }
 
-/// Appends walks.
-fn append_walks(text: &mut Vec<u8>, map: &Map, walks: &[Items<u32>]) -> Result<(), AllocError> {
-    'walks: for place in 0..walks.len() {
-        if place > 0 {
+/// Appends the walks of an alternative.
+fn append_walks(
+    text: &mut Vec<u8>,
+    map: &Map,
+    earlier: &[Items<Items<u32>>],
+    number: usize,
+) -> Result<(), AllocError> {
+    'legs: for leg in 0..earlier.len() {
+        if leg > 0 {
             append_bytes(text, b";")?;
         }
-        append_walk(text, map, walks[place].as_slice())?;
+        append_walk(text, map, walk_at(earlier[leg].as_slice(), number))?;
     }
     Ok(())
+}
+
+/// The walk of an alternative among those of a leg.
+fn walk_at(walks: &[Items<u32>], number: usize) -> &[u32] {
+    match walks.get(number) {
+        Some(walk) => walk.as_slice(),
+        None => &[],
+    }
 }
 
 /// Appends the links of a walk, or a sign that there is none.

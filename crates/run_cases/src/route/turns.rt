@@ -12,10 +12,10 @@ use crate::route::replies::in_replies;
 use crate::route::tracks::append_track;
 use crate::told::outside;
 use case_rows::Case;
-use item_list::{append_bytes, append_named};
+use item_list::{Turn, append_bytes, append_named};
 use overpass_graph::Map;
 use profile_text::Profile;
-use route_engine::{Job, JobTurn};
+use route_engine::Job;
 use route_http::Request;
 use route_ready::{Ready, RouteError, World, line, prepare};
 use std::alloc::{AllocError, Global};
@@ -93,9 +93,9 @@ fn turned(alloc: Global, world: &World, job: Job, quota: u32) -> Result<Vec<u8>,
     let mut job = job;
     'turns: for turn in 1..MOST_TURNS {
         match job.turn(world, quota) {
-            JobTurn::More => {}
-            JobTurn::Found => return found(alloc, world.map(), &job, turn),
-            JobTurn::Refused(error) => return refused(alloc, &job, turn, error),
+            Turn::More(_) => {}
+            Turn::Done(Ok(_)) => return found(alloc, world.map(), &job, turn),
+            Turn::Done(Err(error)) => return refused(alloc, &job, turn, error),
         }
     }
     Vec::from_slice(alloc, b"not at its end")

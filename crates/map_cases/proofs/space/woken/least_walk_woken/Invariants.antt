@@ -9,10 +9,8 @@ use Rattle.map_cases.proofs.space.woken.least_walk_woken.Given as goal
 abbrev pub invariant-search : goal.invariant-search
 invariant-search g l =
     record {
-      map : l.space.map.now ≡ l.map;
-      facts : l.space.facts.now ≡ l.facts;
-      rates : l.space.rates.now ≡ l.rates;
-      of : IsSearchOf (rules_of (task_of l.space.map.now (g.F.FactsOf.links l.space.facts.now) l.space.rates.now l.space.kept)) l.search;
+      terrain : l.space.terrain ≡ l.terrain;
+      of : IsSearchOf (rules_of (task_of (g.G.TerrainOf.terrain l.space.terrain) l.space.kept)) l.search;
       limit : (view l.search).limit ≡ l.limit;
     }
 

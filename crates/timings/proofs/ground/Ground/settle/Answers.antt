@@ -7,5 +7,9 @@ use Rattle.timings.proofs.ground.Ground.settle.Goals as goal
 pub new-requires : goal.new-requires
 new-requires c =
     let space = c.args.space.now in
-    let task = task_of space.map.now (links_of space.facts.now) space.rates.now space.kept in
+    let task = task_of (record {
+      map = space.terrain.map.now;
+      links = links_of space.terrain.facts.now;
+      prices = space.terrain.rates.now;
+    }) space.kept in
     record { over = leg-for-runs task space.wakes.lawful }
