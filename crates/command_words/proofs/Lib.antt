@@ -3,5 +3,4 @@ pub mod EntryLemmas
 pub mod FitLemmas
 pub mod HelpLemmas
 pub mod KeyLemmas
-pub mod PathLemmas
 pub mod ServeLemmas

@@ -6,12 +6,13 @@ use Rattle.command_words.specs.FileNames.{is_profile_file, profile_name}
 use Rattle.command_words.specs.Fit.{is_among, AreProfileFiles, AreOnceAfter}
 use Rattle.command_words.specs.Given.{Given}
 use Rattle.command_words.specs.Reader.{entries_after, entries_with, may_follow, has_profile_of, row_for, same_key, same_profile}
-use Rattle.command_words.specs.Value.{same_text, number_in}
+use Rattle.command_words.specs.Value.{number_in}
 use Rattle.command_words.proofs.EntryLemmas.{AllFit, FitRow, after-keeps}
 use Rattle.command_words.proofs.KeyLemmas.{key-is}
 use Rattle.command_words.specs.declared.rows.Key.TheVariants.{Profile}
 use Rattle.command_words.specs.declared.rows.KeyRow.{KeyRow}
 use Rattle.std.proofs.lemmas.Bool.{or_parts}
+use Rattle.std.specs.Str.{bytes_eq}
 
 -- the profiles' files that are read are named as such
 pub profiles-fit : (keys : List KeyRow) (entries : List Given) →
@@ -29,16 +30,16 @@ profiles-fit keys (entry ∷ entries) wants all = go (profiles-fit keys entries 
   go later false is = later
 
 -- one name more
-among-more : (names : List (List ℕ)) (last name : List ℕ) → is_among names name ≡ false → same_text last name ≡ false →
+among-more : (names : List (List ℕ)) (last name : List ℕ) → is_among names name ≡ false → bytes_eq last name ≡ false →
     is_among (names ++ last ∷ []) name ≡ false
 among-more names last name a b =
-    let all = list_any-append (λ (other : List ℕ). same_text other name) names (last ∷ []) in
+    let all = list_any-append (λ (other : List ℕ). bytes_eq other name) names (last ∷ []) in
     let out : (false || (false || false)) ≡ false = refl in
     cc
 
 -- of two profiles the second may follow the first one's name
 apart-names : (first entry : Given) → same_key first.key Profile ≡ true → same_key entry.key Profile ≡ true →
-    same_profile first entry ≡ false → same_text (profile_name first.text) (profile_name entry.text) ≡ false
+    same_profile first entry ≡ false → bytes_eq (profile_name first.text) (profile_name entry.text) ≡ false
 apart-names first entry a b apart = both (same_key first.key Profile) (same_key entry.key Profile) a b apart where
   both : (x y : Bool) {z : Bool} → x ≡ true → y ≡ true → (x && (y && z)) ≡ false → z ≡ false
   both true true a b e = e

@@ -1,10 +1,11 @@
 -- The command that a list of words is, or the place of the word at fault. This project's own rule.
 use Rattle.std.specs.List.{find}
 use Rattle.std.specs.Prelude.{ℕ, ◌+◌, Bool, cond, ◌&&◌, nat_lt, Option, Some, None, option_map, Result, Ok, Err, List, [], ◌∷◌, length, map, codes}
+use Rattle.std.specs.Str.{bytes_eq}
 use Rattle.command_words.specs.Given.{Given, Named}
 use Rattle.command_words.specs.Reader.{entries_of, entries_with, entry_with}
 use Rattle.command_words.specs.Rows.{command_name, commands, keys_of, most_turns}
-use Rattle.command_words.specs.Value.{same_text, number_in, place_in, product_in}
+use Rattle.command_words.specs.Value.{number_in, place_in, product_in}
 use Rattle.command_words.specs.declared.rows.CommandName.{CommandName}
 use Rattle.command_words.specs.declared.rows.CommandName.TheVariants.{Grid, Make, Code, Route, Hills, Serve}
 use Rattle.command_words.specs.declared.rows.Key.{Key}
@@ -157,7 +158,7 @@ command_with command texts =
 
 -- the command that a word names
 unfoldable pub command_named : List ℕ → Option CommandName
-command_named text = find (λ c. same_text (command_name c) text) commands
+command_named text = find (λ c. bytes_eq (command_name c) text) commands
 
 -- the command of words whose first names one, if it does
 abbrev pub command_by : Option CommandName → List (List ℕ) → Result Command ℕ

@@ -1,18 +1,11 @@
 -- Names of files among the words. This project's own rule.
-use Rattle.std.specs.List.{ends_with, starts_with, list_all, after_last}
+use Rattle.item_list.specs.Bytes.{base_name}
+use Rattle.std.specs.List.{ends_with, starts_with, list_all}
 use Rattle.std.specs.Prelude.{ℕ, ◌-◌, ◌==◌, Bool, not, cond, ◌&&◌, ◌||◌, nat_lt, nat_le, nat_eq, List, length, take, codes}
 
 -- a text names a file, or is a query or an address: it isn't empty
 abbrev pub is_file_name : List ℕ → Bool
 is_file_name text = nat_lt 0 (length text)
-
--- a byte is a slash
-abbrev pub is_slash : ℕ → Bool
-is_slash byte = byte == 47
-
--- what follows the last slash of a path
-abbrev pub base_name : List ℕ → List ℕ
-base_name path = after_last is_slash path
 
 -- a name without a last `.brf`
 abbrev pub stem : List ℕ → List ℕ

@@ -2,10 +2,10 @@
 -- their own. This project's own rule.
 use Rattle.std.specs.List.{list_any}
 use Rattle.std.specs.Prelude.{◌≡◌, ℕ, ◌≤◌, ◌<◌, Bool, true, false, List, [], ◌∷◌, ◌++◌}
+use Rattle.std.specs.Str.{bytes_eq}
 use Rattle.command_words.specs.FileNames.{is_profile_file, profile_name}
 use Rattle.command_words.specs.Given.{Named}
 use Rattle.command_words.specs.Rows.{most_turns}
-use Rattle.command_words.specs.Value.{same_text}
 use Rattle.command_words.specs.declared.command.Command.{Command}
 use Rattle.command_words.specs.declared.command.Command as Form
 use Rattle.command_words.specs.declared.command.GridCommand.{GridCommand}
@@ -34,7 +34,7 @@ AreProfileFiles (file ∷ files) = (is_profile_file file.name ≡ true) × ArePr
 
 -- a name is among names
 abbrev pub is_among : List (List ℕ) → List ℕ → Bool
-is_among names name = list_any (λ other. same_text other name) names
+is_among names name = list_any (λ other. bytes_eq other name) names
 
 -- the profiles of these files have none of the names before them, and none the name of another
 abbrev pub AreOnceAfter : List (List ℕ) → List Named → Type 0

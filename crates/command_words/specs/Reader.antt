@@ -2,10 +2,11 @@
 use denote.Enum.Bare.{sameb}
 use Rattle.std.specs.List.{filter, find, list_all, list_any}
 use Rattle.std.specs.Prelude.{ℕ, ◌+◌, Bool, not, cond, ◌&&◌, nat_lt, nat_le, Option, Some, None, Result, Ok, Err, List, [], ◌∷◌, ◌++◌, length}
+use Rattle.std.specs.Str.{bytes_eq}
 use Rattle.command_words.specs.FileNames.{profile_name}
 use Rattle.command_words.specs.Given.{Given}
 use Rattle.command_words.specs.Rows.{key_name}
-use Rattle.command_words.specs.Value.{same_text, value_of, cut_word}
+use Rattle.command_words.specs.Value.{value_of, cut_word}
 use Rattle.command_words.specs.contracts.rows.Key.{the_type}
 use Rattle.command_words.specs.declared.rows.Key.{Key}
 use Rattle.command_words.specs.declared.rows.Key.TheVariants.{Seed, Width, Height, From, To, What, Lookups, Profile, Map, Query, Tile, Listen, Turns}
@@ -23,7 +24,7 @@ all_keys =
 
 -- the key that a text names
 unfoldable pub key_of : List ℕ → Option Key
-key_of text = find (λ k. same_text (key_name k) text) all_keys
+key_of text = find (λ k. bytes_eq (key_name k) text) all_keys
 
 -- the row of a key
 abbrev pub row_for : List KeyRow → Key → Option KeyRow
@@ -82,7 +83,7 @@ has_all keys entries = list_all (λ r. nat_le r.least (count_of r.key entries)) 
 abbrev pub same_profile : Given → Given → Bool
 same_profile a b =
     same_key a.key Profile && (same_key b.key Profile &&
-    same_text (profile_name a.text) (profile_name b.text))
+    bytes_eq (profile_name a.text) (profile_name b.text))
 
 -- one of these names a profile of the same name
 abbrev pub has_profile_of : Given → List Given → Bool

@@ -1,8 +1,8 @@
 -- The values of keys: numbers, places, what is made, names of files, queries and addresses. This project's
 -- own rule.
 use Rattle.std.specs.List.{before_first, after_first, position_or_len}
-use Rattle.std.specs.Prelude.{ℕ, ◌+◌, ◌-◌, ◌*◌, ◌==◌, Bool, true, false, cond, ◌&&◌, nat_lt, nat_le, nat_eq, Option, Some, None, List, [], ◌∷◌, length, take, drop, position, codes}
-use lib.Pointwise.{pointwise}
+use Rattle.std.specs.Prelude.{ℕ, ◌+◌, ◌-◌, ◌*◌, ◌==◌, Bool, true, false, cond, ◌&&◌, nat_lt, nat_le, Option, Some, None, List, [], ◌∷◌, length, take, drop, position, codes}
+use Rattle.std.specs.Str.{bytes_eq}
 use Rattle.item_list.specs.Bytes.{is_digit}
 use Rattle.command_words.specs.FileNames.{is_file_name, is_profile_file}
 use Rattle.command_words.specs.declared.rows.Form.{Form}
@@ -12,10 +12,6 @@ use Rattle.command_words.specs.declared.value.Value.TheVariants.{Number, At, Mad
 use Rattle.command_words.specs.declared.value.Place.{Place}
 use Rattle.command_words.specs.declared.value.Product.{Product}
 use Rattle.command_words.specs.declared.value.Product.TheVariants.{Map, Hgt}
-
--- two texts have the same bytes
-abbrev pub same_text : List ℕ → List ℕ → Bool
-same_text a b = pointwise nat_eq a b
 
 -- the number that digits after a number make
 abbrev pub number_from : ℕ → List ℕ → ℕ
@@ -69,8 +65,8 @@ place_value (Some place) = Some (At place)
 
 -- what a text names to be made
 unfoldable pub product_of : List ℕ → Option Product
-product_of text = cond (same_text text (codes "map")) (Some Map)
-    (cond (same_text text (codes "hgt")) (Some Hgt) None)
+product_of text = cond (bytes_eq text (codes "map")) (Some Map)
+    (cond (bytes_eq text (codes "hgt")) (Some Hgt) None)
 
 -- what is made as a value
 abbrev pub product_value : Option Product → Option Value

@@ -2,11 +2,12 @@
 
 ghost use Rattle.std.specs.List.{list_all};
 ghost use Rattle.std.specs.Prelude.{◌≡◌};
-ghost use Rattle.command_words.specs.FileNames.{base_name, is_name_byte, is_profile_file, is_profile_name, profile_name, stem};
+ghost use Rattle.command_words.specs.FileNames.{is_name_byte, is_profile_file, is_profile_name, profile_name, stem};
+
+use item_list::base_name;
 
 /// Whether a text is a path of a profile's file: its last part, without `.brf`, is 1 to 64 letters,
-/// digits,
-/// `_` or `-`, and doesn't begin with `custom_`, as the names of uploaded profiles do.
+/// digits, `_` or `-`, and doesn't begin with `custom_`, as the names of uploaded profiles do.
 #[tactic(auto, unfolding(crate::specs::FileNames::is_profile_file))]
 pub fn is_profile_file(path: &[u8]) -> bool
     ensures exact { result ≡ is_profile_file path.now }
@@ -19,17 +20,6 @@ pub fn profile_name(path: &[u8]) -> &[u8]
     ensures exact { result.now ≡ profile_name path.now }
 {
     stem(base_name(path))
-}
-
-/// What follows the last slash of a path.
-fn base_name(path: &[u8]) -> &[u8]
-    ensures exact { result.now ≡ base_name path.now }
-{
-    let mut start = path.len();
-    'back: while start > 0 && path[start - 1] != b'/' {
-        start -= 1;
-    }
-    &path[start..]
 }
 
 /// A name without a last `.brf`.

@@ -2,9 +2,9 @@
 use Rattle.std.proofs.Common.{◌≡◌, None}
 use Rattle.context_check.specs.Checked.{HaveKnownNames, IsAccepted, IsDefined, Subject}
 use Rattle.context_check.specs.Refusal.{names_in, override_refusal, refusal_of, sections_refusal}
-use Rattle.context_check.proofs.DefinedLemmas.{IsDefined-accepted, SectionsPass, or_else-none, sections_pass}
+use Rattle.context_check.proofs.DefinedLemmas.{IsDefined-accepted, SectionsPass, option_or-none, sections_pass}
 -- what arithmetic gives; two refusals, of which neither comes; names and overrides; the values of a section, and the names that they have
-pub use Rattle.context_check.proofs.DefinedLemmas.{IsKnown-arithmetic, or_else-none, overridden_refusal, SectionsPass}
+pub use Rattle.context_check.proofs.DefinedLemmas.{IsKnown-arithmetic, option_or-none, overridden_refusal, SectionsPass}
 pub use Rattle.context_check.proofs.NameLemmas.{names_of, names_more, replaced_name, overridden_name, overridden_names, values_names, global_values_names}
 
 -- neither the overrides nor the sections of an accepted profile are at fault
@@ -12,7 +12,7 @@ parts_pass : (subject : Subject) → IsAccepted subject →
     HaveKnownNames subject.overrides subject.sections × (sections_refusal subject.table subject.sections ≡ None)
 unfolding refusal_of
 parts_pass subject none =
-    or_else-none (override_refusal 0 subject.overrides (names_in subject.sections.global))
+    option_or-none (override_refusal 0 subject.overrides (names_in subject.sections.global))
     (sections_refusal subject.table subject.sections) none
 
 -- an accepted profile never meets what isn't known

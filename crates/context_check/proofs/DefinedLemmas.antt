@@ -1,6 +1,6 @@
 -- What isn't at fault never meets what isn't known.
 use Rattle.std.proofs.Common.{◌≡◌, ◌∙◌, ℕ, Bool, true, false, ◌||◌, cond, List, [], ◌∷◌, ◌++◌, map, ℤ, Option, Some, None, Result, Ok, Err, is_some, refl, ap, subst}
-use Rattle.std.specs.Option.{option_map}
+use Rattle.std.specs.Option.{option_map, option_or}
 use Rattle.std.specs.Map.{lookup}
 use Rattle.std.specs.Str.{bytes_eq}
 use Rattle.context_check.proofs.NameLemmas.{names_of, names_more, overridden_name, global_values_names}
@@ -14,7 +14,7 @@ use Rattle.lookup_table.specs.First.{TagTable, rows_of}
 use Rattle.lookup_table.specs.Tag.{TagRow, place_of}
 use Rattle.lookup_table.specs.declared.part.Part.{Part}
 use Rattle.lookup_table.specs.declared.part.Part.TheVariants as parts
-use Rattle.profile_text.specs.Meaning.{Fault, and_then, known, truth, is_true, decided_by, result_of, arithmetic, operation, value_of, look_numbers, row_at, look_at, is_found, looks_in, no_looks, later_value, last_value, or_else, variable_in, SectionFault, with_value, values_from, replaced_by, overridden, global_values, own_values, assignments_of}
+use Rattle.profile_text.specs.Meaning.{Fault, and_then, known, truth, is_true, decided_by, result_of, arithmetic, operation, value_of, look_numbers, row_at, look_at, is_found, looks_in, no_looks, later_value, last_value, variable_in, SectionFault, with_value, values_from, replaced_by, overridden, global_values, own_values, assignments_of}
 use Rattle.profile_text.specs.Names.{later_place, last_place, is_among}
 use Rattle.profile_text.specs.Tree.{Tree, Constant, Variable, TagLook, Negation, Operation, Choice, Assignment, Sections}
 use Rattle.profile_text.specs.declared.expr.Op.{Op}
@@ -24,9 +24,9 @@ use Rattle.profile_text.specs.declared.kind.Section.TheVariants.{Global, Way, No
 -- ---- The first of two refusals
 
 -- where nothing is at fault in two, nothing is in either
-pub or_else-none : {A : Type 0} (a b : Option A) → or_else a b ≡ None → (a ≡ None) × (b ≡ None)
-or_else-none None b none = (refl, none)
-or_else-none (Some a) b none = cc
+pub option_or-none : {A : Type 0} (a b : Option A) → option_or a b ≡ None → (a ≡ None) × (b ≡ None)
+option_or-none None b none = (refl, none)
+option_or-none (Some a) b none = cc
 
 -- ---- Expressions
 
@@ -79,9 +79,9 @@ has_value [] name = refl
 has_value (v ∷ vs) name = same_later (bytes_eq name v.0) v.1 (last_value vs name) (last_place (names_of vs) name) (has_value vs name)
 
 -- the first is there or the second
-or_else-some : {A : Type 0} (a b : Option A) → is_some (or_else a b) ≡ (is_some a || is_some b)
-or_else-some (Some a) b = refl
-or_else-some None b = refl
+option_or-some : {A : Type 0} (a b : Option A) → is_some (option_or a b) ≡ (is_some a || is_some b)
+option_or-some (Some a) b = refl
+option_or-some None b = refl
 
 -- where no fault is found the test was true
 passed : (b : Bool) (e : CheckError) → cond b None (Some e) ≡ None → b ≡ true
@@ -92,7 +92,7 @@ passed false e none = cc
 variable_found : (global own : List (List ℕ × ℤ)) (name : List ℕ) (line : ℕ) →
     variable_refusal (names_of global) (names_of own) name line ≡ None → is_some (variable_in global own name) ≡ true
 variable_found global own name line none =
-    or_else-some (last_value own name) (last_value global name)
+    option_or-some (last_value own name) (last_value global name)
     ∙ ap (λ b. b || is_some (last_value global name)) (has_value own name)
     ∙ ap (λ b. is_among (names_of own) name || b) (has_value global name)
     ∙ passed (is_among (names_of own) name || is_among (names_of global) name) (UnknownName line) none
@@ -144,15 +144,15 @@ module _ (section : Section) (rows : Option (List TagRow)) (looks : List ℕ →
       IsKnown-and_then (value_of (variable_in global own) looks a) _ (IsKnown-tree own a none) (λ n. tt)
   IsKnown-tree own (Operation op a b) none =
       let fault = expr_refusal (at section rows global) (names_of own) in
-      let parts = or_else-none (fault a) (fault b) none in
+      let parts = option_or-none (fault a) (fault b) none in
       let is_b = IsKnown-tree own b parts.1 in
       IsKnown-and_then (value_of (variable_in global own) looks a) _ (IsKnown-tree own a parts.0)
       (λ n. IsKnown-operation op n (decided_by op n) (value_of (variable_in global own) looks b) is_b)
   IsKnown-tree own (Choice a b c) none =
       let fault = expr_refusal (at section rows global) (names_of own) in
       let value = value_of (variable_in global own) looks in
-      let parts = or_else-none (fault a) (or_else (fault b) (fault c)) none in
-      let arms = or_else-none (fault b) (fault c) parts.1 in
+      let parts = option_or-none (fault a) (option_or (fault b) (fault c)) none in
+      let arms = option_or-none (fault b) (fault c) parts.1 in
       let is_b = IsKnown-tree own b arms.0 in
       let is_c = IsKnown-tree own c arms.1 in
       IsKnown-and_then (value a) _ (IsKnown-tree own a parts.0) (λ n. IsKnown-choice (is_true n) (value b) (value c) is_b is_c)
@@ -185,8 +185,8 @@ module _ (section : Section) (rows : Option (List TagRow)) (looks : List ℕ →
   AreThere-section own [] none = tt
   AreThere-section own (a ∷ rest) none =
       let c = at section rows global in
-      let further = (or_else-none (name_refusal section a) _ none).1 in
-      let parts = or_else-none (expr_refusal c (names_of own) a.value) _ further in
+      let further = (option_or-none (name_refusal section a) _ none).1 in
+      let parts = option_or-none (expr_refusal c (names_of own) a.value) _ further in
       AreThere-further looks global own a rest (value_of (variable_in global own) looks a.value)
       (IsKnown-tree section rows looks global are own a.value parts.0)
       (λ n. AreThere-section (own ++ (a.name, n) ∷ []) rest
@@ -209,8 +209,8 @@ overridden_refusal overrides table global own (a ∷ rest) none =
     let c = context_in table Global global in
     let b = overridden overrides a in
     let more = map (overridden overrides) rest in
-    let parts = or_else-none (expr_refusal c own a.value) _ none in
-    ap (λ e. or_else e (section_refusal c (own ++ b.name ∷ []) more))
+    let parts = option_or-none (expr_refusal c own a.value) _ none in
+    ap (λ e. option_or e (section_refusal c (own ++ b.name ∷ []) more))
     (replaced_refusal (lookup (bytes_eq a.name) overrides) c own a parts.0)
     ∙ ap (λ name. section_refusal c (own ++ name ∷ []) more) (overridden_name overrides a)
     ∙ overridden_refusal overrides table global (own ++ a.name ∷ []) rest parts.1
@@ -226,9 +226,9 @@ pub record SectionsPass (table : TagTable) (s : Sections) : Type 0 where
 -- where nothing is at fault in the three of them
 pub sections_pass : (table : TagTable) (s : Sections) → sections_refusal table s ≡ None → SectionsPass table s
 sections_pass table s none =
-    let first = or_else-none (section_refusal (context_in table Global []) [] s.global) _ none in
-    let second = or_else-none (section_refusal (context_in table Way (names_in s.global)) [] s.way) _ first.1 in
-    let third = or_else-none (section_refusal (context_in table Node (names_in s.global)) [] s.node) _ second.1 in
+    let first = option_or-none (section_refusal (context_in table Global []) [] s.global) _ none in
+    let second = option_or-none (section_refusal (context_in table Way (names_in s.global)) [] s.way) _ first.1 in
+    let third = option_or-none (section_refusal (context_in table Node (names_in s.global)) [] s.node) _ second.1 in
     record { global = first.0; way = second.0; node = third.0 }
 
 -- the section of a part has its values after those of the global one, but for a fault of arithmetic

@@ -1,4 +1,5 @@
 -- The first thing at fault in a profile. This project's own rule.
+use Rattle.std.specs.Option.{option_or}
 use Rattle.std.specs.Prelude.{ℕ, suc, ◌||◌, List, [], ◌∷◌, ◌++◌, map, ℤ, Option, Some, None, if◌then◌else◌}
 use Rattle.context_check.specs.Context.{Context, context_in}
 use Rattle.context_check.specs.Effects.{global_names, costfactor_name}
@@ -6,7 +7,7 @@ use Rattle.context_check.specs.declared.error.CheckError.{CheckError}
 use Rattle.context_check.specs.declared.error.CheckError.TheVariants.{UnknownOverride, WrongSection, UnknownName, UnknownTag, UnknownValue, NoCostfactor}
 use Rattle.lookup_table.specs.First.{TagTable}
 use Rattle.lookup_table.specs.Tag.{TagRow, place_of}
-use Rattle.profile_text.specs.Meaning.{look_numbers, row_at, or_else}
+use Rattle.profile_text.specs.Meaning.{look_numbers, row_at}
 use Rattle.profile_text.specs.Names.{is_among}
 use Rattle.profile_text.specs.Tree.{Tree, Constant, Variable, TagLook, Negation, Operation, Choice, Assignment, Sections}
 use Rattle.profile_text.specs.declared.kind.Section.{Section}
@@ -40,9 +41,9 @@ expr_refusal c own (Constant n) = None
 expr_refusal c own (Variable name line) = variable_refusal c.global own name line
 expr_refusal c own (TagLook tag values line) = look_refusal c.rows tag values line
 expr_refusal c own (Negation a) = expr_refusal c own a
-expr_refusal c own (Operation op a b) = or_else (expr_refusal c own a) (expr_refusal c own b)
+expr_refusal c own (Operation op a b) = option_or (expr_refusal c own a) (expr_refusal c own b)
 expr_refusal c own (Choice a b c') =
-    or_else (expr_refusal c own a) (or_else (expr_refusal c own b) (expr_refusal c own c'))
+    option_or (expr_refusal c own a) (option_or (expr_refusal c own b) (expr_refusal c own c'))
 
 -- ---- Sections
 
@@ -57,8 +58,8 @@ name_refusal Node a = None
 abbrev pub section_refusal : Context → List (List ℕ) → List Assignment → Option CheckError
 section_refusal c own [] = None
 section_refusal c own (a ∷ rest) =
-    or_else (name_refusal c.section a)
-    (or_else (expr_refusal c own a.value) (section_refusal c (own ++ a.name ∷ []) rest))
+    option_or (name_refusal c.section a)
+    (option_or (expr_refusal c own a.value) (section_refusal c (own ++ a.name ∷ []) rest))
 
 -- the names of assignments in order
 abbrev pub names_in : List Assignment → List (List ℕ)
@@ -77,12 +78,12 @@ costfactor_refusal way = if is_among (names_in way) costfactor_name then None el
 -- the first thing at fault in the three sections, the global one first
 abbrev pub sections_refusal : TagTable → Sections → Option CheckError
 sections_refusal table s =
-    or_else (section_refusal (context_in table Global []) [] s.global)
-    (or_else (section_refusal (context_in table Way (names_in s.global)) [] s.way)
-    (or_else (section_refusal (context_in table Node (names_in s.global)) [] s.node)
+    option_or (section_refusal (context_in table Global []) [] s.global)
+    (option_or (section_refusal (context_in table Way (names_in s.global)) [] s.way)
+    (option_or (section_refusal (context_in table Node (names_in s.global)) [] s.node)
     (costfactor_refusal s.way)))
 
 -- the first thing at fault in a profile: the overrides, and then the sections
 unfoldable pub refusal_of : TagTable → Sections → List (List ℕ × ℤ) → Option CheckError
 refusal_of table s overrides =
-    or_else (override_refusal 0 overrides (names_in s.global)) (sections_refusal table s)
+    option_or (override_refusal 0 overrides (names_in s.global)) (sections_refusal table s)

@@ -1,4 +1,5 @@
 //! The first thing at fault in a section.
+ghost use Rattle.std.specs.Option.{option_or};
 ghost use Rattle.std.specs.Prelude.{◌≡◌, [], map, IfOk};
 ghost use Rattle.context_check.specs.Context.{context_of};
 ghost use Rattle.context_check.specs.Effects.{global_names};
@@ -6,7 +7,6 @@ ghost use Rattle.context_check.specs.Refusal.{expr_refusal, name_refusal, names_
 ghost use Rattle.context_check.specs.declared.error.CheckError.TheVariants.{NoMemory};
 ghost use Rattle.item_list.specs.Answer.{Passes};
 ghost use Rattle.profile_text.specs.Expr.{assignment_in, tree_of};
-ghost use Rattle.profile_text.specs.Meaning.{or_else};
 ghost use Rattle.profile_text.specs.Names.{is_among};
 
 use crate::context::Context;
@@ -39,7 +39,7 @@ pub(crate) fn section_names(
 fn assignment_fault(context: &Context, own: &Names, assign: &Assign) -> Option<CheckError>
     ensures exact { let name = name_refusal context.now.section (assignment_in assign.now) in
         let tree = tree_of assign.now.value in
-        result ≡ or_else name (expr_refusal (context_of context.now) own.now tree) }
+        result ≡ option_or name (expr_refusal (context_of context.now) own.now tree) }
 {
     match name_fault(context.section, assign) {
         Some(fault) => Some(fault),

@@ -5,10 +5,11 @@ use Rattle.elev_buffer.specs.Covers.{after}
 use Rattle.elev_buffer.specs.declared.labels.Pair.{Pair}
 use Rattle.cost_model.specs.Prices.{Prices}
 use Rattle.cost_model.specs.Parts.{climb_of, parts_after, cost_of}
-use Rattle.cost_model.specs.Walks.{empty_pair, buffers_along, buffers_after, link_at, link_before, facts_of, parts_at, sum_before, cost_at, rank_at, last_link, carry_after, GoesOn}
+use Rattle.cost_model.specs.Walks.{empty_pair, buffers_along, buffers_after, link_before, facts_of, parts_at, sum_before, cost_at, rank_at, last_link, carry_after, GoesOn}
 use Rattle.cost_model.specs.declared.facts.LinkFacts.{LinkFacts}
 use Rattle.cost_model.specs.declared.parts.Parts.{Parts}
 use Rattle.cost_model.specs.declared.parts.Carry.{Carry}
+use Rattle.overpass_graph.specs.Walks.{link_at}
 use Rattle.std.proofs.Math.Seq.{take-append_seam}
 
 -- the buffers after one link more

@@ -1,5 +1,5 @@
 -- What a walk costs, by the positions of its list of links (this project's own rule).
-use Rattle.std.specs.Prelude.{◌≡◌, ℕ, zero, suc, ◌+◌, pos, Bool, List, [], ◌∷◌, ◌++◌, length, get_or, take, Option, Some, None}
+use Rattle.std.specs.Prelude.{◌≡◌, ℕ, zero, suc, ◌+◌, pos, Bool, List, [], ◌∷◌, ◌++◌, length, take, Option, Some, None}
 use Rattle.elev_buffer.specs.Covers.{after}
 use Rattle.elev_buffer.specs.declared.labels.Pair.{Pair}
 use Rattle.cost_model.specs.Prices.{Prices}
@@ -7,6 +7,7 @@ use Rattle.cost_model.specs.Parts.{climb_of, parts_after, cost_of, ranked}
 use Rattle.cost_model.specs.declared.facts.LinkFacts.{LinkFacts}
 use Rattle.cost_model.specs.declared.parts.Parts.{Parts}
 use Rattle.cost_model.specs.declared.parts.Carry.{Carry}
+use Rattle.overpass_graph.specs.Walks.{link_at}
 
 -- both buffers as each walk begins
 abbrev pub empty_pair : Pair
@@ -25,10 +26,6 @@ buffers_after prices facts links = buffers_along prices facts empty_pair links
 -- the buffers before a position of a walk: those after all links before it
 abbrev pub buffers_before : (prices : Prices) (facts : ℕ → LinkFacts) (links : List ℕ) (position : ℕ) → Pair
 buffers_before prices facts links position = buffers_after prices facts (take position links)
-
--- the link at a position of a walk
-abbrev pub link_at : List ℕ → ℕ → ℕ
-link_at links position = get_or links position 0
 
 -- the link before a position of a walk; none at the first
 abbrev pub link_before : List ℕ → ℕ → Option ℕ

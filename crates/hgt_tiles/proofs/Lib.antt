@@ -1,5 +1,4 @@
 pub mod CallerLemmas
-pub mod NameLemmas
 pub mod FileLemmas
 pub mod MixLemmas
 pub mod HeightLemmas

@@ -1,17 +1,7 @@
 -- The corner that the name of a file of heights tells, as N49E008.hgt (the HGT naming).
-use Rattle.std.specs.Prelude.{ℕ, ◌+◌, ◌-◌, ◌*◌, ℤ, pos, neg_ℤ, List, [], ◌∷◌, length, slice_index, Bool, true, false, cond, ◌&&◌, ◌||◌, ◌==◌, nat_le, Option, Some, None}
+use Rattle.std.specs.Prelude.{ℕ, ◌+◌, ◌-◌, ◌*◌, ℤ, pos, neg_ℤ, List, length, slice_index, Bool, true, false, cond, ◌&&◌, ◌||◌, ◌==◌, nat_le, Option, Some, None}
 use Rattle.hgt_tiles.specs.declared.names.Corner.{Corner}
-use Rattle.item_list.specs.Bytes.{is_digit}
-
--- one of the bytes is a slash
-abbrev pub has_slash : List ℕ → Bool
-has_slash [] = false
-has_slash (byte ∷ rest) = (byte == 47) || has_slash rest
-
--- what stands after the last slash
-abbrev pub last_part : List ℕ → List ℕ
-last_part [] = []
-last_part (byte ∷ rest) = cond (has_slash (byte ∷ rest)) (last_part rest) (byte ∷ rest)
+use Rattle.item_list.specs.Bytes.{base_name, is_digit}
 
 -- a letter in either case, by its capital
 abbrev pub is_letter : ℕ → ℕ → Bool
@@ -65,4 +55,4 @@ corner_of_part part =
 
 -- the corner that a name tells
 abbrev pub corner_of_name : List ℕ → Option Corner
-corner_of_name name = corner_of_part (last_part name)
+corner_of_name name = corner_of_part (base_name name)

@@ -2,9 +2,9 @@
 
 ghost use Rattle.std.specs.Prelude.{◌≡◌, ◌+◌, ◌-◌, ◌<◌, ◌≤◌, ◌&&◌, ◌||◌, length, IsTrue, Some, IfSome, pos, neg_ℤ, ◌≤ℤ◌, ◌<ℤ◌};
 ghost use Rattle.hgt_tiles.specs.Relief.{IsCorner};
-ghost use Rattle.hgt_tiles.specs.Name.{last_part, is_spelled, letters_are_there, digits_are_there, is_letter, lat_digits, lon_digits, signed_degrees, corner_of_name};
+ghost use Rattle.hgt_tiles.specs.Name.{is_spelled, letters_are_there, digits_are_there, is_letter, lat_digits, lon_digits, signed_degrees, corner_of_name};
 
-use item_list::is_digit;
+use item_list::{base_name, is_digit};
 
 /// A south-west corner in whole degrees, east of Greenwich and north of the equator.
 #[derive(Clone, Copy, PartialEq, Eq, PartialOrd, Ord)]
@@ -18,26 +18,13 @@ pub(crate) fn corner_of(name: &[u8]) -> Option<Corner>
     ensures exact { result ≡ corner_of_name name.now }
     ensures lawful { IfSome result IsCorner }
 {
-    let part = after_last_slash(name);
+    let part = base_name(name);
     if !spells_corner(part) {
         return None;
     }
     let lon = signed(is_either(part[3], b'W'), degrees_of_longitude(part), 180)?;
     let lat = signed(is_either(part[0], b'S'), degrees_of_latitude(part), 90)?;
     Some(Corner { lon, lat })
-}
-
-/// What stands after the last slash.
-fn after_last_slash(name: &[u8]) -> &[u8]
-    ensures exact { result.now ≡ last_part name.now }
-{
-    let mut part = name;
-    for (i, byte) in name.iter().enumerate() {
-        if *byte == b'/' {
-            part = &name[i + 1..];
-        }
-    }
-    part
 }
 
 /// Whether a part has the form of a name.

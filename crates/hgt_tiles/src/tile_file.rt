@@ -1,6 +1,6 @@
 //! A tile of samples, and how it is read from a file.
 
-ghost use Rattle.std.specs.Prelude.{◌≡◌, ◌↔◌, ◌<◌, ◌≤◌, ◌*◌, ◌+◌, ◌/◌, IfOk, IfSome, unsigned_abs, IsNone, IsSome, Some, Err, length};
+ghost use Rattle.std.specs.Prelude.{◌≡◌, ◌↔◌, ◌<◌, ◌≤◌, ◌*◌, ◌+◌, ◌/◌, IfOk, IfSome, unsigned_abs, IsNone, IsSome, Ok, Err, length};
 ghost use Rattle.hgt_tiles.specs.Name.{corner_of_name};
 ghost use Rattle.hgt_tiles.specs.File.{relief_of_file, samples_of, steps_of};
 ghost use Rattle.hgt_tiles.specs.Height.{height_on};
@@ -54,7 +54,7 @@ impl From<AllocError> for TileError {
 impl Tile {
     /// The tile in a file of this name and these bytes. The name counts from its last slash on.
     pub fn read(alloc: Global, name: &[u8], bytes: &[u8]) -> Result<Tile, TileError>
-        ensures found { IfOk result (λ tile. relief_of_file name.now bytes.now ≡ Some tile) }
+        ensures found { IfOk result (λ tile. relief_of_file name.now bytes.now ≡ Ok tile) }
 
         // The name is looked at first.
         ensures name { (result ≡ Err TileError.Name) ↔ IsNone (corner_of_name name.now) }

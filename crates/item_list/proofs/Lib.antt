@@ -2,3 +2,4 @@ pub mod CallerLemmas
 pub mod ListLemmas
 pub mod TestLemmas
 pub mod SaysLemmas
+pub mod PathLemmas

@@ -2,7 +2,7 @@
 
 ghost use Rattle.std.specs.List.{prefix_len};
 ghost use Rattle.std.specs.Prelude.{◌≡◌, ◌≤◌, length};
-ghost use Rattle.item_list.specs.Bytes.{is_digit, is_other, is_space};
+ghost use Rattle.item_list.specs.Bytes.{base_name, is_digit, is_other, is_space};
 
 /// Whether a byte is white space: 9 to 13, or 32.
 pub fn is_space(byte: u8) -> bool
@@ -29,4 +29,15 @@ pub fn len_before(text: &[u8], byte: u8) -> usize
         }
     }
     text.len()
+}
+
+/// What follows the last slash of a path, which is all of it where there is none.
+pub fn base_name(path: &[u8]) -> &[u8]
+    ensures exact { result.now ≡ base_name path.now }
+{
+    let mut start = path.len();
+    'back: while start > 0 && path[start - 1] != b'/' {
+        start -= 1;
+    }
+    &path[start..]
 }

@@ -12,7 +12,7 @@ mod try_clone;
 mod turn;
 
 pub use append::{append_bytes, append_named, append_number, append_signed, append_wide, bytes_of};
-pub use bytes::{is_digit, is_space, len_before};
+pub use bytes::{base_name, is_digit, is_space, len_before};
 pub use items::Items;
 pub use names::{Name, Tags};
 pub use try_clone::TryClone;

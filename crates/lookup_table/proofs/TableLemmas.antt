@@ -3,6 +3,7 @@ use Rattle.std.proofs.Common.{◌≡◌, ℕ, suc, min, Bool, true, false, cond,
 use Rattle.std.proofs.lemmas.Bool.Decides.{nat_tests}
 use Rattle.std.proofs.lemmas.List.{reverse-append}
 use Rattle.std.specs.List.{filter}
+use Rattle.std.specs.Option.{option_or}
 use Rattle.item_list.specs.Answer.{and_then}
 use Rattle.lookup_table.specs.declared.draft.Draft.{Draft}
 use Rattle.lookup_table.specs.declared.error.LookupError.{LookupError}
@@ -12,7 +13,7 @@ use Rattle.lookup_table.specs.declared.part.Part.TheVariants.{Way, Node}
 use Rattle.lookup_table.specs.Draft.{one_more, empty_draft, add_tag_line, open_part, take_line, take_lines, finish}
 use Rattle.lookup_table.specs.First.{TagTable, begins_as}
 use Rattle.lookup_table.specs.Line.{LineForm, Skipped, LookupVersion, MinorVersion, Opens, TagLine, Malformed, line_form, lines_of}
-use Rattle.lookup_table.specs.Table.{part_after, is_opened, is_open, rows_after, tag_fault, line_fault, or_else, first_fault, is_lookup_version, is_minor_version, has_late_version, whole_table, unless_fault, forms_of, table_of}
+use Rattle.lookup_table.specs.Table.{part_after, is_opened, is_open, rows_after, tag_fault, line_fault, first_fault, is_lookup_version, is_minor_version, has_late_version, whole_table, unless_fault, forms_of, table_of}
 use Rattle.lookup_table.specs.Tag.{add_line, has_room}
 
 -- what the code holds after these lines, the latest of them first
@@ -107,7 +108,7 @@ take_line-is number Malformed before = refl
 first_fault-stays : (more before : List LineForm) (e : LookupError) → first_fault before ≡ Some e → first_fault (more ++ before) ≡ Some e
 first_fault-stays [] before e first = first
 first_fault-stays (line ∷ more) before e first =
-    ap (λ fault. or_else fault (line_fault (suc (length (more ++ before))) line (more ++ before))) (first_fault-stays more before e first)
+    ap (λ fault. option_or fault (line_fault (suc (length (more ++ before))) line (more ++ before))) (first_fault-stays more before e first)
 
 -- the code comes to what all lines say, or to the first fault
 take_lines-are : (lines : List (List ℕ)) (before : List LineForm) → first_fault before ≡ None
@@ -123,7 +124,7 @@ take_lines-are (l ∷ ls) before none =
     ∙ append_assoc (reverse (map line_form ls)) (f ∷ []) before in
     ap (λ r. and_then r (take_lines (suc n) ls)) (take_line-is n f before)
     ∙ by_fault (λ first. take_lines-are ls (f ∷ before) first) (line_fault n f before)
-    (ap (λ fault. or_else fault (line_fault n f before)) none)
+    (ap (λ fault. option_or fault (line_fault n f before)) none)
     ∙ ap (λ lines. draft_unless (first_fault lines) (draft_after lines)) (sym same)
   where
     IsAsFar : Result Draft LookupError → Type 0

@@ -1,5 +1,5 @@
 -- The tag numbers of a way or a node, and their text, after `lookups.dat`.
-use Rattle.std.specs.Prelude.{◌≡◌, ℕ, ◌+◌, ◌-◌, ◌≤◌, Bool, false, not, ◌||◌, List, [], ◌∷◌, ◌++◌, length, map, slice_index_or, ◌==◌, Some, None, unwrap_or, if◌then◌else◌}
+use Rattle.std.specs.Prelude.{◌≡◌, ℕ, ◌+◌, ◌-◌, ◌≤◌, Bool, false, not, ◌||◌, List, [], ◌∷◌, ◌++◌, length, map, slice_index_or, set, cond, ◌==◌, Some, None, unwrap_or, if◌then◌else◌}
 use Rattle.std.specs.List.{join_with_byte}
 use Rattle.std.specs.Str.{bytes_eq}
 use lib.Chars.{codes}
@@ -18,6 +18,11 @@ tag_number_of row (t ∷ ts) = if bytes_eq t.0 row.name then value_number_of row
 -- one number for each tag of a part
 abbrev pub tag_numbers : List TagRow → List (List ℕ × List ℕ) → List ℕ
 tag_numbers rows tags = map (λ row. tag_number_of row tags) rows
+
+-- the numbers of tags where the router has set the first of them to 2, which is `yes`, or has not set it,
+-- whatever the tags say
+abbrev pub routed_numbers : (rows : List TagRow) (tags : List (List ℕ × List ℕ)) (is_set : Bool) → List ℕ
+routed_numbers rows tags is_set = set (tag_numbers rows tags) 0 (cond is_set 2 0)
 
 -- some of these numbers isn't 0
 abbrev pub some_set : List ℕ → Bool

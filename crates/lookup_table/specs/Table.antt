@@ -1,6 +1,7 @@
 -- The table of a text: this project's own rule, after `lookups.dat`.
 use Rattle.std.specs.Prelude.{ℕ, suc, Bool, true, false, not, ◌&&◌, ◌||◌, List, [], ◌∷◌, length, map, reverse, is_some, ◌==◌, Option, Some, None, Result, Ok, Err, if◌then◌else◌}
 use Rattle.std.specs.List.{filter, list_any}
+use Rattle.std.specs.Option.{option_or}
 use Rattle.lookup_table.specs.declared.error.LookupError.{LookupError}
 use Rattle.lookup_table.specs.declared.error.LookupError.TheVariants.{Line, TooMany, Version, FirstTag}
 use Rattle.lookup_table.specs.declared.part.Part.{Part}
@@ -58,15 +59,10 @@ line_fault number (Opens part) before = if is_opened part before then Some (Line
 line_fault number (TagLine tag spellings) before = tag_fault number tag (part_after before) before
 line_fault number line before = None
 
--- the first, or else the second
-abbrev pub or_else : Option LookupError → Option LookupError → Option LookupError
-or_else None other = other
-or_else (Some fault) other = Some fault
-
 -- the fault of the first line that has one; lines are numbered from 1
 abbrev pub first_fault : List LineForm → Option LookupError
 first_fault [] = None
-first_fault (line ∷ before) = or_else (first_fault before) (line_fault (suc (length before)) line before)
+first_fault (line ∷ before) = option_or (first_fault before) (line_fault (suc (length before)) line before)
 
 -- ---- The whole
 

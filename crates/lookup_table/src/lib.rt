@@ -7,6 +7,7 @@ mod error;
 mod finish;
 mod line;
 mod lines;
+mod numbers;
 mod part;
 mod print;
 mod rows;
@@ -16,5 +17,6 @@ mod words;
 
 pub use error::LookupError;
 pub use item_list::{Name, Tags};
+pub use numbers::{is_any_set, set_first};
 pub use part::Part;
 pub use table::Table;

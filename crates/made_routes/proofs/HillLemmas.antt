@@ -146,7 +146,7 @@ module _ (world : WorldValue) (sections : Sections) (plan : Plan)
 
 -- a world with the table and the tile of hills is one of hills
 pub hill-world : (plan : Plan) (seed : ℕ) (table : TagTable) (tiles : Tiles) (result : Result World MadeError) → seed ≡ plan.seed →
-    table_of look_text ≡ Ok table → ((relief : Relief) × (relief_of_file tile_name (hgt_bytes seed) ≡ Some relief) ×
+    table_of look_text ≡ Ok table → ((relief : Relief) × (relief_of_file tile_name (hgt_bytes seed) ≡ Ok relief) ×
     HaveTileAlone relief tiles) →
     Makes (overpass_text plan) (λ world. IsMadeWorld plan table tiles (world_of world)) RefusesNothing result →
     Makes (overpass_text plan) (λ world. IsHillWorld plan (world_of world)) RefusesNothing result
@@ -154,7 +154,7 @@ hill-world plan seed table tiles (Ok world) same table_is tile made = record {
   table = table;
   relief = tile.0;
   table_is = table_is;
-  relief_is = subst (λ (n : ℕ). relief_of_file tile_name (hgt_bytes n) ≡ Some tile.0) same tile.1;
+  relief_is = subst (λ (n : ℕ). relief_of_file tile_name (hgt_bytes n) ≡ Ok tile.0) same tile.1;
   tiles = tiles;
   alone = tile.2;
   made = made;

@@ -42,7 +42,7 @@ corners_asked plan = record {
 pub record AreHillParts (plan : Plan) (table : TagTable) (relief : Relief) (sections : Sections) :
     Type 0 where
   pub table_is : table_of look_text ≡ Ok table
-  pub relief_is : relief_of_file tile_name (hgt_bytes plan.seed) ≡ Some relief
+  pub relief_is : relief_of_file tile_name (hgt_bytes plan.seed) ≡ Ok relief
   pub sections_are : profile_of hill_text ≡ Ok sections
 
 -- the question that hills put: the request between opposite corners by that profile, over the grid's own map
@@ -82,7 +82,7 @@ pub record IsHillWorld (plan : Plan) (world : WorldValue) : Type 0 where
   pub table : TagTable
   pub relief : Relief
   pub table_is : table_of look_text ≡ Ok table
-  pub relief_is : relief_of_file tile_name (hgt_bytes plan.seed) ≡ Some relief
+  pub relief_is : relief_of_file tile_name (hgt_bytes plan.seed) ≡ Ok relief
   pub tiles : Tiles
   pub alone : HaveTileAlone relief tiles
   pub made : IsMadeWorld plan table tiles world

@@ -1,6 +1,6 @@
 //! The tag table, the profile and the tile that hills are crossed by.
 
-ghost use Rattle.std.specs.Prelude.{◌≡◌, ◌≤◌, ◌<◌, ◌^◌, Ok, Some, IfOk, length};
+ghost use Rattle.std.specs.Prelude.{◌≡◌, ◌≤◌, ◌<◌, ◌^◌, Ok, IfOk, length};
 ghost use Rattle.grid_map.specs.Tile.{hgt_bytes};
 ghost use Rattle.hgt_tiles.specs.File.{relief_of_file};
 ghost use Rattle.hgt_tiles.specs.Relief.{Relief};
@@ -89,7 +89,7 @@ pub(crate) fn hill_profile(alloc: Global) -> Result<Profile, AllocError>
 pub(crate) fn hill_tiles(alloc: Global, seed: u32) -> Result<Tiles, AllocError>
     requires lawful { seed ≤ 65535 }
     ensures exact { IfOk result (λ tiles.
-        (relief : Relief) × (relief_of_file tile_name (hgt_bytes seed) ≡ Some relief) ×
+        (relief : Relief) × (relief_of_file tile_name (hgt_bytes seed) ≡ Ok relief) ×
         HaveTileAlone relief tiles) }
 {
     let tile = hill_tile(alloc, seed)?;
@@ -101,7 +101,7 @@ pub(crate) fn hill_tiles(alloc: Global, seed: u32) -> Result<Tiles, AllocError>
 /// The tile of a seed.
 fn hill_tile(alloc: Global, seed: u32) -> Result<Tile, AllocError>
     requires lawful { seed ≤ 65535 }
-    ensures exact { IfOk result (λ tile. relief_of_file tile_name (hgt_bytes seed) ≡ Some tile) }
+    ensures exact { IfOk result (λ tile. relief_of_file tile_name (hgt_bytes seed) ≡ Ok tile) }
 {
     let bytes = hgt_bytes(alloc, seed)?;
     match Tile::read(alloc, tile_name(), bytes.as_slice()) {

@@ -2,31 +2,13 @@
 use Rattle.std.proofs.Common.{◌≡◌, ◌≢◌, ℕ, zero, suc, ◌+◌, ◌-◌, ◌<◌, ◌≤◌, true, false, inl, inr, List, [], ◌∷◌, ◌++◌, length, get_or, take, drop, refl, sym, ap, ◌∙◌, subst, arith, eq-eqb}
 use Rattle.std.proofs.lemmas.Bool.{ne_eqb, cases_eq}
 use Rattle.std.proofs.lemmas.Bool.Decides.{nat_tests}
-use Rattle.std.proofs.lemmas.List.{drop_more, take_more, take_all, drop_all}
+use Rattle.std.proofs.lemmas.List.{drop_more, take_more, take_all}
 use Rattle.std.proofs.lemmas.List.Sums.{prefix_len_passes, prefix_len_stops}
 use Rattle.std.specs.List.{prefix_len}
 use Rattle.std.specs.Str.{bytes_eq}
 use Rattle.item_list.specs.Bytes.{is_other}
 use Rattle.overpass_graph.specs.Texts.{bicycle}
-use Rattle.overpass_graph.specs.Restrictions.{begins_with, without_front, without_end, trimmed, pieces, names_bicycle}
-
--- ---- Fronts
-
--- one byte that agrees
-pub begins-more : (front text : List ℕ) (k : ℕ) → k < length front → k < length text → get_or text k 0 ≡ get_or front k 0 →
-    begins_with (drop k front) (drop k text) ≡ begins_with (drop (k + 1) front) (drop (k + 1) text)
-begins-more front text k f t same =
-    rw (drop_more front k 0 f, drop_more text k 0 t, eq-eqb (get_or front k 0) (get_or text k 0) (sym same)) refl
-
--- one byte that differs
-pub begins-other : (front text : List ℕ) (k : ℕ) → k < length front → k < length text → (get_or text k 0 ≡ get_or front k 0 → ⊥) →
-    begins_with (drop k front) (drop k text) ≡ false
-begins-other front text k f t other =
-    rw (drop_more front k 0 f, drop_more text k 0 t, ne_eqb (get_or front k 0) (get_or text k 0) (λ e. other (sym e))) refl
-
--- the text ends before the front does
-pub begins-short : (front text : List ℕ) (k : ℕ) → k < length front → length text ≤ k → begins_with (drop k front) (drop k text) ≡ false
-begins-short front text k f t = rw (drop_more front k 0 f, drop_all k text t) refl
+use Rattle.overpass_graph.specs.Restrictions.{without_front, without_end, trimmed, pieces, names_bicycle}
 
 -- ---- Spaces at the ends
 

@@ -1,6 +1,7 @@
 -- Turn restrictions of a map, and which link they forbid after which (this project's own rules, after the
 -- tags of OpenStreetMap).
-use Rattle.std.specs.Prelude.{ℕ, ℤ, Bool, true, false, ◌&&◌, ◌||◌, not, ◌==◌, List, [], ◌∷◌, Option, Some, None, if◌then◌else◌}
+use Rattle.std.specs.Prelude.{ℕ, ℤ, Bool, true, false, ◌&&◌, ◌||◌, not, ◌==◌, nat_eq, List, [], ◌∷◌, Option, Some, None, if◌then◌else◌}
+use Rattle.std.specs.List.{slice_split, starts_with}
 use Rattle.std.specs.Str.{bytes_eq}
 use lib.Chars.{codes}
 use Rattle.geo_int.specs.Place.{Place}
@@ -13,12 +14,6 @@ use Rattle.overpass_graph.specs.declared.restriction.RestrictionKind.TheVariants
 use Rattle.overpass_graph.specs.RouteTags.{value_of}
 
 -- ---- Texts
-
--- a text begins with these bytes
-abbrev pub begins_with : List ℕ → List ℕ → Bool
-begins_with [] text = true
-begins_with (c ∷ cs) [] = false
-begins_with (c ∷ cs) (d ∷ text) = (c == d) && begins_with cs text
 
 -- a text without the spaces at its front
 abbrev pub without_front : List ℕ → List ℕ
@@ -40,12 +35,7 @@ trimmed text = without_end (without_front text)
 
 -- the pieces of a text between its semicolons
 abbrev pub pieces : List ℕ → List (List ℕ)
-pieces [] = [] ∷ []
-pieces (c ∷ cs) = if c == 59 then [] ∷ pieces cs else onto c (pieces cs)
-  where
-    onto : ℕ → List (List ℕ) → List (List ℕ)
-    onto c [] = (c ∷ []) ∷ []
-    onto c (piece ∷ later) = (c ∷ piece) ∷ later
+pieces text = slice_split (λ b. b == 59) text
 
 -- one of these pieces says `bicycle`
 abbrev pub names_bicycle : List (List ℕ) → Bool
@@ -57,8 +47,8 @@ names_bicycle (piece ∷ later) = bytes_eq (trimmed piece) (codes "bicycle") || 
 -- the kind of a restriction by the value of its tag
 abbrev pub kind_of : List ℕ → Option RestrictionKind
 kind_of value =
-    if begins_with (codes "no_") value then Some kind_.No
-    else if begins_with (codes "only_") value then Some kind_.Only
+    if starts_with nat_eq value (codes "no_") then Some kind_.No
+    else if starts_with nat_eq value (codes "only_") then Some kind_.Only
     else None
 
 -- the restriction doesn't hold for bicycles

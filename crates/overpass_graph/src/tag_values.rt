@@ -6,7 +6,7 @@ ghost use lib.Chars.{codes};
 ghost use Rattle.overpass_graph.specs.RouteTags.{value_of as value_by_name};
 
 use crate::restriction::RestrictionKind;
-use crate::texts::{begins_with, names_bicycle};
+use crate::texts::names_bicycle;
 use item_list::{Items, Name, Tags};
 use std::alloc::{AllocError, Global};
 
@@ -27,10 +27,10 @@ pub(crate) fn value_of<'a>(tags: &'a Tags, name: &[u8]) -> Option<&'a [u8]>
 fn kind_of(value: &[u8]) -> Option<RestrictionKind>
     ensures value { result ≡ kind_by_value value.now }
 {
-    if begins_with(b"no_".as_slice(), value) {
+    if value.starts_with(b"no_") {
         return Some(RestrictionKind::No);
     }
-    if begins_with(b"only_".as_slice(), value) {
+    if value.starts_with(b"only_") {
         return Some(RestrictionKind::Only);
     }
     None

@@ -1,26 +1,11 @@
-//! Texts of tags: fronts, pieces, and spaces at their ends.
+//! Texts of tags: pieces, and spaces at their ends.
 
 ghost use Rattle.std.specs.Prelude.{◌≡◌, ◌+◌, ◌<◌, ◌≤◌, length, drop};
-ghost use Rattle.overpass_graph.specs.Restrictions.{begins_with as begins_with_bytes, without_front as front_cut, without_end as end_cut, trimmed as trimmed_bytes, names_bicycle as names_bicycle_among, pieces};
+ghost use Rattle.overpass_graph.specs.Restrictions.{without_front as front_cut, without_end as end_cut, trimmed as trimmed_bytes, names_bicycle as names_bicycle_among, pieces};
 ghost use Rattle.std.specs.Str.{bytes_eq};
 ghost use Rattle.overpass_graph.specs.Texts.{bicycle};
 
 use item_list::len_before;
-
-/// Whether a text begins with these bytes.
-pub(crate) fn begins_with(front: &[u8], text: &[u8]) -> bool
-    ensures value { result ≡ begins_with_bytes front.now text.now }
-{
-    'bytes: for (place, byte) in front.iter().enumerate() {
-        if place >= text.len() {
-            return false;
-        }
-        if text[place] != *byte {
-            return false;
-        }
-    }
-    true
-}
 
 /// Whether a piece of a text, cut at semicolons, says `bicycle`, spaces at its ends aside.
 pub(crate) fn names_bicycle(text: &[u8]) -> bool

@@ -3,7 +3,7 @@ use Rattle.std.proofs.Common.{◌≡◌, ℕ, ◌+◌, ◌<◌, ◌≤◌, List,
 use Rattle.std.specs.Prelude.{if◌then◌else◌}
 use Rattle.std.proofs.lemmas.Bool.{lt-ltb}
 use Rattle.std.proofs.lemmas.List.{map-append, length-map}
-use Rattle.context_check.proofs.CallerLemmas.{names_of, names_more, or_else-none}
+use Rattle.context_check.proofs.CallerLemmas.{names_of, names_more, option_or-none}
 use Rattle.context_check.specs.Checked.{IsArithmetic}
 use Rattle.context_check.specs.Refusal.{name_refusal, expr_refusal, section_refusal}
 use Rattle.profile_code.proofs.NameLemmas.{numbers_of}
@@ -72,8 +72,8 @@ module _ (s : Setting) where
       s.given.most ≡ length own + length assignments → EndsIn own assignments
   ends own [] is none fits most = record { runs = refl; known = tt }
   ends own (a ∷ rest) is none fits most =
-      let later = (or_else-none (name_refusal s.section a) _ none).1 in
-      let parts = or_else-none (expr_refusal (context s) (names_of own) a.value) _ later in
+      let later = (option_or-none (name_refusal s.section a) _ none).1 in
+      let parts = option_or-none (expr_refusal (context s) (names_of own) a.value) _ later in
       sets own a rest (value_in s own a.value) (gives_tree s own a.value is parts.0) (omega arith) (omega arith) (λ n.
       ends (own ++ (a.name, n) ∷ []) rest is
       (ap (λ l. section_refusal (context s) l rest) (names_more own a.name n) ∙ parts.1)

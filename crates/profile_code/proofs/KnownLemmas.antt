@@ -1,5 +1,6 @@
 -- In a profile that was checked each variable and each look is known.
 use Rattle.std.proofs.Common.{◌≡◌, ℕ, suc, ◌<◌, Bool, true, false, ◌||◌, List, [], ◌∷◌, length, ℤ, Option, Some, None, Result, Ok, refl, ap, ◌∙◌, arith}
+use Rattle.std.specs.Option.{option_or}
 use Rattle.std.specs.Prelude.{slice_get, slice_index_or, is_some, option_map, if◌then◌else◌}
 use Rattle.std.specs.Str.{bytes_eq}
 use Rattle.std.proofs.lemmas.Option.{slice_get-get_or}
@@ -14,7 +15,7 @@ use Rattle.profile_code.specs.Emit.{variable_instr, look_instr, ascending}
 use Rattle.profile_code.specs.Machine.{Given, pushed, look_value}
 use Rattle.profile_code.specs.declared.instr.Instr.{Instr}
 use Rattle.profile_code.specs.declared.instr.Instr.TheVariants.{Own, Global}
-use Rattle.profile_text.specs.Meaning.{Fault, known, and_then, truth, is_listed, is_found, look_at, looks_in, look_numbers, row_at, later_value, last_value, or_else, variable_in}
+use Rattle.profile_text.specs.Meaning.{Fault, known, and_then, truth, is_listed, is_found, look_at, looks_in, look_numbers, row_at, later_value, last_value, variable_in}
 use Rattle.profile_text.specs.Names.{later_place, last_place}
 
 -- ---- Variables
@@ -54,7 +55,7 @@ module _ (given : Given) (global own : List (List ℕ × ℤ)) where
       by_place : (own_value : Option ℤ) (own_place : Option ℕ) (value : Option ℤ) (place : Option ℕ) →
           StandsAt own_value own_place (numbers_of own) → StandsAt value place (numbers_of global) →
           (if is_some own_place || is_some place then None else Some (UnknownName line)) ≡ None →
-          Gives given (numbers_of own) 1 (variable_instr own_place place ∷ []) (known line (or_else own_value value))
+          Gives given (numbers_of own) 1 (variable_instr own_place place ∷ []) (known line (option_or own_value value))
       by_place (Some n) (Some k) value place stands there refused =
           gives_number given (numbers_of own) (Own k) n (λ next stack. ap (λ o. pushed given o next stack (numbers_of own)) stands)
       by_place (Some n) None value place stands there refused = absurd stands

@@ -1,6 +1,6 @@
 -- The code of an expression gives the expression's value.
 use Rattle.std.proofs.Common.{◌≡◌, ℕ, ◌≤◌, Bool, List, ℤ, Option, None, Result, refl, arith}
-use Rattle.context_check.proofs.CallerLemmas.{names_of, or_else-none}
+use Rattle.context_check.proofs.CallerLemmas.{names_of, option_or-none}
 use Rattle.context_check.specs.Context.{Context}
 use Rattle.context_check.specs.Refusal.{look_refusal, expr_refusal}
 use Rattle.lookup_table.specs.Tag.{TagRow}
@@ -63,14 +63,14 @@ gives_tree s own (TagLook tag values line) is none = is.gives (numbers_of own) t
 gives_tree s own (Negation a) is none =
     gives_not s.given (numbers_of own) (height_of a) _ _ (gives_tree s own a is none)
 gives_tree s own (Operation op a b) is none =
-    let parts = or_else-none (expr_refusal (context s) (names_of own) a) _ none in
+    let parts = option_or-none (expr_refusal (context s) (names_of own) a) _ none in
     gives_operation s.given (numbers_of own) (height_of a) (height_of b) op _ _ _ _
     (gives_tree s own a is parts.0)
     (gives_tree s own b is parts.1)
     (height_some a)
 gives_tree s own (Choice a b c) is none =
-    let parts = or_else-none (expr_refusal (context s) (names_of own) a) _ none in
-    let arms = or_else-none (expr_refusal (context s) (names_of own) b) _ parts.1 in
+    let parts = option_or-none (expr_refusal (context s) (names_of own) a) _ none in
+    let arms = option_or-none (expr_refusal (context s) (names_of own) b) _ parts.1 in
     gives_choice s.given (numbers_of own) (height_of a) (height_of b) (height_of c) _ _ _ _ _ _
     (gives_tree s own a is parts.0)
     (gives_tree s own b is arms.0)

@@ -4,6 +4,7 @@ use Rattle.std.specs.Prelude.{ℕ, Bool, true, false, not, ◌||◌, List, [], �
 use Rattle.std.specs.Int.{int_max, int_min}
 use Rattle.std.specs.Ordering.{int_eq}
 use Rattle.std.specs.Map.{lookup}
+use Rattle.std.specs.Option.{option_or}
 use Rattle.std.specs.Str.{bytes_eq}
 use lib.Chars.{codes}
 pub use Rattle.item_list.specs.Answer.{and_then}
@@ -153,14 +154,9 @@ abbrev pub last_value : List (List ℕ × ℤ) → List ℕ → Option ℤ
 last_value [] name = None
 last_value (v ∷ vs) name = later_value (bytes_eq name v.0) v.1 (last_value vs name)
 
--- the first, or else the second
-abbrev pub or_else : {A : Type 0} → Option A → Option A → Option A
-or_else (Some a) other = Some a
-or_else None other = other
-
 -- a variable: of the section itself, or else of the global one
 abbrev pub variable_in : List (List ℕ × ℤ) → List (List ℕ × ℤ) → List ℕ → Option ℤ
-variable_in global own name = or_else (last_value own name) (last_value global name)
+variable_in global own name = option_or (last_value own name) (last_value global name)
 
 -- the first assignment of a section that has no value: its place and name, and why
 pub record SectionFault : Type 0 where

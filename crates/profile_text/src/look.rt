@@ -1,5 +1,5 @@
 //! The parts of a look: a tag, and the values that it is compared with.
-ghost use Rattle.std.specs.Prelude.{◌≡◌, ◌≤◌, false, length, IfOk};
+ghost use Rattle.std.specs.Prelude.{◌≡◌, ◌≤◌, false, IfOk};
 ghost use Rattle.profile_text.specs.Look.{is_look, are_values, are_parted, pieces, tag_of, values_of};
 
 use item_list::{Items, Name, bytes_of, len_before};

@@ -9,11 +9,8 @@ use Rattle.command_words.specs.declared.command.RouteCommand.{RouteCommand}
 use Rattle.command_words.specs.declared.command.ServeCommand.{ServeCommand}
 use Rattle.context_check.specs.Refusal.{refusal_of}
 use Rattle.edge_io.specs.Files.{FilesSeen}
-use Rattle.hgt_tiles.specs.File.{steps_of}
-use Rattle.hgt_tiles.specs.Name.{corner_of_name}
+use Rattle.hgt_tiles.specs.File.{relief_of_file}
 use Rattle.hgt_tiles.specs.Relief.{Relief}
-use Rattle.hgt_tiles.specs.declared.names.Corner.{Corner}
-use Rattle.hgt_tiles.specs.declared.tile_file.TileError.TheVariants as tile_fault
 use Rattle.hgt_tiles.specs.declared.tile_set.Tiles.{Tiles}
 use Rattle.item_list.specs.Answer.{answer_map}
 use Rattle.lookup_table.specs.First.{TagTable}
@@ -27,18 +24,19 @@ use Rattle.route_ready.specs.declared.error.RouteError.{RouteError}
 use Rattle.route_run.proofs.CauseLemmas.{Cause, IsInner, each-cause, file-cause, last-cause, leaves-cause, map-cause, settles-cause, then-cause}
 use Rattle.route_run.specs.Offer.{Offer, Offers, offer_over, serve_files}
 use Rattle.route_run.specs.Outcome.{IsCommandAnswer, file_words, profile_words, words_in, world_words}
-use Rattle.run_answers.specs.Code.{IsCodeAnswer, listing_by, listing_in}
+use Rattle.run_answers.specs.Code.{IsCodeAnswer, listing_in, listing_under}
 use Rattle.run_answers.specs.Grid.{IsGridAnswerBy, IsPricedAnswer, IsShortestAnswer, question_by}
 use Rattle.run_answers.specs.Hills.{IsHillsAnswer}
 use Rattle.run_answers.specs.Make.{made_by}
 use Rattle.run_answers.specs.Refused.{IsMadeRefusal, IsRefusal}
 use Rattle.run_answers.specs.Route.{IsRouteAnswer, IsRouted, IsRoutedBy, route_files}
+use Rattle.run_files.specs.Chain.{seen_as}
 use Rattle.run_files.specs.Checked.{TakesChecked, checked_by, checked_in}
 use Rattle.run_files.specs.Profile.{TakesProfile, profile_in}
 use Rattle.run_files.specs.Profiles.{NamedProfile, TakesNamed, named_by, profile_named}
 use Rattle.run_files.specs.Query.{query_in}
 use Rattle.run_files.specs.TagTable.{TakesTable, table_in}
-use Rattle.run_files.specs.Tiles.{TakesTile, TakesTiles, tile_by, tile_in}
+use Rattle.run_files.specs.Tiles.{TakesTile, TakesTiles, tile_in}
 use Rattle.run_files.specs.World.{OfferedValue, TakesWorld, WorldFiles}
 use Rattle.run_files.specs.declared.status.Status.{Status}
 use Rattle.run_files.specs.declared.status.Status.TheVariants.{Query, Lookup, Text, Check, Tile}
@@ -60,18 +58,11 @@ checked-inner word table sections status is =
       | None ↦ λ e. cc
     ] is
 
--- and that of a tile
-tile-inner : (word : ℕ) (bytes : List ℕ) (corner : Option Corner) (steps : Option ℕ) (status : Status) →
-    tile_by word bytes corner steps ≡ Err status → IsInner status
-tile-inner word bytes None steps status is = let same : Tile word tile_fault.Name ≡ status = cc in subst IsInner same tt
-tile-inner word bytes (Some corner) None status is = let same : Tile word tile_fault.Size ≡ status = cc in subst IsInner same tt
-tile-inner word bytes (Some corner) (Some steps) status is = cc
-
--- so is the listing's
+-- and that of the listing
 listing-inner : (word : ℕ) (table : TagTable) (sections : Sections) (status : Status) → listing_in word table sections ≡ Err status →
     IsInner status
 listing-inner word table sections status is =
-    elim (refusal_of table sections []) as (λ r. listing_by word table sections r ≡ Err status → IsInner status) [
+    elim (refusal_of table sections []) as (λ r. seen_as (listing_under table) (checked_by word sections r) ≡ Err status → IsInner status) [
       | Some error ↦ λ e. let same : Check word error ≡ status = cc in subst IsInner same tt
       | None ↦ λ e. cc
     ] is
@@ -131,7 +122,7 @@ tile-cause : (file : Named) (old new : FilesSeen) (r : Result Relief Status) →
 tile-cause file =
     last-cause _ _ (file.word ∷ []) (file-cause file _)
     (λ bytes. settles-cause (tile_in file.word file.name bytes)
-    (tile-inner file.word bytes (corner_of_name file.name) (steps_of (length bytes))))
+    (mapped-inner (Tile file.word) (relief_of_file file.name bytes) (λ e. tt)))
 
 -- the stage of tiles
 tiles-cause : (files : List Named) (old new : FilesSeen) (r : Result Tiles Status) → TakesTiles files old new r →

@@ -5,7 +5,6 @@ use Rattle.std.proofs.Common.{◌≡◌, ℕ, inl, List, [], ◌∷◌, ◌++◌
 use Rattle.command_words.specs.FileNames.{profile_name}
 use Rattle.command_words.specs.Fit.{AreOnceAfter, is_among}
 use Rattle.command_words.specs.Given.{Named}
-use Rattle.command_words.specs.Value.{same_text}
 use Rattle.edge_io.specs.Files.{FilesSeen}
 use Rattle.lookup_table.specs.First.{TagTable}
 use Rattle.lookup_table.specs.Tag.{name_place}
@@ -49,13 +48,13 @@ rest_false true b is = cc
 rest_false false b is = is
 
 -- a first name that isn't this one, before names among which it isn't found
-place_behind : (b : Bool) (x name : List ℕ) (xs : List (List ℕ)) → bytes_eq name x ≡ b → (same_text x name || is_among xs name) ≡ false →
+place_behind : (b : Bool) (x name : List ℕ) (xs : List (List ℕ)) → bytes_eq name x ≡ b → (bytes_eq x name || is_among xs name) ≡ false →
     (is_among xs name ≡ false → name_place xs name ≡ None) → name_place (x ∷ xs) name ≡ None
 place_behind true x name xs same is later =
     let equal : name ≡ x = (bytes_eq-Decides name x).0 same in
-    let here : same_text x name ≡ true = (bytes_eq-Decides x name).1 (sym equal) in
+    let here : bytes_eq x name ≡ true = (bytes_eq-Decides x name).1 (sym equal) in
     absurd (let clash : true ≡ false = sym (ap (λ (a : Bool). a || is_among xs name) here) ∙ is in cc)
-place_behind false x name xs other is later = rw other (ap (option_map suc) (later (rest_false (same_text x name) (is_among xs name) is)))
+place_behind false x name xs other is later = rw other (ap (option_map suc) (later (rest_false (bytes_eq x name) (is_among xs name) is)))
 
 -- a name that is among none is found nowhere
 among-none : (names : List (List ℕ)) (name : List ℕ) → is_among names name ≡ false → name_place names name ≡ None

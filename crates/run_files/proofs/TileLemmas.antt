@@ -6,18 +6,19 @@ use Rattle.std.specs.Option.{unwrap_or}
 use Rattle.std.specs.Ordering.{int_eq}
 use Rattle.edge_io.specs.Files.{FilesSeen}
 use Rattle.hgt_tiles.proofs.CallerLemmas.{corner-same}
-use Rattle.hgt_tiles.specs.File.{relief_of_both, relief_of_file, steps_of}
+use Rattle.hgt_tiles.specs.File.{relief_by, relief_of_file, steps_of}
 use Rattle.hgt_tiles.specs.Name.{corner_of_name}
 use Rattle.hgt_tiles.specs.Relief.{Relief}
 use Rattle.hgt_tiles.specs.Tiles.{AddsTile, relief_at}
 use Rattle.hgt_tiles.specs.declared.names.Corner.{Corner}
 use Rattle.hgt_tiles.specs.declared.tile_file.TileError.TheVariants as fault
 use Rattle.hgt_tiles.specs.declared.tile_set.Tiles.{Tiles}
+use Rattle.item_list.specs.Answer.{answer_map}
 use Rattle.run_files.proofs.StageLemmas.{then-goes}
 use Rattle.run_files.specs.Chain.{Settles}
 use Rattle.run_files.specs.File.{TakesFile}
 use Rattle.run_files.specs.Limits.{most_tile}
-use Rattle.run_files.specs.Tiles.{AreTilesOf, TakesTile, same_corner, tile_by, tile_in}
+use Rattle.run_files.specs.Tiles.{AreTilesOf, TakesTile, same_corner, tile_in}
 use Rattle.command_words.specs.Given.{Named}
 use Rattle.run_files.specs.declared.status.Status.TheVariants.{Tile, NoMemory}
 
@@ -100,25 +101,20 @@ tiles-more reliefs old new relief are adds = λ corner. at corner (same_corner r
 -- ---- One tile
 
 -- a relief that was read is that of the file
-pub tile-read : (word : ℕ) (name bytes read : List ℕ) (relief : Relief) → read ≡ name → relief_of_file read bytes ≡ Some relief →
+pub tile-read : (word : ℕ) (name bytes read : List ℕ) (relief : Relief) → read ≡ name → relief_of_file read bytes ≡ Ok relief →
     tile_in word name bytes ≡ Ok relief
 tile-read word name bytes read relief same is =
-    subst (λ n. tile_in word n bytes ≡ Ok relief) same (go (corner_of_name read) (steps_of (length bytes)) is)
-  where
-    go : (corner : Option Corner) (steps : Option ℕ) → relief_of_both corner steps bytes ≡ Some relief →
-        tile_by word bytes corner steps ≡ Ok relief
-    go None steps is = cc
-    go (Some corner) None is = cc
-    go (Some corner) (Some steps) is = cc
+    subst (λ n. tile_in word n bytes ≡ Ok relief) same (ap (answer_map (λ (r : Relief). r) (Tile word)) is)
 
--- a name that gives no corner is refused
+-- a file whose name gives no corner is refused
 pub tile-nameless : (word told : ℕ) (name bytes read : List ℕ) → told ≡ word → read ≡ name → IsNone (corner_of_name read) →
     tile_in word name bytes ≡ Err (Tile told fault.Name)
 tile-nameless word told name bytes read named same is =
     subst (λ n. tile_in word n bytes ≡ Err (Tile told fault.Name)) same
-    (subst (λ (t : ℕ). tile_in word read bytes ≡ Err (Tile t fault.Name)) (sym named) (go (corner_of_name read) is))
+    (subst (λ (t : ℕ). tile_in word read bytes ≡ Err (Tile t fault.Name)) (sym named)
+    (ap (answer_map (λ (r : Relief). r) (Tile word)) (go (corner_of_name read) is)))
   where
-    go : (corner : Option Corner) → IsNone corner → tile_by word bytes corner (steps_of (length bytes)) ≡ Err (Tile word fault.Name)
+    go : (corner : Option Corner) → IsNone corner → relief_by corner (steps_of (length bytes)) bytes ≡ Err fault.Name
     go None is = refl
     go (Some corner) is = cc
 
@@ -129,10 +125,9 @@ pub tile-size : (word told : ℕ) (name bytes read : List ℕ) → told ≡ word
 tile-size word told name bytes read named same is =
     subst (λ n. tile_in word n bytes ≡ Err (Tile told fault.Size)) same
     (subst (λ (t : ℕ). tile_in word read bytes ≡ Err (Tile t fault.Size)) (sym named)
-    (go (corner_of_name read) (steps_of (length bytes)) is.0 is.1))
+    (ap (answer_map (λ (r : Relief). r) (Tile word)) (go (corner_of_name read) (steps_of (length bytes)) is.0 is.1)))
   where
-    go : (corner : Option Corner) (steps : Option ℕ) → IsSome corner → IsNone steps →
-        tile_by word bytes corner steps ≡ Err (Tile word fault.Size)
+    go : (corner : Option Corner) (steps : Option ℕ) → IsSome corner → IsNone steps → relief_by corner steps bytes ≡ Err fault.Size
     go None steps some none = cc
     go (Some corner) None some none = refl
     go (Some corner) (Some steps) some none = cc

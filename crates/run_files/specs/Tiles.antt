@@ -1,33 +1,24 @@
 -- The stages of tiles, one after the other. This project's own rule.
-use Rattle.std.specs.Prelude.{ℕ, ◌≡◌, ◌&&◌, Bool, List, length, Option, Some, None, Result, Ok, Err}
+use Rattle.std.specs.Prelude.{ℕ, ◌≡◌, ◌&&◌, Bool, List, Result, Ok, Err}
 use Rattle.std.specs.List.{find}
 use Rattle.std.specs.Ordering.{int_eq}
 use Rattle.command_words.specs.Given.{Named}
 use Rattle.edge_io.specs.Files.{FilesSeen}
-use Rattle.hgt_tiles.specs.File.{samples_of, steps_of}
-use Rattle.hgt_tiles.specs.Name.{corner_of_name}
+use Rattle.hgt_tiles.specs.File.{relief_of_file}
 use Rattle.hgt_tiles.specs.Relief.{Relief}
 use Rattle.hgt_tiles.specs.Tiles.{relief_at}
 use Rattle.hgt_tiles.specs.declared.names.Corner.{Corner}
-use Rattle.hgt_tiles.specs.declared.tile_file.TileError.TheVariants as tile
 use Rattle.hgt_tiles.specs.declared.tile_set.Tiles.{Tiles}
+use Rattle.item_list.specs.Answer.{answer_map}
 use Rattle.run_files.specs.Chain.{Settles, Stage, TakesEach, Then}
 use Rattle.run_files.specs.File.{TakesFile}
 use Rattle.run_files.specs.Limits.{most_tile}
 use Rattle.run_files.specs.declared.status.Status.{Status}
 use Rattle.run_files.specs.declared.status.Status.TheVariants.{Tile}
 
--- the relief of a corner and a number of steps, or the refusal of the one that isn't there: the corner comes
--- first
-abbrev pub tile_by : ℕ → List ℕ → Option Corner → Option ℕ → Result Relief Status
-tile_by word bytes None steps = Err (Tile word tile.Name)
-tile_by word bytes (Some corner) None = Err (Tile word tile.Size)
-tile_by word bytes (Some corner) (Some steps) =
-    Ok (record { corner = corner; steps = steps; samples = samples_of bytes })
-
 -- the relief that a file of this name and these bytes holds, or its refusal, which names the word of the file
 abbrev pub tile_in : ℕ → List ℕ → List ℕ → Result Relief Status
-tile_in word name bytes = tile_by word bytes (corner_of_name name) (steps_of (length bytes))
+tile_in word name bytes = answer_map (λ (r : Relief). r) (Tile word) (relief_of_file name bytes)
 
 -- the file is taken in, and then its tile is read
 abbrev pub TakesTile : Named → Stage Relief

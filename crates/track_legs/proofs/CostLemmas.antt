@@ -5,10 +5,11 @@ use Rattle.std.proofs.lemmas.Bool.{cases_eq}
 use Rattle.std.proofs.lemmas.List.{get_or-take, length-take-le, take-append-drop, take-append-le}
 use Rattle.cost_model.specs.Prices.{Prices}
 use Rattle.cost_model.specs.Parts.{cost_of}
-use Rattle.cost_model.specs.Walks.{link_at, link_before, parts_at, sum_before, cost_at, walk_cost, GoesOn}
+use Rattle.cost_model.specs.Walks.{link_before, parts_at, sum_before, cost_at, walk_cost, GoesOn}
 use Rattle.cost_model.specs.declared.facts.LinkFacts.{LinkFacts}
 use Rattle.cost_model.specs.declared.parts.Carry.{Carry}
 use Rattle.cost_model.specs.declared.parts.Parts.{Parts}
+use Rattle.overpass_graph.specs.Walks.{link_at}
 use Rattle.track_legs.specs.Costs.{IsCarriedSoFar, IsKept}
 use Rattle.cost_model.proofs.CallerLemmas.{sum-same}
 

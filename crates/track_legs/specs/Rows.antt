@@ -1,8 +1,9 @@
 -- The rows of a track: one for each link of each leg, with the parts of its cost (this project's own rule).
 use Rattle.std.specs.Prelude.{ℕ, zero, suc, ◌<◌, List, [], ◌∷◌, ◌++◌, length}
 use Rattle.cost_model.specs.Prices.{Prices}
-use Rattle.cost_model.specs.Walks.{link_at, parts_at}
+use Rattle.cost_model.specs.Walks.{parts_at}
 use Rattle.cost_model.specs.declared.facts.LinkFacts.{LinkFacts}
+use Rattle.overpass_graph.specs.Walks.{link_at}
 use Rattle.track_legs.specs.Tracks.{leg_at}
 use Rattle.track_legs.specs.declared.row.Row.{Row}
 use Rattle.track_legs.specs.declared.track.Leg.{Leg}

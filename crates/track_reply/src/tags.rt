@@ -3,10 +3,9 @@
 ghost use Rattle.std.specs.Prelude.{◌≡◌, ◌<◌, ◌≤◌, cond, length, set, IfOk};
 ghost use Rattle.lookup_table.specs.First.{rows_of};
 ghost use Rattle.lookup_table.specs.Numbers.{AreNumbersOf};
-ghost use Rattle.lookup_table.specs.Numbers.{has_set};
 ghost use Rattle.track_reply.specs.Tags.{node_field, node_text, way_field, way_text};
 
-use lookup_table::{Part, Table, Tags};
+use lookup_table::{Part, Table, Tags, is_any_set, set_first};
 use overpass_graph::Map;
 use std::alloc::{AllocError, Global};
 
@@ -48,7 +47,7 @@ fn way_text(alloc: Global, table: &Table, tags: &Tags, back: bool) -> Result<Vec
     ensures exact { IfOk result (λ text. text.items ≡ way_text table.now tags.now back) }
 {
     let mut numbers = table.encode(alloc, Part::Way, tags)?;
-    set_first(table, Part::Way, &mut numbers, back);
+    set_routed(table, Part::Way, &mut numbers, back);
     table.print(alloc, Part::Way, numbers.as_slice())
 }
 
@@ -66,18 +65,18 @@ fn node_text(
     if !is_any_set(numbers.as_slice()) {
         return Ok(Vec::new(alloc));
     }
-    set_first(table, Part::Node, &mut numbers, granted);
+    set_routed(table, Part::Node, &mut numbers, granted);
     table.print(alloc, Part::Node, numbers.as_slice())
 }
 
 /// Sets the first of the numbers of a part's tags to that of `yes`, or to none.
-fn set_first(table: &Table, part: Part, numbers: &mut Vec<u16>, is_set: bool)
+fn set_routed(table: &Table, part: Part, numbers: &mut Vec<u16>, is_set: bool)
     requires fits { AreNumbersOf (rows_of table.now part) numbers.old.items }
     ensures value { numbers.new.items ≡ set numbers.old.items 0 (cond is_set 2 0) }
     ensures fits { AreNumbersOf (rows_of table.now part) numbers.new.items }
 {
     let _ = table.tags(part);
-    set_to(numbers, first_number(is_set));
+    set_first(numbers, first_number(is_set));
 }
 
 /// The number of a first tag that is set, or isn't.
@@ -86,27 +85,4 @@ fn first_number(is_set: bool) -> u16
     ensures fits { result ≤ 2 }
 {
     if is_set { 2 } else { 0 }
-}
-
-/// Sets the first number, where there is one.
-fn set_to(numbers: &mut Vec<u16>, number: u16)
-    ensures value { numbers.new.items ≡ set numbers.old.items 0 number }
-{
-    if numbers.len() > 0 {
-        numbers[0] = number;
-    }
-}
-
-/// Whether a number after the first isn't 0.
-fn is_any_set(numbers: &[u16]) -> bool
-    ensures exact { result ≡ has_set numbers.now }
-{
-    let mut place = 1;
-    'places: while place < numbers.len() {
-        if numbers[place] != 0 {
-            return true;
-        }
-        place += 1;
-    }
-    false
 }

@@ -1,4 +1,3 @@
-pub mod Numbers
 pub mod Answers
 pub mod Sides
 pub mod Charges

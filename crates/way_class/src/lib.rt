@@ -12,7 +12,6 @@ mod height;
 mod heights;
 mod lookups;
 mod nodes;
-mod numbers;
 mod row;
 mod rows;
 mod side;

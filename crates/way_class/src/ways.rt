@@ -18,10 +18,9 @@ ghost use Rattle.way_class.specs.declared.error.BindError.TheVariants.{NoMemory}
 
 use crate::classes::Classes;
 use crate::error::BindError;
-use crate::numbers::set_first;
 use crate::side::{WayClass, WaySide};
 use crate::sides::{WayFault, way_side};
-use lookup_table::{Part, Table};
+use lookup_table::{Part, Table, set_first};
 use overpass_graph::Map;
 use profile_code::{Code, Scratch};
 use std::alloc::Global;

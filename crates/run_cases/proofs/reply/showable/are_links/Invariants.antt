@@ -1,5 +1,5 @@
 use Rattle.std.proofs.Common.{◌<◌, ℕ, length}
-use Rattle.cost_model.specs.Walks.{link_at}
+use Rattle.overpass_graph.specs.Walks.{link_at}
 use Rattle.run_cases.proofs.reply.showable.are_links.Given as goal
 
 abbrev pub invariant-links : goal.invariant-links

@@ -1,5 +1,5 @@
-use Rattle.command_words.proofs.PathLemmas.{IsPlainFrom}
-use Rattle.command_words.proofs.file_names.base_name.Given as goal
+use Rattle.item_list.proofs.PathLemmas.{IsPlainFrom}
+use Rattle.item_list.proofs.bytes.base_name.Given as goal
 
 abbrev pub invariant-back : goal.invariant-back
 invariant-back l = IsPlainFrom l.path l.start

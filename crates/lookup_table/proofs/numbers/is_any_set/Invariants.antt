@@ -1,6 +1,6 @@
 use Rattle.std.proofs.Common.{◌≡◌, ◌-◌, length, drop}
 use Rattle.lookup_table.specs.Numbers.{has_set, some_set}
-use Rattle.track_reply.proofs.tags.is_any_set.Given as goal
+use Rattle.lookup_table.proofs.numbers.is_any_set.Given as goal
 
 abbrev pub invariant-places : goal.invariant-places
 invariant-places l = has_set l.numbers ≡ some_set (drop l.place l.numbers)

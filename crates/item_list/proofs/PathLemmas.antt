@@ -1,15 +1,15 @@
 -- A path is looked through from its end to its last slash.
-use Rattle.std.proofs.Common.{◌≡◌, ◌≢◌, ℕ, ◌+◌, ◌-◌, ◌<◌, ◌≤◌, Bool, true, false, not, List, length, take, drop, get_or, sym, ap, ◌∙◌, arith, length-drop}
+use Rattle.std.proofs.Common.{◌≡◌, ◌≢◌, ℕ, ◌+◌, ◌-◌, ◌<◌, ◌≤◌, Bool, true, false, not, ◌==◌, List, length, take, drop, get_or, sym, ap, ◌∙◌, arith, length-drop}
 use Rattle.std.proofs.Math.Seq.{take-length}
 use Rattle.std.proofs.lemmas.Bool.Decides.{nat_tests}
 use Rattle.std.proofs.lemmas.List.{take_all}
 use Rattle.std.proofs.lemmas.List.Sums.{suffix_len-take_no, suffix_len-take_yes}
 use Rattle.std.specs.List.{suffix_len}
-use Rattle.command_words.specs.FileNames.{is_slash, base_name}
+use Rattle.item_list.specs.Bytes.{base_name}
 
 -- a byte is no slash
 abbrev is_plain : ℕ → Bool
-is_plain byte = not (is_slash byte)
+is_plain byte = not (byte == 47)
 
 -- no slash stands from this place on
 pub record IsPlainFrom (path : List ℕ) (start : ℕ) : Type 0 where
@@ -40,12 +40,14 @@ rest path start plain none =
     let long : length (drop start path) ≤ length path - start = omega (arith, length-drop start path) in
     take_all (length path - start) (drop start path) long ∙ sym (ap (λ k. drop k path) place)
 
+-- a slash stands before it
 pub base-after_slash : (path : List ℕ) (start : ℕ) → 0 < start → get_or path (start - 1) 0 ≡ 47 → IsPlainFrom path start →
     take (length path - start) (drop start path) ≡ base_name path
 base-after_slash path start some byte plain =
     let test : is_plain (get_or path (start - 1) 0) ≡ false = grind (arith, nat_tests) in
     rest path start plain (suffix_len-take_no is_plain path start 0 some plain.within test)
 
+-- nothing stands before it
 pub base-whole : (path : List ℕ) (start : ℕ) → start ≡ 0 → IsPlainFrom path start →
     take (length path - start) (drop start path) ≡ base_name path
 base-whole path start none plain = rest path start plain (ap (λ k. suffix_len is_plain (take k path)) none)

@@ -1,7 +1,7 @@
 use Rattle.std.proofs.Common.{arith, ◌≡◌}
-use Rattle.command_words.proofs.PathLemmas.{plain-begin, plain-more, base-after_slash, base-whole}
-use Rattle.command_words.proofs.file_names.base_name.Goals.{then-back-test+else-path-start-ne47, else-back-test}
-use Rattle.command_words.proofs.file_names.base_name.Goals as goal
+use Rattle.item_list.proofs.PathLemmas.{plain-begin, plain-more, base-after_slash, base-whole}
+use Rattle.item_list.proofs.bytes.base_name.Goals.{then-back-test+else-path-start-ne47, else-back-test}
+use Rattle.item_list.proofs.bytes.base_name.Goals as goal
 
 pub back-init : goal.back-init
 back-init c = plain-begin c.args.path.now
