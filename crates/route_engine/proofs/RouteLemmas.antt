@@ -1,7 +1,8 @@
 -- A request is answered by a profile that is made ready for its world, and a job.
 use Rattle.std.proofs.Common.{◌≡◌, ◌⊎◌, inl, inr, Result, Ok, Err, IfOk, MatchResult, ap, sym, ◌∙◌, subst}
 use Rattle.route_http.specs.Asked.{Asked}
-use Rattle.route_ready.specs.Readiness.{IsReadyBy, ready_of}
+use Rattle.route_ready.proofs.CallerLemmas.{ready-knows}
+use Rattle.route_ready.specs.Readiness.{IsReadyBy, ready_of, terms_in}
 use Rattle.route_ready.specs.Worlds.{WorldValue}
 use Rattle.route_ready.specs.declared.error.RouteError.{RouteError}
 use Rattle.route_ready.specs.declared.error.RouteError.TheVariants.{NoMemory}
@@ -30,9 +31,11 @@ module _ (question : Question) (world : WorldValue) (ready : Ready) (map_is : wo
   pub ready-setting : IsSettingOf question setting
   ready-setting = record {
     accepted = is.terms_are;
+    known = ready-knows question.binding (terms_in ready) is.terms_are;
     map = map_is;
     count = is.count;
     facts = is.facts;
+    there = is.there;
     cut = ap (λ m. (setting_of (record world { map = m }) ready question.asked.circles).cut) map_is;
   }
 

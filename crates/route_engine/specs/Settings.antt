@@ -7,9 +7,9 @@ use Rattle.geo_int.specs.Place.{Place}
 use Rattle.overpass_graph.specs.Maps.{MapValue, node_at}
 use Rattle.overpass_graph.specs.declared.link.Link.{Link}
 use Rattle.route_http.specs.Asked.{Asked}
-use Rattle.route_ready.specs.Readiness.{ready_of}
+use Rattle.route_ready.specs.Readiness.{MeetsNothingUnknown, ready_of}
 use Rattle.route_engine.specs.Waypoints.{OpenMap}
-use Rattle.way_class.specs.Facts.{Binding, facts_of}
+use Rattle.way_class.specs.Facts.{Binding, HasFacts, facts_of}
 
 -- a request, and what it is answered over: a profile under its overrides, bound to a map and to heights
 pub record Question : Type 0 where
@@ -35,15 +35,18 @@ cut_links roads circles = map (is_link_cut roads circles) roads.links
 
 -- ---- The setting of a request
 
--- this is what the legs of a request go over: the profile is accepted with these prices, each link of the map
--- has the facts that are defined (beyond the map they say nothing), and the request's circles cut these links
+-- this is what the legs of a request go over: the profile is accepted with these prices, and never meets a
+-- name, tag or value that isn't known; each link of the map has the facts that are defined, of which nothing
+-- lacks (beyond the map they say nothing); and the request's circles cut these links
 pub record IsSettingOf (question : Question) (setting : Setting) : Type 0 where
   pub accepted : ready_of question.binding ≡
       Ok (record { prices = setting.terrain.prices; turns = setting.turns })
+  pub known : MeetsNothingUnknown question.binding
   pub map : setting.terrain.map ≡ question.binding.map
   pub count : setting.terrain.links.count ≡ length question.binding.map.links
   pub facts : (link : ℕ) → link < length question.binding.map.links →
       setting.terrain.links.facts link ≡ facts_of question.binding link
+  pub there : (link : ℕ) → link < length question.binding.map.links → HasFacts question.binding link
   pub cut : setting.cut ≡ cut_links question.binding.map question.asked.circles
 
 -- what waypoints are moved on: the map, and which of its links are open

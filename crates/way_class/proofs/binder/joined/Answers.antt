@@ -1,6 +1,6 @@
 use Rattle.std.proofs.Common.{length, refl, subst, arith}
 use Rattle.way_class.specs.Bound.{AreRows, Columns}
-use Rattle.way_class.proofs.BoundLemmas.{IsAllBound, all-free, facts-are}
+use Rattle.way_class.proofs.BoundLemmas.{IsAllBound, all-free, facts-are, facts-there}
 use Rattle.way_class.proofs.binder.joined.Goals as goal
 
 pub invariant_of-result : goal.invariant_of-result
@@ -41,6 +41,8 @@ returns c =
             globals_are = refl;
             count = rows.count;
             facts = facts-are subject c.args.tiles.now map c.args.ways c.args.nodes c.in_ok-heights.heights.items
+                c.in_ok-rows.rows.items all;
+            there = facts-there subject c.args.tiles.now map c.args.ways c.args.nodes c.in_ok-heights.heights.items
                 c.in_ok-rows.rows.items all;
           };
     }
