@@ -1,0 +1,2 @@
+//! The maps of grids, read from their own texts.
+#![tactic(auto)]
