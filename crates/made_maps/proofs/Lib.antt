@@ -1,7 +1,10 @@
 pub mod CoordinateLemmas
+pub mod ElementLemmas
 pub mod EntryLemmas
 pub mod FaultLemmas
+pub mod NumberFacts
 pub mod NumberLemmas
 pub mod PrintLemmas
 pub mod TextLemmas
 pub mod Trees
+pub mod ValidLemmas
