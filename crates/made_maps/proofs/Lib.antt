@@ -1,4 +1,5 @@
 pub mod CoordinateLemmas
+pub mod DraftLemmas
 pub mod ElementLemmas
 pub mod EntryLemmas
 pub mod FaultLemmas

@@ -22,7 +22,7 @@ range-below a zero most is = tt
 range-below a (suc n) most is = (omega (arith, is), range-below (a + 1) n most (omega (arith, is)))
 
 -- those of them that pass a test have passed it
-filter-all : (p : ℕ → Bool) (most : ℕ) (xs : List ℕ) → AllOf (λ x. x < most) xs → AllOf (λ x. (x < most) × (p x ≡ true)) (filter p xs)
+pub filter-all : (p : ℕ → Bool) (most : ℕ) (xs : List ℕ) → AllOf (λ x. x < most) xs → AllOf (λ x. (x < most) × (p x ≡ true)) (filter p xs)
 filter-all p most [] all = tt
 filter-all p most (x ∷ xs) all = by_test (p x) refl (filter-all p most xs all.1)
   where
