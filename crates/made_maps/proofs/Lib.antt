@@ -9,3 +9,4 @@ pub mod PrintLemmas
 pub mod TextLemmas
 pub mod Trees
 pub mod ValidLemmas
+pub mod WholeLemmas

@@ -62,7 +62,7 @@ class-plain class =
 -- ---- Elements
 
 -- the tree of a cell is valid, where its column and its row are below a thousand
-node-valid : (plan : Plan) (cell room : ℕ) → cell + 1 < 2 ^ 64 → column_of plan cell < 1000 → row_of plan cell < 1000 →
+pub node-valid : (plan : Plan) (cell room : ℕ) → cell + 1 < 2 ^ 64 → column_of plan cell < 1000 → row_of plan cell < 1000 →
     IsValue (node_tree plan cell) (suc room)
 node-valid plan cell room few column row =
     let name : (word : List ℕ) → are_whole word ≡ true → IsName Curly (key word) = λ word whole. (plain-valid word whole, tt, tt) in
@@ -86,7 +86,7 @@ node-valid plan cell room few column row =
     )
 
 -- the tree of a segment is valid
-way-valid : (plan : Plan) (k room : ℕ) → k + 1 < 2 ^ 64 → start_of k + 1 < 2 ^ 64 → end_of plan k + 1 < 2 ^ 64 →
+pub way-valid : (plan : Plan) (k room : ℕ) → k + 1 < 2 ^ 64 → start_of k + 1 < 2 ^ 64 → end_of plan k + 1 < 2 ^ 64 →
     IsValue (way_tree plan k) (suc (suc room))
 way-valid plan k room few start end =
     let name : (word : List ℕ) → are_whole word ≡ true → IsName Curly (key word) = λ word whole. (plain-valid word whole, tt, tt) in
@@ -122,7 +122,7 @@ AreValid [] room = Unit {0}
 AreValid (value ∷ values) room = IsValue value room × AreValid values room
 
 -- so are lists of them, one behind the other
-valid-append : (values others : List Value) (room : ℕ) → AreValid values room → AreValid others room → AreValid (values ++ others) room
+pub valid-append : (values others : List Value) (room : ℕ) → AreValid values room → AreValid others room → AreValid (values ++ others) room
 valid-append [] others room first second = second
 valid-append (value ∷ values) others room first second = (first.0, valid-append values others room first.1 second)
 
