@@ -3,6 +3,8 @@ pub mod DraftLemmas
 pub mod ElementLemmas
 pub mod EntryLemmas
 pub mod FaultLemmas
+pub mod LinkLemmas
+pub mod NodeLemmas
 pub mod NumberFacts
 pub mod NumberLemmas
 pub mod PrintLemmas
