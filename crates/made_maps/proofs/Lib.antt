@@ -3,7 +3,9 @@ pub mod DraftLemmas
 pub mod ElementLemmas
 pub mod EntryLemmas
 pub mod FaultLemmas
+pub mod LengthLemmas
 pub mod LinkLemmas
+pub mod MapLemmas
 pub mod NodeLemmas
 pub mod NumberFacts
 pub mod NumberLemmas
