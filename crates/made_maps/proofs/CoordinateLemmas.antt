@@ -1,19 +1,17 @@
 -- The numbers of a grid's text are read as what they were.
-use Rattle.std.proofs.Common.{◌≡◌, ℕ, zero, suc, ◌+◌, ◌-◌, ◌*◌, ◌/◌, ◌%◌, ◌^◌, ◌<◌, ◌≤◌, Bool, true, false, cond, List, [], ◌∷◌, ◌++◌, length, take, drop, nat_le, ℤ, pos, unsigned_abs, refl, sym, ap, ◌∙◌, arith, lit<, Option, Some, None, Result, Ok, Err}
+use Rattle.std.proofs.Common.{◌≡◌, ℕ, zero, suc, ◌+◌, ◌-◌, ◌*◌, ◌/◌, ◌%◌, ◌^◌, ◌<◌, ◌≤◌, true, false, cond, List, [], ◌∷◌, length, take, drop, nat_le, ℤ, pos, unsigned_abs, refl, sym, ap, ◌∙◌, arith, lit<, Some, None, Ok, Err}
 use Rattle.std.specs.Prelude.{◌==◌}
 use Rattle.std.proofs.Math.Arith.{mod-mul}
 use Rattle.std.proofs.Math.Nat.{pow-succ', one-le-pow}
 use Rattle.std.proofs.lemmas.Bool.{and_parts}
 use Rattle.std.proofs.lemmas.Bool.Decides.{nat_tests}
 use Rattle.std.proofs.lemmas.Fmt.{digits_decimal, digits_value-decimal, decimal_nonempty}
-use Rattle.std.proofs.lemmas.List.{append-nil}
 use Rattle.std.specs.Char.{is_ascii_digit}
 use Rattle.std.specs.Fmt.{decimal}
 use Rattle.std.specs.Str.{all_ascii_digits}
 use Rattle.fixed_num.specs.Coordinate.{coordinate_of}
 use Rattle.fixed_num.specs.Decimal.{Decimal, digits_after, leading_digits, parts_from, parts_of, rounded_millionths, tail_of, unsigned_parts, value_from, with_sign}
 use Rattle.fixed_num.specs.Text.{last_digits, mil6}
-use Rattle.fixed_num.specs.declared.coordinate.CoordError.{CoordError}
 use Rattle.fixed_num.specs.declared.coordinate.CoordError.TheVariants.{NotDecimal, OutOfRange}
 use Rattle.made_maps.proofs.NumberLemmas.{last_digits-digits, mil6-small, numerals}
 

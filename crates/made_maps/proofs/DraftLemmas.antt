@@ -1,5 +1,5 @@
 -- The elements of a grid come to its draft.
-use Rattle.std.proofs.Common.{◌≡◌, ℕ, zero, suc, pos, ◌+◌, ◌*◌, ◌/◌, ◌%◌, ◌^◌, ◌<◌, ◌≤◌, Bool, true, false, cond, List, [], ◌∷◌, ◌++◌, length, map, filter, nat_lt, nat_le, ℤ, Option, Some, None, Result, Ok, Err, refl, sym, ap, ◌∙◌, arith, length-append}
+use Rattle.std.proofs.Common.{◌≡◌, ℕ, zero, suc, pos, ◌+◌, ◌*◌, ◌<◌, ◌≤◌, Bool, true, false, cond, List, [], ◌∷◌, ◌++◌, length, map, filter, nat_lt, nat_le, ℤ, Option, Some, None, Ok, refl, sym, ap, ◌∙◌, arith}
 use Rattle.std.specs.List.{range_with_len}
 use Rattle.std.specs.Ordering.{int_eq}
 use Rattle.std.proofs.lemmas.Bool.Decides.{nat_tests}
@@ -9,27 +9,25 @@ use Rattle.std.proofs.lemmas.List.FromFn.{length-map-range_with_len, map-range_w
 use Rattle.std.proofs.lemmas.List.{map-append}
 use Rattle.geo_int.specs.Place.{Place}
 use Rattle.grid_map.specs.declared.plan.Plan.{Plan}
-use Rattle.grid_map.specs.Plan.{IsPlan, cells_of, column_of, end_of, is_there, row_of, start_of}
+use Rattle.grid_map.specs.Plan.{cells_of, column_of, end_of, is_there, row_of, start_of}
 use Rattle.grid_map.specs.Segments.{numbers_below, numbers_of}
-use Rattle.grid_map.proofs.NumberLemmas.{cells_of-within, length-numbers_below, numbers_below-not_there, numbers_below-there}
-use Rattle.grid_map.proofs.StepLemmas.{is_there-within}
+use Rattle.grid_map.proofs.NumberLemmas.{length-numbers_below, numbers_below-not_there, numbers_below-there}
 use Rattle.item_list.specs.Answer.{and_then}
 use Rattle.json_text.specs.Grammar.{Value}
 use Rattle.json_text.specs.Marks.{Step}
 use Rattle.map_elements.specs.Elements.{Element, element_of}
 use Rattle.map_elements.specs.Outcome.{take_element, take_values}
 use Rattle.map_elements.specs.Trees.{tree_steps}
-use Rattle.map_tables.specs.Draft.{Draft, beyond_nodes, beyond_ways, empty, fault_unless, same_nodes, same_place, segment_count, segments_in}
-use Rattle.map_tables.specs.Kept.{Kept, keep, keep_beside, kept_with, total_of, unless}
+use Rattle.map_tables.specs.Draft.{Draft, beyond_nodes, beyond_ways, empty, fault_unless, same_nodes, same_place, segments_in}
+use Rattle.map_tables.specs.Kept.{Kept, keep, keep_beside, kept_with, unless}
 use Rattle.map_tables.specs.declared.error.ElementKind.TheVariants as kind_
 use Rattle.map_tables.specs.declared.error.MapCount.TheVariants as count_
-use Rattle.map_tables.specs.declared.error.MapError.{MapError}
 use Rattle.map_tables.specs.declared.error.MapError.TheVariants.{DoubleId, TooLarge}
 use Rattle.map_tables.specs.declared.limits.Limits.{Limits}
 use Rattle.made_maps.proofs.ElementLemmas.{node-element, way-element}
 use Rattle.made_maps.proofs.NumberFacts.{AllOf, filter-all, range-below, all-map}
 use Rattle.made_maps.proofs.Trees.{elements_of, node_tree, way_tree}
-use Rattle.made_maps.specs.Elements.{draft_of, node_of, nodes_of, way_of, ways_of}
+use Rattle.made_maps.specs.Elements.{draft_of, node_of, nodes_of, way_of}
 
 -- ---- One more element
 
@@ -93,12 +91,15 @@ module _ (plan : Plan) (limits : Limits) (room : HasRoom limits) where
       let test : nat_lt (length (map (node_of plan) (range_with_len 0 cell))) limits.nodes ≡ true = grind (arith, nat_tests, count, room.nodes) in
       let beyond : beyond_nodes limits (nodes_up_to cell) ≡ None =
       ap (λ b. cond b None (Some (TooLarge count_.Nodes))) test in
-      ap (λ r. and_then r (λ nodes. Ok (record { nodes = nodes; ways = []; relations = [] })))
-      (keep-fresh same_place (DoubleId kind_.Node (pos (cell + 1))) (beyond_nodes limits (nodes_up_to cell)) (node_of plan cell)
+      let kept : keep same_place (DoubleId kind_.Node (pos (cell + 1))) (beyond_nodes limits (nodes_up_to cell)) (node_of plan cell)
+      (map (node_of plan) (range_with_len 0 cell)) ≡ Ok (map (node_of plan) (range_with_len 0 cell) ++ node_of plan cell ∷ []) =
+      keep-fresh same_place (DoubleId kind_.Node (pos (cell + 1))) (beyond_nodes limits (nodes_up_to cell)) (node_of plan cell)
       (map (node_of plan) (range_with_len 0 cell))
-      (fresh (node_of plan) (λ x. refl) cell (range_with_len 0 cell) (range-below 0 cell cell (omega arith))) beyond)
-      ∙ ap (λ (ns : List (Kept Place)). Ok (record { nodes = ns; ways = []; relations = [] }))
-      (sym (map-range_with_len_more (node_of plan) 0 cell cell (omega arith)))
+      (fresh (node_of plan) (λ x. refl) cell (range_with_len 0 cell) (range-below 0 cell cell (omega arith))) beyond in
+      let more : map (node_of plan) (range_with_len 0 cell) ++ node_of plan cell ∷ [] ≡ map (node_of plan) (range_with_len 0 (cell + 1)) =
+      sym (map-range_with_len_more (node_of plan) 0 cell cell (omega arith)) in
+      ap (λ r. and_then r (λ nodes. Ok (record { nodes = nodes; ways = []; relations = [] })))
+      (kept ∙ ap (λ (ns : List (Kept Place)). Ok ns) more)
 
   -- the next cells are taken, before other values
   nodes-taken : (n cell at : ℕ) (others : List Value) → AllOf (IsCell plan) (range_with_len cell n) →
@@ -152,12 +153,14 @@ module _ (plan : Plan) (limits : Limits) (room : HasRoom limits) where
       ap (λ b. cond b (fault_unless (nat_le (segments_in ways + 1) limits.segments) (TooLarge count_.Segments)) (Some (TooLarge count_.Ways)))
       test
       ∙ ap (λ b. cond b None (Some (TooLarge count_.Segments))) fits in
+      let kept : keep same_nodes (DoubleId kind_.Way (pos (k + 1))) (beyond_ways limits (ways_up_to k) (way_of plan k).content) (way_of plan k) ways
+      ≡ Ok (ways ++ way_of plan k ∷ []) =
+      keep-fresh same_nodes (DoubleId kind_.Way (pos (k + 1))) (beyond_ways limits (ways_up_to k) (way_of plan k).content) (way_of plan k) ways
+      (fresh (way_of plan) (λ x. refl) k (numbers_below plan k) (below-next k)) beyond in
+      let more : ways ++ way_of plan k ∷ [] ≡ map (way_of plan) (numbers_below plan (k + 1)) =
+      sym (map-append (way_of plan) (numbers_below plan k) (k ∷ [])) ∙ ap (map (way_of plan)) (sym (numbers_below-there plan k there)) in
       ap (λ r. and_then r (λ ws. Ok (record { nodes = nodes_of plan; ways = ws; relations = [] })))
-      (keep-fresh same_nodes (DoubleId kind_.Way (pos (k + 1))) (beyond_ways limits (ways_up_to k) (way_of plan k).content) (way_of plan k) ways
-      (fresh (way_of plan) (λ x. refl) k (numbers_below plan k) (below-next k)) beyond)
-      ∙ ap (λ (ws : List (Kept (List ℤ))). Ok (record { nodes = nodes_of plan; ways = ws; relations = [] }))
-      (sym (map-append (way_of plan) (numbers_below plan k) (k ∷ []))
-      ∙ ap (map (way_of plan)) (sym (numbers_below-there plan k there)))
+      (kept ∙ ap (λ (ws : List (Kept (List ℤ))). Ok ws) more)
 
   -- the segments of the next numbers are taken
   ways-taken : (n k at : ℕ) → AllOf (λ x. is_there plan x ≡ true → IsSegment plan x) (range_with_len k n) →

@@ -1,9 +1,8 @@
 -- The trees of a grid's cells and segments are read as their nodes and ways.
-use Rattle.std.proofs.Common.{◌≡◌, ℕ, pos, ◌+◌, ◌*◌, ◌^◌, ◌<◌, ◌≤◌, Bool, true, false, cond, List, [], ◌∷◌, ◌++◌, ℤ, Option, Some, None, Result, Ok, Err, refl, sym, ap, ◌∙◌, arith, nat_le}
-use Rattle.std.specs.Prelude.{codes, decimal}
+use Rattle.std.proofs.Common.{◌≡◌, ℕ, pos, ◌+◌, ◌*◌, ◌^◌, ◌<◌, Bool, true, false, cond, List, [], ◌∷◌, ℤ, Some, None, Ok, refl, ap, ◌∙◌, arith, nat_le}
+use Rattle.std.specs.Prelude.{decimal}
 use Rattle.std.proofs.lemmas.Bool.Decides.{nat_tests}
 use Rattle.fixed_num.specs.Coordinate.{coordinate_of}
-use Rattle.fixed_num.specs.Decimal.{digits_after, parts_of}
 use Rattle.fixed_num.specs.Text.{mil6}
 use Rattle.geo_int.specs.Place.{place}
 use Rattle.grid_map.specs.declared.plan.Plan.{Plan}
@@ -13,8 +12,7 @@ use Rattle.json_text.specs.Chars.{content_of}
 use Rattle.map_elements.specs.Elements.{Element, element_of, node_at}
 use Rattle.map_elements.specs.Fields.{whole_of, whole_part, with_some}
 use Rattle.map_elements.specs.Trees.{tree_steps}
-use Rattle.map_tables.specs.declared.error.MapError.{MapError}
-use Rattle.made_maps.proofs.CoordinateLemmas.{decimal-parts, decimal-value, mil6-read, whole_decimal}
+use Rattle.made_maps.proofs.CoordinateLemmas.{decimal-parts, decimal-value, mil6-read}
 use Rattle.made_maps.proofs.Trees.{node_tree, plain, way_tree}
 use Rattle.made_maps.specs.Elements.{node_of, way_of}
 

@@ -1,12 +1,12 @@
 -- The whole elements of the beginning of a text's steps begin those of the text.
-use Rattle.std.proofs.Common.{◌≡◌, ◌⊎◌, inl, inr, ℕ, zero, suc, Bool, true, false, List, [], ◌∷◌, ◌++◌, append_assoc, Option, Some, None, refl, sym, ap, ◌∙◌, subst}
+use Rattle.std.proofs.Common.{◌≡◌, ℕ, zero, suc, Bool, true, false, List, [], ◌∷◌, ◌++◌, append_assoc, Option, Some, None, refl, sym, ap, ◌∙◌, subst}
 use Rattle.std.specs.Prelude.{if◌then◌else◌}
 use Rattle.std.proofs.lemmas.List.{append-nil}
 use mathlib.Core.Bool.{false≢true}
 use lib.Chars.{codes}
 use Rattle.json_text.specs.declared.mode.Bracket.TheVariants as bracket_
 use Rattle.json_text.specs.Marks.{Begins, Step}
-use Rattle.map_elements.specs.Entries.{Entry, begun_entry, by_depth, depth_after, entries_from, is_named, items_of, member, members_of, whole_entry, whole_values}
+use Rattle.map_elements.specs.Entries.{Entry, begun_entry, by_depth, depth_after, entries_from, is_named, items_of, member, whole_entry, whole_values}
 use Rattle.map_elements.specs.Fields.{with_some}
 use Rattle.map_elements.specs.Outcome.{elements_list, whole_elements}
 

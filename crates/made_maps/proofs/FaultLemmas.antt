@@ -1,6 +1,5 @@
 -- A text that is read without a fault has no beginning with one.
-use Rattle.std.proofs.Common.{◌≡◌, ◌⊎◌, inl, inr, ℕ, suc, Bool, true, false, List, [], ◌∷◌, ◌++◌, Option, Some, None, Result, Ok, Err, refl, sym, ap, ◌∙◌, subst, is_some}
-use Rattle.std.specs.Prelude.{if◌then◌else◌}
+use Rattle.std.proofs.Common.{◌≡◌, ℕ, suc, Bool, true, false, List, [], ◌∷◌, ◌++◌, Result, Ok, Err, refl, sym, ap, ◌∙◌, subst, is_some}
 use mathlib.Core.Bool.{false≢true}
 use Rattle.item_list.specs.Answer.{and_then}
 use Rattle.json_text.specs.Marks.{Begins, Step}

@@ -1,17 +1,16 @@
 -- The links of a grid's ways are two for each segment.
-use Rattle.std.proofs.Common.{◌≡◌, ◌⊎◌, inl, inr, ℕ, zero, suc, pos, ◌+◌, ◌*◌, ◌<◌, ◌≤◌, ℤ, Bool, true, false, cond, List, [], ◌∷◌, ◌++◌, map, length, get_or, nat_le, slice_get, Option, Some, None, option_map, is_some, refl, sym, ap, ◌∙◌, subst, arith}
+use Rattle.std.proofs.Common.{◌≡◌, ℕ, zero, suc, pos, ◌+◌, ◌*◌, ◌<◌, ◌≤◌, Bool, true, false, cond, List, [], ◌∷◌, ◌++◌, map, length, get_or, nat_le, slice_get, Some, None, option_map, is_some, refl, ap, ◌∙◌, arith}
 use Rattle.std.specs.List.{range_with_len}
 use Rattle.std.specs.Ordering.{int_eq}
 use Rattle.std.proofs.lemmas.Bool.Decides.{nat_tests}
 use Rattle.std.proofs.lemmas.Int.{ints}
 use Rattle.std.proofs.lemmas.List.{append-nil}
 use Rattle.geo_int.specs.Arrow.{arrow_between, arrow_of, east_between, length_between, north_between}
-use Rattle.geo_int.specs.Place.{Place}
 use Rattle.grid_map.specs.declared.plan.Plan.{Plan}
 use Rattle.grid_map.specs.Lengths.{cell_place, segment_length}
 use Rattle.grid_map.specs.Plan.{cells_of, end_of, is_east, is_there, start_of}
 use Rattle.grid_map.proofs.LengthLemmas.{segment_length-short}
-use Rattle.map_tables.specs.Kept.{Kept, ids_of, place_in, place_of_id}
+use Rattle.map_tables.specs.Kept.{ids_of, place_in, place_of_id}
 use Rattle.overpass_graph.specs.Links.{both_ways, first_missing, has_arrow, links_between, links_from, links_of_segment, missing_in, missing_or}
 use Rattle.overpass_graph.specs.Maps.{no_link}
 use Rattle.overpass_graph.specs.declared.link.Link.{Link}

@@ -1,5 +1,5 @@
 -- The map of a grid's text is the grid's map, and that text has no fault.
-use Rattle.std.proofs.Common.{◌≡◌, ◌⊎◌, inl, inr, ℕ, pos, ◌+◌, ◌*◌, ◌<◌, ◌≤◌, true, false, List, [], ◌∷◌, ◌++◌, length, get_or, slice_get, Option, Some, None, Result, Ok, Err, refl, sym, ap, ◌∙◌, subst, arith}
+use Rattle.std.proofs.Common.{◌≡◌, ◌⊎◌, inl, inr, ℕ, pos, ◌+◌, ◌*◌, ◌<◌, true, false, List, ◌++◌, length, get_or, slice_get, Some, None, Result, Ok, Err, refl, sym, ap, ◌∙◌, subst, arith}
 use lib.Signed.{◌<ℤ◌}
 use Rattle.std.proofs.lemmas.Int.{ints}
 use Rattle.std.proofs.lemmas.List.{length-map}
@@ -13,7 +13,6 @@ use Rattle.grid_map.specs.Segments.{numbers_of, segment_of, segments_of}
 use Rattle.grid_map.proofs.ListLemmas.{segments_of-at}
 use Rattle.grid_map.proofs.NumberLemmas.{IsNumber}
 use Rattle.grid_map.proofs.StepLemmas.{is_there-within}
-use Rattle.json_text.specs.declared.step.Verdict.TheVariants.{Whole}
 use Rattle.map_elements.specs.Outcome.{ComesTo}
 use Rattle.map_elements.specs.Trees.{AreItemsOfTree, AreMembersOfTree, tree_steps}
 use Rattle.map_tables.specs.Draft.{Draft}

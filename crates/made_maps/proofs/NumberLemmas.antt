@@ -1,5 +1,5 @@
 -- The numbers of a grid's text are numbers of JSON.
-use Rattle.std.proofs.Common.{◌≡◌, inl, inr, ℕ, zero, suc, ◌+◌, ◌*◌, ◌/◌, ◌%◌, ◌^◌, ◌<◌, ◌≤◌, Bool, true, false, ◌&&◌, List, [], ◌∷◌, ◌++◌, length, get_or, pos, unsigned_abs, refl, sym, ap, ◌∙◌, subst, arith, rules}
+use Rattle.std.proofs.Common.{◌≡◌, inl, inr, ℕ, zero, suc, ◌+◌, ◌/◌, ◌%◌, ◌^◌, ◌<◌, true, false, ◌&&◌, List, [], ◌∷◌, ◌++◌, length, get_or, pos, unsigned_abs, refl, sym, ap, ◌∙◌, subst, arith, rules}
 use Rattle.std.proofs.lemmas.Bool.{and_parts}
 use Rattle.std.proofs.lemmas.Bool.Decides.{nat_tests}
 use Rattle.std.proofs.lemmas.Fmt.{decimal_digit, digits_decimal, decimal_nonempty, first_decimal}
@@ -13,7 +13,7 @@ use Rattle.fixed_num.specs.Decimal.{digits_after, sign_text}
 use Rattle.fixed_num.specs.Text.{last_digits, mil6}
 use Rattle.json_text.specs.declared.mode.Kind.TheVariants as kind_
 use Rattle.json_text.specs.Bytes.{AreAll, is_digit, kind_of}
-use Rattle.json_text.specs.Numbers.{IsNumber, IsRun}
+use Rattle.json_text.specs.Numbers.{IsNumber}
 
 -- ---- Digits
 

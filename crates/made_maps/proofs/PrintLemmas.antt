@@ -1,13 +1,12 @@
 -- A tree of JSON that is valid is read as its steps.
-use Rattle.std.proofs.Common.{◌≡◌, ℕ, Bool, true, false, List, [], ◌∷◌, ◌++◌, append_assoc, None, refl, sym, ap, ◌∙◌}
+use Rattle.std.proofs.Common.{◌≡◌, ℕ, Bool, true, List, [], ◌∷◌, ◌++◌, append_assoc, None, refl, sym, ap, ◌∙◌}
 use mathlib.Core.Bool.{false≢true}
 use Rattle.json_text.specs.declared.mode.Bracket.{Bracket}
 use Rattle.json_text.specs.declared.mode.Role.{Role}
 use Rattle.json_text.specs.declared.mode.Role.TheVariants as role_
-use Rattle.json_text.specs.Bytes.{AreAll, is_space}
-use Rattle.json_text.specs.Chars.{Char, close_text, content_of, print_chars, print_text, spelled, text_step}
+use Rattle.json_text.specs.Chars.{Char, content_of, print_chars, print_text, spelled, text_step}
 use Rattle.json_text.specs.Grammar.{Entries, IsText, IsValue, Name, Others, Value, close, closing, letters_of, opening, print_entries, print_name, print_others, print_value}
-use Rattle.json_text.specs.Marks.{Begins, Byte, End, Given, Mark, Seen, Step, Symbol, see, steps_of, symbols, symbols_of}
+use Rattle.json_text.specs.Marks.{Byte, End, Given, Mark, Seen, Step, see, steps_of, symbols, symbols_of}
 use Rattle.json_text.specs.Reading.{IsBad, IsFrontFor, Reads}
 use Rattle.json_text.specs.declared.step.Verdict.{Verdict}
 use Rattle.json_text.specs.declared.step.Verdict.TheVariants.{BadAt, More, Whole}
@@ -160,7 +159,7 @@ text-reads readings marks bytes steps text prints =
     by_verdict (BadAt at) front fits =
         let bad : IsBad bytes true front = fits.1 in
         absurd (bad.longest marks text
-            (record { rest = bad.others; same = prints.shows ∙ bad.same ∙ sym (append_assoc (symbols_of front) (bad.next ∷ []) bad.others) }))
+        (record { rest = bad.others; same = prints.shows ∙ bad.same ∙ sym (append_assoc (symbols_of front) (bad.next ∷ []) bad.others) }))
 
 -- a valid tree with the end of a line behind it is read as its steps
 pub tree-reads : HasReadings → (value : Value) → IsValue value 64 → Reads (value_onto value (10 ∷ [])) true (tree_steps value ++ []) Whole

@@ -1,6 +1,6 @@
 -- The text of a grid's map is the print of its tree.
-use Rattle.std.proofs.Common.{◌≡◌, ℕ, zero, suc, pos, ◌+◌, ◌*◌, ◌<◌, ◌≤◌, Bool, true, false, cond, List, [], ◌∷◌, ◌++◌, map, append_assoc, None, refl, sym, ap, ◌∙◌, arith, add-one}
-use Rattle.std.specs.Prelude.{codes, decimal, ◌==◌}
+use Rattle.std.proofs.Common.{◌≡◌, ℕ, zero, suc, pos, ◌+◌, ◌*◌, ◌<◌, List, [], ◌∷◌, ◌++◌, map, append_assoc, refl, sym, ap, ◌∙◌, arith, add-one}
+use Rattle.std.specs.Prelude.{codes, decimal}
 use Rattle.std.specs.List.{concat, range_with_len}
 use Rattle.fixed_num.specs.Text.{mil6}
 use Rattle.grid_map.specs.declared.plan.Plan.{Plan}
@@ -10,7 +10,7 @@ use Rattle.grid_map.specs.Segments.{numbers_of}
 use Rattle.json_text.specs.declared.mode.Bracket.TheVariants.{Square}
 use Rattle.json_text.specs.Grammar.{Value}
 use Rattle.made_maps.proofs.PrintLemmas.{chars_onto, entries_onto, others_onto, value_onto}
-use Rattle.made_maps.proofs.Trees.{behind, elements_of, listed, map_tree, node_tree, plain, way_tree}
+use Rattle.made_maps.proofs.Trees.{behind, listed, map_tree, node_tree, plain, way_tree}
 
 -- plain characters are spelled by their bytes
 plain-onto : (bytes more : List ℕ) → chars_onto (plain bytes) more ≡ bytes ++ more

@@ -1,14 +1,11 @@
 -- The tree of a grid's map is valid.
-use Rattle.std.proofs.Common.{◌≡◌, ℕ, suc, pos, ◌+◌, ◌*◌, ◌/◌, ◌%◌, ◌^◌, ◌<◌, ◌≤◌, Bool, true, false, ◌&&◌, cond, List, [], ◌∷◌, ◌++◌, map, refl, sym, ap, ◌∙◌, subst, arith}
-use Rattle.std.specs.Prelude.{codes, decimal, ◌==◌}
-use Rattle.std.specs.List.{range_with_len}
+use Rattle.std.proofs.Common.{◌≡◌, ℕ, suc, ◌+◌, ◌*◌, ◌^◌, ◌<◌, Bool, true, false, ◌&&◌, cond, List, [], ◌∷◌, ◌++◌, map, refl, arith}
+use Rattle.std.specs.Prelude.{codes, ◌==◌}
 use Rattle.std.proofs.lemmas.Bool.{and_parts}
 use mathlib.Core.Bool.{false≢true}
-use Rattle.fixed_num.specs.Text.{mil6}
 use Rattle.grid_map.specs.declared.plan.Plan.{Plan}
 use Rattle.grid_map.specs.MapText.{class_name}
-use Rattle.grid_map.specs.Plan.{cells_of, class_of, column_of, end_of, row_of, start_of}
-use Rattle.grid_map.specs.Segments.{numbers_of}
+use Rattle.grid_map.specs.Plan.{class_of, column_of, end_of, row_of, start_of}
 use Rattle.json_text.specs.declared.mode.Bracket.TheVariants.{Curly, Square}
 use Rattle.json_text.specs.declared.mode.Lead.{Lead}
 use Rattle.json_text.specs.declared.mode.Lead.TheVariants as lead_
@@ -65,8 +62,7 @@ class-plain class =
 pub node-valid : (plan : Plan) (cell room : ℕ) → cell + 1 < 2 ^ 64 → column_of plan cell < 1000 → row_of plan cell < 1000 →
     IsValue (node_tree plan cell) (suc room)
 node-valid plan cell room few column row =
-    let name : (word : List ℕ) → are_whole word ≡ true → IsName Curly (key word) = λ word whole. (plain-valid word whole, tt, tt) in
-    (
+    let name : (word : List ℕ) → are_whole word ≡ true → IsName Curly (key word) = λ word whole. (plain-valid word whole, tt, tt) in (
       tt,
       name (codes "type") refl,
       plain-valid (codes "node") refl,
@@ -89,8 +85,7 @@ node-valid plan cell room few column row =
 pub way-valid : (plan : Plan) (k room : ℕ) → k + 1 < 2 ^ 64 → start_of k + 1 < 2 ^ 64 → end_of plan k + 1 < 2 ^ 64 →
     IsValue (way_tree plan k) (suc (suc room))
 way-valid plan k room few start end =
-    let name : (word : List ℕ) → are_whole word ≡ true → IsName Curly (key word) = λ word whole. (plain-valid word whole, tt, tt) in
-    (
+    let name : (word : List ℕ) → are_whole word ≡ true → IsName Curly (key word) = λ word whole. (plain-valid word whole, tt, tt) in (
       tt,
       name (codes "type") refl,
       plain-valid (codes "way") refl,

@@ -1,5 +1,5 @@
 -- The text of a grid's map is read without a fault, as the grid's elements.
-use Rattle.std.proofs.Common.{◌≡◌, ℕ, ◌+◌, ◌*◌, ◌/◌, ◌%◌, ◌^◌, ◌<◌, ◌≤◌, true, List, [], ◌∷◌, ◌++◌, map, Option, Some, None, Ok, refl, sym, ap, ◌∙◌, subst, arith, is_some}
+use Rattle.std.proofs.Common.{◌≡◌, ℕ, ◌*◌, ◌/◌, ◌<◌, ◌≤◌, true, List, [], ◌∷◌, map, Some, Ok, refl, sym, ap, ◌∙◌, subst, arith, is_some}
 use Rattle.std.specs.Prelude.{codes}
 use Rattle.std.specs.List.{range_with_len}
 use Rattle.std.proofs.Math.Nat.{lt_of_mul-lt-mul_left, mul-div-le}
@@ -17,7 +17,7 @@ use Rattle.json_text.specs.declared.step.Verdict.TheVariants.{Whole}
 use Rattle.json_text.specs.Grammar.{Group, Last, Value, Entry}
 use Rattle.json_text.specs.Marks.{Step}
 use Rattle.json_text.specs.Reading.{Reads}
-use Rattle.map_elements.specs.Entries.{items_of, member, members_of, whole_values}
+use Rattle.map_elements.specs.Entries.{items_of, member, whole_values}
 use Rattle.map_elements.specs.Fields.{with_some}
 use Rattle.map_elements.specs.Outcome.{elements_list, outcome_of, take_values, verdict_on, whole_elements}
 use Rattle.map_elements.specs.Trees.{AreItemsOfTree, AreMembersOfTree, entries_told, others_told, tree_steps}

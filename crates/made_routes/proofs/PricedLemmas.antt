@@ -5,18 +5,16 @@ use Rattle.std.specs.Prelude.{IsNone}
 use Rattle.std.proofs.lemmas.Bool.{ltb-true}
 use Rattle.cost_model.specs.Facts.{Links}
 use Rattle.grid_map.specs.Costs.{Costs, listed_costs}
-use Rattle.grid_map.specs.MapText.{overpass_text}
 use Rattle.grid_map.specs.Segments.{segments_of}
 use Rattle.grid_map.specs.declared.plan.Plan.{Plan}
 use Rattle.hgt_tiles.specs.Relief.{Relief}
 use Rattle.hgt_tiles.specs.Tiles.{relief_at}
 use Rattle.hgt_tiles.specs.declared.names.Corner.{Corner}
 use Rattle.hgt_tiles.specs.declared.tile_set.Tiles.{Tiles}
-use Rattle.made_routes.proofs.TellLemmas.{makes-by, route-told, tells-by}
+use Rattle.made_routes.proofs.TellLemmas.{route-told, tells-by}
 use Rattle.made_routes.specs.Costs.{bound_links, costs_by, link_price, price_of, segment_prices}
 use Rattle.made_routes.specs.Errors.{route_error}
 use Rattle.made_routes.specs.Made.{HaveNoTile, IsMadeWorld, Makes, RefusesNothing}
-use Rattle.made_routes.specs.Telling.{Tells}
 use Rattle.made_routes.specs.Walks.{ArePrices, IsBoundFor, IsProfileRefused, IsWalkAnswer, IsWalkBy, IsWalkOver, WalkQuestion}
 use Rattle.made_routes.specs.declared.error.MadeError.{MadeError}
 use Rattle.made_routes.specs.declared.priced.PricedWalk.{PricedWalk}
@@ -84,8 +82,8 @@ module _ (plan : Plan) (from to : ℕ) (world : WorldValue) (sections : Sections
     -- what is told of a walk by a profile that is ready is told by the profile
     pub ready-told : (ready : Ready) (result : Result (Option PricedWalk) MadeError) →
         IsReadyBy (binding_in world sections overrides) (ready_of (binding_in world sections overrides)) ready →
-        Tells (IsWalkOver plan (costs_by plan (links_of ready.bound)) from to) RefusesNothing result →
-        Tells (IsWalkBy plan from to (binding_in world sections [])) (λ error. ready_of (binding_in world sections []) ≡ Err error) result
+        Makes (IsWalkOver plan (costs_by plan (links_of ready.bound)) from to) RefusesNothing result →
+        Makes (IsWalkBy plan from to (binding_in world sections [])) (λ error. ready_of (binding_in world sections []) ≡ Err error) result
     ready-told ready result is told =
         tells-by (IsWalkOver plan (costs_by plan (links_of ready.bound)) from to) (IsWalkBy plan from to (binding_in world sections []))
         RefusesNothing
@@ -97,7 +95,7 @@ module _ (plan : Plan) (from to : ℕ) (world : WorldValue) (sections : Sections
     -- a refusal of the profile is told as such
     pub refusal-told : (error : RouteError) (told : MadeError) → told ≡ route_error error →
         (error ≡ refusal.NoMemory) ⊎ (ready_of (binding_in world sections overrides) ≡ Err error) →
-        Tells (IsWalkBy plan from to (binding_in world sections [])) (λ error. ready_of (binding_in world sections []) ≡ Err error)
+        Makes (IsWalkBy plan from to (binding_in world sections [])) (λ error. ready_of (binding_in world sections []) ≡ Err error)
         (Err told)
     refusal-told error told is cause =
         route-told (IsWalkBy plan from to (binding_in world sections []))
@@ -131,14 +129,13 @@ none-there tiles none corner = go (relief_at tiles corner) (none corner)
 pub walk-made : (question : WalkQuestion) (tiles : Tiles) (world : WorldValue) (result : Result (Option PricedWalk) MadeError) →
     HaveNoTile tiles →
     IsMadeWorld question.plan question.table tiles world →
-    Tells (IsWalkBy question.plan question.from question.to (binding_in world question.sections []))
+    Makes (IsWalkBy question.plan question.from question.to (binding_in world question.sections []))
     (λ error. ready_of (binding_in world question.sections []) ≡ Err error) result →
-    Makes (overpass_text question.plan) (IsWalkAnswer question) (IsProfileRefused question) result
+    Makes (IsWalkAnswer question) (IsProfileRefused question) result
 walk-made question tiles world result level made told =
-    makes-by (overpass_text question.plan) (IsWalkAnswer question) (IsProfileRefused question) result
-    (tells-by (IsWalkBy question.plan question.from question.to binding) (IsWalkAnswer question)
+    tells-by (IsWalkBy question.plan question.from question.to binding) (IsWalkAnswer question)
     (λ (error : RouteError). ready_of binding ≡ Err error) (IsProfileRefused question) result (walk-answers question binding bound)
-    (λ error refused. record { binding = binding; bound = bound; refused = refused }) told)
+    (λ error refused. record { binding = binding; bound = bound; refused = refused }) told
   where
     binding : Binding
     binding = binding_in world question.sections []

@@ -1,4 +1,4 @@
--- The text of a grid's map is short, and the tile of hills is one.
+-- The tile of hills is one.
 use Rattle.std.proofs.Common.{◌≡◌, ℕ, zero, suc, pos, ◌+◌, ◌*◌, ◌-◌, ◌/◌, ◌%◌, ◌<◌, ◌≤◌, ◌^◌, inl, inr, List, [], ◌∷◌, ◌++◌, length, get_or, Option, Some, true, refl, sym, ap, ◌∙◌, subst, arith, length-append, suc-mul, div-le_self, Bool, false, cond, None, Result, Err, is_some, map}
 use Rattle.std.specs.List.{concat, range_with_len}
 use Rattle.std.specs.Option.{unwrap_or}
@@ -32,8 +32,6 @@ use Rattle.hgt_tiles.specs.declared.tile_set.Tiles.{Tiles}
 use Rattle.made_routes.specs.Made.{HaveTileAlone}
 use Rattle.made_routes.specs.Texts.{tile_name}
 use Rattle.item_list.proofs.ListLemmas.{slice_get-there}
-
--- ---- The tile
 
 -- lists joined, each of which is so long
 joined-size : (f : ℕ → List ℕ) (size : ℕ) (xs : List ℕ) → ((x : ℕ) → length (f x) ≡ size) → length (concat (map f xs)) ≡ length xs * size

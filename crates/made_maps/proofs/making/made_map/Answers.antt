@@ -1,4 +1,4 @@
-use Rattle.std.proofs.Common.{◌≡◌, ℕ, List, [], ◌++◌, length, ap, ◌∙◌, subst, sym, arith, length-append}
+use Rattle.std.proofs.Common.{◌≡◌, ℕ, List, [], ◌++◌, length, ap, ◌∙◌, subst, arith, length-append}
 use Rattle.grid_map.proofs.CallerLemmas.{text_from-begin, text_from-piece, text_from-whole}
 use Rattle.grid_map.specs.MapText.{overpass_text, text_from}
 use Rattle.made_maps.proofs.LengthLemmas.{overpass_text-short}
