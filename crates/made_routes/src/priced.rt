@@ -1,7 +1,9 @@
 //! Walks across a grid that cost least by a profile.
 
-ghost use Rattle.std.specs.Prelude.{◌≡◌, ◌<◌, [], Err, IfOk};
+ghost use Rattle.std.specs.Prelude.{◌≡◌, ◌*◌, ◌<◌, ◌≤◌, [], Err, IfOk, length};
 ghost use Rattle.grid_map.specs.Plan.{cells_of};
+ghost use Rattle.grid_map.specs.Segments.{segments_of};
+ghost use Rattle.made_maps.specs.Maps.{IsGridMap};
 ghost use Rattle.made_routes.specs.Costs.{costs_by};
 ghost use Rattle.made_routes.specs.Made.{Makes, RefusesNothing};
 ghost use Rattle.made_routes.specs.Walks.{IsProfileRefused, IsWalkAnswer, IsWalkBy, IsWalkOver, WalkQuestion};
@@ -73,6 +75,7 @@ fn walk_in(
 ) -> Result<Option<PricedWalk>, MadeError>
     requires from { from < cells_of grid.now }
     requires to { to < cells_of grid.now }
+    requires links { IsGridMap grid.now (world_of world.now).map }
     ensures exact { let binding = binding_in (world_of world.now) (sections_in profile.now) [] in
         Makes (IsWalkBy grid.now from to binding) (λ error. ready_of binding ≡ Err error) result }
 {
@@ -93,6 +96,7 @@ fn walk_by(
 ) -> Result<Option<PricedWalk>, MadeError>
     requires from { from < cells_of grid.now }
     requires to { to < cells_of grid.now }
+    requires links { 2 * length (segments_of grid.now) ≤ (links_of ready.now.bound).count }
     ensures exact { let costs = costs_by grid.now (links_of ready.now.bound) in
         Makes (IsWalkOver grid.now costs from to) RefusesNothing result }
 {
@@ -112,6 +116,7 @@ fn walk_over(
 ) -> Result<Option<PricedWalk>, AllocError>
     requires from { from < cells_of grid.now }
     requires to { to < cells_of grid.now }
+    requires links { 2 * length (segments_of grid.now) ≤ (links_of bound.now).count }
     ensures exact { let costs = costs_by grid.now (links_of bound.now) in
         IfOk result (IsWalkOver grid.now costs from to) }
 {

@@ -17,3 +17,6 @@ returns c =
       exact = walk-made question c.new.result (world_of c.in_ok-world.world) c.walk_in.result (none-there c.new.result c.new.ensures.empty)
           c.in_ok-world.ensures.exact c.walk_in.ensures.exact;
     }
+
+pub walk_in-requires-clause-links : goal.walk_in-requires-clause-links
+walk_in-requires-clause-links c = c.in_ok-world.ensures.exact.grid_is
