@@ -6,7 +6,6 @@ use Rattle.geo_int.specs.Spot.{place_of}
 use Rattle.geo_int.specs.declared.spots.Spot.{Spot}
 use Rattle.grid_map.proofs.NumberLemmas.{cells_of-within}
 use Rattle.grid_map.specs.Lengths.{cell_place}
-use Rattle.grid_map.specs.MapText.{overpass_text}
 use Rattle.grid_map.specs.Plan.{IsPlan, cells_of}
 use Rattle.grid_map.specs.Segments.{segments_of}
 use Rattle.grid_map.specs.Tile.{hgt_bytes}
@@ -19,11 +18,10 @@ use Rattle.lookup_table.specs.Table.{table_of}
 use Rattle.made_routes.proofs.TellLemmas.{route-told, tells-by}
 use Rattle.made_routes.specs.Errors.{route_error}
 use Rattle.made_routes.specs.Hills.{IsHillQuestion, IsHillTrack, IsHillWorld, IsHillsFound, IsHillsRefusal, corners_asked}
-use Rattle.made_routes.specs.Made.{HaveTileAlone, IsMadeWorld, Makes, RefusesNothing}
-use Rattle.made_routes.specs.Telling.{Tells}
+use Rattle.made_routes.specs.Made.{HaveTileAlone, IsMadeWorld, Makes}
 use Rattle.made_routes.specs.Texts.{hill_text, look_text, tile_name}
 use Rattle.made_routes.specs.declared.error.MadeError.{MadeError}
-use Rattle.made_routes.specs.declared.error.MadeError.TheVariants.{Map, Route, NoMemory}
+use Rattle.made_routes.specs.declared.error.MadeError.TheVariants.{Route, NoMemory}
 use Rattle.made_routes.specs.declared.summary.Hills.{Hills}
 use Rattle.profile_text.specs.Read.{profile_of}
 use Rattle.profile_text.specs.Tree.{Sections}
@@ -109,7 +107,7 @@ module _ (world : WorldValue) (sections : Sections) (plan : Plan)
     -- the refusal of the request between the corners is told as such
     pub refusal-corners : (asked : Asked) (error : RouteError) (told : MadeError) → asked ≡ corners_asked plan → told ≡ route_error error →
         (error ≡ refusal.NoMemory) ⊎ IsAnswer (question_by asked) (Err error) →
-        Tells {T = Track} (λ track. IsAnswer (question_by (corners_asked plan)) (Ok track))
+        Makes {T = Track} (λ track. IsAnswer (question_by (corners_asked plan)) (Ok track))
         (λ error. IsAnswer (question_by (corners_asked plan)) (Err error)) (Err told)
     refusal-corners asked error told is told_is cause =
         route-told (λ (track : Track). IsAnswer (question_by (corners_asked plan)) (Ok track))
@@ -133,9 +131,9 @@ module _ (world : WorldValue) (sections : Sections) (plan : Plan)
 
     -- what is told of the request between the corners is told of hills
     pub hills-told : (result : Result Track MadeError) → profile_of hill_text ≡ Ok sections → IsHillWorld plan world →
-        Tells (λ track. IsAnswer (question_by (corners_asked plan)) (Ok track))
+        Makes (λ track. IsAnswer (question_by (corners_asked plan)) (Ok track))
         (λ error. IsAnswer (question_by (corners_asked plan)) (Err error)) result →
-        Tells (IsHillTrack plan) (IsHillsRefusal plan) result
+        Makes (IsHillTrack plan) (IsHillsRefusal plan) result
     hills-told result profile is told =
         tells-by (λ (track : Track). IsAnswer (question_by (corners_asked plan)) (Ok track)) (IsHillTrack plan)
         (λ (error : RouteError). IsAnswer (question_by (corners_asked plan)) (Err error)) (IsHillsRefusal plan) result
@@ -145,11 +143,10 @@ module _ (world : WorldValue) (sections : Sections) (plan : Plan)
 -- ---- The world
 
 -- a world with the table and the tile of hills is one of hills
-pub hill-world : (plan : Plan) (seed : ℕ) (table : TagTable) (tiles : Tiles) (result : Result World MadeError) → seed ≡ plan.seed →
+pub hill-world : {E : Type 0} (plan : Plan) (seed : ℕ) (table : TagTable) (tiles : Tiles) (result : Result World E) → seed ≡ plan.seed →
     table_of look_text ≡ Ok table → ((relief : Relief) × (relief_of_file tile_name (hgt_bytes seed) ≡ Ok relief) ×
     HaveTileAlone relief tiles) →
-    Makes (overpass_text plan) (λ world. IsMadeWorld plan table tiles (world_of world)) RefusesNothing result →
-    Makes (overpass_text plan) (λ world. IsHillWorld plan (world_of world)) RefusesNothing result
+    IfOk result (λ world. IsMadeWorld plan table tiles (world_of world)) → IfOk result (λ world. IsHillWorld plan (world_of world))
 hill-world plan seed table tiles (Ok world) same table_is tile made = record {
   table = table;
   relief = tile.0;
@@ -159,9 +156,7 @@ hill-world plan seed table tiles (Ok world) same table_is tile made = record {
   alone = tile.2;
   made = made;
 }
-hill-world plan seed table tiles (Err (Map fault)) same table_is tile made = made
-hill-world plan seed table tiles (Err (Route error)) same table_is tile made = made
-hill-world plan seed table tiles (Err NoMemory) same table_is tile made = tt
+hill-world plan seed table tiles (Err none) same table_is tile made = tt
 
 -- ---- The track
 
@@ -195,13 +190,12 @@ hills-found plan grid track told same is cost nodes segments =
 
 -- why there is no track across hills
 pub hills-refused : (plan grid : Plan) (error : MadeError) → grid ≡ plan →
-    Makes {T = Track} (overpass_text grid) (IsHillTrack grid) (IsHillsRefusal grid) (Err error) →
-    Makes {T = Hills} (overpass_text plan) (IsHillsFound plan) (IsHillsRefusal plan) (Err error)
+    Makes {T = Track} (IsHillTrack grid) (IsHillsRefusal grid) (Err error) →
+    Makes {T = Hills} (IsHillsFound plan) (IsHillsRefusal plan) (Err error)
 hills-refused plan grid error same is =
-    subst (λ (p : Plan). Makes {T = Hills} (overpass_text p) (IsHillsFound p) (IsHillsRefusal p) (Err error)) same (go error is)
+    subst (λ (p : Plan). Makes {T = Hills} (IsHillsFound p) (IsHillsRefusal p) (Err error)) same (go error is)
   where
-    go : (error : MadeError) → Makes {T = Track} (overpass_text grid) (IsHillTrack grid) (IsHillsRefusal grid) (Err error) →
-        Makes {T = Hills} (overpass_text grid) (IsHillsFound grid) (IsHillsRefusal grid) (Err error)
-    go (Map fault) is = is
+    go : (error : MadeError) → Makes {T = Track} (IsHillTrack grid) (IsHillsRefusal grid) (Err error) →
+        Makes {T = Hills} (IsHillsFound grid) (IsHillsRefusal grid) (Err error)
     go (Route error) is = is
     go NoMemory is = tt

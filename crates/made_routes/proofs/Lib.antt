@@ -4,7 +4,6 @@ mod HillTextLemmas
 mod LookTextLemmas
 mod LookFormLemmas
 mod TextLemmas
-mod MakingLemmas
 mod WalkLemmas
 mod AnswerLemmas
 mod TellLemmas

@@ -1,22 +1,21 @@
 -- What a walk costs by a profile that is ready is what it costs by the profile's binding.
-use Rattle.std.proofs.Common.{◌≡◌, ◌⊎◌, ℕ, ℤ, ◌+◌, ◌*◌, ◌<◌, Bool, true, false, cond, nat_lt, List, [], ◌∷◌, map, length, Option, Some, None, Result, Err, refl, ap, ◌∙◌, subst}
+use Rattle.std.proofs.Common.{◌≡◌, ◌⊎◌, ℕ, zero, suc, ℤ, ◌+◌, ◌*◌, ◌<◌, ◌≤◌, arith, List, [], ◌∷◌, map, length, Option, Some, None, Result, Err, refl, ap, ◌∙◌, subst}
 use Rattle.std.specs.List.{range_with_len}
 use Rattle.std.specs.Prelude.{IsNone}
 use Rattle.std.proofs.lemmas.Bool.{ltb-true}
 use Rattle.cost_model.specs.Facts.{Links}
 use Rattle.grid_map.specs.Costs.{Costs, listed_costs}
-use Rattle.grid_map.specs.MapText.{overpass_text}
 use Rattle.grid_map.specs.Segments.{segments_of}
 use Rattle.grid_map.specs.declared.plan.Plan.{Plan}
 use Rattle.hgt_tiles.specs.Relief.{Relief}
 use Rattle.hgt_tiles.specs.Tiles.{relief_at}
 use Rattle.hgt_tiles.specs.declared.names.Corner.{Corner}
 use Rattle.hgt_tiles.specs.declared.tile_set.Tiles.{Tiles}
-use Rattle.made_routes.proofs.TellLemmas.{makes-by, route-told, tells-by}
-use Rattle.made_routes.specs.Costs.{bound_links, costs_by, link_price, price_of, segment_prices}
+use Rattle.made_maps.specs.Maps.{IsGridMap}
+use Rattle.made_routes.proofs.TellLemmas.{route-told, tells-by}
+use Rattle.made_routes.specs.Costs.{bound_links, costs_by, price_of, segment_prices}
 use Rattle.made_routes.specs.Errors.{route_error}
 use Rattle.made_routes.specs.Made.{HaveNoTile, IsMadeWorld, Makes, RefusesNothing}
-use Rattle.made_routes.specs.Telling.{Tells}
 use Rattle.made_routes.specs.Walks.{ArePrices, IsBoundFor, IsProfileRefused, IsWalkAnswer, IsWalkBy, IsWalkOver, WalkQuestion}
 use Rattle.made_routes.specs.declared.error.MadeError.{MadeError}
 use Rattle.made_routes.specs.declared.priced.PricedWalk.{PricedWalk}
@@ -31,73 +30,70 @@ use Rattle.way_class.specs.Links.{links_of}
 
 -- ---- Links of the same facts
 
--- a price behind a test of a number, where the facts are the same
-price-same : (a b : Links) (link : ℕ) → ((link : ℕ) → link < b.count → a.facts link ≡ b.facts link) → (there : Bool) →
-    nat_lt link b.count ≡ there →
-    cond there (price_of (a.facts link)) None ≡ cond there (price_of (b.facts link)) None
-price-same a b link facts true is = ap price_of (facts link (ltb-true link b.count is))
-price-same a b link facts false is = refl
-
--- links of the same facts cost the same
-link-same : (a b : Links) → a.count ≡ b.count → ((link : ℕ) → link < b.count → a.facts link ≡ b.facts link) → (link : ℕ) →
-    link_price a link ≡ link_price b link
-unfolding link_price
-link-same a b count facts link =
-    ap (λ (n : ℕ). cond (nat_lt link n) (price_of (a.facts link)) None) count ∙ price-same a b link facts (nat_lt link b.count) refl
-
--- what functions give in a list, where they give the same
-map-same : (f g : ℕ → Option ℕ) → ((n : ℕ) → f n ≡ g n) → (xs : List ℕ) → map f xs ≡ map g xs
-map-same f g same [] = refl
-map-same f g same (x ∷ xs) = ap (λ (y : Option ℕ). y ∷ map f xs) (same x) ∙ ap (λ (l : List (Option ℕ)). g x ∷ l) (map-same f g same xs)
+-- what functions give of a range, where they give the same
+range-same : (f g : ℕ → Option ℕ) (a n most : ℕ) → a + n ≤ most → ((x : ℕ) → x < most → f x ≡ g x) →
+    map f (range_with_len a n) ≡ map g (range_with_len a n)
+range-same f g a zero most within same = refl
+range-same f g a (suc n) most within same =
+    ap (λ (y : Option ℕ). y ∷ map f (range_with_len (a + 1) n)) (same a (omega (arith, within)))
+    ∙ ap (λ (l : List (Option ℕ)). g a ∷ l) (range-same f g (a + 1) n most (omega (arith, within)) same)
 
 -- segments cost the same by links of the same facts
-prices-same : (a b : Links) → a.count ≡ b.count → ((link : ℕ) → link < b.count → a.facts link ≡ b.facts link) → (which count : ℕ) →
-    segment_prices a which count ≡ segment_prices b which count
-prices-same a b same facts which count =
-    map-same (λ (place : ℕ). link_price a (2 * place + which)) (λ (place : ℕ). link_price b (2 * place + which))
-    (λ place. link-same a b same facts (2 * place + which)) (range_with_len 0 count)
+prices-same : (a b : Links) → ((link : ℕ) → link < b.count → a.facts link ≡ b.facts link) → (which count : ℕ) → which ≤ 1 →
+    2 * count ≤ b.count → segment_prices a which count ≡ segment_prices b which count
+prices-same a b facts which count side there =
+    range-same (λ (place : ℕ). price_of (a.facts (2 * place + which))) (λ (place : ℕ). price_of (b.facts (2 * place + which))) 0 count count
+    (omega arith) (λ place below. ap price_of (facts (2 * place + which) (omega (arith, below, side, there))))
 
 -- the segments of a grid cost the same by links of the same facts
-costs-same : (plan : Plan) (a b : Links) → a.count ≡ b.count → ((link : ℕ) → link < b.count → a.facts link ≡ b.facts link) →
-    costs_by plan a ≡ costs_by plan b
-costs-same plan a b same facts =
+costs-same : (plan : Plan) (a b : Links) → ((link : ℕ) → link < b.count → a.facts link ≡ b.facts link) →
+    2 * length (segments_of plan) ≤ b.count → costs_by plan a ≡ costs_by plan b
+costs-same plan a b facts there =
     ap (λ (l : List (Option ℕ)). listed_costs plan l (segment_prices a 1 (length (segments_of plan))))
-    (prices-same a b same facts 0 (length (segments_of plan)))
+    (prices-same a b facts 0 (length (segments_of plan)) (omega arith) there)
     ∙ ap (λ (l : List (Option ℕ)). listed_costs plan (segment_prices b 0 (length (segments_of plan))) l)
-    (prices-same a b same facts 1 (length (segments_of plan)))
+    (prices-same a b facts 1 (length (segments_of plan)) (omega arith) there)
 
 -- ---- Answers
 
 -- a walk by a profile that is ready is a walk by the profile
 walk-ready : (plan : Plan) (from to : ℕ) (binding : Binding) (ready : Ready) → IsReadyBy binding (ready_of binding) ready →
-    (answer : Option PricedWalk) →
+    IsGridMap plan binding.map → (answer : Option PricedWalk) →
     IsWalkOver plan (costs_by plan (links_of ready.bound)) from to answer → IsWalkBy plan from to binding answer
-walk-ready plan from to binding ready is answer over = record {
+walk-ready plan from to binding ready is grid answer over = record {
   terms = terms_in ready;
   accepted = is.terms_are;
   over = subst (λ (costs : Costs). IsWalkOver plan costs from to answer)
-      (costs-same plan (links_of ready.bound) (bound_links binding) is.count is.facts) over;
+      (costs-same plan (links_of ready.bound) (bound_links binding) is.facts (omega (arith, grid.count))) over;
 }
 
+-- there are two links for each segment
+pub links-there : (plan : Plan) (world : WorldValue) (sections : Sections) (overrides : List (List ℕ × ℤ)) (ready : Ready) →
+    IsGridMap plan world.map →
+    IsReadyBy (binding_in world sections overrides) (ready_of (binding_in world sections overrides)) ready →
+    2 * length (segments_of plan) ≤ (links_of ready.bound).count
+links-there plan world sections overrides ready grid is = omega (arith, grid.count, is.count)
+
 module _ (plan : Plan) (from to : ℕ) (world : WorldValue) (sections : Sections) (overrides : List (List ℕ × ℤ)) (none : overrides ≡ [])
-  where
+    (grid : IsGridMap plan world.map) where
     -- what is told of a walk by a profile that is ready is told by the profile
     pub ready-told : (ready : Ready) (result : Result (Option PricedWalk) MadeError) →
         IsReadyBy (binding_in world sections overrides) (ready_of (binding_in world sections overrides)) ready →
-        Tells (IsWalkOver plan (costs_by plan (links_of ready.bound)) from to) RefusesNothing result →
-        Tells (IsWalkBy plan from to (binding_in world sections [])) (λ error. ready_of (binding_in world sections []) ≡ Err error) result
+        Makes (IsWalkOver plan (costs_by plan (links_of ready.bound)) from to) RefusesNothing result →
+        Makes (IsWalkBy plan from to (binding_in world sections [])) (λ error. ready_of (binding_in world sections []) ≡ Err error) result
     ready-told ready result is told =
         tells-by (IsWalkOver plan (costs_by plan (links_of ready.bound)) from to) (IsWalkBy plan from to (binding_in world sections []))
         RefusesNothing
         (λ (error : RouteError). ready_of (binding_in world sections []) ≡ Err error) result
         (walk-ready plan from to (binding_in world sections []) ready
-        (subst (λ (o : List (List ℕ × ℤ)). IsReadyBy (binding_in world sections o) (ready_of (binding_in world sections o)) ready) none is))
+        (subst (λ (o : List (List ℕ × ℤ)). IsReadyBy (binding_in world sections o) (ready_of (binding_in world sections o)) ready) none is)
+        grid)
         (λ error nothing. absurd nothing) told
 
     -- a refusal of the profile is told as such
     pub refusal-told : (error : RouteError) (told : MadeError) → told ≡ route_error error →
         (error ≡ refusal.NoMemory) ⊎ (ready_of (binding_in world sections overrides) ≡ Err error) →
-        Tells (IsWalkBy plan from to (binding_in world sections [])) (λ error. ready_of (binding_in world sections []) ≡ Err error)
+        Makes (IsWalkBy plan from to (binding_in world sections [])) (λ error. ready_of (binding_in world sections []) ≡ Err error)
         (Err told)
     refusal-told error told is cause =
         route-told (IsWalkBy plan from to (binding_in world sections []))
@@ -131,14 +127,13 @@ none-there tiles none corner = go (relief_at tiles corner) (none corner)
 pub walk-made : (question : WalkQuestion) (tiles : Tiles) (world : WorldValue) (result : Result (Option PricedWalk) MadeError) →
     HaveNoTile tiles →
     IsMadeWorld question.plan question.table tiles world →
-    Tells (IsWalkBy question.plan question.from question.to (binding_in world question.sections []))
+    Makes (IsWalkBy question.plan question.from question.to (binding_in world question.sections []))
     (λ error. ready_of (binding_in world question.sections []) ≡ Err error) result →
-    Makes (overpass_text question.plan) (IsWalkAnswer question) (IsProfileRefused question) result
+    Makes (IsWalkAnswer question) (IsProfileRefused question) result
 walk-made question tiles world result level made told =
-    makes-by (overpass_text question.plan) (IsWalkAnswer question) (IsProfileRefused question) result
-    (tells-by (IsWalkBy question.plan question.from question.to binding) (IsWalkAnswer question)
+    tells-by (IsWalkBy question.plan question.from question.to binding) (IsWalkAnswer question)
     (λ (error : RouteError). ready_of binding ≡ Err error) (IsProfileRefused question) result (walk-answers question binding bound)
-    (λ error refused. record { binding = binding; bound = bound; refused = refused }) told)
+    (λ error refused. record { binding = binding; bound = bound; refused = refused }) told
   where
     binding : Binding
     binding = binding_in world question.sections []

@@ -1,5 +1,5 @@
 -- What the segments of a grid cost by the links of its map (this project's own rule).
-use Rattle.std.specs.Prelude.{ℕ, pos, ◌+◌, ◌*◌, int_lt, nat_lt, unsigned_abs, Bool, cond, List, map, length, Option, Some, None}
+use Rattle.std.specs.Prelude.{ℕ, pos, ◌+◌, ◌*◌, int_lt, unsigned_abs, Bool, cond, List, map, length, Option, Some, None}
 use Rattle.std.specs.List.{range_with_len}
 use Rattle.cost_model.specs.Facts.{Links}
 use Rattle.cost_model.specs.Parts.{distance_of}
@@ -18,15 +18,11 @@ is_permitted facts = int_lt facts.costfactor (pos 10000000000)
 unfoldable pub price_of : LinkFacts → Option ℕ
 price_of facts = cond (is_permitted facts) (Some (unsigned_abs (distance_of facts (pos 0) (pos 0)))) None
 
--- what the link of a number costs; none where there is no such link
-unfoldable pub link_price : Links → ℕ → Option ℕ
-link_price links link = cond (nat_lt link links.count) (price_of (links.facts link)) None
-
--- what the first segments cost, in their order: each segment has two links that follow each other, the first
--- in its own direction and the second back, and the number says which
+-- what the first segments cost, in their order: the one at place i has the links 2i and 2i + 1 of a grid's map
+-- (`IsGridMap`), the first in its own direction and the second back, and the number says which
 abbrev pub segment_prices : Links → ℕ → ℕ → List (Option ℕ)
 segment_prices links which count =
-    map (λ place. link_price links (2 * place + which)) (range_with_len 0 count)
+    map (λ place. price_of (links.facts (2 * place + which))) (range_with_len 0 count)
 
 -- what the segments of a grid cost, each by its two links
 abbrev pub costs_by : Plan → Links → Costs

@@ -1,8 +1,6 @@
 pub mod Texts
 pub mod Errors
 pub mod Made
-pub mod Feeding
-pub mod Telling
 pub mod Costs
 pub mod Lengths
 pub mod Walks

@@ -1,5 +1,5 @@
 -- The worlds that are made from a number, and what is answered over them (this project's own rule).
-use Rattle.std.specs.Prelude.{◌≡◌, ◌≢◌, ℕ, List, ◌++◌, Some, None, Result, Ok, Err}
+use Rattle.std.specs.Prelude.{◌≡◌, ◌≢◌, Some, None, Result, Ok, Err}
 use Rattle.grid_map.specs.MapText.{overpass_text}
 use Rattle.grid_map.specs.declared.plan.Plan.{Plan}
 use Rattle.hgt_tiles.specs.Relief.{Relief}
@@ -7,26 +7,12 @@ use Rattle.hgt_tiles.specs.Tiles.{relief_at}
 use Rattle.hgt_tiles.specs.declared.names.Corner.{Corner}
 use Rattle.hgt_tiles.specs.declared.tile_set.Tiles.{Tiles}
 use Rattle.lookup_table.specs.First.{TagTable}
+use Rattle.made_maps.specs.Maps.{IsGridMap}
 use Rattle.made_routes.specs.declared.error.MadeError.{MadeError}
-use Rattle.made_routes.specs.declared.error.MadeError.TheVariants.{Map, Route, NoMemory}
-use Rattle.map_tables.specs.declared.error.MapError.{MapError}
-use Rattle.overpass_graph.specs.Builder.{IsFaultOfBeginning, IsFaultOfText, IsMapOfText}
+use Rattle.made_routes.specs.declared.error.MadeError.TheVariants.{Route, NoMemory}
+use Rattle.overpass_graph.specs.Builder.{IsMapOfText}
 use Rattle.route_ready.specs.Worlds.{WorldValue}
 use Rattle.route_ready.specs.declared.error.RouteError.{RouteError}
-
--- ---- Faults
-
--- a front of a text that has this first fault
-pub record HasFaultInFront (text : List ℕ) (fault : MapError) : Type 0 where
-  pub front : List ℕ
-  pub rest : List ℕ
-  pub whole : front ++ rest ≡ text
-  pub is : IsFaultOfBeginning front fault
-
--- a text has this first fault as the text of a map: some front of it, or the whole at its end
-pub data HasTextFault (text : List ℕ) (fault : MapError) : Type 0 where
-  in_front : HasFaultInFront text fault → HasTextFault text fault
-  at_end : IsFaultOfText text fault → HasTextFault text fault
 
 -- ---- Worlds
 
@@ -39,21 +25,21 @@ pub record HaveTileAlone (relief : Relief) (tiles : Tiles) : Type 0 where
   pub there : relief_at tiles relief.corner ≡ Some relief
   pub alone : (corner : Corner) → corner ≢ relief.corner → relief_at tiles corner ≡ None
 
--- the world of a grid: this table, the map of the grid's own text, and these tiles
+-- the world of a grid: this table, the map of the grid's own text, whose links are known by their numbers, and
+-- these tiles
 pub record IsMadeWorld (plan : Plan) (table : TagTable) (tiles : Tiles) (world : WorldValue) : Type 0 where
   pub table_is : world.table ≡ table
   pub map_is : IsMapOfText (overpass_text plan) world.map
+  pub grid_is : IsGridMap plan world.map
   pub tiles_are : world.tiles ≡ tiles
 
 -- ---- Answers
 
--- a call over the map of a text gives such an answer, or such a refusal of a request; or it tells a fault
--- that the text has as that of a map, or want of memory
-abbrev pub Makes : {T : Type 0} → List ℕ → (T → Type 0) → (RouteError → Type 0) → Result T MadeError → Type 0
-Makes text Answers Refuses (Ok answer) = Answers answer
-Makes text Answers Refuses (Err (Map fault)) = HasTextFault text fault
-Makes text Answers Refuses (Err (Route error)) = Refuses error
-Makes text Answers Refuses (Err NoMemory) = Unit {0}
+-- a call over a map that is made gives such an answer, or such a refusal of a request, or reports want of memory
+abbrev pub Makes : {T : Type 0} → (T → Type 0) → (RouteError → Type 0) → Result T MadeError → Type 0
+Makes Answers Refuses (Ok answer) = Answers answer
+Makes Answers Refuses (Err (Route error)) = Refuses error
+Makes Answers Refuses (Err NoMemory) = Unit {0}
 
 -- no request is refused
 abbrev pub RefusesNothing : RouteError → Type 0

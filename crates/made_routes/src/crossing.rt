@@ -1,12 +1,10 @@
 //! The route across the hills of a grid.
 
 ghost use Rattle.std.specs.Prelude.{◌≡◌, ◌<◌, ◌≤◌, ◌^◌, [], Ok, Err, IfOk, length};
-ghost use Rattle.grid_map.specs.MapText.{overpass_text};
 ghost use Rattle.grid_map.specs.Plan.{IsPlan, cells_of, plan_of};
 ghost use Rattle.grid_map.specs.Segments.{segments_of};
 ghost use Rattle.made_routes.specs.Hills.{IsHillTrack, IsHillWorld, IsHillsFound, IsHillsRefusal, corners_asked};
-ghost use Rattle.made_routes.specs.Made.{Makes, RefusesNothing};
-ghost use Rattle.made_routes.specs.Telling.{Tells};
+ghost use Rattle.made_routes.specs.Made.{Makes};
 ghost use Rattle.profile_text.specs.Expr.{sections_in};
 ghost use Rattle.route_engine.specs.Answers.{IsAnswer};
 ghost use Rattle.route_engine.specs.Settings.{Question};
@@ -39,7 +37,7 @@ const LABELS: u64 = 10_000_000;
 pub fn hills(alloc: Global, seed: u32, w: u32, h: u32) -> Result<Hills, MadeError>
     requires lawful { IsPlan (plan_of seed w h) }
     ensures exact { let plan = plan_of seed w h in
-        Makes (overpass_text plan) (IsHillsFound plan) (IsHillsRefusal plan) result }
+        Makes (IsHillsFound plan) (IsHillsRefusal plan) result }
 {
     let grid = Grid::made(alloc, seed, w, h)?;
     match crossing(alloc, &grid, seed) {
@@ -73,20 +71,16 @@ fn cell_count(grid: &Grid) -> u32
 /// The track between opposite corners.
 fn crossing(alloc: Global, grid: &Grid, seed: u32) -> Result<Track, MadeError>
     requires seed { seed ≡ grid.now.seed }
-    ensures exact { Makes (overpass_text grid.now) (IsHillTrack grid.now) (IsHillsRefusal grid.now)
-        result }
+    ensures exact { Makes (IsHillTrack grid.now) (IsHillsRefusal grid.now) result }
 {
-    match hill_world(alloc, grid, seed) {
-        Ok(world) => crossing_in(alloc, grid, &world),
-        Err(error) => Err(error),
-    }
+    let world = hill_world(alloc, grid, seed)?;
+    crossing_in(alloc, grid, &world)
 }
 
 /// The world of a grid's own map with the tile of its seed.
-fn hill_world(alloc: Global, grid: &Grid, seed: u32) -> Result<World, MadeError>
+fn hill_world(alloc: Global, grid: &Grid, seed: u32) -> Result<World, AllocError>
     requires seed { seed ≡ grid.now.seed }
-    ensures exact { Makes (overpass_text grid.now) (λ world. IsHillWorld grid.now (world_of world))
-        RefusesNothing result }
+    ensures exact { IfOk result (λ world. IsHillWorld grid.now (world_of world)) }
 {
     // What the grid promises of itself.
     let _segments = grid.segments();
@@ -98,7 +92,7 @@ fn hill_world(alloc: Global, grid: &Grid, seed: u32) -> Result<World, MadeError>
 /// The track between opposite corners over that world.
 fn crossing_in(alloc: Global, grid: &Grid, world: &World) -> Result<Track, MadeError>
     ensures exact { IsHillWorld grid.now (world_of world.now) →
-        Tells (IsHillTrack grid.now) (IsHillsRefusal grid.now) result }
+        Makes (IsHillTrack grid.now) (IsHillsRefusal grid.now) result }
 {
     let profile = hill_profile(alloc)?;
     crossing_by(alloc, grid, world, &profile)
@@ -115,7 +109,7 @@ fn crossing_by(
       binding = binding_in (world_of world.now) (sections_in profile.now) [];
       asked = corners_asked grid.now;
     } in
-        Tells (λ track. IsAnswer question (Ok track)) (λ error. IsAnswer question (Err error))
+        Makes (λ track. IsAnswer question (Ok track)) (λ error. IsAnswer question (Err error))
         result }
 {
     let request = corners(alloc, grid)?;

@@ -1,19 +1,16 @@
 //! Why nothing is answered over a map that is made from a number.
 
 ghost use Rattle.std.specs.Prelude.{◌≡◌};
-ghost use Rattle.made_routes.specs.Errors.{map_error, route_error};
+ghost use Rattle.made_routes.specs.Errors.{route_error};
 ghost use Rattle.made_routes.specs.declared.error.MadeError.TheVariants.{NoMemory};
 
-use overpass_graph::MapError;
 use route_ready::RouteError;
 use std::alloc::AllocError;
 
 /// Why nothing is answered over a map that is made from a number. Want of memory is always
-/// `NoMemory`, also where it comes from a map or a request.
+/// `NoMemory`, also where it comes from a request.
 #[derive(Clone, Copy, Drop)]
 pub enum MadeError {
-    /// The made text is no map.
-    Map(MapError),
     /// The profile is refused, or the request has no track.
     Route(RouteError),
     /// Memory ran out.
@@ -25,16 +22,6 @@ impl From<AllocError> for MadeError {
 
     fn from(_error: AllocError) -> MadeError {
         MadeError::NoMemory
-    }
-}
-
-/// What a fault of the made text comes to.
-pub(crate) fn of_map(error: MapError) -> MadeError
-    ensures exact { result ≡ map_error error }
-{
-    match error {
-        MapError::NoMemory => MadeError::NoMemory,
-        other => MadeError::Map(other),
     }
 }
 

@@ -1,11 +1,11 @@
 //! Walks across a grid that cost least by a profile.
 
-ghost use Rattle.std.specs.Prelude.{◌≡◌, ◌<◌, [], Err, IfOk};
-ghost use Rattle.grid_map.specs.MapText.{overpass_text};
+ghost use Rattle.std.specs.Prelude.{◌≡◌, ◌*◌, ◌<◌, ◌≤◌, [], Err, IfOk, length};
 ghost use Rattle.grid_map.specs.Plan.{cells_of};
+ghost use Rattle.grid_map.specs.Segments.{segments_of};
+ghost use Rattle.made_maps.specs.Maps.{IsGridMap};
 ghost use Rattle.made_routes.specs.Costs.{costs_by};
 ghost use Rattle.made_routes.specs.Made.{Makes, RefusesNothing};
-ghost use Rattle.made_routes.specs.Telling.{Tells};
 ghost use Rattle.made_routes.specs.Walks.{IsProfileRefused, IsWalkAnswer, IsWalkBy, IsWalkOver, WalkQuestion};
 ghost use Rattle.profile_text.specs.Expr.{sections_in};
 ghost use Rattle.route_ready.specs.Readiness.{ready_of};
@@ -58,12 +58,10 @@ pub fn walk_by_profile(
       table = table;
       sections = sections_in profile.now;
     } in
-        Makes (overpass_text grid.now) (IsWalkAnswer question) (IsProfileRefused question) result }
+        Makes (IsWalkAnswer question) (IsProfileRefused question) result }
 {
-    match made_world(alloc, grid, table, Tiles::new(alloc)) {
-        Ok(world) => walk_in(alloc, grid, from, to, &world, profile),
-        Err(error) => Err(error),
-    }
+    let world = made_world(alloc, grid, table, Tiles::new(alloc))?;
+    walk_in(alloc, grid, from, to, &world, profile)
 }
 
 /// A walk of least cost by a profile that is bound without overrides to a world.
@@ -77,8 +75,9 @@ fn walk_in(
 ) -> Result<Option<PricedWalk>, MadeError>
     requires from { from < cells_of grid.now }
     requires to { to < cells_of grid.now }
+    requires links { IsGridMap grid.now (world_of world.now).map }
     ensures exact { let binding = binding_in (world_of world.now) (sections_in profile.now) [] in
-        Tells (IsWalkBy grid.now from to binding) (λ error. ready_of binding ≡ Err error) result }
+        Makes (IsWalkBy grid.now from to binding) (λ error. ready_of binding ≡ Err error) result }
 {
     let overrides = Overrides::new(alloc);
     match prepare(alloc, world, profile, &overrides) {
@@ -97,8 +96,9 @@ fn walk_by(
 ) -> Result<Option<PricedWalk>, MadeError>
     requires from { from < cells_of grid.now }
     requires to { to < cells_of grid.now }
+    requires links { 2 * length (segments_of grid.now) ≤ (links_of ready.now.bound).count }
     ensures exact { let costs = costs_by grid.now (links_of ready.now.bound) in
-        Tells (IsWalkOver grid.now costs from to) RefusesNothing result }
+        Makes (IsWalkOver grid.now costs from to) RefusesNothing result }
 {
     match walk_over(alloc, grid, from, to, &ready.bound) {
         Ok(walk) => Ok(walk),
@@ -116,6 +116,7 @@ fn walk_over(
 ) -> Result<Option<PricedWalk>, AllocError>
     requires from { from < cells_of grid.now }
     requires to { to < cells_of grid.now }
+    requires links { 2 * length (segments_of grid.now) ≤ (links_of bound.now).count }
     ensures exact { let costs = costs_by grid.now (links_of bound.now) in
         IfOk result (IsWalkOver grid.now costs from to) }
 {

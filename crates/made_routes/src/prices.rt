@@ -1,8 +1,8 @@
 //! What the segments of a grid cost by a profile that is bound to the grid's map.
 
-ghost use Rattle.std.specs.Prelude.{◌≡◌, ◌≤◌, IfOk, length};
+ghost use Rattle.std.specs.Prelude.{◌≡◌, ◌*◌, ◌<◌, ◌≤◌, IfOk, length};
 ghost use Rattle.grid_map.specs.Costs.{AreCheap};
-ghost use Rattle.made_routes.specs.Costs.{link_price, price_of, segment_prices};
+ghost use Rattle.made_routes.specs.Costs.{price_of, segment_prices};
 ghost use Rattle.cost_model.specs.Facts.{AreFacts};
 ghost use Rattle.way_class.specs.Links.{links_of};
 
@@ -24,6 +24,7 @@ pub(crate) fn segment_prices(
 ) -> Result<Items<Option<u128>>, AllocError>
     requires which { which ≤ 1 }
     requires count { count ≤ 2000000 }
+    requires there { 2 * count ≤ (links_of bound.now).count }
     ensures exact { IfOk result (λ costs. costs ≡ segment_prices (links_of bound.now) which count) }
     ensures fits { IfOk result (λ costs. length costs ≡ count) }
     ensures cheap { IfOk result AreCheap }
@@ -35,14 +36,11 @@ pub(crate) fn segment_prices(
     Ok(Items::from_vec(costs))
 }
 
-/// What a link costs, if it is there and may be taken.
-#[tactic(auto, unfolding(crate::specs::Costs::link_price))]
+/// What a link costs, if it may be taken.
 fn link_price(bound: &Bound, link: u32) -> Option<u128>
-    ensures exact { result ≡ link_price (links_of bound.now) link }
+    requires there { link < (links_of bound.now).count }
+    ensures exact { result ≡ price_of ((links_of bound.now).facts link) }
 {
-    if link >= bound.count() {
-        return None;
-    }
     let facts = bound.facts(link);
     price(&facts)
 }

@@ -28,7 +28,7 @@ use Rattle.run_answers.specs.Code.{IsCodeAnswer, listing_in, listing_under}
 use Rattle.run_answers.specs.Grid.{IsGridAnswerBy, IsPricedAnswer, IsShortestAnswer, question_by}
 use Rattle.run_answers.specs.Hills.{IsHillsAnswer}
 use Rattle.run_answers.specs.Make.{made_by}
-use Rattle.run_answers.specs.Refused.{IsMadeRefusal, IsRefusal}
+use Rattle.run_answers.specs.Refused.{IsRefusal}
 use Rattle.run_answers.specs.Route.{IsRouteAnswer, IsRouted, IsRoutedBy, route_files}
 use Rattle.run_files.specs.Chain.{seen_as}
 use Rattle.run_files.specs.Checked.{TakesChecked, checked_by, checked_in}
@@ -72,13 +72,6 @@ refusal-inner : (Refuses : RouteError → Type 0) (profile : Option Sections) (s
     IsInner status
 refusal-inner Refuses profile status (inl none) = subst IsInner (sym none) tt
 refusal-inner Refuses profile status (inr tells) = subst IsInner (sym tells.is) tt
-
--- the refusal of a request over a map that is made
-made-inner : (text : List ℕ) (Refuses : RouteError → Type 0) (profile : Option Sections) (status : Status) →
-    IsMadeRefusal text Refuses profile status →
-    IsInner status
-made-inner text Refuses profile status (inl refusal) = refusal-inner Refuses profile status refusal
-made-inner text Refuses profile status (inr tells) = subst IsInner (sym tells.is) tt
 
 -- the refusal of a request by a profile, where there is one
 routed-inner : (profile : Option Sections) (world : WorldValue) (asked : Asked) (status : Status) →
@@ -168,7 +161,7 @@ grid-cause None command = leaves-cause (IsShortestAnswer command) (refusal-inner
 grid-cause (Some words) command =
     then-cause _ _ (words.lookups.word ∷ []) (words.profile.word ∷ []) (table-cause words.lookups)
     (λ table. last-cause _ _ (words.profile.word ∷ []) (checked-cause table words.profile)
-    (λ sections. leaves-cause (IsPricedAnswer (question_by command table sections)) (made-inner _ _ _)))
+    (λ sections. leaves-cause (IsPricedAnswer (question_by command table sections)) (refusal-inner _ _)))
 
 -- each command that has something to write
 pub command-cause : (command : Command) (old new : FilesSeen) (r : Result (List ℕ) Status) → IsCommandAnswer command old new r →
@@ -177,7 +170,7 @@ command-cause (Form.TheVariants.Grid command) old new r is = grid-cause command.
 command-cause (Form.TheVariants.Make command) old new r is = settles-cause (Ok (made_by command)) (λ status none. cc) old new r is
 command-cause (Form.TheVariants.Code command) old new r is = code-cause command old new r is
 command-cause (Form.TheVariants.Route command) old new r is = route-cause command old new r is
-command-cause (Form.TheVariants.Hills command) old new r is = leaves-cause (IsHillsAnswer command) (made-inner _ _ _) old new r is
+command-cause (Form.TheVariants.Hills command) old new r is = leaves-cause (IsHillsAnswer command) (refusal-inner _ _) old new r is
 command-cause (Form.TheVariants.Serve command) old new r is = absurd is
 
 -- what the command `serve` offers

@@ -2,13 +2,12 @@
 -- project's own rule.
 use Rattle.std.specs.Prelude.{ℕ, ◌≡◌, List, None, Result, Ok, Err}
 use Rattle.command_words.specs.declared.command.HillsCommand.{HillsCommand}
-use Rattle.grid_map.specs.MapText.{overpass_text}
 use Rattle.grid_map.specs.Plan.{plan_of}
 use Rattle.grid_map.specs.declared.plan.Plan.{Plan}
 use Rattle.made_routes.specs.Hills.{IsHillsFound, IsHillsRefusal}
 use Rattle.made_routes.specs.declared.summary.Hills.{Hills}
 use Rattle.run_answers.specs.Lines.{hills_lines}
-use Rattle.run_answers.specs.Refused.{IsMadeRefusal}
+use Rattle.run_answers.specs.Refused.{IsRefusal}
 use Rattle.run_files.specs.declared.status.Status.{Status}
 
 -- the plan of a command's grid
@@ -24,7 +23,7 @@ pub record ShowsHills (plan : Plan) (lines : List ℕ) : Type 0 where
 -- what is answered over a grid: the lines, or why there is no track
 abbrev pub IsHillsAnswerOver : Plan → Result (List ℕ) Status → Type 0
 IsHillsAnswerOver plan (Ok lines) = ShowsHills plan lines
-IsHillsAnswerOver plan (Err status) = IsMadeRefusal (overpass_text plan) (IsHillsRefusal plan) None status
+IsHillsAnswerOver plan (Err status) = IsRefusal (IsHillsRefusal plan) None status
 
 -- what the command `hills` answers
 abbrev pub IsHillsAnswer : HillsCommand → Result (List ℕ) Status → Type 0

@@ -1,15 +1,13 @@
 -- The statuses of requests that have no track. This project's own rule.
-use Rattle.std.specs.Prelude.{◌≡◌, ◌≢◌, ◌⊎◌, ℕ, List, Option}
-use Rattle.made_routes.specs.Made.{HasTextFault}
+use Rattle.std.specs.Prelude.{◌≡◌, ◌≢◌, ◌⊎◌, Option}
 use Rattle.made_routes.specs.declared.error.MadeError.{MadeError}
 use Rattle.made_routes.specs.declared.error.MadeError.TheVariants as made
-use Rattle.map_tables.specs.declared.error.MapError.{MapError}
 use Rattle.profile_text.specs.Tree.{Sections}
 use Rattle.route_ready.specs.Lines.{route_line}
 use Rattle.route_ready.specs.declared.error.RouteError.{RouteError}
 use Rattle.route_ready.specs.declared.error.RouteError.TheVariants as route
 use Rattle.run_files.specs.declared.status.Status.{Status}
-use Rattle.run_files.specs.declared.status.Status.TheVariants.{Map, Route, NoMemory}
+use Rattle.run_files.specs.declared.status.Status.TheVariants.{Route, NoMemory}
 
 -- a status tells a reason that refuses a request, with its line, in which variables have their names in a
 -- profile
@@ -23,17 +21,6 @@ pub record TellsReason (Refuses : RouteError → Type 0) (profile : Option Secti
 abbrev pub IsRefusal : (Refuses : RouteError → Type 0) (profile : Option Sections) → Status → Type 0
 IsRefusal Refuses profile status = (status ≡ NoMemory) ⊎ TellsReason Refuses profile status
 
--- a status tells a fault that a map's text has, at the first word
-pub record TellsTextFault (text : List ℕ) (status : Status) : Type 0 where
-  pub fault : MapError
-  pub has : HasTextFault text fault
-  pub is : status ≡ Map 0 fault
-
--- the status of a request that is refused over the map of a text
-abbrev pub IsMadeRefusal :
-    (text : List ℕ) (Refuses : RouteError → Type 0) (profile : Option Sections) → Status → Type 0
-IsMadeRefusal text Refuses profile status = IsRefusal Refuses profile status ⊎ TellsTextFault text status
-
 -- ---- For the parts alone
 
 -- this refusal is told with its line, unless it is want of memory; or memory ran out
@@ -43,6 +30,5 @@ IsRefusedAs error profile status =
 
 -- the same of a refusal over a map that is made
 abbrev pub IsMadeRefusedAs : MadeError → Option Sections → Status → Type 0
-IsMadeRefusedAs (made.Map fault) profile status = status ≡ Map 0 fault
 IsMadeRefusedAs (made.Route error) profile status = IsRefusedAs error profile status
 IsMadeRefusedAs made.NoMemory profile status = status ≡ NoMemory

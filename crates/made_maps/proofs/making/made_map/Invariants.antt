@@ -2,7 +2,7 @@ use Rattle.std.proofs.Common.{◌≡◌, ◌≤◌, ◌-◌, ◌++◌, ℕ, List
 use Rattle.std.specs.Prelude.{vec_capacity}
 use Rattle.grid_map.specs.MapText.{overpass_text, parts_of, text_from}
 use Rattle.overpass_graph.specs.Builder.{StandsForText, fed}
-use Rattle.made_routes.proofs.made.made_map.Given as goal
+use Rattle.made_maps.proofs.making.made_map.Given as goal
 
 abbrev pub invariant-pieces : goal.invariant-pieces
 invariant-pieces l = record {

@@ -1,0 +1,16 @@
+pub mod CoordinateLemmas
+pub mod DraftLemmas
+pub mod ElementLemmas
+pub mod EntryLemmas
+pub mod FaultLemmas
+pub mod LengthLemmas
+pub mod LinkLemmas
+pub mod MapLemmas
+pub mod NodeLemmas
+pub mod NumberFacts
+pub mod NumberLemmas
+pub mod PrintLemmas
+pub mod TextLemmas
+pub mod Trees
+pub mod ValidLemmas
+pub mod WholeLemmas

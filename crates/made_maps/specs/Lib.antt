@@ -1,0 +1,3 @@
+pub mod Elements
+pub mod Maps
+pub mod Law
