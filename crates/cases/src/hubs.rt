@@ -11,7 +11,8 @@ use std::alloc::{AllocError, Global};
 pub(crate) const CALLS: [&str; 1] = ["hub"];
 
 /// What a hub in memory tells: its room, the most of one call, the failing call, its script and the
-/// calls on it. At the end stands whether connection 1 was closed, and the bytes sent to it.
+/// calls on it. At the end stands whether connection 1 was closed, the bytes sent to it, and where
+/// the hub listened.
 pub(crate) fn answer(alloc: Global, case: &Case) -> Result<String, AllocError> {
     let room = case.count(1).min(1000) as usize;
     let piece = case.count(2).min(1000) as usize;
@@ -39,11 +40,13 @@ fn play(alloc: Global, told: &mut String, hub: &mut MemHub, call: &[u8]) -> Resu
     write!(told, "{text} ")
 }
 
-/// Writes whether connection 1 was closed, and the bytes sent to it.
+/// Writes whether connection 1 was closed, the bytes sent to it, and where the hub listened.
 fn tell_end(alloc: Global, told: &mut String, hub: &MemHub) -> Result<(), AllocError> {
     let sent = hub.bytes_to(alloc, 1)?;
     let closed = if hub.closed(1) { "closed" } else { "open" };
-    write!(told, "{closed}:{}", shown(sent.as_slice()))
+    let listened = hub.listened(alloc)?;
+    write!(told, "{closed}:{}", shown(sent.as_slice()))?;
+    write!(told, "{}", shown(listened.as_slice()))
 }
 
 /// The script of a text of entries: a letter, the connection's digit, and the rest.
@@ -96,14 +99,14 @@ fn bytes_entry(alloc: Global, id: u64, bytes: &[u8]) -> Result<Script, AllocErro
 }
 
 /// What one call comes to: `n` with the length of the buffer, `s` and `c` with a connection, or an
-/// opening.
+/// opening, with the address behind its letter.
 fn called(alloc: Global, hub: &mut MemHub, word: &[u8]) -> Result<String, AllocError> {
     let id = digit(word, 1) as u64;
     match place_of(&["n", "s", "c"], letter_of(word)) {
         0 => given(alloc, hub, digit(word, 1) as usize),
         1 => sent(alloc, hub, id, rest_of(word)),
         2 => closed(alloc, hub, id),
-        _ => opened(alloc, hub),
+        _ => opened(alloc, hub, shown(address_of(word))),
     }
 }
 
@@ -121,9 +124,14 @@ fn closed(alloc: Global, hub: &mut MemHub, id: u64) -> Result<String, AllocError
     String::from_str(alloc, "done")
 }
 
-/// The hub is opened.
-fn opened(alloc: Global, hub: &mut MemHub) -> Result<String, AllocError> {
-    match hub.open("here") {
+/// What follows the first byte of a word.
+fn address_of(word: &[u8]) -> &[u8] {
+    if word.is_empty() { &[] } else { &word[1..] }
+}
+
+/// The hub is opened at an address.
+fn opened(alloc: Global, hub: &mut MemHub, address: &str) -> Result<String, AllocError> {
+    match hub.open(address) {
         Ok(()) => String::from_str(alloc, "open"),
         Err(Failed) => String::from_str(alloc, "fault"),
     }

@@ -1,7 +1,7 @@
 -- What callers of a hub need: how its acts follow one another, and which connections it holds.
 use Rattle.std.proofs.Common.{◌≡◌, ◌==◌, ℕ, Bool, true, false, List, [], ◌∷◌, ◌++◌, length, Option, Some, None, ◌⊎◌, inl, inr, refl, sym, ◌∙◌, ap, subst, cond, arith, append_assoc, append-nil, length-append}
 use Rattle.std.proofs.lemmas.Bool.{eq-eqb}
-use Rattle.edge_io.specs.Acts.{Act, Gave, Took, Broke, Closed, Traffic, no_traffic, told, after_act, after_acts, after_own, after_event, is_end_of, OpensOnce}
+use Rattle.edge_io.specs.Acts.{Act, Listens, Gave, Took, Broke, Closed, Traffic, no_traffic, told, after_act, after_acts, after_own, after_event, is_end_of, OpensOnce}
 use Rattle.edge_io.specs.Hub.{Tells, TellsWhereLive, IsLive, IsFreshAmong}
 use Rattle.edge_io.specs.declared.event.Event.{Event}
 use Rattle.edge_io.specs.declared.event.Event.TheVariants.{Opened, Bytes, Ended, Lost, Quiet, Over}
@@ -41,6 +41,7 @@ Tells-gone old new id act gone tells = subst (λ (b : Bool). Tells (Some old) ne
 
 -- an act that doesn't end a connection leaves it held
 live_act : (id : ℕ) (act : Act) (t : Traffic) → is_end_of id act ≡ false → t.live ≡ true → (after_act id t act).live ≡ true
+live_act id (Listens address) t stays live = live
 live_act id (Gave (Opened at) bytes) t stays live =
     elim (at == id) as (λ b. (cond b (after_event t (Opened at) bytes) t).live ≡ true) [ true ↦ refl | false ↦ live ]
 live_act id (Gave (Bytes at n) bytes) t stays live =
@@ -80,6 +81,7 @@ IsLive-opened (Some old) (Some new) id bytes tells =
 
 -- once opened, a connection stays so
 opened_act : (id : ℕ) (act : Act) (t : Traffic) → t.opened ≡ true → (after_act id t act).opened ≡ true
+opened_act id (Listens address) t was = was
 opened_act id (Gave (Opened at) bytes) t was =
     elim (at == id) as (λ b. (cond b (after_event t (Opened at) bytes) t).opened ≡ true) [ true ↦ refl | false ↦ was ]
 opened_act id (Gave (Bytes at n) bytes) t was =
@@ -98,6 +100,7 @@ opened_act id (Closed at) t was = elim (at == id) as (λ b. (cond b (after_own t
 -- an act opens what was not opened, or leaves it, whatever came before
 opened_by_act : (id : ℕ) (act : Act) (t u : Traffic) → (t.opened ≡ true → u.opened ≡ true) → (after_act id t act).opened ≡ true →
     (after_act id u act).opened ≡ true
+opened_by_act id (Listens address) t u less was = less was
 opened_by_act id (Gave (Opened at) bytes) t u less was =
     (elim (at == id) as (λ b. (cond b (after_event t (Opened at) bytes) t).opened ≡ true →
     (cond b (after_event u (Opened at) bytes) u).opened ≡ true) [ true ↦ λ h. refl | false ↦ less ]) was
@@ -150,6 +153,7 @@ IsFresh-later first acts Over fresh = tt
 
 -- an act that opens nothing that was opened
 abbrev pub IsFreshAct : List Act → Act → Type 0
+IsFreshAct acts (Listens address) = Unit {0}
 IsFreshAct acts (Gave event bytes) = IsFreshAmong acts event
 IsFreshAct acts (Took id bytes) = Unit {0}
 IsFreshAct acts (Broke id) = Unit {0}

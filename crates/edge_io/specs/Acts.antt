@@ -3,9 +3,11 @@ use Rattle.std.specs.Prelude.{◌≡◌, ◌==◌, ℕ, Bool, true, false, List,
 use Rattle.edge_io.specs.declared.event.Event.{Event}
 use Rattle.edge_io.specs.declared.event.Event.TheVariants.{Opened, Bytes, Ended, Lost, Quiet, Over}
 
--- one act: an event was given, with the bytes that came; bytes were taken from a send to a connection; a send
--- to a connection failed, which ends it; a connection was closed by the caller
+-- one act: the hub began to take connections at an address; an event was given, with the bytes that came; bytes
+-- were taken from a send to a connection; a send to a connection failed, which ends it; a connection was closed
+-- by the caller
 pub data Act : Type 0 where
+  Listens : List ℕ → Act
   Gave : Event → List ℕ → Act
   Took : ℕ → List ℕ → Act
   Broke : ℕ → Act
@@ -36,6 +38,7 @@ after_event t Over bytes = t
 
 -- the traffic after an act on its own connection
 abbrev pub after_own : Traffic → Act → Traffic
+after_own t (Listens address) = t
 after_own t (Gave event bytes) = after_event t event bytes
 after_own t (Took id bytes) = record t { sent = t.sent ++ bytes }
 after_own t (Broke id) = record t { live = false }
@@ -52,6 +55,7 @@ is_event_of id Over = false
 
 -- an act is one on this connection
 abbrev pub is_act_on : ℕ → Act → Bool
+is_act_on id (Listens address) = false
 is_act_on id (Gave event bytes) = is_event_of id event
 is_act_on id (Took at bytes) = at == id
 is_act_on id (Broke at) = at == id
@@ -78,6 +82,7 @@ OpensOnce acts =
 
 -- an act ends a connection: it is lost, a send to it failed, or it was closed
 abbrev pub is_end_of : ℕ → Act → Bool
+is_end_of id (Listens address) = false
 is_end_of id (Gave (Opened at) bytes) = false
 is_end_of id (Gave (Bytes at n) bytes) = false
 is_end_of id (Gave (Ended at) bytes) = false

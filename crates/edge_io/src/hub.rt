@@ -1,6 +1,7 @@
 //! Connections of peers, and what happens on them.
 
-ghost use Rattle.std.specs.Prelude.{◌<◌, ◌≤◌, [], length, IfOk, OnOk, OnErr};
+ghost use Rattle.std.specs.Prelude.{◌<◌, ◌≤◌, [], ◌∷◌, length, IfOk, OnOk, OnErr};
+ghost use Rattle.edge_io.specs.Acts.{Listens};
 ghost use Rattle.edge_io.specs.Hub.{HubSeen, FitsBuffer, IsFresh, Does, Gives, Takes, Fails, Breaks, Closes};
 
 use crate::event::Event;
@@ -15,7 +16,8 @@ pub trait Hub {
 
     /// Begins to take connections at this address.
     fn open(&mut self, address: &str) -> Result<(), Failed>
-        ensures value { OnOk result (Does (seen self.old) (seen self.new) []) }
+        ensures value { OnOk result (Does (seen self.old) (seen self.new)
+            (Listens address.now ∷ [])) }
         ensures kept { OnErr result (Fails (seen self.old) (seen self.new)) };
 
     /// The next event. New bytes are put at the front of the buffer.

@@ -2,7 +2,7 @@
 use Rattle.std.proofs.Common.{◌≡◌, ◌==◌, ◌≤◌, ◌+◌, ◌&&◌, ◌||◌, not, ℕ, suc, Bool, true, false, List, [], ◌∷◌, ◌++◌, length, refl, sym, ◌∙◌, ap, cond, arith}
 use Rattle.std.specs.List.{filter}
 use Rattle.std.proofs.lemmas.Bool.{eqb-true, eq-eqb}
-use Rattle.edge_io.specs.Acts.{Act, Gave, Took, Broke, Closed, Traffic, told, after_act, after_own, after_event}
+use Rattle.edge_io.specs.Acts.{Act, Listens, Gave, Took, Broke, Closed, Traffic, told, after_act, after_own, after_event}
 use Rattle.edge_memory.specs.Ids.{has}
 use Rattle.edge_memory.specs.MemoryHub.{room_of, room_used}
 use Rattle.edge_memory.specs.Script.{opens}
@@ -174,6 +174,24 @@ held-step h next act held steps = record {
   where
     now : (id : ℕ) → told id next.acts ≡ after_act id (told id h.acts) act
     now id = ap (λ (acts : List Act). told id acts) steps.acts_are ∙ told-one id h.acts act
+
+-- an opening
+pub Steps-listens : (h next : Hold) (address : List ℕ) → IsHeld h → h.kept + (length address + 1) ≤ h.room →
+    next.acts ≡ h.acts ++ (Listens address ∷ []) → next.left ≡ h.left → next.live ≡ h.live → next.closed ≡ h.closed → next.room ≡ h.room
+    → next.kept ≡ h.kept + (length address + 1) → next.notes + 1 ≡ h.notes → h.bytes ≤ next.bytes + length address →
+    Steps h next (Listens address)
+Steps-listens h next address held fits acts left live closed room kept notes place = record {
+  acts_are = acts;
+  room_is = room;
+  kept_more = kept;
+  fits = fits;
+  few = omega (arith, ap length live, ap length left);
+  notes_less = notes;
+  bytes_less = omega (arith, place);
+  live_now = λ at. held.are_live at ∙ ap (λ (ids : List ℕ). has at ids) (sym live);
+  closed_now = λ at. held.are_closed at ∙ ap (λ (ids : List ℕ). has at ids) (sym closed);
+  come_now = λ at comes. held.to_come at (ap (λ (entries : List Script). opens at entries) (sym left) ∙ comes);
+}
 
 -- a send that took bytes
 pub Steps-took : (h next : Hold) (id : ℕ) (bytes : List ℕ) → IsHeld h → h.kept + (length bytes + 1) ≤ h.room →

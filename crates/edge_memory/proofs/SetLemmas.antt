@@ -2,7 +2,7 @@
 use Rattle.std.proofs.Common.{◌≡◌, ◌==◌, ◌<◌, ◌≤◌, ◌+◌, not, ℕ, true, false, List, [], ◌∷◌, ◌++◌, length, drop, Vec, vec_len, vec_capacity, refl, sym, ◌∙◌, ap, subst, arith}
 use Rattle.std.specs.List.{filter}
 use Rattle.std.specs.declared.alloc.Global.{Global}
-use Rattle.edge_io.specs.Acts.{Act, Gave, Took, Broke, Closed, told, after_act}
+use Rattle.edge_io.specs.Acts.{Act, Listens, Gave, Took, Broke, Closed, told, after_act}
 use Rattle.edge_memory.specs.Ids.{has}
 use Rattle.edge_memory.specs.MemoryHub.{room_used}
 use Rattle.edge_memory.specs.Place.{left_from, IsShot, event_bytes}
@@ -14,10 +14,28 @@ use Rattle.edge_memory.specs.declared.cue.Shot.{Shot}
 use Rattle.edge_io.specs.declared.event.Event.{Event}
 use Rattle.edge_memory.specs.declared.script.Script.{Script}
 use Rattle.edge_memory.specs.declared.stage.Stage.TheInside.{Inside}
-use Rattle.edge_memory.proofs.HeldLemmas.{held-step, Steps-took, Steps-broke, Steps-closed, length-shorter, live-event, closed-event}
+use Rattle.edge_memory.proofs.HeldLemmas.{held-step, Steps-listens, Steps-took, Steps-broke, Steps-closed, length-shorter, live-event, closed-event}
 use Rattle.edge_memory.proofs.SceneLemmas.{waits-same, opens-waits, length-waits, playable-waits, playable-left, front-opens, front-few, come-scene, fresh-scene, fits-event, given-event}
 use Rattle.edge_memory.proofs.PlaceLemmas.{noted}
 use Rattle.edge_io.specs.Hub.{IsFreshAmong}
+
+-- the fields after an opening
+pub Set-listens : (s : Inside) (self : Stage) (tape : Tape) (address : List ℕ) → IsSet s → stage_of s ≡ self →
+    room_used self.acts + length address < self.room → Notes s.tape tape (length address) (Listens address)
+    → IsSet (record s { tape = tape; kept = s.kept + (length address + 1) })
+Set-listens s self tape address set is room noted = record {
+  held = held-step (hold_of s) _ (Listens address) set.held
+      (Steps-listens (hold_of s) _ address set.held
+      (omega (arith, set.held.kept_is, ap (λ (t : Stage). room_used t.acts) is, ap (λ (t : Stage). t.room) is, room)) noted.acts left
+      refl refl refl refl noted.room noted.place);
+  playable = rw noted.script set.playable;
+  is_place = rw noted.script set.is_place;
+  live_room = rw noted.script set.live_room;
+  closed_room = rw noted.script set.closed_room;
+}
+  where
+    left : left_from tape.script s.place s.used ≡ left_from s.tape.script s.place s.used
+    left = ap (λ (script : List Script). left_from script s.place s.used) noted.script
 
 -- the fields after a send that took bytes
 pub Set-took : (s : Inside) (self : Stage) (tape : Tape) (id : ℕ) (bytes : List ℕ) → IsSet s → stage_of s ≡ self →

@@ -2,8 +2,9 @@
 use Rattle.std.proofs.Common.{◌≡◌, ◌==◌, ◌≤◌, ◌<◌, ◌+◌, ℕ, zero, suc, true, false, List, [], ◌∷◌, ◌++◌, length, take, drop, map, get_or, refl, sym, ◌∙◌, ap, cond, arith, append_assoc, append-nil, length-append}
 use Rattle.std.proofs.lemmas.List.{take-append-le, drop-append-le, length-drop}
 use Rattle.std.proofs.Math.Seq.{drop-append_seam, take-length}
-use Rattle.edge_io.specs.Acts.{Act, Gave, Took, Broke, Closed, Traffic, after_own, after_act, after_acts}
-use Rattle.edge_memory.specs.Tape.{act_of, IsNotedWithin, AreNotedWithin, sent_by, noted_bytes}
+use Rattle.edge_io.specs.Acts.{Act, Listens, Gave, Took, Broke, Closed, Traffic, after_own, after_act, after_acts}
+use Rattle.edge_memory.specs.MemoryHub.{listened}
+use Rattle.edge_memory.specs.Tape.{act_of, IsNotedWithin, AreNotedWithin, listened_by, sent_by, noted_bytes}
 use Rattle.edge_io.specs.declared.event.Event.{Event}
 use Rattle.edge_io.specs.declared.event.Event.TheVariants.{Opened, Bytes, Ended, Lost, Quiet, Over}
 use Rattle.edge_memory.specs.declared.note.Note as Kept
@@ -17,6 +18,7 @@ within-more sent (n ∷ notes) note all one = (all.0, within-more sent notes not
 
 -- a note stays within where more was sent
 within-longer : (sent bytes : List ℕ) (note : Kept.Note) → IsNotedWithin sent note → IsNotedWithin (sent ++ bytes) note
+within-longer sent bytes (Kept.TheVariants.Listens from n) one = omega (arith, length-append sent bytes)
 within-longer sent bytes (Kept.TheVariants.Gave event place from) one = tt
 within-longer sent bytes (Kept.TheVariants.Took id from n) one = omega (arith, length-append sent bytes)
 within-longer sent bytes (Kept.TheVariants.Broke id) one = tt
@@ -44,6 +46,7 @@ slice-longer sent bytes from n within =
 -- a note stands for the same act where more was sent
 act-longer : (script : List Entry.Script) (sent bytes : List ℕ) (note : Kept.Note) → IsNotedWithin sent note →
     act_of script (sent ++ bytes) note ≡ act_of script sent note
+act-longer script sent bytes (Kept.TheVariants.Listens from n) one = ap Listens (slice-longer sent bytes from n one)
 act-longer script sent bytes (Kept.TheVariants.Gave event place from) one = refl
 act-longer script sent bytes (Kept.TheVariants.Took id from n) one = ap (λ (xs : List ℕ). Took id xs) (slice-longer sent bytes from n one)
 act-longer script sent bytes (Kept.TheVariants.Broke id) one = refl
@@ -91,6 +94,7 @@ sent-event id t Over bytes = refl
 -- what was sent after one more note
 sent-note : (id : ℕ) (script : List Entry.Script) (sent : List ℕ) (t : Traffic) (note : Kept.Note) →
     (after_act id t (act_of script sent note)).sent ≡ t.sent ++ sent_by id sent note
+sent-note id script sent t (Kept.TheVariants.Listens from n) = sym (append-nil t.sent)
 sent-note id script sent t (Kept.TheVariants.Gave event place from) = sent-event id t event (noted_bytes script event place from)
     ∙ sym (append-nil _)
 sent-note id script sent t (Kept.TheVariants.Took to from n) =
@@ -132,19 +136,59 @@ sent-end id sent [] (suc k) beyond = refl
 sent-end id sent (n ∷ notes) zero beyond = absurd (omega arith)
 sent-end id sent (n ∷ notes) (suc k) beyond = sent-end id sent notes k (omega arith)
 
--- the bytes of the send that was noted last are those that were added
-took-last : (sent bytes : List ℕ) (from n : ℕ) → from ≡ length sent → n ≡ length bytes → take n (drop from (sent ++ bytes)) ≡ bytes
-took-last sent bytes from n is_from is_n =
+-- ---- Where the hub listened
+
+-- the addresses of notes
+abbrev pub listened_in : List ℕ → List Kept.Note → List ℕ
+listened_in kept [] = []
+listened_in kept (n ∷ notes) = listened_by kept n ++ listened_in kept notes
+
+-- one note more in front
+listened-note : (script : List Entry.Script) (kept : List ℕ) (note : Kept.Note) (acts : List Act) →
+    listened (act_of script kept note ∷ acts) ≡ listened_by kept note ++ listened acts
+listened-note script kept (Kept.TheVariants.Listens from n) acts = refl
+listened-note script kept (Kept.TheVariants.Gave event place from) acts = refl
+listened-note script kept (Kept.TheVariants.Took id from n) acts = refl
+listened-note script kept (Kept.TheVariants.Broke id) acts = refl
+listened-note script kept (Kept.TheVariants.Closed id) acts = refl
+
+-- the addresses of acts are those of the notes, in their order
+pub listened-all : (script : List Entry.Script) (kept : List ℕ) (notes : List Kept.Note) →
+    listened (map (act_of script kept) notes) ≡ listened_in kept notes
+listened-all script kept [] = refl
+listened-all script kept (n ∷ notes) =
+    listened-note script kept n (map (act_of script kept) notes)
+    ∙ ap (λ (xs : List ℕ). listened_by kept n ++ xs) (listened-all script kept notes)
+
+-- the notes from a place on begin with the one there
+pub listened-here : (kept : List ℕ) (notes : List Kept.Note) (k : ℕ) (d : Kept.Note) → k < length notes →
+    listened_in kept (drop k notes) ≡ listened_by kept (get_or notes k d) ++ listened_in kept (drop (suc k) notes)
+listened-here kept [] k d there = absurd (omega arith)
+listened-here kept (n ∷ notes) zero d there = refl
+listened-here kept (n ∷ notes) (suc k) d there = listened-here kept notes k d (omega arith)
+
+-- beyond the last note there is no address
+pub listened-end : (kept : List ℕ) (notes : List Kept.Note) (k : ℕ) → length notes ≤ k → listened_in kept (drop k notes) ≡ []
+listened-end kept [] zero beyond = refl
+listened-end kept [] (suc k) beyond = refl
+listened-end kept (n ∷ notes) zero beyond = absurd (omega arith)
+listened-end kept (n ∷ notes) (suc k) beyond = listened-end kept notes k (omega arith)
+
+-- ---- Acts with bytes
+
+-- the bytes that were kept last are those that were added
+kept-last : (sent bytes : List ℕ) (from n : ℕ) → from ≡ length sent → n ≡ length bytes → take n (drop from (sent ++ bytes)) ≡ bytes
+kept-last sent bytes from n is_from is_n =
     rw (is_from, is_n) (ap (λ (xs : List ℕ). take (length bytes) xs) (drop-append_seam sent bytes) ∙ take-length bytes)
 
--- the acts after a send was noted
-pub acts-taken : (script : List Entry.Script) (sent bytes longer : List ℕ) (notes more : List Kept.Note) (id from n : ℕ) →
-    longer ≡ sent ++ bytes → more ≡ notes ++ (Kept.TheVariants.Took id from n ∷ []) → from ≡ length sent → n ≡ length bytes →
-    AreNotedWithin sent notes
-    → map (act_of script longer) more ≡ map (act_of script sent) notes ++ (Took id bytes ∷ [])
-acts-taken script sent bytes longer notes more id from n is_longer is_more is_from is_n within =
+-- the acts after an act with these bytes was noted
+pub acts-kept : (act : List ℕ → Act) (note : Kept.Note) (script : List Entry.Script) (sent bytes longer : List ℕ)
+    (notes more : List Kept.Note) (from n : ℕ) → act_of script (sent ++ bytes) note ≡ act (take n (drop from (sent ++ bytes))) →
+    longer ≡ sent ++ bytes → more ≡ notes ++ (note ∷ []) → from ≡ length sent → n ≡ length bytes → AreNotedWithin sent notes
+    → map (act_of script longer) more ≡ map (act_of script sent) notes ++ (act bytes ∷ [])
+acts-kept act note script sent bytes longer notes more from n is is_longer is_more is_from is_n within =
     rw (is_longer, is_more)
-    (acts-more script (sent ++ bytes) notes (Kept.TheVariants.Took id from n)
-    ∙ ap (λ (xs : List Act). xs ++ (act_of script (sent ++ bytes) (Kept.TheVariants.Took id from n) ∷ []))
-    (acts-extended script sent bytes notes within)
-    ∙ ap (λ (xs : List ℕ). map (act_of script sent) notes ++ (Took id xs ∷ [])) (took-last sent bytes from n is_from is_n))
+    (acts-more script (sent ++ bytes) notes note
+    ∙ ap (λ (xs : List Act). xs ++ (act_of script (sent ++ bytes) note ∷ [])) (acts-extended script sent bytes notes within)
+    ∙ ap (λ (x : Act). map (act_of script sent) notes ++ (x ∷ []))
+    (is ∙ ap act (kept-last sent bytes from n is_from is_n)))

@@ -1,7 +1,7 @@
 -- This project's own rule: what a hub in memory gives and takes, when a call on it fails, and what it then
 -- leaves.
 use Rattle.std.specs.Prelude.{◌≤◌, ◌+◌, ◌-◌, ◌⊎◌, ℕ, List, [], ◌∷◌, ◌++◌, length, take, drop, min, Contains, Some}
-use Rattle.edge_io.specs.Acts.{Act, Gave, Took, Broke, Closed}
+use Rattle.edge_io.specs.Acts.{Act, Listens, Gave, Took, Broke, Closed}
 use Rattle.edge_io.specs.Faults.{next_count}
 use Rattle.edge_io.specs.Hub.{HubSeen, where_live}
 use Rattle.edge_memory.specs.Script.{Scene, next_scene}
@@ -36,8 +36,9 @@ fresh_play script room piece failing = record {
   breaks = 0;
 }
 
--- how much of the room an act takes: an event one; a send one, and one a byte
+-- how much of the room an act takes: an event one; an opening and a send one, and one a byte
 abbrev pub room_of : Act → ℕ
+room_of (Listens address) = length address + 1
 room_of (Gave event bytes) = 1
 room_of (Took id bytes) = length bytes + 1
 room_of (Broke id) = 0
@@ -48,9 +49,9 @@ abbrev pub room_used : List Act → ℕ
 room_used [] = 0
 room_used (act ∷ acts) = room_of act + room_used acts
 
--- the next call is among those that fail
-abbrev pub FailsCall : Play → Type 0
-FailsCall s = Contains s.failing s.calls
+-- the next opening, at this address, fails: it is among the calls that fail, or the room is too small for it
+abbrev pub FailsToListen : Play → List ℕ → Type 0
+FailsToListen s address = Contains s.failing s.calls ⊎ (s.room ≤ room_used s.acts + length address)
 
 -- the next event or send fails: it is among the calls that fail, or the room is full
 abbrev pub FailsNext : Play → Type 0
@@ -60,9 +61,18 @@ FailsNext s = Contains s.failing s.calls ⊎ (s.room ≤ room_used s.acts)
 abbrev pub after_fault : Play → Play
 after_fault s = record s { calls = next_count s.calls; faults = next_count s.faults }
 
--- the hub after its opening
-abbrev pub after_open : Play → Play
-after_open s = record s { calls = next_count s.calls }
+-- the hub after its opening at this address
+abbrev pub after_open : Play → List ℕ → Play
+after_open s address = record s { acts = s.acts ++ (Listens address ∷ []); calls = next_count s.calls }
+
+-- the addresses at which acts say that a hub listened, in their order, each with an end of line
+abbrev pub listened : List Act → List ℕ
+listened [] = []
+listened (Listens address ∷ acts) = (address ++ 10 ∷ []) ++ listened acts
+listened (Gave event bytes ∷ acts) = listened acts
+listened (Took id bytes ∷ acts) = listened acts
+listened (Broke id ∷ acts) = listened acts
+listened (Closed id ∷ acts) = listened acts
 
 -- what the next event is, for a buffer of this length
 abbrev pub scene_of : Play → ℕ → Scene

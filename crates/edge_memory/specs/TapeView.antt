@@ -7,11 +7,11 @@ use Rattle.edge_memory.specs.declared.tape.Tape.TheInside.{Inside}
 abbrev pub tape_of : Inside → Tape
 tape_of s = record {
   script = s.script.items;
-  acts = map (act_of s.script.items s.sent.items) s.notes.items;
+  acts = map (act_of s.script.items s.kept.items) s.notes.items;
   room = vec_capacity s.notes - vec_len s.notes;
-  place = vec_capacity s.sent - vec_len s.sent;
+  place = vec_capacity s.kept - vec_len s.kept;
 }
 
--- the bytes of each note stand among those that were sent
+-- the bytes of each note stand among those that were kept
 pub record AreWithin (s : Inside) : Type 0 where
-  pub within : AreNotedWithin s.sent.items s.notes.items
+  pub within : AreNotedWithin s.kept.items s.notes.items

@@ -1,9 +1,9 @@
 //! A hub in memory, which plays a script, tells its acts and fails where it is told to.
 
-ghost use Rattle.std.specs.Prelude.{◌≡◌, ◌<◌, ◌≤◌, ◌↔◌, [], length, IfOk, OnOk, OnErr, IsErr};
-ghost use Rattle.edge_io.specs.Acts.{told};
+ghost use Rattle.std.specs.Prelude.{◌≡◌, ◌<◌, ◌≤◌, ◌↔◌, [], ◌∷◌, length, IfOk, OnOk, OnErr, IsErr};
+ghost use Rattle.edge_io.specs.Acts.{Listens, told};
 ghost use Rattle.edge_io.specs.Hub.{FitsBuffer, IsFresh, Does, Gives, Takes, Fails, Breaks, Closes};
-ghost use Rattle.edge_memory.specs.MemoryHub.{seen_of, fresh_play, FailsCall, FailsNext, scene_of, buffer_after, taken_of, after_open, after_scene, after_send, after_fault, after_failed_send, after_close};
+ghost use Rattle.edge_memory.specs.MemoryHub.{seen_of, fresh_play, listened, FailsToListen, FailsNext, scene_of, buffer_after, taken_of, after_open, after_scene, after_send, after_fault, after_failed_send, after_close};
 ghost use Rattle.edge_memory.specs.Script.{IsPlayable};
 
 use crate::script::Script;
@@ -50,8 +50,8 @@ impl Model for MemHub {
 
 impl MemHub {
     /// A hub that plays this script, gives or takes at most `piece` bytes at a time, keeps at most
-    /// `room` events, sends and sent bytes together, and fails at the calls of `open`, `next` and
-    /// `send` whose numbers, from 0, are in `failing`.
+    /// `room` openings, events, sends, and bytes of addresses and sends together, and fails at the
+    /// calls of `open`, `next` and `send` whose numbers, from 0, are in `failing`.
     pub fn new(
         alloc: Global,
         script: Vec<Script>,
@@ -81,6 +81,13 @@ impl MemHub {
         self.stage.bytes_to(alloc, id)
     }
 
+    /// The addresses at which it listened, in their order, each with an end of line.
+    pub fn listened(&self, alloc: Global) -> Result<Vec<u8>, AllocError>
+        ensures exact { IfOk result (λ bytes. bytes.items ≡ listened self.now.acts) }
+    {
+        self.stage.listened(alloc)
+    }
+
     /// Whether a close of this connection is noted.
     pub fn closed(&self, id: u64) -> bool
         ensures exact { result ≡ (told id self.now.acts).closed }
@@ -92,21 +99,23 @@ impl MemHub {
 impl Hub for MemHub {
     ghost seen = { seen_of };
 
-    fn open(&mut self, _address: &str) -> Result<(), Failed>
-        ensures refused { IsErr result ↔ FailsCall self.old }
-        ensures written { OnOk result (self.new ≡ after_open self.old) }
+    fn open(&mut self, address: &str) -> Result<(), Failed>
+        ensures refused { IsErr result ↔ FailsToListen self.old address.now }
+        ensures written { OnOk result (self.new ≡ after_open self.old address.now) }
         ensures counted { OnErr result (self.new ≡ after_fault self.old) }
 
         // What each hub promises.
-        ensures value { OnOk result (Does (seen_of self.old) (seen_of self.new) []) }
+        ensures value { OnOk result (Does (seen_of self.old) (seen_of self.new)
+            (Listens address.now ∷ [])) }
         ensures kept { OnErr result (Fails (seen_of self.old) (seen_of self.new)) }
     {
         let call = self.calls;
         self.calls = next_count(call);
-        if self.failing.contains(&call) {
+        if self.stage.spare() <= address.len() || self.failing.contains(&call) {
             self.faults = next_count(self.faults);
             return Err(Failed);
         }
+        self.stage.listen(address.as_bytes());
         Ok(())
     }
 

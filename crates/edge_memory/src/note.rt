@@ -3,9 +3,13 @@
 use edge_io::Event;
 
 /// One act. The bytes of an event are those from `from` on of the script's entry `place`; those of
-/// a send stand from `from` on among all the bytes that were sent.
+/// an address and of a send stand from `from` on among the bytes that were kept.
 #[derive(Clone, Copy)]
 pub enum Note {
+    Listens {
+        from: usize,
+        n: usize,
+    },
     Gave {
         event: Event,
         place: usize,

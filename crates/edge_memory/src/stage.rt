@@ -1,10 +1,10 @@
 //! A script that is played, its acts, and which connections are held.
 
-ghost use Rattle.std.specs.Prelude.{◌≡◌, ◌<◌, ◌≤◌, ◌+◌, ◌-◌, ◌++◌, ℕ, drop, length, IfOk, vec_len, vec_capacity};
-ghost use Rattle.edge_io.specs.Acts.{told, Broke, Closed};
+ghost use Rattle.std.specs.Prelude.{◌≡◌, ◌<◌, ◌≤◌, ◌+◌, ◌-◌, [], ◌∷◌, ◌++◌, ℕ, drop, length, IfOk, vec_len, vec_capacity};
+ghost use Rattle.edge_io.specs.Acts.{told, Listens, Broke, Closed};
 ghost use Rattle.edge_io.specs.Hub.{where_live};
 ghost use Rattle.edge_memory.specs.Ids.{has};
-ghost use Rattle.edge_memory.specs.MemoryHub.{room_used};
+ghost use Rattle.edge_memory.specs.MemoryHub.{listened, room_used};
 ghost use Rattle.edge_memory.specs.Script.{IsPlayable};
 ghost use Rattle.edge_memory.specs.Stage.{fresh_stage, Plays, after_take, after_mark, live_after, opened_by};
 
@@ -54,7 +54,8 @@ impl Model for Stage {
 }
 
 impl Stage {
-    /// A script of which nothing was played, with room for so many events, sends and sent bytes.
+    /// A script of which nothing was played, with room for so many openings, events, sends, and bytes
+    /// of addresses and sends.
     pub fn new(alloc: Global, script: Vec<Script>, room: usize) -> Result<Stage, AllocError>
         requires lawful { IsPlayable script.items }
         ensures value { IfOk result (λ stage. stage ≡ fresh_stage script.items room) }
@@ -93,6 +94,22 @@ impl Stage {
         ensures exact { IfOk result (λ bytes. bytes.items ≡ (told id self.now.acts).sent) }
     {
         self.tape.bytes_to(alloc, id)
+    }
+
+    /// The addresses at which the hub listened, each with an end of line.
+    pub fn listened(&self, alloc: Global) -> Result<Vec<u8>, AllocError>
+        ensures exact { IfOk result (λ bytes. bytes.items ≡ listened self.now.acts) }
+    {
+        self.tape.listened(alloc)
+    }
+
+    /// Notes that the hub listens at this address.
+    pub fn listen(&mut self, address: &[u8])
+        requires room { room_used self.old.acts + length address.now < self.old.room }
+        ensures value { self.new ≡ after_mark self.old (Listens address.now ∷ []) }
+    {
+        self.tape.note_listening(address);
+        self.kept += address.len() + 1;
     }
 
     /// Gives the next event, of at most so many bytes, and notes it.

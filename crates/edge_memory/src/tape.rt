@@ -1,8 +1,9 @@
 //! A script and the acts over it, noted without copies of its bytes.
 
-ghost use Rattle.std.specs.Prelude.{◌≡◌, ◌<◌, ◌≤◌, ◌+◌, ◌-◌, [], ◌∷◌, ◌++◌, length, IfOk, vec_len, vec_capacity};
-ghost use Rattle.edge_io.specs.Acts.{Gave, Took, Broke, Closed, told};
-ghost use Rattle.edge_memory.specs.Tape.{IsBlank, Notes, noted_bytes, IsNotedWithin, sent_by};
+ghost use Rattle.std.specs.Prelude.{◌≡◌, ◌<◌, ◌≤◌, ◌+◌, ◌-◌, [], ◌∷◌, ◌++◌, length, IfOk, OnOk, vec_len, vec_capacity};
+ghost use Rattle.edge_io.specs.Acts.{Listens, Gave, Took, Broke, Closed, told};
+ghost use Rattle.edge_memory.specs.MemoryHub.{listened};
+ghost use Rattle.edge_memory.specs.Tape.{IsBlank, Notes, noted_bytes, IsNotedWithin, listened_by, sent_by};
 
 use crate::note::Note;
 use crate::script::Script;
@@ -10,11 +11,12 @@ use edge_io::Event;
 use std::alloc::{AllocError, Global};
 use std::marker::Model;
 
-/// A script, and the acts that were noted over it. It takes its room at once and grows no more.
+/// A script, the acts that were noted over it, and the bytes that were kept for them: those of
+/// addresses and of sends. It takes its room at once and grows no more.
 pub struct Tape {
     script: Vec<Script>,
     notes: Vec<Note>,
-    sent: Vec<u8>,
+    kept: Vec<u8>,
 }
 
 impl Drop for Tape {
@@ -22,7 +24,7 @@ impl Drop for Tape {
         let Tape {
             script: _,
             notes: _,
-            sent: _,
+            kept: _,
         } = self;
     }
 }
@@ -40,7 +42,7 @@ impl Model for Tape {
 }
 
 impl Tape {
-    /// A tape with no note, and room for so many notes and so many sent bytes.
+    /// A tape with no note, and room for so many notes and so many bytes of addresses and sends.
     pub fn new(
         alloc: Global,
         script: Vec<Script>,
@@ -52,7 +54,7 @@ impl Tape {
         Ok(Tape {
             script,
             notes: Vec::with_capacity(alloc, notes)?,
-            sent: Vec::with_capacity(alloc, bytes)?,
+            kept: Vec::with_capacity(alloc, bytes)?,
         })
     }
 
@@ -61,6 +63,20 @@ impl Tape {
         ensures value { result.now ≡ self.now.script }
     {
         self.script.as_slice()
+    }
+
+    /// Notes that the hub listens at this address.
+    pub fn note_listening(&mut self, address: &[u8])
+        requires room { 1 ≤ self.old.room }
+        requires place { length address.now ≤ self.old.place }
+        ensures value { Notes self.old self.new (length address.now) (Listens address.now) }
+    {
+        let from = self.kept.len();
+        append_reserved(&mut self.kept, address);
+        self.notes.push_reserved(Note::Listens {
+            from,
+            n: address.len(),
+        });
     }
 
     /// Notes an event whose bytes are those from `from` on of the script's entry `place`.
@@ -78,8 +94,8 @@ impl Tape {
         requires place { length bytes.now ≤ self.old.place }
         ensures value { Notes self.old self.new (length bytes.now) (Took id bytes.now) }
     {
-        let from = self.sent.len();
-        append_reserved(&mut self.sent, bytes);
+        let from = self.kept.len();
+        append_reserved(&mut self.kept, bytes);
         self.notes.push_reserved(Note::Took {
             id,
             from,
@@ -109,10 +125,21 @@ impl Tape {
     {
         let mut bytes = Vec::new(alloc);
         'notes: for note in self.notes.as_slice() {
-            let taken = taken_for(note, id, self.sent.as_slice());
+            let taken = taken_for(note, id, self.kept.as_slice());
             bytes.extend_from_slice(taken)?;
         }
         Ok(bytes)
+    }
+
+    /// The addresses at which the hub listened, each with an end of line.
+    pub fn listened(&self, alloc: Global) -> Result<Vec<u8>, AllocError>
+        ensures exact { IfOk result (λ bytes. bytes.items ≡ listened self.now.acts) }
+    {
+        let mut lines = Vec::new(alloc);
+        'notes: for note in self.notes.as_slice() {
+            append_listened(&mut lines, note, self.kept.as_slice())?;
+        }
+        Ok(lines)
     }
 }
 
@@ -124,6 +151,21 @@ fn append_reserved(bytes: &mut Vec<u8>, more: &[u8])
     ensures capacity { vec_capacity bytes.old ≤ vec_capacity bytes.new }
 {
     bytes.extend_from_slice(more).unwrap();
+}
+
+/// Appends the address at which a note says that the hub listened, with an end of line.
+fn append_listened(lines: &mut Vec<u8>, note: &Note, kept: &[u8]) -> Result<(), AllocError>
+    requires within { IsNotedWithin kept.now note.now }
+    ensures value { OnOk result (lines.new.items ≡ lines.old.items ++ listened_by kept.now note.now) }
+{
+    match *note {
+        Note::Listens { from, n } => {
+            lines.extend_from_slice(&kept[from..from + n])?;
+            lines.push(b'\n')?;
+            Ok(())
+        }
+        _ => Ok(()),
+    }
 }
 
 /// The bytes that a note says were sent to this connection.

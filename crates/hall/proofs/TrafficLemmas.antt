@@ -1,6 +1,6 @@
 -- What more acts change in what was told of one connection.
 use Rattle.std.proofs.Common.{◌≡◌, ℕ, Bool, true, false, List, [], ◌∷◌, ◌++◌, refl, sym, ◌∙◌, ap, subst, cond, append_assoc, append-nil}
-use Rattle.edge_io.specs.Acts.{Act, Gave, Took, Broke, Closed, Traffic, no_traffic, told, after_act, after_acts, after_own, after_event, is_act_on}
+use Rattle.edge_io.specs.Acts.{Act, Listens, Gave, Took, Broke, Closed, Traffic, no_traffic, told, after_act, after_acts, after_own, after_event, is_act_on}
 use Rattle.edge_io.specs.declared.event.Event.{Event}
 use Rattle.edge_io.specs.declared.event.Event.TheVariants.{Opened, Bytes, Ended, Lost, Quiet, Over}
 use Rattle.edge_io.proofs.ActLemmas.{after_acts-append, told-one}
@@ -60,6 +60,7 @@ Grows-more {t} {u} {v} first more = record {
 }
 
 grows_own : (t : Traffic) (act : Act) → Grows t (after_own t act)
+grows_own t (Listens address) = Grows-same t
 grows_own t (Gave (Opened id) bytes) = record { came = (Grows-same t).came; ended = λ h. h }
 grows_own t (Gave (Bytes id n) bytes) = record { came = (bytes, refl); ended = λ h. h }
 grows_own t (Gave (Ended id) bytes) = record { came = (Grows-same t).came; ended = λ h. refl }
@@ -113,6 +114,7 @@ SendsNone-apart id acts more apart = subst (SendsNone (told id acts)) (sym (told
 -- ---- what was opened
 
 opened_by_own : (t : Traffic) (act : Act) → t.opened ≡ true → (after_own t act).opened ≡ true
+opened_by_own t (Listens address) was = was
 opened_by_own t (Gave (Opened id) bytes) was = refl
 opened_by_own t (Gave (Bytes id n) bytes) was = was
 opened_by_own t (Gave (Ended id) bytes) was = was

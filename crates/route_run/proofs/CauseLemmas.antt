@@ -1,14 +1,17 @@
 -- How often files were opened by the stages of a command, and when a fault of theirs is answered.
-use Rattle.std.proofs.Common.{◌≡◌, ℕ, zero, suc, ◌+◌, inl, inr, List, [], ◌∷◌, ◌++◌, length, Some, Result, Ok, Err, sym, ap, ◌∙◌, subst, arith, append-nil, length-append}
+use Rattle.std.proofs.Common.{◌≡◌, ℕ, zero, suc, ◌+◌, inl, inr, List, [], ◌∷◌, ◌++◌, length, Some, Result, Ok, Err, true, refl, sym, ap, ◌∙◌, subst, arith, append-nil, length-append}
 use Rattle.std.specs.Prelude.{slice_get}
 use Rattle.command_words.specs.Given.{Named}
 use Rattle.edge_io.specs.Faults.{CountRose, count_after, next_count}
-use Rattle.edge_io.specs.Files.{FilesSeen}
+use Rattle.edge_io.specs.Files.{FilesSeen, Opens}
+use Rattle.edge_io.specs.Whole.{ReadsBytes}
 use Rattle.route_run.specs.Outcome.{HasOpened, HasOpenedAll, IsReadFault, words_in}
 use Rattle.run_files.specs.Chain.{Leaves, Settles, Stage, TakesEachAfter, Then}
 use Rattle.overpass_graph.specs.Maps.{MapValue}
-use Rattle.run_files.specs.File.{TakesFile}
-use Rattle.run_files.specs.Map.{TakesMap}
+use Rattle.run_files.specs.File.{Asks as asks}
+use Rattle.run_files.specs.File.{Asks, IsFileAnswer, TakesFile}
+use Rattle.run_files.specs.Limits.{most_map}
+use Rattle.run_files.specs.Map.{IsMapAnswer, TakesMap}
 use Rattle.run_files.specs.declared.status.Status.{Status}
 use Rattle.run_files.specs.declared.status.Status.TheVariants.{Done, Usage, Query, TooLong, Lookup, Text, Check, Map, Tile, Route, NotFound, ReadFault, WriteFault, TurnsSpent, HubFault, NoMemory}
 
@@ -53,49 +56,90 @@ Cause words old new (Err status) = RefusalCause words old new status
 opened-one : (old new : FilesSeen) → new.faults ≡ old.faults → new.opens ≡ next_count old.opens → HasOpened 1 old new
 opened-one old new faults opens = record { faults = faults; times = 1; few = omega arith; opened = opens }
 
--- a stage over one file
+-- ---- One file
+
+module _ (file : Named) (limit : ℕ) (old opened new : FilesSeen) (bytes : List ℕ) (opens : Opens old opened file.name true)
+    (reads : ReadsBytes limit opened new bytes) where
+  once : new.opens ≡ next_count old.opens
+  once = reads.opens ∙ opens.opens
+
+  -- no call failed
+  still : new.faults ≡ opened.faults → HasOpened 1 old new
+  still same = opened-one old new (same ∙ opens.faults) once
+
+  -- it was taken
+  whole : new.faults ≡ opened.faults → HasOpenedAll 1 old new
+  whole same = record { faults = same ∙ opens.faults; opened = once }
+
+  -- a read failed
+  broke : (at : ℕ) → at ≡ file.word → CountRose opened.faults new.faults → IsReadFault (file.word ∷ []) at old new
+  broke at named rose = record {
+    rose = subst (λ (n : ℕ). CountRose n new.faults) opens.faults rose;
+    before = 0;
+    opened = once;
+    named = ap Some (sym named);
+  }
+
+  -- the answer of a file that was read has its cause
+  file-read : (result : Result (List ℕ) Status) → IsFileAnswer file limit bytes opened new result → Cause (file.word ∷ []) old new result
+  file-read (Ok whole_text) is = whole is.3
+  file-read (Err (TooLong at)) is = still is.2
+  file-read (Err (ReadFault at)) is = broke at is.0 is.1
+  file-read (Err NoMemory) is = still is
+  file-read (Err (NotFound at)) is = absurd is
+  file-read (Err Done) is = absurd is
+  file-read (Err (Usage at)) is = absurd is
+  file-read (Err (Lookup at error)) is = absurd is
+  file-read (Err (Text at error)) is = absurd is
+  file-read (Err (Check at error)) is = absurd is
+  file-read (Err (Query error)) is = absurd is
+  file-read (Err (Map at error)) is = absurd is
+  file-read (Err (Tile at error)) is = absurd is
+  file-read (Err (Route error line)) is = absurd is
+  file-read (Err WriteFault) is = absurd is
+  file-read (Err TurnsSpent) is = absurd is
+  file-read (Err HubFault) is = absurd is
+
+  -- so has that of a map
+  map-read : (result : Result MapValue Status) → IsMapAnswer file opened new result → Cause (file.word ∷ []) old new result
+  map-read (Ok map) is = whole is.1
+  map-read (Err (TooLong at)) is = still is.2
+  map-read (Err (Map at error)) is = still is.2
+  map-read (Err (ReadFault at)) is = broke at is.0 is.1
+  map-read (Err NoMemory) is = still is
+  map-read (Err (NotFound at)) is = absurd is
+  map-read (Err Done) is = absurd is
+  map-read (Err (Usage at)) is = absurd is
+  map-read (Err (Query error)) is = absurd is
+  map-read (Err (Lookup at error)) is = absurd is
+  map-read (Err (Text at error)) is = absurd is
+  map-read (Err (Check at error)) is = absurd is
+  map-read (Err (Tile at error)) is = absurd is
+  map-read (Err (Route error line)) is = absurd is
+  map-read (Err WriteFault) is = absurd is
+  map-read (Err TurnsSpent) is = absurd is
+  map-read (Err HubFault) is = absurd is
+
+-- a stage over one file has its cause, where what is answered of the open file has
+asks-cause : {A : Type 0} (file : Named) (limit : ℕ) (Is : List ℕ → Stage A)
+    → ((old opened new : FilesSeen) (bytes : List ℕ) → Opens old opened file.name true → ReadsBytes limit opened new bytes →
+    (result : Result A Status) → Is bytes opened new result → Cause (file.word ∷ []) old new result)
+    → (old new : FilesSeen) (result : Result A Status) → Asks file limit Is old new result → Cause (file.word ∷ []) old new result
+asks-cause file limit Is by_read old new _ (asks.failed fails) =
+    record { rose = fails.rose; before = 0; opened = fails.opens; named = refl }
+asks-cause file limit Is by_read old new _ (asks.missing opens) = opened-one old new opens.faults opens.opens
+asks-cause file limit Is by_read old new result (asks.reading {opened = opened} {bytes = bytes} opens reads is) =
+    by_read old opened new bytes opens reads result is
+
+-- so has the stage of a file that is taken whole
 pub file-cause : (file : Named) (limit : ℕ) (old new : FilesSeen) (result : Result (List ℕ) Status) → TakesFile file limit old new result →
     Cause (file.word ∷ []) old new result
-file-cause file limit old new (Ok bytes) takes = record { faults = takes.answer.1; opened = takes.opens }
-file-cause file limit old new (Err (NotFound at)) takes = opened-one old new takes.answer.2 takes.opens
-file-cause file limit old new (Err (TooLong at)) takes = opened-one old new takes.answer.2 takes.opens
-file-cause file limit old new (Err (ReadFault at)) takes =
-    record { rose = takes.answer.1; before = 0; opened = takes.opens; named = ap Some (sym takes.answer.0) }
-file-cause file limit old new (Err NoMemory) takes = opened-one old new takes.answer takes.opens
-file-cause file limit old new (Err Done) takes = absurd takes.answer
-file-cause file limit old new (Err (Usage at)) takes = absurd takes.answer
-file-cause file limit old new (Err (Lookup at error)) takes = absurd takes.answer
-file-cause file limit old new (Err (Text at error)) takes = absurd takes.answer
-file-cause file limit old new (Err (Check at error)) takes = absurd takes.answer
-file-cause file limit old new (Err (Query error)) takes = absurd takes.answer
-file-cause file limit old new (Err (Map at error)) takes = absurd takes.answer
-file-cause file limit old new (Err (Tile at error)) takes = absurd takes.answer
-file-cause file limit old new (Err (Route error line)) takes = absurd takes.answer
-file-cause file limit old new (Err WriteFault) takes = absurd takes.answer
-file-cause file limit old new (Err TurnsSpent) takes = absurd takes.answer
-file-cause file limit old new (Err HubFault) takes = absurd takes.answer
+file-cause file limit = asks-cause file limit (IsFileAnswer file limit) (file-read file limit)
 
--- the stage over a map's file
+-- and that of a map's file
 pub map-cause : (file : Named) (old new : FilesSeen) (result : Result MapValue Status) → TakesMap file old new result →
     Cause (file.word ∷ []) old new result
-map-cause file old new (Ok map) takes = record { faults = takes.answer.1; opened = takes.opens }
-map-cause file old new (Err (NotFound at)) takes = opened-one old new takes.answer.2 takes.opens
-map-cause file old new (Err (TooLong at)) takes = opened-one old new takes.answer.2 takes.opens
-map-cause file old new (Err (Map at error)) takes = opened-one old new takes.answer.2 takes.opens
-map-cause file old new (Err (ReadFault at)) takes =
-    record { rose = takes.answer.1; before = 0; opened = takes.opens; named = ap Some (sym takes.answer.0) }
-map-cause file old new (Err NoMemory) takes = opened-one old new takes.answer takes.opens
-map-cause file old new (Err Done) takes = absurd takes.answer
-map-cause file old new (Err (Usage at)) takes = absurd takes.answer
-map-cause file old new (Err (Query error)) takes = absurd takes.answer
-map-cause file old new (Err (Lookup at error)) takes = absurd takes.answer
-map-cause file old new (Err (Text at error)) takes = absurd takes.answer
-map-cause file old new (Err (Check at error)) takes = absurd takes.answer
-map-cause file old new (Err (Tile at error)) takes = absurd takes.answer
-map-cause file old new (Err (Route error line)) takes = absurd takes.answer
-map-cause file old new (Err WriteFault) takes = absurd takes.answer
-map-cause file old new (Err TurnsSpent) takes = absurd takes.answer
-map-cause file old new (Err HubFault) takes = absurd takes.answer
+map-cause file = asks-cause file most_map (λ read. IsMapAnswer file) (map-read file most_map)
 
 -- nothing was opened where the files are what they were
 pub opened-none : (most : ℕ) (old new : FilesSeen) → new ≡ old → HasOpened most old new

@@ -1,6 +1,6 @@
 -- What the statuses of the whole program say: of the files, of the output, of the hub, and without a fault of the outside.
 use Rattle.std.proofs.Common.{◌≡◌, ℕ, inl, inr, List, length, Result, Ok, Err, refl, sym, ap, ◌∙◌, subst}
-use Rattle.command_words.specs.Command.{command_of}
+use Rattle.command_words.specs.Command.{address_of, command_of}
 use Rattle.command_words.specs.declared.command.Command.{Command}
 use Rattle.command_words.specs.declared.command.Command as Form
 use Rattle.command_words.specs.declared.command.ServeCommand.{ServeCommand}
@@ -82,11 +82,11 @@ module _ (named : Result Command ℕ) (old new : Reach)
     answer-said (Ok bytes) NoMemory all ends hub = absurd ends
 
     -- of the end of a server, where the output has the faults that it had
-    served-said : (turns : ℕ) (offer : Offer) (status : Status) → HasOpenedAll (length (file_words named)) old.files new.files →
-        Serves turns offer old.hub new.hub status → new.out.faults ≡ old.out.faults → Said named old new status
-    served-said turns offer _ all (serves.shut fails) out =
+    served-said : (address : List ℕ) (turns : ℕ) (offer : Offer) (status : Status) → HasOpenedAll (length (file_words named)) old.files new.files →
+        Serves address turns offer old.hub new.hub status → new.out.faults ≡ old.out.faults → Said named old new status
+    served-said address turns offer _ all (serves.shut fails) out =
         record { read = all; written = out; hub = fails.rose; complete = λ command is still calm quiet. absurd (quiet fails.rose) }
-    served-said turns offer _ all (serves.served {opened = opened} {end = how} does to) out = go how to.served.ends
+    served-said address turns offer _ all (serves.served {opened = opened} {end = how} does to) out = go how to.served.ends
       where
         go : (how : ServeEnd) → EndsBy how turns to.served.n to.served.over opened new.hub → Said named old new (status_of_end how)
         go end.Over ends = record { read = all; written = out; hub = ends.2 ∙ does.faults; complete = λ command is still calm quiet. tt }
@@ -109,7 +109,7 @@ serve-said command old new status (outcome.refused offers same) out =
     refusal-said (Ok (Form.TheVariants.Serve command)) old new status (offers-cause command old.files new.files (Err status) offers) out
     (ap (λ (s : HubSeen). s.faults) same)
 serve-said command old new status (outcome.served {offer = offer} offers to) out =
-    served-said (Ok (Form.TheVariants.Serve command)) old new command.turns offer status
+    served-said (Ok (Form.TheVariants.Serve command)) old new (address_of command.listen) command.turns offer status
     (offers-cause command old.files new.files (Ok offer) offers) to out
 
 -- of words that are at fault, where nothing is done

@@ -1,7 +1,8 @@
 -- What the command `serve` does: what it offers is served over a hub. This project's own rule.
-use Rattle.std.specs.Prelude.{ℕ, ◌≡◌, List, [], Some, Ok, Err}
+use Rattle.std.specs.Prelude.{ℕ, ◌≡◌, List, [], ◌∷◌, Some, Ok, Err}
+use Rattle.command_words.specs.Command.{address_of}
 use Rattle.command_words.specs.declared.command.ServeCommand.{ServeCommand}
-use Rattle.edge_io.specs.Acts.{Act}
+use Rattle.edge_io.specs.Acts.{Act, Listens}
 use Rattle.edge_io.specs.Files.{FilesSeen}
 use Rattle.edge_io.specs.Hub.{Does, Fails, HubSeen}
 use Rattle.hall.specs.State.{State}
@@ -29,19 +30,21 @@ pub record IsServedTo (turns : ℕ) (offer : Offer) (opened : HubSeen) (end : Se
       (before : List Act) → opened.acts ≡ Some before → (id : ℕ) →
       GetsOwn offer.0 offer.1.stored left.stored id served.acts
 
--- an offer is served: the hub couldn't be opened; or it was, and then turns were taken
-pub data Serves (turns : ℕ) (offer : Offer) (old new : HubSeen) : Status → Type 0 where
-  shut : Fails old new → Serves turns offer old new status.HubFault
+-- an offer is served: the hub couldn't be opened; or it was, once and at this address, and then turns were
+-- taken
+pub data Serves (address : List ℕ) (turns : ℕ) (offer : Offer) (old new : HubSeen) : Status → Type 0 where
+  shut : Fails old new → Serves address turns offer old new status.HubFault
   served :
-      {opened : HubSeen} {end : ServeEnd} → Does old opened [] → IsServedTo turns offer opened end new →
-      Serves turns offer old new (status_of_end end)
+      {opened : HubSeen} {end : ServeEnd} → Does old opened (Listens address ∷ []) →
+      IsServedTo turns offer opened end new → Serves address turns offer old new (status_of_end end)
 
--- what the command `serve` does: what it offers is refused, and the hub is left; or it is served
+-- what the command `serve` does: what it offers is refused, and the hub is left; or it is served at the
+-- command's address
 pub data IsServeOutcome (command : ServeCommand) (old new : FilesSeen) (hub_old hub_new : HubSeen) (status :
     Status) : Type 0 where
   refused : Offers command old new (Err status) → hub_new ≡ hub_old →
       IsServeOutcome command old new hub_old hub_new status
   served :
       {offer : Offer} → Offers command old new (Ok offer) →
-      Serves command.turns offer hub_old hub_new status →
+      Serves (address_of command.listen) command.turns offer hub_old hub_new status →
       IsServeOutcome command old new hub_old hub_new status

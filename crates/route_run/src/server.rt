@@ -1,13 +1,16 @@
 //! What the command `serve` does.
 
-ghost use Rattle.std.specs.Prelude.{◌≡◌};
+ghost use Rattle.std.specs.Prelude.{◌≡◌, [], ◌∷◌, OnOk, OnErr};
+ghost use Rattle.command_words.specs.Command.{address_of};
 ghost use Rattle.command_words.specs.Fit.{IsServeFit};
+ghost use Rattle.edge_io.specs.Acts.{Listens};
+ghost use Rattle.edge_io.specs.Hub.{Does, Fails};
 ghost use Rattle.route_run.specs.Offer.{IsNew, offer_of};
 ghost use Rattle.route_run.specs.Serving.{IsServeOutcome, IsServedTo, Serves, status_of_end};
 
 use crate::offer::take_offer;
 use command_words::ServeCommand;
-use edge_io::{Files, Hub};
+use edge_io::{Failed, Files, Hub};
 use hall::{Hall, ServeEnd, connections_keep_apart, serve};
 use run_files::Status;
 use std::alloc::Global;
@@ -33,13 +36,22 @@ pub fn serve_answer<F: Files, H: Hub>(
 /// Opens the hub at the command's address, and serves.
 fn serve_at<H: Hub>(hall: Hall, command: &ServeCommand, hub: &mut H) -> Status
     requires empty { IsNew (offer_of hall) }
-    ensures exact { Serves command.now.turns (offer_of hall) (H.seen hub.old) (H.seen hub.new)
-        result }
+    ensures exact { Serves (address_of command.now.listen) command.now.turns (offer_of hall)
+        (H.seen hub.old) (H.seen hub.new) result }
 {
-    match hub.open(command.address()) {
+    match open_at(command, hub) {
         Ok(()) => status_of_end(served(hall, command.turns, hub)),
         Err(_) => Status::HubFault,
     }
+}
+
+/// Opens the hub at the command's address.
+fn open_at<H: Hub>(command: &ServeCommand, hub: &mut H) -> Result<(), Failed>
+    ensures value { OnOk result (Does (H.seen hub.old) (H.seen hub.new)
+        (Listens (address_of command.now.listen) ∷ [])) }
+    ensures kept { OnErr result (Fails (H.seen hub.old) (H.seen hub.new)) }
+{
+    hub.open(command.address())
 }
 
 /// Serves from an opened hub.

@@ -20,7 +20,7 @@ pub(crate) use world::World;
 pub(crate) const SETTINGS: [&str; 6] = ["world", "file", "tile", "reading", "output", "hub"];
 
 /// The calls that run command lines.
-pub(crate) const RUNS: [&str; 10] = [
+pub(crate) const RUNS: [&str; 11] = [
     "run",
     "cost",
     "size",
@@ -30,6 +30,7 @@ pub(crate) const RUNS: [&str; 10] = [
     "each_read",
     "each_write",
     "each_call",
+    "listened",
     "out_of_memory",
 ];
 
@@ -100,6 +101,7 @@ fn append_answer(told: &mut Vec<u8>, case: &Case, world: &mut World) -> Result<(
         6 => faults::append_reads(told, world, case),
         7 => faults::append_writes(told, world, case),
         8 => faults::append_calls(told, world, case),
+        9 => peers::append_listened(told, world, case),
         _ => answers::append_no_memory(told, world.alloc()),
     }
 }

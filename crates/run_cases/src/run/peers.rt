@@ -1,4 +1,4 @@
-//! What peers do, as the script of a hub in memory, and what each gets.
+//! What peers do, as the script of a hub in memory, what each gets, and where the hub listened.
 
 use crate::run::answers::append_sums;
 use crate::run::ended::append_in_brackets;
@@ -163,6 +163,33 @@ fn append_served_by(
     let ended = world.ended_over(case, first.saturating_add(1), &mut hub)?;
     ended.append_output(told)?;
     append_peers(told, world.alloc(), &hub, case.text(first), form)
+}
+
+/// Appends what the top call comes to over the hub: number and line of the status, what was
+/// written, and the addresses at which the hub listened, each with an end of line.
+pub(crate) fn append_listened(
+    told: &mut Vec<u8>,
+    world: &World,
+    case: &Case,
+) -> Result<(), AllocError> {
+    match world.hub()? {
+        Some(hub) => append_listened_by(told, world, case, hub),
+        None => append_bytes(told, b"(outside)"),
+    }
+}
+
+/// The same over a hub.
+fn append_listened_by(
+    told: &mut Vec<u8>,
+    world: &World,
+    case: &Case,
+    hub: MemHub,
+) -> Result<(), AllocError> {
+    let mut hub = hub;
+    let ended = world.ended_over(case, 1, &mut hub)?;
+    ended.append_output(told)?;
+    let listened = hub.listened(world.alloc())?;
+    append_in_brackets(told, listened.as_slice())
 }
 
 /// Appends a line for each of these connections.

@@ -16,7 +16,7 @@ use std::alloc::{AllocError, Global};
 /// The number of a call that no row makes.
 const NEVER: u64 = 1_000_000;
 
-/// The most events, sends and sent bytes of a hub together.
+/// The most openings, events, sends, and bytes of addresses and sends of a hub together.
 const HUB_ROOM: usize = 1_000_000;
 
 /// The most bytes that an output holds.
@@ -171,7 +171,7 @@ impl World {
 
     /// A hub to which nobody connects.
     fn still_hub(&self) -> Result<MemHub, AllocError> {
-        MemHub::new(self.alloc, Vec::new(self.alloc), 1, 1, Vec::new(self.alloc))
+        MemHub::new(self.alloc, Vec::new(self.alloc), 100, 1, Vec::new(self.alloc))
     }
 
     /// The words of a case from a place on.

@@ -1,28 +1,68 @@
-use Rattle.std.proofs.Common.{true, Err, ◌∙◌, subst}
-use Rattle.edge_io.specs.Files.{Opens}
-use Rattle.run_files.specs.MapReading.{CountsMapFault, IsReadFrom}
-use Rattle.run_files.specs.declared.map_error.MapFileError.TheVariants as file
+use Rattle.std.proofs.Common.{Err, subst}
 use Rattle.run_files.specs.Limits.{most_map}
-use Rattle.run_files.specs.declared.status.Status.TheVariants.{TooLong}
-use Rattle.run_files.proofs.StageLemmas.{map-named, took-map}
+use Rattle.run_files.specs.Map.{IsMapAnswer}
+use Rattle.run_files.specs.MapReading.{CountsMapFault, IsReadFrom}
+use Rattle.run_files.specs.declared.map_error.MapFileError.{MapFileError}
+use Rattle.run_files.proofs.StageLemmas.{asked-failed, asked-missing, asked-read}
 use Rattle.run_files.proofs.map.take_map.Goals as goal
 
+pub returns-in-Ok-false : goal.returns-in-Ok-false
+returns-in-Ok-false g c = record {
+  taken = asked-missing c.args.file.now most_map (λ read. IsMapAnswer c.args.file.now) (g.F.Files.seen c.args.files.now)
+      (g.F.Files.seen c.open.new.self) _ _ _ c.name.ensures.exact c.word-word.ensures.exact c.in-Ok-false.field-0-test
+      c.in-Ok-false.ensures.found;
+}
+
+pub returns-in-Err : goal.returns-in-Err
+returns-in-Err g c = record {
+  taken = asked-failed c.args.file.now most_map (λ read. IsMapAnswer c.args.file.now) (g.F.Files.seen c.args.files.now)
+      (g.F.Files.seen c.open.new.self) _ c.word-word.ensures.exact c.in-Err.ensures.kept;
+}
+
+pub returns-in-Ok : goal.returns-in-Ok
+returns-in-Ok g c = record {
+  taken = asked-read _ _ _ _ _ _ c.in-Ok.ensures.kept.bytes _ _ _ c.name.ensures.exact c.in-Ok-true.field-0-test c.in-Ok-true.ensures.found
+      c.in-Ok.ensures.kept.how (c.in-Ok.ensures.exact, c.in-Ok.ensures.cause);
+}
+
+pub returns-in-Err-Fault : goal.returns-in-Err-Fault
+returns-in-Err-Fault g c = record {
+  taken = asked-read _ _ _ _ _ _ c.in-Err-Fault.ensures.kept.bytes _ _ _ c.name.ensures.exact c.in-Ok-true.field-0-test
+      c.in-Ok-true.ensures.found c.in-Err-Fault.ensures.kept.how (
+        c.word-word.ensures.exact,
+        subst (λ (e : MapFileError). CountsMapFault (g.F.Files.seen c.open.new.self).faults (g.F.Files.seen c.read_map.new.files).faults
+            (Err e)) c.in-Err-Fault.field-0-is c.in-Err-Fault.ensures.cause,
+      );
+}
+
 pub returns-in-Err-TooLong : goal.returns-in-Err-TooLong
-returns-in-Err-TooLong g c =
-    let old = g.F.Files.seen c.args.files.now in
-    let mid = g.F.Files.seen c.open.new.self in
-    let new = g.F.Files.seen c.read_map.new.files in
-    let told = c.in-Err-TooLong.field-0-is in
-    let found = subst (λ n. Opens old mid n c.in-Ok-true.field-0) c.name.ensures.exact c.in-Ok-true.ensures.found in
-    let opens : Opens old mid c.args.file.now.name true =
-    subst (λ b. Opens old mid c.args.file.now.name b) c.in-Ok-true.field-0-test found in
-    let read = subst (λ e. IsReadFrom most_map mid.left (Err e)) told c.in-Err-TooLong.ensures.exact in
-    let counts = subst (λ e. CountsMapFault mid.faults new.faults (Err e)) told c.in-Err-TooLong.ensures.cause in
-    record {
-      taken = took-map c.args.file.now old mid new (Err (TooLong c.word-word.result)) opens
-          c.in-Err-TooLong.ensures.kept (
-            c.word-word.ensures.exact,
-            map-named old.files mid.left c.args.file.now.name (Err file.TooLong) opens.found opens.left read,
-            counts ∙ opens.faults,
-          );
-    }
+returns-in-Err-TooLong g c = record {
+  taken = asked-read _ _ _ _ _ _ c.in-Err-TooLong.ensures.kept.bytes _ _ _ c.name.ensures.exact c.in-Ok-true.field-0-test
+      c.in-Ok-true.ensures.found c.in-Err-TooLong.ensures.kept.how (
+        c.word-word.ensures.exact,
+        subst (λ (e : MapFileError). IsReadFrom most_map (g.F.Files.seen c.open.new.self).left (Err e)) c.in-Err-TooLong.field-0-is
+            c.in-Err-TooLong.ensures.exact,
+        subst (λ (e : MapFileError). CountsMapFault (g.F.Files.seen c.open.new.self).faults (g.F.Files.seen c.read_map.new.files).faults
+            (Err e)) c.in-Err-TooLong.field-0-is c.in-Err-TooLong.ensures.cause,
+      );
+}
+
+pub returns-in-Err-Map : goal.returns-in-Err-Map
+returns-in-Err-Map g c = record {
+  taken = asked-read _ _ _ _ _ _ c.in-Err-Map.ensures.kept.bytes _ _ _ c.name.ensures.exact c.in-Ok-true.field-0-test
+      c.in-Ok-true.ensures.found c.in-Err-Map.ensures.kept.how (
+        c.word-word.ensures.exact,
+        subst (λ (e : MapFileError). IsReadFrom most_map (g.F.Files.seen c.open.new.self).left (Err e)) c.in-Err-Map.field-0-is
+            c.in-Err-Map.ensures.exact,
+        subst (λ (e : MapFileError). CountsMapFault (g.F.Files.seen c.open.new.self).faults (g.F.Files.seen c.read_map.new.files).faults
+            (Err e)) c.in-Err-Map.field-0-is c.in-Err-Map.ensures.cause,
+      );
+}
+
+pub returns-in-Err-NoMemory : goal.returns-in-Err-NoMemory
+returns-in-Err-NoMemory g c = record {
+  taken = asked-read _ _ _ _ _ _ c.in-Err-NoMemory.ensures.kept.bytes _ _ _ c.name.ensures.exact c.in-Ok-true.field-0-test
+      c.in-Ok-true.ensures.found c.in-Err-NoMemory.ensures.kept.how
+      (subst (λ (e : MapFileError). CountsMapFault (g.F.Files.seen c.open.new.self).faults (g.F.Files.seen c.read_map.new.files).faults
+      (Err e)) c.in-Err-NoMemory.field-0-is c.in-Err-NoMemory.ensures.cause);
+}

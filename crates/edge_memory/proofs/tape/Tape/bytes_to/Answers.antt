@@ -12,10 +12,10 @@ taken_for-taken-requires c = record {
 pub returns : goal.returns
 returns c = record {
   exact = subst (λ (tape : Tape). c.notes.bytes.items ≡ (told c.args.id tape.acts).sent) c.self.view_is
-      (sym (sent-after _ c.self.inside.script.items c.self.inside.sent.items c.self.inside.notes.items no_traffic
+      (sym (sent-after _ c.self.inside.script.items c.self.inside.kept.items c.self.inside.notes.items no_traffic
       ∙ c.notes.invariant.rest
       ∙ ap (λ (xs : List ℕ). c.notes.bytes.items ++ xs)
-      (sent-end c.args.id c.self.inside.sent.items c.self.inside.notes.items c.notes.note-index
+      (sent-end c.args.id c.self.inside.kept.items c.self.inside.notes.items c.notes.note-index
       (omega (arith, ap length c.as_slice-note-items.ensures.value)))
       ∙ append-nil _));
 }
