@@ -1,5 +1,5 @@
 -- What a job stands for, and what its turns answer (this project's own rule).
-use Rattle.std.specs.Prelude.{◌≡◌, ◌⊎◌, ℕ, ◌+◌, ◌<◌, ◌≤◌, ◌^◌, ◌*◌, Bool, List, length, get_or, Option, Some, None, Result, Ok, Err, MatchResult}
+use Rattle.std.specs.Prelude.{◌≡◌, ◌⊎◌, ℕ, ◌+◌, ◌<◌, ◌≤◌, ◌^◌, Bool, List, length, get_or, Option, Some, None, Result, Ok, Err, MatchResult}
 use Rattle.cost_model.specs.Modes.{modes_of}
 use Rattle.cost_model.specs.Rides.{Terrain, Setting}
 use Rattle.geo_int.specs.Place.{Place}
@@ -13,8 +13,9 @@ use Rattle.route_ready.specs.declared.ready.Ready.{Ready}
 use Rattle.track_legs.specs.declared.track.Track.{Track}
 use Rattle.way_class.specs.Links.{links_of}
 use Rattle.route_engine.specs.Waypoints.{AreNodes}
+use Rattle.route_engine.specs.Labels.{most_labels}
 use Rattle.route_engine.specs.Plans.{IsRefusal, IsTrackFor, Plan}
-use Rattle.route_engine.specs.Progress.{IsStage, allowed, walk_count}
+use Rattle.route_engine.specs.Progress.{IsStage, allowed}
 use Rattle.route_engine.specs.Settings.{cut_links, open_map_of}
 use Rattle.route_engine.specs.declared.job.Job.{Job}
 use Rattle.route_engine.specs.declared.plan.JobPlan.{JobPlan}
@@ -94,9 +95,10 @@ pub record IsJobOn (world : WorldValue) (job : Job) : Type 0 where
 abbrev pub settled_by : Job → ℕ
 settled_by job = job.settled
 
--- the most that they may settle: the limit for each walk that is asked for
-abbrev pub most_settled : Plan → ℕ
-most_settled plan = walk_count plan * plan.limit
+-- so many labels are no more than may be settled for a request that has this plan
+abbrev pub MaySettle : Plan → ℕ → Type 0
+MaySettle plan settled = (setting : Setting) (asked : Asked) → IsPlanFor setting asked plan →
+    settled ≤ most_labels asked
 
 -- the track of a stage, where it is found
 abbrev pub track_at : Stage → Option Track

@@ -1,5 +1,6 @@
 pub mod Answers
 pub mod Jobs
+pub mod Labels
 pub mod Marked
 pub mod Pending
 pub mod Plans

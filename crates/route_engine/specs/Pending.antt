@@ -1,5 +1,5 @@
 -- What a request that is answered in turns stands for, and what its turns tell (this project's own rule).
-use Rattle.std.specs.Prelude.{◌≡◌, ◌⊎◌, ℕ, ◌+◌, List, Result, Err, MatchResult, Vec, length}
+use Rattle.std.specs.Prelude.{◌≡◌, ◌⊎◌, ℕ, ◌+◌, ◌≤◌, List, Result, Err, MatchResult, Vec, length}
 use Rattle.item_list.specs.Turns.{Says}
 use Rattle.item_list.specs.declared.turn.Turn.{Turn}
 use Rattle.profile_text.specs.Tree.{Sections}
@@ -9,6 +9,7 @@ use Rattle.route_engine.specs.Told.{TellsOf}
 use Rattle.route_engine.specs.declared.pending.Pending.{Pending}
 use Rattle.route_engine.specs.Answers.{IsAnswer}
 use Rattle.route_engine.specs.Jobs.{IsJobOn, IsPlanFor, plan_in, setting_of, settled_by}
+use Rattle.route_engine.specs.Labels.{most_labels}
 use Rattle.route_http.specs.Asked.{Asked}
 use Rattle.route_ready.specs.Worlds.{WorldValue}
 use Rattle.route_ready.specs.declared.error.RouteError.{RouteError}
@@ -66,3 +67,12 @@ TellsTurn world p = Says (λ next. IsPending world next × StaysFor world p next
 -- the whole quota is settled where it goes on
 abbrev pub CountsTurn : {E : Type 0} → ℕ → ℕ → Turn Pending E → Type 0
 CountsTurn quota before = Says (λ next. settled_of next ≡ before + quota) (λ _. Unit {0})
+
+-- no more is settled for it than may be for the request that it stands for
+abbrev pub IsBounded : WorldValue → Pending → Type 0
+IsBounded world p = (sections : Sections) (asked : Asked) → IsFor world sections asked p →
+    settled_of p ≤ most_labels asked
+
+-- so it is where it goes on
+abbrev pub BoundsTurn : {E : Type 0} → WorldValue → Turn Pending E → Type 0
+BoundsTurn world = Says (IsBounded world) (λ _. Unit {0})

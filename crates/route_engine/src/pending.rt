@@ -3,7 +3,7 @@
 ghost use Rattle.std.specs.Prelude.{◌≡◌, ◌≤◌, IfErr, IfOk, length};
 ghost use Rattle.profile_text.specs.Tree.{Sections};
 ghost use Rattle.route_engine.specs.Jobs.{EndsJob, IsWithin, plan_in, track_of};
-ghost use Rattle.route_engine.specs.Pending.{CountsTurn, IsFor, IsPending, TellsEnd, TellsTurn, settled_of};
+ghost use Rattle.route_engine.specs.Pending.{BoundsTurn, CountsTurn, IsFor, IsPending, TellsEnd, TellsTurn, settled_of};
 ghost use Rattle.route_engine.specs.Refusals.{RefusesEarly};
 ghost use Rattle.route_engine.specs.Replies.{IsReady, question_of};
 ghost use Rattle.route_http.specs.Asked.{Asked};
@@ -99,6 +99,7 @@ impl Pending {
         requires some { 1 ≤ quota }
         ensures tells { TellsTurn (world_of world.now) self result }
         ensures counts { CountsTurn quota (settled_of self) result }
+        ensures bounded { BoundsTurn (world_of world.now) result }
     {
         let mut pending = self;
         match pending.job.turn(world, quota) {
