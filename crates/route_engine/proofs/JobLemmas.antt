@@ -1,22 +1,20 @@
 -- The turns of a job, by the turns of its searches.
-use Rattle.std.proofs.Common.{◌≡◌, ℕ, suc, ◌+◌, ◌-◌, ◌*◌, ◌<◌, ◌≤◌, Bool, true, false, length, Option, None, Ok, Err, refl, ap, ◌∙◌, subst, arith}
+use Rattle.std.proofs.Common.{◌≡◌, ℕ, ◌+◌, ◌<◌, ◌≤◌, Bool, true, false, length, Option, None, Ok, Err, refl, ap, ◌∙◌, subst}
 use Rattle.cost_model.specs.Rides.{Setting}
 use Rattle.item_list.specs.declared.turn.Turn.TheVariants.{Done}
 use Rattle.leg_search.specs.declared.search.LegSearch.{LegSearch}
 use Rattle.route_http.specs.Asked.{Asked}
-use Rattle.route_ready.specs.Worlds.{WorldValue}
 use Rattle.route_ready.specs.declared.error.RouteError.{RouteError}
 use Rattle.track_legs.specs.declared.track.Track.{Track}
-use Rattle.route_engine.specs.Jobs.{AnswersJob, IsJobOn, IsPlanFor, MaySettle, plan_in, settled_by, track_at}
-use Rattle.route_engine.specs.Labels.{most_labels, walks_asked}
+use Rattle.route_engine.specs.Jobs.{AnswersJob, IsPlanFor, most_settled, track_at}
+use Rattle.route_engine.specs.Labels.{most_between, most_labels}
 use Rattle.route_engine.specs.Plans.{Plan}
-use Rattle.route_engine.specs.Progress.{Advances, GoesOnAt, IsStage, StepsTo, allowed, searches_left, settled_in, walk_count}
+use Rattle.route_engine.specs.Progress.{Advances, GoesOnAt, IsStage, StepsTo, allowed, searches_left, settled_in}
 use Rattle.route_engine.specs.declared.advance.Advanced.{Advanced}
-use Rattle.route_engine.specs.declared.job.Job.{Job}
 use Rattle.route_engine.specs.declared.stage.Stage.{Stage}
 use Rattle.route_engine.specs.declared.stage.Stage.TheVariants.{Searching, Found, Refused}
 use Rattle.route_engine.specs.declared.walked.Walked.{Walked}
-use Rattle.route_engine.proofs.StageLemmas.{allowed-more, allowed-most, allowed-next, fewer-left}
+use Rattle.route_engine.proofs.StageLemmas.{allowed-more, allowed-next, fewer-left}
 
 -- where a search goes on there is no track yet
 goes-trackless : (walked : Walked) (settled : ℕ) (stage : Stage) → GoesOnAt walked settled stage → track_at stage ≡ None
@@ -57,25 +55,13 @@ module _ (plan : Plan) (walked : Walked) (search : Option LegSearch) (quota tota
   next-left more =
       fewer-left plan walked search advanced.stage (settled_in search) quota advanced.settled is.0 on.stage (steps-by false more)
 
--- the walks of a plan are those that its request asks for
-walks-planned : (setting : Setting) (asked : Asked) (plan : Plan) → IsPlanFor setting asked plan →
-    walk_count plan * plan.limit ≡ most_labels asked
-walks-planned setting asked plan is =
-    ap (λ (n : ℕ). (n - 1) * suc plan.alternative * plan.limit) is.nodes.count
-    ∙ ap (λ (n : ℕ). (length asked.waypoints - 1) * suc n * plan.limit) is.alternative
-    ∙ ap (λ (n : ℕ). walks_asked asked * n) is.limit
-
--- so what is settled within the limit for each of them may be settled for it
-pub may-settle : (plan : Plan) (settled : ℕ) → settled ≤ walk_count plan * plan.limit → MaySettle plan settled
-may-settle plan settled few setting asked is = omega (arith, few, walks-planned setting asked plan is)
-
--- as is what a job has settled
-pub job-settled : (world : WorldValue) (job : Job) → IsJobOn world job →
-    settled_by job ≤ walk_count (plan_in world job) * (plan_in world job).limit
-job-settled world job on = omega (arith, on.within, allowed-most (plan_in world job) job.stage on.stage)
-
-pub job-bounded : (world : WorldValue) (job : Job) → IsJobOn world job → MaySettle (plan_in world job) (settled_by job)
-job-bounded world job on = may-settle (plan_in world job) job.settled (job-settled world job on)
+-- what may be settled for a plan may be settled for the request that has it
+pub most-planned : (setting : Setting) (asked : Asked) (plan : Plan) → IsPlanFor setting asked plan →
+    most_settled plan ≡ most_labels asked
+most-planned setting asked plan is =
+    ap (λ (n : ℕ). most_between n plan.alternative plan.limit) is.nodes.count
+    ∙ ap (λ (n : ℕ). most_between (length asked.waypoints) n plan.limit) is.alternative
+    ∙ ap (most_between (length asked.waypoints) asked.alternative) is.limit
 
 -- the answer where the track is found
 pub found-answers :

@@ -13,7 +13,7 @@ use Rattle.route_ready.specs.declared.ready.Ready.{Ready}
 use Rattle.track_legs.specs.declared.track.Track.{Track}
 use Rattle.way_class.specs.Links.{links_of}
 use Rattle.route_engine.specs.Waypoints.{AreNodes}
-use Rattle.route_engine.specs.Labels.{most_labels}
+use Rattle.route_engine.specs.Labels.{most_between}
 use Rattle.route_engine.specs.Plans.{IsRefusal, IsTrackFor, Plan}
 use Rattle.route_engine.specs.Progress.{IsStage, allowed}
 use Rattle.route_engine.specs.Settings.{cut_links, open_map_of}
@@ -95,10 +95,9 @@ pub record IsJobOn (world : WorldValue) (job : Job) : Type 0 where
 abbrev pub settled_by : Job → ℕ
 settled_by job = job.settled
 
--- so many labels are no more than may be settled for a request that has this plan
-abbrev pub MaySettle : Plan → ℕ → Type 0
-MaySettle plan settled = (setting : Setting) (asked : Asked) → IsPlanFor setting asked plan →
-    settled ≤ most_labels asked
+-- the most that they may settle
+abbrev pub most_settled : Plan → ℕ
+most_settled plan = most_between (length plan.nodes) plan.alternative plan.limit
 
 -- the track of a stage, where it is found
 abbrev pub track_at : Stage → Option Track

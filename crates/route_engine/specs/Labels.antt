@@ -2,10 +2,11 @@
 use Rattle.std.specs.Prelude.{ℕ, suc, ◌-◌, ◌*◌, length}
 use Rattle.route_http.specs.Asked.{Asked}
 
--- how many walks are searched for: from each waypoint to the next, all alternatives up to the asked one
-abbrev pub walks_asked : Asked → ℕ
-walks_asked asked = (length asked.waypoints - 1) * suc asked.alternative
+-- the most labels that are settled between so many waypoints, in all alternatives up to this one: the limit of
+-- a search for each walk, one for each alternative from each waypoint to the next
+abbrev pub most_between : (waypoints alternative limit : ℕ) → ℕ
+most_between waypoints alternative limit = (waypoints - 1) * suc alternative * limit
 
--- the most labels that are settled for a request: its limit for each walk
+-- the most labels that are settled for a request
 abbrev pub most_labels : Asked → ℕ
-most_labels asked = walks_asked asked * asked.labels
+most_labels asked = most_between (length asked.waypoints) asked.alternative asked.labels

@@ -1,8 +1,8 @@
 //! A request that is answered in turns.
 
 ghost use Rattle.std.specs.Prelude.{◌≡◌, ◌⊎◌, ◌≤◌, IfErr, IfOk, Some, length, option_map};
-ghost use Rattle.route_engine.specs.Jobs.{AnswersJob, CountsJob, IsJobOn, IsPlanFor, IsPlanOn, IsWithin, MaySettle};
-ghost use Rattle.route_engine.specs.Jobs.{ended_with, plan_in, plan_of, setting_of, settled_by, track_of};
+ghost use Rattle.route_engine.specs.Jobs.{AnswersJob, CountsJob, IsJobOn, IsPlanFor, IsPlanOn, IsWithin};
+ghost use Rattle.route_engine.specs.Jobs.{ended_with, most_settled, plan_in, plan_of, setting_of, settled_by, track_of};
 ghost use Rattle.route_engine.specs.Settings.{cut_links, open_map_of};
 ghost use Rattle.route_engine.specs.Waypoints.{RefusesWaypoint};
 ghost use Rattle.item_list.specs.declared.turn.Turn.TheVariants as turns;
@@ -94,8 +94,8 @@ impl Job {
         ensures answers { AnswersJob (plan_in (world_of world.now) self.old) (track_of self.new)
             result }
         ensures counts { CountsJob quota (settled_by self.old) (settled_by self.new) result }
-        ensures bounded { MaySettle (plan_in (world_of world.now) self.new)
-            (settled_by self.new) }
+        ensures bounded { settled_by self.new ≤ most_settled
+            (plan_in (world_of world.now) self.new) }
 
         ensures again { (end : _) → ended_with self.old ≡ Some end →
             (result ≡ turns.Done end) × (self.new ≡ self.old) }

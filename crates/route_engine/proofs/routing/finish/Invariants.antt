@@ -1,7 +1,6 @@
-use Rattle.std.proofs.Common.{◌≡◌, ◌-◌, ◌*◌}
+use Rattle.std.proofs.Common.{◌≡◌, ◌-◌}
 use Rattle.route_ready.specs.World.{world_of}
-use Rattle.route_engine.specs.Jobs.{IsJobOn, plan_in, settled_by}
-use Rattle.route_engine.specs.Progress.{walk_count}
+use Rattle.route_engine.specs.Jobs.{IsJobOn, most_settled, plan_in, settled_by}
 use Rattle.route_engine.proofs.routing.finish.Given as goal
 
 abbrev pub invariant-turns : goal.invariant-turns
@@ -11,6 +10,4 @@ invariant-turns l = record {
 }
 
 abbrev pub decreases-turns : goal.decreases-turns
-decreases-turns l =
-    let plan = plan_in (world_of l.world) l.job in
-    walk_count plan * plan.limit - settled_by l.job
+decreases-turns l = most_settled (plan_in (world_of l.world) l.job) - settled_by l.job

@@ -1,9 +1,9 @@
-use Rattle.std.proofs.Common.{◌≡◌, inl, inr, ◌+◌, ◌≤◌, ◌<◌, None, ap, arith, sym, ◌∙◌, subst}
+use Rattle.std.proofs.Common.{◌≡◌, inl, inr, ◌≤◌, ◌<◌, None, ap, arith, sym, ◌∙◌, subst}
 use Rattle.route_ready.specs.World.{world_of}
 use Rattle.route_engine.specs.Jobs.{ended_with, last_answer, plan_in}
 use Rattle.route_engine.specs.Progress.{IsStage, allowed, searches_left}
 use Rattle.route_engine.specs.declared.stage.Stage.TheVariants as stages
-use Rattle.route_engine.proofs.JobLemmas.{job-bounded, may-settle, more-allowed, next-allowed, next-left, next-settled}
+use Rattle.route_engine.proofs.JobLemmas.{more-allowed, next-allowed, next-left, next-settled}
 use Rattle.route_engine.proofs.StageLemmas.{allowed-most}
 use Rattle.route_engine.proofs.job.Job.turn.Goals as goal
 
@@ -15,19 +15,12 @@ returns-then-step-clause-bounded c =
     let is = subst (IsStage plan) stage c.searches.invariant.on.stage in
     let within = subst (λ s. c.searches.self.settled ≤ allowed plan s) stage c.searches.invariant.on.within in
     let on = c.advance-step.ensures.advances in
-    may-settle plan (c.searches.self.settled + c.advance-step.result.settled)
-    (omega (
+    omega (
       arith,
       more-allowed plan c.in-Searching.walked c.in-Searching.search c.searches.left c.searches.self.settled c.advance-step.result is
           within on c.if-step.true,
       allowed-most plan c.advance-step.result.stage on.stage,
-    ))
-
-pub returns-in-Found-clause-bounded : goal.returns-in-Found-clause-bounded
-returns-in-Found-clause-bounded c = job-bounded (world_of c.args.world.now) c.searches.self c.searches.invariant.on
-
-pub returns-in-Refused-clause-bounded : goal.returns-in-Refused-clause-bounded
-returns-in-Refused-clause-bounded c = job-bounded (world_of c.args.world.now) c.searches.self c.searches.invariant.on
+    )
 
 pub searches-smaller : goal.searches-smaller
 searches-smaller c =
