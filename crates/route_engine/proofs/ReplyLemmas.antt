@@ -17,18 +17,13 @@ use Rattle.track_legs.specs.declared.track.Track.{Track}
 use Rattle.track_reply.specs.Showable.{IsShowable}
 use Rattle.way_class.specs.Facts.{Binding}
 use Rattle.way_class.specs.Links.{links_of}
+use Rattle.route_engine.proofs.RouteLemmas.{ready-setting}
 use Rattle.route_engine.proofs.ShowLemmas.{shows}
 
 module _ (world : WorldValue) (sections : Sections) (ready : Ready) (asked : Asked) (is : IsReady world sections asked ready) where
   -- a profile that is ready gives the setting of the request
   pub setting-of : IsSettingOf (question_of world sections asked) (setting_of world ready asked.circles)
-  setting-of = record {
-    accepted = is.terms_are;
-    map = refl;
-    count = is.count;
-    facts = is.facts;
-    cut = refl;
-  }
+  setting-of = ready-setting (question_of world sections asked) world ready refl is
 
   -- the bytes of a track that answers the request are its reply
   pub is-reply : (told : Told) (track : Track) (bytes : List ℕ) → TellsOf asked told →

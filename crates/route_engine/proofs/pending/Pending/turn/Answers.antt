@@ -1,4 +1,4 @@
-use Rattle.std.proofs.Common.{◌≡◌, arith}
+use Rattle.std.proofs.Common.{arith}
 use Rattle.route_ready.specs.World.{world_of}
 use Rattle.route_engine.specs.Jobs.{plan_in, setting_of}
 use Rattle.route_engine.proofs.JobLemmas.{most-planned}
