@@ -2,7 +2,6 @@
 use Rattle.std.proofs.Common.{◌≡◌, ◌⊎◌, ℕ, zero, suc, ℤ, ◌+◌, ◌*◌, ◌<◌, ◌≤◌, arith, List, [], ◌∷◌, map, length, Option, Some, None, Result, Err, refl, ap, ◌∙◌, subst}
 use Rattle.std.specs.List.{range_with_len}
 use Rattle.std.specs.Prelude.{IsNone}
-use Rattle.std.proofs.lemmas.Bool.{ltb-true}
 use Rattle.cost_model.specs.Facts.{Links}
 use Rattle.grid_map.specs.Costs.{Costs, listed_costs}
 use Rattle.grid_map.specs.Segments.{segments_of}
@@ -76,29 +75,29 @@ links-there plan world sections overrides ready grid is = omega (arith, grid.cou
 
 module _ (plan : Plan) (from to : ℕ) (world : WorldValue) (sections : Sections) (overrides : List (List ℕ × ℤ)) (none : overrides ≡ [])
     (grid : IsGridMap plan world.map) where
-    -- what is told of a walk by a profile that is ready is told by the profile
-    pub ready-told : (ready : Ready) (result : Result (Option PricedWalk) MadeError) →
-        IsReadyBy (binding_in world sections overrides) (ready_of (binding_in world sections overrides)) ready →
-        Makes (IsWalkOver plan (costs_by plan (links_of ready.bound)) from to) RefusesNothing result →
-        Makes (IsWalkBy plan from to (binding_in world sections [])) (λ error. ready_of (binding_in world sections []) ≡ Err error) result
-    ready-told ready result is told =
-        tells-by (IsWalkOver plan (costs_by plan (links_of ready.bound)) from to) (IsWalkBy plan from to (binding_in world sections []))
-        RefusesNothing
-        (λ (error : RouteError). ready_of (binding_in world sections []) ≡ Err error) result
-        (walk-ready plan from to (binding_in world sections []) ready
-        (subst (λ (o : List (List ℕ × ℤ)). IsReadyBy (binding_in world sections o) (ready_of (binding_in world sections o)) ready) none is)
-        grid)
-        (λ error nothing. absurd nothing) told
+  -- what is told of a walk by a profile that is ready is told by the profile
+  pub ready-told : (ready : Ready) (result : Result (Option PricedWalk) MadeError) →
+      IsReadyBy (binding_in world sections overrides) (ready_of (binding_in world sections overrides)) ready →
+      Makes (IsWalkOver plan (costs_by plan (links_of ready.bound)) from to) RefusesNothing result →
+      Makes (IsWalkBy plan from to (binding_in world sections [])) (λ error. ready_of (binding_in world sections []) ≡ Err error) result
+  ready-told ready result is told =
+      tells-by (IsWalkOver plan (costs_by plan (links_of ready.bound)) from to) (IsWalkBy plan from to (binding_in world sections []))
+      RefusesNothing
+      (λ (error : RouteError). ready_of (binding_in world sections []) ≡ Err error) result
+      (walk-ready plan from to (binding_in world sections []) ready
+      (subst (λ (o : List (List ℕ × ℤ)). IsReadyBy (binding_in world sections o) (ready_of (binding_in world sections o)) ready) none is)
+      grid)
+      (λ error nothing. absurd nothing) told
 
-    -- a refusal of the profile is told as such
-    pub refusal-told : (error : RouteError) (told : MadeError) → told ≡ route_error error →
-        (error ≡ refusal.NoMemory) ⊎ (ready_of (binding_in world sections overrides) ≡ Err error) →
-        Makes (IsWalkBy plan from to (binding_in world sections [])) (λ error. ready_of (binding_in world sections []) ≡ Err error)
-        (Err told)
-    refusal-told error told is cause =
-        route-told (IsWalkBy plan from to (binding_in world sections []))
-        (λ (e : RouteError). ready_of (binding_in world sections []) ≡ Err e) error told
-        is (subst (λ (o : List (List ℕ × ℤ)). (error ≡ refusal.NoMemory) ⊎ (ready_of (binding_in world sections o) ≡ Err error)) none cause)
+  -- a refusal of the profile is told as such
+  pub refusal-told : (error : RouteError) (told : MadeError) → told ≡ route_error error →
+      (error ≡ refusal.NoMemory) ⊎ (ready_of (binding_in world sections overrides) ≡ Err error) →
+      Makes (IsWalkBy plan from to (binding_in world sections [])) (λ error. ready_of (binding_in world sections []) ≡ Err error)
+      (Err told)
+  refusal-told error told is cause =
+      route-told (IsWalkBy plan from to (binding_in world sections []))
+      (λ (e : RouteError). ready_of (binding_in world sections []) ≡ Err e) error told
+      is (subst (λ (o : List (List ℕ × ℤ)). (error ≡ refusal.NoMemory) ⊎ (ready_of (binding_in world sections o) ≡ Err error)) none cause)
 
 -- a walk by the profile of a question answers it
 walk-answers : (question : WalkQuestion) (binding : Binding) → IsBoundFor question binding → (answer : Option PricedWalk) →

@@ -1,5 +1,5 @@
 -- What is told of a request that is refused, and by what it comes to.
-use Rattle.std.proofs.Common.{◌≡◌, ◌⊎◌, inl, inr, ℕ, List, Result, Ok, Err, sym, subst}
+use Rattle.std.proofs.Common.{◌≡◌, ◌⊎◌, inl, inr, Result, Ok, Err, sym, subst}
 use Rattle.made_routes.specs.Errors.{route_error}
 use Rattle.made_routes.specs.Made.{Makes}
 use Rattle.made_routes.specs.declared.error.MadeError.{MadeError}

@@ -1,26 +1,9 @@
 -- The tile of hills is one.
-use Rattle.std.proofs.Common.{◌≡◌, ℕ, zero, suc, pos, ◌+◌, ◌*◌, ◌-◌, ◌/◌, ◌%◌, ◌<◌, ◌≤◌, ◌^◌, inl, inr, List, [], ◌∷◌, ◌++◌, length, get_or, Option, Some, true, refl, sym, ap, ◌∙◌, subst, arith, length-append, suc-mul, div-le_self, Bool, false, cond, None, Result, Err, is_some, map}
+use Rattle.std.proofs.Common.{◌≡◌, ℕ, pos, ◌*◌, ◌-◌, List, [], ◌∷◌, length, Option, Some, true, refl, sym, ap, ◌∙◌, arith, length-append, suc-mul, false, None, Result, Err, is_some, map}
 use Rattle.std.specs.List.{concat, range_with_len}
 use Rattle.std.specs.Option.{unwrap_or}
-use Rattle.std.specs.Prelude.{codes, decimal, ◌==◌}
-use Rattle.std.specs.Int.{is_negative}
-use Rattle.std.proofs.Math.Nat.{mod-le}
-use Rattle.fixed_num.specs.Decimal.{sign_text}
-use Rattle.std.proofs.lemmas.Bool.{cases_lt}
-use Rattle.std.proofs.lemmas.Fmt.{length-decimal-le}
-use Rattle.std.proofs.lemmas.List.{length-map}
 use Rattle.std.proofs.lemmas.List.FromFn.{length-range_with_len}
-use Rattle.fixed_num.specs.Text.{last_digits, mil6}
-use Rattle.grid_map.proofs.ListLemmas.{segments_of-at}
-use Rattle.grid_map.proofs.NumberLemmas.{cells_of-within, length-numbers_below, numbers_of-within}
-use Rattle.grid_map.proofs.PartLemmas.{length-parts_of, part-last, part-node, part-way}
-use Rattle.grid_map.proofs.StepLemmas.{is_there-within}
-use Rattle.grid_map.specs.MapText.{class_name, front_of, last_part, node_part, node_text, overpass_text, parts_of, way_part, way_text}
-use Rattle.grid_map.specs.Plan.{IsPlan, cells_of, class_of, column_of, end_of, row_of, start_of}
-use Rattle.grid_map.specs.Segments.{numbers_of, segment_of, segments_of}
 use Rattle.grid_map.specs.Tile.{hgt_bytes, row_bytes, sample_bytes, sample_of}
-use Rattle.grid_map.specs.declared.plan.Plan.{Plan}
-use Rattle.grid_map.specs.declared.segment.GridSegment.{GridSegment}
 use Rattle.hgt_tiles.specs.File.{steps_of}
 use Rattle.hgt_tiles.specs.Name.{corner_of_name}
 use Rattle.hgt_tiles.specs.Relief.{Relief}
@@ -31,7 +14,6 @@ use Rattle.hgt_tiles.specs.declared.tile_file.TileError.TheVariants.{Name, NoMem
 use Rattle.hgt_tiles.specs.declared.tile_set.Tiles.{Tiles}
 use Rattle.made_routes.specs.Made.{HaveTileAlone}
 use Rattle.made_routes.specs.Texts.{tile_name}
-use Rattle.item_list.proofs.ListLemmas.{slice_get-there}
 
 -- lists joined, each of which is so long
 joined-size : (f : ℕ → List ℕ) (size : ℕ) (xs : List ℕ) → ((x : ℕ) → length (f x) ≡ size) → length (concat (map f xs)) ≡ length xs * size
