@@ -1,5 +1,5 @@
 -- What a turn of the search for the next walk comes to for its job.
-use Rattle.std.proofs.Common.{◌≡◌, ℕ, ◌+◌, ◌<◌, ◌≤◌, true, false, IfOk, Option, Some, Result, Ok, Err, refl, ap, arith, subst}
+use Rattle.std.proofs.Common.{◌≡◌, ℕ, true, false, IfOk, Option, Some, Result, Ok, Err, refl, ap, arith, subst}
 use Rattle.bike_space.specs.declared.finding.Walk.{Walk}
 use Rattle.cost_model.specs.Rides.{Terrain}
 use Rattle.item_list.specs.declared.turn.Turn.TheVariants.{More, Done}

@@ -1,5 +1,4 @@
-use Rattle.std.proofs.Common.{◌≡◌, subst}
-use Rattle.item_list.specs.declared.turn.Turn.TheVariants.{More, Done}
+use Rattle.std.proofs.Common.{subst}
 use Rattle.leg_search.specs.Quests.{CountsLegTurn}
 use Rattle.route_ready.specs.World.{world_of}
 use Rattle.route_engine.specs.Jobs.{plan_of}

@@ -1,5 +1,5 @@
 -- A turn leaves fewer labels that may be settled.
-use Rattle.std.proofs.Common.{◌≡◌, ◌*◌, ap, arith}
+use Rattle.std.proofs.Common.{◌*◌, ap, arith}
 use Rattle.route_engine.proofs.JobLemmas.{job-settled}
 use Rattle.route_engine.proofs.routing.finish.Goals as goal
 use Rattle.route_engine.specs.Plans.{Plan}
