@@ -5,7 +5,7 @@ use Rattle.std.proofs.lemmas.List.{length-map, take-append-drop, take-append-le,
 use Rattle.std.proofs.lemmas.Option.{slice_get_within}
 use Rattle.session_answers.specs.declared.kept.KeptProfiles.{KeptProfiles}
 use Rattle.profile_text.specs.Tree.{Sections}
-use Rattle.route_engine.specs.Pending.{IsFor, IsPending, StaysFor, settled_of}
+use Rattle.route_engine.specs.Pending.{IsBounded, IsFor, IsPending, StaysFor, settled_of}
 use Rattle.route_engine.specs.Replies.{question_of}
 use Rattle.route_engine.specs.declared.pending.Pending.{Pending}
 use Rattle.route_engine.proofs.RouteLemmas.{ready-setting}
@@ -78,20 +78,29 @@ module _ (world : WorldValue) where
       IsFor world sections asked p → settled_of p ≡ 0 → IsBegun world stored query place p
   begun-job stored query place asked sections p asks there pending is fresh = record {
     searched = searched-for stored query asked sections p asks is;
-    job = record { asked = asked; sections = sections; asks = asks; there = there; pending = pending; is = is };
+    job = record {
+      asked = asked;
+      sections = sections;
+      asks = asks;
+      there = there;
+      pending = pending;
+      is = is;
+      within = omega (arith, fresh);
+    };
     fresh = fresh;
   }
 
   -- after a turn that leaves it what it is, it still is the request of the query
   pub job-later : (stored : List Stored) (query : List ℕ) (place : ℕ) (p next : Pending) → IsPending world next → StaysFor world p next →
-      IsJobOf world stored query place p → IsJobOf world stored query place next
-  job-later stored query place p next pending stays job = record {
+      IsBounded world next → IsJobOf world stored query place p → IsJobOf world stored query place next
+  job-later stored query place p next pending stays bounded job = record {
     asked = job.asked;
     sections = job.sections;
     asks = job.asks;
     there = job.there;
     pending = pending;
     is = stays job.sections job.asked job.is;
+    within = bounded job.sections job.asked (stays job.sections job.asked job.is);
   }
 
   module _ (query : List ℕ) (place : ℕ) (p : Pending) where

@@ -1,11 +1,12 @@
 -- What a query comes to at once, and what a turn of the search for it comes to. This project's own rule.
-use Rattle.std.specs.Prelude.{◌≡◌, ℕ, ◌+◌, List, Some, Vec, slice_get}
+use Rattle.std.specs.Prelude.{◌≡◌, ℕ, ◌+◌, ◌≤◌, List, Some, Vec, slice_get}
 use Rattle.item_list.specs.Turns.{Says}
 use Rattle.item_list.specs.declared.turn.Turn.{Turn}
 use Rattle.session_answers.specs.Kept.{IsKept}
 use Rattle.std.specs.declared.alloc.Global.{Global}
 use Rattle.session_answers.specs.declared.kept.KeptProfiles.{KeptProfiles}
 use Rattle.profile_text.specs.Tree.{Sections}
+use Rattle.route_engine.specs.Labels.{most_labels}
 use Rattle.route_engine.specs.Pending.{IsFor, IsPending, settled_of}
 use Rattle.route_engine.specs.declared.pending.Pending.{Pending}
 use Rattle.route_ready.specs.Entries.{profiles_of}
@@ -22,7 +23,8 @@ use Rattle.session_answers.specs.declared.beginning.Begun.TheVariants as begun
 abbrev pub AreKept : WorldValue → List Stored → KeptProfiles → Type 0
 AreKept world stored kept = IsKept world (profiles_of stored) kept
 
--- it is the request of a query that goes by the stored profile at a place
+-- it is the request of a query that goes by the stored profile at a place, and no more is settled for it than
+-- may be for what the query asks
 pub record IsJobOf (world : WorldValue) (stored : List Stored) (query : List ℕ) (place : ℕ) (p : Pending) :
     Type 0 where
   pub asked : Asked
@@ -31,6 +33,7 @@ pub record IsJobOf (world : WorldValue) (stored : List Stored) (query : List ℕ
   pub there : slice_get (profiles_of stored) place ≡ Some sections
   pub pending : IsPending world p
   pub is : IsFor world sections asked p
+  pub within : settled_of p ≤ most_labels asked
 
 -- it is that request, for which nothing was settled yet
 pub record IsBegun (world : WorldValue) (stored : List Stored) (query : List ℕ) (place : ℕ) (p : Pending) :

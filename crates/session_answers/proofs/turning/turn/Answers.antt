@@ -10,7 +10,7 @@ use Rattle.session_answers.proofs.turning.turn.Goals as goal
 pub returns-in-More-clause-exact : goal.returns-in-More-clause-exact
 returns-in-More-clause-exact c = λ stored query place job there.
     job-later (world_of c.args.world.now) stored query place c.args.pending c.in-More.pending c.in-More.ensures.tells.0
-    c.in-More.ensures.tells.1 job
+    c.in-More.ensures.tells.1 c.in-More.ensures.bounded job
 
 pub returns-in_ok-answer-in-Done-Ok-clause-exact : goal.returns-in_ok-answer-in-Done-Ok-clause-exact
 returns-in_ok-answer-in-Done-Ok-clause-exact c = λ stored query place job there.
