@@ -88,7 +88,8 @@ module _ (plan : Plan) (limits : Limits) (room : HasRoom limits) where
   unfolding nodes_up_to
   node-taken cell few =
       let count : length (map (node_of plan) (range_with_len 0 cell)) ≡ cell = length-map-range_with_len (node_of plan) 0 cell in
-      let test : nat_lt (length (map (node_of plan) (range_with_len 0 cell))) limits.nodes ≡ true = grind (arith, nat_tests, count, room.nodes) in
+      let test : nat_lt (length (map (node_of plan) (range_with_len 0 cell))) limits.nodes ≡ true =
+      grind (arith, nat_tests, count, room.nodes) in
       let beyond : beyond_nodes limits (nodes_up_to cell) ≡ None =
       ap (λ b. cond b None (Some (TooLarge count_.Nodes))) test in
       let kept : keep same_place (DoubleId kind_.Node (pos (cell + 1))) (beyond_nodes limits (nodes_up_to cell)) (node_of plan cell)
@@ -150,12 +151,15 @@ module _ (plan : Plan) (limits : Limits) (room : HasRoom limits) where
       let test : nat_lt (length ways) limits.ways ≡ true = grind (arith, nat_tests, count, short, room.ways) in
       let fits : nat_le (segments_in ways + 1) limits.segments ≡ true = grind (arith, nat_tests, each, short, room.segments) in
       let beyond : beyond_ways limits (ways_up_to k) (way_of plan k).content ≡ None =
-      ap (λ b. cond b (fault_unless (nat_le (segments_in ways + 1) limits.segments) (TooLarge count_.Segments)) (Some (TooLarge count_.Ways)))
+      ap (λ b. cond b (fault_unless (nat_le (segments_in ways + 1) limits.segments) (TooLarge count_.Segments))
+      (Some (TooLarge count_.Ways)))
       test
       ∙ ap (λ b. cond b None (Some (TooLarge count_.Segments))) fits in
-      let kept : keep same_nodes (DoubleId kind_.Way (pos (k + 1))) (beyond_ways limits (ways_up_to k) (way_of plan k).content) (way_of plan k) ways
+      let kept : keep same_nodes (DoubleId kind_.Way (pos (k + 1))) (beyond_ways limits (ways_up_to k) (way_of plan k).content)
+      (way_of plan k) ways
       ≡ Ok (ways ++ way_of plan k ∷ []) =
-      keep-fresh same_nodes (DoubleId kind_.Way (pos (k + 1))) (beyond_ways limits (ways_up_to k) (way_of plan k).content) (way_of plan k) ways
+      keep-fresh same_nodes (DoubleId kind_.Way (pos (k + 1))) (beyond_ways limits (ways_up_to k) (way_of plan k).content)
+      (way_of plan k) ways
       (fresh (way_of plan) (λ x. refl) k (numbers_below plan k) (below-next k)) beyond in
       let more : ways ++ way_of plan k ∷ [] ≡ map (way_of plan) (numbers_below plan (k + 1)) =
       sym (map-append (way_of plan) (numbers_below plan k) (k ∷ [])) ∙ ap (map (way_of plan)) (sym (numbers_below-there plan k there)) in
@@ -178,11 +182,13 @@ module _ (plan : Plan) (limits : Limits) (room : HasRoom limits) where
       rest = filter (is_there plan) (range_with_len (k + 1) n)
 
       by_test : (b : Bool) → is_there plan k ≡ b →
-          ((place : ℕ) → take_values limits place (map tree_steps (map (way_tree plan) rest)) (ways_up_to (k + 1)) ≡ Ok (ways_up_to (k + 1 + n))) →
+          ((place : ℕ) → take_values limits place (map tree_steps (map (way_tree plan) rest)) (ways_up_to (k + 1))
+          ≡ Ok (ways_up_to (k + 1 + n))) →
           take_values limits at (map tree_steps (map (way_tree plan) (cond b (k ∷ rest) rest))) (ways_up_to k) ≡ Ok (ways_up_to (k + 1 + n))
       by_test true there later =
           let is = all.0 there in
-          take-one limits at (tree_steps (way_tree plan k)) (map tree_steps (map (way_tree plan) rest)) (Element.Way (way_of plan k)) (ways_up_to k)
+          take-one limits at (tree_steps (way_tree plan k)) (map tree_steps (map (way_tree plan) rest)) (Element.Way (way_of plan k))
+          (ways_up_to k)
           (ways_up_to (k + 1))
           (way-element plan k at (omega (arith, is.few)) (omega (arith, is.start)) (omega (arith, is.end))) (way-taken k is.few there)
           ∙ later (suc at)

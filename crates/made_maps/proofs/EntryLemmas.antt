@@ -84,7 +84,8 @@ after name x xs steps more (suc depth) closed within = within depth
 
 mutual
   -- entries between which the steps stand
-  pub grow : (name : Option (List ℕ)) (steps more : List Step) → Grow (entries_from name [] zero steps) (entries_from name [] zero (steps ++ more))
+  pub grow : (name : Option (List ℕ)) (steps more : List Step) →
+      Grow (entries_from name [] zero steps) (entries_from name [] zero (steps ++ more))
   grow None [] more = ends _
   grow (Some name) [] more = waits _ _ (record { unfinished = refl; empty = refl })
   grow name (Step.Opens bracket ∷ steps) more = grow_within name (Step.Opens bracket) [] zero steps more
@@ -144,7 +145,8 @@ member-grows name (waits entry later none) = by_name (is_named name entry)
     by_name true = awaited (ap Some none.empty)
     by_name false = missing refl
 member-grows name (goes one other later on) =
-    subst (λ (n : Option (List ℕ)). GrowsTo (member name (one ∷ [])) (if is_named name (record other { name = n }) then Some other.value else member name later))
+    subst (λ (n : Option (List ℕ)). GrowsTo (member name (one ∷ []))
+    (if is_named name (record other { name = n }) then Some other.value else member name later))
     (sym on.name_is) (by_name (is_named name one))
   where
     by_name : (b : Bool) → GrowsTo (if b then Some one.value else None) (if b then Some other.value else member name later)

@@ -31,14 +31,16 @@ take-fault limits at (value ∷ values) more draft fault h =
     by_element (element_of at value) (λ next. take-fault limits (suc at) values more next fault) h
   where
     by_draft : (r : Result Draft MapError) →
-        ((next : Draft) → take_values limits (suc at) values next ≡ Err fault → take_values limits (suc at) (values ++ more) next ≡ Err fault) →
+        ((next : Draft) → take_values limits (suc at) values next ≡ Err fault →
+        take_values limits (suc at) (values ++ more) next ≡ Err fault) →
         and_then r (λ next. take_values limits (suc at) values next) ≡ Err fault →
         and_then r (λ next. take_values limits (suc at) (values ++ more) next) ≡ Err fault
     by_draft (Ok next) rest h = rest next h
     by_draft (Err e) rest h = h
 
     by_element : (r : Result Element MapError) →
-        ((next : Draft) → take_values limits (suc at) values next ≡ Err fault → take_values limits (suc at) (values ++ more) next ≡ Err fault) →
+        ((next : Draft) → take_values limits (suc at) values next ≡ Err fault →
+        take_values limits (suc at) (values ++ more) next ≡ Err fault) →
         and_then r (λ element. and_then (take_element limits element draft) (λ next. take_values limits (suc at) values next)) ≡ Err fault →
         and_then r (λ element. and_then (take_element limits element draft) (λ next. take_values limits (suc at) (values ++ more) next))
         ≡ Err fault
@@ -50,7 +52,8 @@ draft-fault : (limits : Limits) (steps more : List Step) (fault : MapError) → 
     draft_of limits (steps ++ more) ≡ Err fault
 draft-fault limits steps more fault h =
     let grown = elements-grow steps more in
-    ap (λ vs. take_values limits 1 vs empty) grown.same ∙ take-fault limits 1 (whole_elements (elements_list steps)) grown.rest empty fault h
+    ap (λ vs. take_values limits 1 vs empty) grown.same
+    ∙ take-fault limits 1 (whole_elements (elements_list steps)) grown.rest empty fault h
 
 -- what a whole text comes to is what its elements come to
 whole-draft : (limits : Limits) (steps : List Step) (draft : Draft) → outcome_of limits steps Whole ≡ Ok draft →

@@ -74,7 +74,8 @@ end-above plan k some = by_test (is_east k)
     by_test false = omega (arith, some)
 
 -- what is known of a segment that is there
-pub has-cells : (plan : Plan) (k : ℕ) → 1 ≤ plan.width → is_there plan k ≡ true → start_of k < cells_of plan → end_of plan k < cells_of plan →
+pub has-cells : (plan : Plan) (k : ℕ) → 1 ≤ plan.width → is_there plan k ≡ true → start_of k < cells_of plan →
+    end_of plan k < cells_of plan →
     HasCells plan k
 has-cells plan k some there start end =
     record { start = start; end = end; onward = end-above plan k some; short = segment_length-short plan k some there }
@@ -96,7 +97,8 @@ unfolding links_of_segment
 segment-links plan way k has =
     ap (λ b. cond b [] (links_between (nodes_of plan) way 0 (place_of_id (pos (start_of k + 1)) (nodes_of plan))
     (place_of_id (pos (end_of plan k + 1)) (nodes_of plan)))) (other-id (start_of k) (end_of plan k) has.onward)
-    ∙ ap (λ o. links_between (nodes_of plan) way 0 o (place_of_id (pos (end_of plan k + 1)) (nodes_of plan))) (cell-place plan (start_of k) has.start)
+    ∙ ap (λ o. links_between (nodes_of plan) way 0 o (place_of_id (pos (end_of plan k + 1)) (nodes_of plan)))
+    (cell-place plan (start_of k) has.start)
     ∙ ap (λ o. links_between (nodes_of plan) way 0 (Some (start_of k)) o) (cell-place plan (end_of plan k) has.end)
     ∙ ap (λ o. cond (has_arrow o (slice_get (nodes_of plan) (end_of plan k))) (both_ways way 0 (start_of k) (end_of plan k)) [])
     (node-there plan (start_of k) has.start)
@@ -115,7 +117,8 @@ pub ways-links : (plan : Plan) (numbers : List ℕ) (place : ℕ) → AllOf (Has
 ways-links plan [] place all = refl
 ways-links plan (k ∷ numbers) place all =
     ap (λ (ls : List Link). ls ++ links_from (nodes_of plan) (suc place) (map (way_of plan) numbers))
-    (append-nil (links_of_segment (nodes_of plan) place 0 (pos (start_of k + 1)) (pos (end_of plan k + 1))) ∙ segment-links plan place k all.0)
+    (append-nil (links_of_segment (nodes_of plan) place 0 (pos (start_of k + 1)) (pos (end_of plan k + 1)))
+    ∙ segment-links plan place k all.0)
     ∙ ap (λ (ls : List Link). both_ways place 0 (start_of k) (end_of plan k) ++ ls) (ways-links plan numbers (suc place) all.1)
 
 -- no way of a grid lacks a node
@@ -123,7 +126,8 @@ pub none-missing : (plan : Plan) (numbers : List ℕ) → AllOf (HasCells plan) 
     first_missing (nodes_of plan) (map (way_of plan) numbers) ≡ None
 none-missing plan [] all = refl
 none-missing plan (k ∷ numbers) all =
-    ap (λ o. missing_or (pos (k + 1)) (cond (is_some o) (missing_in (nodes_of plan) (pos (end_of plan k + 1) ∷ [])) (Some (pos (start_of k + 1))))
+    ap (λ o. missing_or (pos (k + 1)) (cond (is_some o) (missing_in (nodes_of plan) (pos (end_of plan k + 1) ∷ []))
+    (Some (pos (start_of k + 1))))
     (first_missing (nodes_of plan) (map (way_of plan) numbers))) (cell-place plan (start_of k) all.0.start)
     ∙ ap (λ o. missing_or (pos (k + 1)) (cond (is_some o) None (Some (pos (end_of plan k + 1))))
     (first_missing (nodes_of plan) (map (way_of plan) numbers))) (cell-place plan (end_of plan k) all.0.end)

@@ -115,7 +115,8 @@ module _ (laws : MapLaws) (plan : Plan) (lawful : IsPlan plan) where
   -- a draft to which the text comes is the grid's
   one-draft : (draft : Draft) → ComesTo most (overpass_text plan) true (Ok draft) → draft ≡ draft_of plan
   one-draft draft comes =
-      same-ok draft (draft_of plan) (Ok draft) refl (comes-once laws.readings most (overpass_text plan) (tree_steps (map_tree plan)) (draft_of plan)
+      same-ok draft (draft_of plan) (Ok draft) refl
+      (comes-once laws.readings most (overpass_text plan) (tree_steps (map_tree plan)) (draft_of plan)
       (grid-reads laws.readings plan lawful) (grid-outcome laws.members laws.items most grid-room plan lawful) (Ok draft) comes)
 
   -- the map of the text is the grid's

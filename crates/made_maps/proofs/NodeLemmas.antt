@@ -82,6 +82,7 @@ ascending-same (x ∷ xs) (y ∷ ys) up down forth back =
     ap (λ (n : Kept Place). n ∷ ys) same ∙ ap (λ (ns : List (Kept Place)). x ∷ ns) rest
 
 -- the same by both directions at once
-pub same-nodes : (xs ys : List (Kept Place)) → AreAscending xs → AreAscending ys → ((z : Kept Place) → Contains xs z ↔ Contains ys z) → ys ≡ xs
+pub same-nodes : (xs ys : List (Kept Place)) → AreAscending xs → AreAscending ys →
+    ((z : Kept Place) → Contains xs z ↔ Contains ys z) → ys ≡ xs
 unfolding Within
 same-nodes xs ys up down both = ascending-same xs ys up down (λ z. (both z).0) (λ z. (both z).1)

@@ -60,7 +60,8 @@ way-text plan k more =
 -- ---- Parts
 
 -- the part of a cell behind the first
-node-behind : (plan : Plan) (cell : ℕ) (more : List ℕ) → node_part plan (cell + 1) ++ more ≡ 44 ∷ 10 ∷ value_onto (node_tree plan (cell + 1)) more
+node-behind : (plan : Plan) (cell : ℕ) (more : List ℕ) →
+    node_part plan (cell + 1) ++ more ≡ 44 ∷ 10 ∷ value_onto (node_tree plan (cell + 1)) more
 unfolding node_part front_of
 node-behind plan cell more =
     ap (λ n. (front_of n ++ node_text plan (cell + 1)) ++ more) (add-one cell)
@@ -93,7 +94,8 @@ ways-behind plan (k ∷ numbers) =
 -- all parts, where there is a cell
 parts-text : (plan : Plan) (n : ℕ) →
     concat (map (node_part plan) (range_with_len 0 (suc n)) ++ (map (way_part plan) (numbers_of plan) ++ last_part ∷ []))
-    ≡ codes "{\"elements\":[" ++ entries_onto (listed (map (node_tree plan) (range_with_len 0 (suc n)) ++ map (way_tree plan) (numbers_of plan)))
+    ≡ codes "{\"elements\":[" ++ entries_onto
+    (listed (map (node_tree plan) (range_with_len 0 (suc n)) ++ map (way_tree plan) (numbers_of plan)))
     Square (codes "}\n")
 unfolding node_part front_of
 parts-text plan n =
@@ -108,7 +110,8 @@ grid-text plan some = by_count (cells_of plan) some
   where
     by_count : (n : ℕ) → 0 < n →
         concat (map (node_part plan) (range_with_len 0 n) ++ (map (way_part plan) (numbers_of plan) ++ last_part ∷ []))
-        ≡ codes "{\"elements\":[" ++ entries_onto (listed (map (node_tree plan) (range_with_len 0 n) ++ map (way_tree plan) (numbers_of plan)))
+        ≡ codes "{\"elements\":[" ++ entries_onto
+        (listed (map (node_tree plan) (range_with_len 0 n) ++ map (way_tree plan) (numbers_of plan)))
         Square (codes "}\n")
     by_count zero some = absurd (omega arith)
     by_count (suc n) some = parts-text plan n

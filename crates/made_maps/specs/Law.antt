@@ -8,7 +8,7 @@ use Rattle.map_tables.specs.declared.error.MapError.{MapError}
 use Rattle.overpass_graph.specs.Builder.{IsFaultOfBeginning, IsFaultOfText, IsMapOfText}
 use Rattle.overpass_graph.specs.Maps.{MapValue}
 
--- the text of a grid's map has no fault, neither in a beginning nor as a whole, and the map of it is the grid's
+-- the text of a grid's map has no fault, neither in a beginning nor as a whole, and its map is the grid's
 pub record IsReadAsGrid (plan : Plan) : Type 0 where
   pub before : (front rest : List ℕ) (fault : MapError) → front ++ rest ≡ overpass_text plan →
       IsFaultOfBeginning front fault → ⊥

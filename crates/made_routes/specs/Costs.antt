@@ -18,8 +18,8 @@ is_permitted facts = int_lt facts.costfactor (pos 10000000000)
 unfoldable pub price_of : LinkFacts → Option ℕ
 price_of facts = cond (is_permitted facts) (Some (unsigned_abs (distance_of facts (pos 0) (pos 0)))) None
 
--- what the first segments cost, in their order: the one at place i has the links 2i and 2i + 1 of a grid's map
--- (`IsGridMap`), the first in its own direction and the second back, and the number says which
+-- what the first segments cost, in their order: the one at place i has the links 2i and 2i + 1 of a grid's
+-- map (`IsGridMap`), the first in its own direction and the second back, and the number says which
 abbrev pub segment_prices : Links → ℕ → ℕ → List (Option ℕ)
 segment_prices links which count =
     map (λ place. price_of (links.facts (2 * place + which))) (range_with_len 0 count)

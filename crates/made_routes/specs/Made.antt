@@ -25,8 +25,8 @@ pub record HaveTileAlone (relief : Relief) (tiles : Tiles) : Type 0 where
   pub there : relief_at tiles relief.corner ≡ Some relief
   pub alone : (corner : Corner) → corner ≢ relief.corner → relief_at tiles corner ≡ None
 
--- the world of a grid: this table, the map of the grid's own text, whose links are known by their numbers, and
--- these tiles
+-- the world of a grid: this table, the map of the grid's own text, whose links are known by their numbers,
+-- and these tiles
 pub record IsMadeWorld (plan : Plan) (table : TagTable) (tiles : Tiles) (world : WorldValue) : Type 0 where
   pub table_is : world.table ≡ table
   pub map_is : IsMapOfText (overpass_text plan) world.map
@@ -35,7 +35,8 @@ pub record IsMadeWorld (plan : Plan) (table : TagTable) (tiles : Tiles) (world :
 
 -- ---- Answers
 
--- a call over a map that is made gives such an answer, or such a refusal of a request, or reports want of memory
+-- a call over a map that is made gives such an answer, or such a refusal of a request, or reports want of
+-- memory
 abbrev pub Makes : {T : Type 0} → (T → Type 0) → (RouteError → Type 0) → Result T MadeError → Type 0
 Makes Answers Refuses (Ok answer) = Answers answer
 Makes Answers Refuses (Err (Route error)) = Refuses error

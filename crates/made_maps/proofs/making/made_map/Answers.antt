@@ -85,7 +85,8 @@ returns-in-Ok-finish c =
     text_from-whole c.args.grid.now c.pieces.next c.pieces.invariant.bytes (overpass_text c.args.grid.now)
     (omega (arith, c.pieces-test.false, c.map_parts.ensures.exact)) c.pieces.invariant.whole in
     let is : IsMapOfText (overpass_text c.args.grid.now) c.in-Ok-finish.map =
-    subst (λ (t : List ℕ). IsMapOfText t c.in-Ok-finish.map) all (c.in-Ok-finish.ensures.exact c.pieces.invariant.bytes c.pieces.invariant.stands) in
+    subst (λ (t : List ℕ). IsMapOfText t c.in-Ok-finish.map) all
+    (c.in-Ok-finish.ensures.exact c.pieces.invariant.bytes c.pieces.invariant.stands) in
     record { exact = is; value = known.map c.in-Ok-finish.map is }
 
 pub no_memory-requires-in-Err-finish : goal.no_memory-requires-in-Err-finish

@@ -24,5 +24,6 @@ returns c =
       exact = whole;
       fits = ap length whole ∙ prices-count (links_of c.args.bound.now) c.args.which c.args.count;
       cheap = subst AreCheap (sym whole)
-          (prices-cheap (links_of c.args.bound.now) (links_of-sound c.args.bound.now) c.args.which c.args.count c.requires.which c.requires.there);
+          (prices-cheap (links_of c.args.bound.now) (links_of-sound c.args.bound.now) c.args.which c.args.count c.requires.which
+          c.requires.there);
     }
