@@ -2,40 +2,15 @@
 use Rattle.std.proofs.Common.{◌≡◌, ◌≢◌, ◌==◌, ◌+◌, ℕ, suc, Bool, true, false, cond, List, [], ◌∷◌, Option, Some, None, inl, inr, refl, sym, ◌∙◌, ap, subst, arith, eq-eqb, eqb-true}
 use Rattle.std.proofs.lemmas.Bool.{false≢true}
 use Rattle.std.specs.Bool.{beq}
-use Rattle.hall.proofs.IdLemmas.{among_without, different_without}
-use Rattle.hall.specs.Held.{AreAll, AreDifferent, Counts, IsAmong, count_among, count_at}
+use Rattle.hall.proofs.IdLemmas.{among_kept, among_without, different_without, without_none}
+use Rattle.hall.specs.Held.{AreDifferent, Counts, IsAmong, count_among, count_at}
 use Rattle.hall.specs.State.{Connection, State, without}
-
--- ---- Ids without one
-
-kept_test : (id j x : ℕ) (ids : List ℕ) (b : Bool) → (x == id) ≡ b → j ≢ id → (IsAmong j ids → IsAmong j (without id ids)) →
-    IsAmong j (x ∷ ids) →
-    IsAmong j (cond b (without id ids) (x ∷ without id ids))
-kept_test id j x ids true is ne rest (inl here) = absurd (ne (sym here ∙ eqb-true x id is))
-kept_test id j x ids true is ne rest (inr later) = rest later
-kept_test id j x ids false is ne rest (inl here) = inl here
-kept_test id j x ids false is ne rest (inr later) = inr (rest later)
-
--- another id stays
-among_kept : (id j : ℕ) (ids : List ℕ) → j ≢ id → IsAmong j ids → IsAmong j (without id ids)
-among_kept id j [] ne among = among
-among_kept id j (x ∷ ids) ne among = kept_test id j x ids (x == id) refl ne (among_kept id j ids ne) among
-
-none_test : (id x : ℕ) (ids : List ℕ) (b : Bool) → (x == id) ≡ b → x ≢ id → without id ids ≡ ids →
-    cond b (without id ids) (x ∷ without id ids) ≡ x ∷ ids
-none_test id x ids true is ne rest = absurd (ne (eqb-true x id is))
-none_test id x ids false is ne rest = ap (λ (l : List ℕ). x ∷ l) rest
-
--- where it isn't there, nothing is left out
-without_none : (id : ℕ) (ids : List ℕ) → (IsAmong id ids → ⊥) → without id ids ≡ ids
-without_none id [] none = refl
-without_none id (x ∷ ids) none = none_test id x ids (x == id) refl (λ e. none (inl e)) (without_none id ids (λ h. none (inr h)))
 
 -- ---- Counts
 
 module _ (known : ℕ → Option Connection) (away : Bool) where
   -- what an id adds to the others
-  count_first : (id : ℕ) (ids : List ℕ) → count_among known away (id ∷ ids) ≡ count_among known away ids + count_at (known id) away 0
+  pub count_first : (id : ℕ) (ids : List ℕ) → count_among known away (id ∷ ids) ≡ count_among known away ids + count_at (known id) away 0
   count_first id ids = adds (known id) (count_among known away ids)
     where
       adds : (x : Option Connection) (n : ℕ) → count_at x away n ≡ n + count_at x away 0
@@ -55,7 +30,7 @@ module _ (known : ℕ → Option Connection) (away : Bool) where
   taken_test id x ids false is once rest (inr later) = omega (arith, count_first x ids, count_first x (without id ids), rest later)
 
   -- one id is taken out
-  count_taken : (id : ℕ) (ids : List ℕ) → AreDifferent ids → IsAmong id ids →
+  pub count_taken : (id : ℕ) (ids : List ℕ) → AreDifferent ids → IsAmong id ids →
       count_among known away ids ≡ count_among known away (without id ids) + count_at (known id) away 0
   count_taken id [] once among = absurd among
   count_taken id (x ∷ ids) once among = taken_test id x ids (x == id) refl once.0 (count_taken id ids once.1) among

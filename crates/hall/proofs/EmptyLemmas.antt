@@ -43,7 +43,13 @@ pub held_empty : (room : Room) (n : ℕ) → room.seats.items ≡ free_seats n �
 held_empty room n free is queue kept = record {
   sound = record {
     sound = λ id c known. (let clash : Some c ≡ None = sym known ∙ known_free room.seats.items n free id in absurd (cc));
-    queued = subst (AreWaiting (state_in room)) (sym queue) (record { waits = λ id among. absurd among; once = tt });
+    queued = subst (AreWaiting (state_in room)) (sym queue)
+        (record {
+          waits = λ id among. absurd among;
+          once = tt;
+          whole = λ id waits.
+              (let clash : Some waits.c ≡ None = sym waits.known ∙ known_free room.seats.items n free id in absurd (cc));
+        });
   };
   long = ap length free ∙ (let none : Option Seat = None in length-replicate n none) ∙ is;
   once = λ j k x y first second same.

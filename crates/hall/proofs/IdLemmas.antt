@@ -1,5 +1,5 @@
 -- Ids in lists.
-use Rattle.std.proofs.Common.{◌≡◌, ◌≢◌, ◌⊎◌, ◌==◌, ℕ, Bool, true, false, cond, not, List, [], ◌∷◌, ◌++◌, inl, inr, refl, sym, ◌∙◌, ap, eq-eqb}
+use Rattle.std.proofs.Common.{◌≡◌, ◌≢◌, ◌⊎◌, ◌==◌, ℕ, Bool, true, false, cond, not, List, [], ◌∷◌, ◌++◌, inl, inr, refl, sym, ◌∙◌, ap, eq-eqb, eqb-true}
 use Rattle.std.proofs.lemmas.Bool.{false≢true}
 use Rattle.std.specs.List.{filter}
 use Rattle.hall.specs.Held.{AreDifferent, IsAmong}
@@ -64,6 +64,29 @@ different_test id x ids false none rest = ((λ h. none (among_without id x ids h
 pub different_without : (id : ℕ) (ids : List ℕ) → AreDifferent ids → AreDifferent (without id ids)
 different_without id [] all = tt
 different_without id (x ∷ ids) all = different_test id x ids (x == id) all.0 (different_without id ids all.1)
+
+kept_test : (id j x : ℕ) (ids : List ℕ) (b : Bool) → (x == id) ≡ b → j ≢ id → (IsAmong j ids → IsAmong j (without id ids)) →
+    IsAmong j (x ∷ ids) →
+    IsAmong j (cond b (without id ids) (x ∷ without id ids))
+kept_test id j x ids true is ne rest (inl here) = absurd (ne (sym here ∙ eqb-true x id is))
+kept_test id j x ids true is ne rest (inr later) = rest later
+kept_test id j x ids false is ne rest (inl here) = inl here
+kept_test id j x ids false is ne rest (inr later) = inr (rest later)
+
+-- another id stays
+pub among_kept : (id j : ℕ) (ids : List ℕ) → j ≢ id → IsAmong j ids → IsAmong j (without id ids)
+among_kept id j [] ne among = among
+among_kept id j (x ∷ ids) ne among = kept_test id j x ids (x == id) refl ne (among_kept id j ids ne) among
+
+none_test : (id x : ℕ) (ids : List ℕ) (b : Bool) → (x == id) ≡ b → x ≢ id → without id ids ≡ ids →
+    cond b (without id ids) (x ∷ without id ids) ≡ x ∷ ids
+none_test id x ids true is ne rest = absurd (ne (eqb-true x id is))
+none_test id x ids false is ne rest = ap (λ (l : List ℕ). x ∷ l) rest
+
+-- where it isn't there, nothing is left out
+pub without_none : (id : ℕ) (ids : List ℕ) → (IsAmong id ids → ⊥) → without id ids ≡ ids
+without_none id [] none = refl
+without_none id (x ∷ ids) none = none_test id x ids (x == id) refl (λ e. none (inl e)) (without_none id ids (λ h. none (inr h)))
 
 -- the others are those that a test for another id keeps
 pub filter_without : (id : ℕ) (ids : List ℕ) → filter (λ (j : ℕ). not (j == id)) ids ≡ without id ids

@@ -1,25 +1,23 @@
 -- What is true of one connection stays so, whatever it comes to.
-use Rattle.std.proofs.Common.{◌≡◌, ◌⊎◌, ◌≤◌, ℕ, ◌+◌, false, List, [], ◌++◌, length, drop, Option, Some, None, inl, inr, refl, sym, ◌∙◌, ap, subst, arith, length-append, length-drop}
+use Rattle.std.proofs.Common.{◌≡◌, ◌⊎◌, ◌≤◌, ℕ, ◌+◌, false, List, [], ◌++◌, length, take, drop, Option, Some, None, inl, inr, refl, sym, ◌∙◌, ap, subst, arith, length-drop}
 use Rattle.std.proofs.Math.Seq.{take-length}
 use Rattle.std.proofs.lemmas.List.{length-take}
 use Rattle.edge_io.specs.Acts.{Act}
 use Rattle.hall.proofs.AllowedLemmas.{IsAllowed-at, IsAllowed-more}
 use Rattle.hall.proofs.VerdictLemmas.{undecided_goes_on}
 use Rattle.hall.specs.Allowed as rows
-use Rattle.hall.specs.Allowed.{IsAllowed}
+use Rattle.hall.specs.Allowed.{IsAllowed, IsRowOf}
 use Rattle.hall.specs.Sends as sending
 use Rattle.hall.specs.Sends.{Closes, IsPiece, Sends, Serves, most_piece, sent_more}
 use Rattle.hall.specs.Sound.{IsSoundIn}
-use Rattle.hall.specs.State.{Connection, Phase, Reading, Waits, Answered, Silent, Service, with_frame}
+use Rattle.hall.specs.State.{Connection, Phase, Reading, Waits, Answered, Silent, Service, waits_as, with_frame}
 use Rattle.hall.specs.Steps as steps
-use Rattle.hall.specs.Steps.{AskedBy, GoesOn, Takes, memory_frame, session, uploaded, whole_in}
-use Rattle.route_http.specs.declared.span.Span.{Span}
+use Rattle.hall.specs.Steps.{GoesOn, Takes, memory_frame, uploaded, whole_in}
 use Rattle.session_answers.specs.Frames.{refusal_frame}
 use Rattle.session_answers.specs.Rows as queries
 use Rattle.session_answers.specs.Rows.{IsQueryFrame}
 use Rattle.session_answers.specs.Stored.{Stored}
-use Rattle.session_answers.specs.Verdicts.{IsVerdict, part}
-use Rattle.session_answers.specs.declared.verdict.Verdict.TheVariants.{Query}
+use Rattle.session_answers.specs.Verdicts.{part}
 
 -- ---- One connection
 
@@ -60,25 +58,23 @@ module _ (service : Service) (stored : List Stored) (old c : Connection) (was : 
   given_up kept (inr (inl is)) = ap (λ (d : Connection). d.away) is ∙ held
   given_up kept (inr (inr is)) = ap (λ (d : Connection). d.away) is ∙ held
 
-  asked_now : (span : Span) → IsVerdict c.bytes c.ended (Query span) → AskedBy (whole_in stored c) (length stored) (part c.bytes span)
-  asked_now span is = record { span = span; verdict = is; query_is = refl; before_is = refl }
+  -- a row over what is stored now is allowed where the request is whole, whatever is stored besides
+  row_sound : (frame : List ℕ) (added more : List Stored) → IsRowOf service stored c.bytes c.ended frame more →
+      IsSoundIn service (stored ++ added) (with_frame (whole_in stored c) frame) (Answered frame 0)
+  row_sound frame added more row =
+      frame_sound service stored added (whole_in stored c) frame
+      (rows.whole {before = length stored} held refl (omega arith)
+      (subst (λ (l : List Stored). IsRowOf service l c.bytes c.ended frame more) (sym (take-length stored)) row))
 
   pub takes_sound : (now : Connection) (added : List Stored) → Takes service stored old c now added →
       IsSoundIn service (stored ++ added) now now.phase
   takes_sound now added (steps.undecided is) =
       subst (λ (p : Phase). IsSoundIn service (stored ++ []) c p) (sym reads) (held, undecided_goes_on c.bytes c.ended is)
   takes_sound now added (steps.silent is) = tt
-  takes_sound now added (steps.refused {r} is) = frame_sound service stored [] c (refusal_frame r) (rows.own held (rows.refused is))
+  takes_sound now added (steps.refused {r} is) = frame_sound service stored [] c (refusal_frame r) (rows.refused held is)
   takes_sound now added (steps.upload {span} is) =
-      let u = uploaded service stored (part c.bytes span) in (
-        rows.own held (rows.upload {span = span} {before = length stored} is refl (omega (arith, length-append stored u.added))),
-        omega arith,
-      )
-  takes_sound now added (steps.early {span} {frame} is answers) =
-      frame_sound service stored [] (whole_in stored c) frame
-      (rows.own held (rows.query {before = length stored} (asked_now span is) (omega arith)
-      (subst (λ (l : List Stored). IsQueryFrame service.world l (part c.bytes span) frame) (sym (take-length stored))
-      (queries.before answers))))
+      let u = uploaded service stored (part c.bytes span) in row_sound u.frame u.added u.added (rows.upload is)
+  takes_sound now added (steps.early {span} {frame} is answers) = row_sound frame [] [] (rows.query is (queries.before answers))
   takes_sound now added (steps.waits {span} is searched) = held
   takes_sound now added (steps.gives_up {kept} some which) =
       frame_sound service stored [] kept memory_frame (rows.memory (given_up kept which))
@@ -86,14 +82,17 @@ module _ (service : Service) (stored : List Stored) (old c : Connection) (was : 
 -- so is what it comes to by a turn of its search
 pub goes_sound : (service : Service) (stored : List Stored) (c now : Connection) → c.away ≡ false → GoesOn service stored c now →
     IsSoundIn service (stored ++ []) now now.phase
-goes_sound service stored c now held (steps.more waits) = held
+goes_sound service stored c now held (steps.more waits asks few) = held
 goes_sound service stored c now held (steps.answers {settled} {before} {query} {frame} waits asked within answers) =
-    frame_sound service stored [] c frame (rows.own held (rows.query {before = before} {asked = query} asked within answers))
+    frame_sound service stored [] c frame
+    (rows.whole {before = before} held asked.before_is within
+    (rows.query asked.verdict
+    (subst (λ (q : List ℕ). IsQueryFrame service.world (take before stored) q frame) asked.query_is answers)))
 goes_sound service stored c now held (steps.gives_up waits) = frame_sound service stored [] c memory_frame (rows.memory held)
 
 pub goes_waits : (service : Service) (stored : List Stored) (c now : Connection) → GoesOn service stored c now →
     (settled : ℕ) × (c.phase ≡ Waits settled)
-goes_waits service stored c now (steps.more {settled} waits) = (settled, waits)
+goes_waits service stored c now (steps.more {settled} waits asks few) = (settled, waits)
 goes_waits service stored c now (steps.answers {settled} waits asked within answers) = (settled, waits)
 goes_waits service stored c now (steps.gives_up {settled} waits) = (settled, waits)
 
@@ -140,3 +139,10 @@ piece_waits Reading piece settled is waits = is
 piece_waits (Waits n) piece settled is waits = is
 piece_waits (Answered frame sent) piece settled is waits = cc
 piece_waits Silent piece settled is waits = is
+
+-- nor does it after more of it is sent
+pub more_idle : (p : Phase) (piece : List ℕ) (n id : ℕ) → IsPiece p piece → waits_as (sent_more p n) id ≡ []
+more_idle Reading piece n id is = refl
+more_idle (Waits settled) piece n id is = absurd is
+more_idle (Answered frame sent) piece n id is = refl
+more_idle Silent piece n id is = refl

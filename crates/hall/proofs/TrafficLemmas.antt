@@ -4,7 +4,8 @@ use Rattle.edge_io.specs.Acts.{Act, Listens, Gave, Took, Broke, Closed, Traffic,
 use Rattle.edge_io.specs.declared.event.Event.{Event}
 use Rattle.edge_io.specs.declared.event.Event.TheVariants.{Opened, Bytes, Ended, Lost, Quiet, Over}
 use Rattle.edge_io.proofs.ActLemmas.{after_acts-append, told-one}
-use Rattle.hall.specs.Law.{IsFrontOf, OpensThen, EndsSilent}
+use Rattle.hall.specs.Causes.{OpensThen}
+use Rattle.hall.specs.Law.{IsFrontOf, EndsSilent}
 
 -- ---- acts on other connections
 
@@ -36,7 +37,7 @@ told-own id acts act on = told-one id acts act ∙ ap (λ (b : Bool). cond b (af
 -- ---- what only grows
 
 -- one more act comes to what it comes to on its own connection, or to nothing
-by_act : (P : Traffic → Type 0) (id : ℕ) (t : Traffic) (act : Act) → P (after_own t act) → P t → P (after_act id t act)
+pub by_act : (P : Traffic → Type 0) (id : ℕ) (t : Traffic) (act : Act) → P (after_own t act) → P t → P (after_act id t act)
 by_act P id t act own other = elim (is_act_on id act) as (λ b. P (cond b (after_own t act) t)) [ true ↦ own | false ↦ other ]
 
 -- more came, and an end stays
@@ -139,7 +140,7 @@ opened-more id acts more was = ap (λ (t : Traffic). t.opened) (after_acts-appen
 -- ---- the acts since an opening
 
 -- more acts come behind those since an opening
-pub OpensThen-more : (id : ℕ) (acts since more : List Act) → OpensThen id acts since → OpensThen id (acts ++ more) (since ++ more)
+abbrev pub OpensThen-more : (id : ℕ) (acts since more : List Act) → OpensThen id acts since → OpensThen id (acts ++ more) (since ++ more)
 OpensThen-more id acts since more opening = record {
   before = opening.before;
   bytes = opening.bytes;

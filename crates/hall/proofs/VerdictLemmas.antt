@@ -1,5 +1,6 @@
 -- What an undecided verdict, and one of no byte, tell of the bytes and of the end.
-use Rattle.std.proofs.Common.{◌≡◌, ℕ, ◌+◌, Bool, true, false, not, ◌&&◌, nat_lt, nat_le, cond, List, [], ◌∷◌, length, refl, sym, subst, bytes_eq, rules, tests}
+use Rattle.std.proofs.Common.{◌≡◌, ℕ, ◌+◌, Bool, true, false, not, ◌&&◌, nat_lt, nat_le, cond, List, [], ◌∷◌, length, refl, sym, subst, arith, bytes_eq, rules, tests}
+use Rattle.route_http.proofs.CallerLemmas.{more_to}
 use Rattle.route_http.specs.declared.heads.Head.{Head}
 use Rattle.route_http.specs.declared.heads.Head.TheVariants.{Whole, More, Bad, TooLong}
 use Rattle.route_http.specs.declared.heads.Method.{Method}
@@ -128,3 +129,7 @@ none_by_head (Whole long method path query body) bytes ended is =
 -- where the verdict is that no byte came, none did, and the peer ended
 pub silent_by : (bytes : List ℕ) (ended : Bool) → IsVerdict bytes ended NoByte → IsSilent bytes ended
 silent_by bytes ended v = none_by_head v.head bytes ended (sym v.is)
+
+-- nothing is fixed before the first byte
+pub nothing_is_undecided : IsVerdict [] false Undecided
+nothing_is_undecided = record { head = More; heads = more_to [] refl (omega arith); is = refl }

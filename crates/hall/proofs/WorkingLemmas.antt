@@ -1,8 +1,8 @@
 -- What a turn of a search changes.
-use Rattle.std.proofs.Common.{◌≡◌, ℕ, ◌+◌, List, [], ◌∷◌, ◌++◌, length, take, drop, refl, sym, ◌∙◌, ap, subst, arith, append-nil, length-drop}
+use Rattle.std.proofs.Common.{◌≡◌, ℕ, ◌+◌, ◌≤◌, List, [], ◌∷◌, ◌++◌, length, take, drop, refl, sym, ◌∙◌, ap, subst, arith, append-nil, length-drop}
 use Rattle.hall.specs.Parts.{AreReadied, HasTurn, IsSearchAt, IsSearchOf, Joins, Makes, answered_by, connection_of, frame_in, last, none, seats_of, service_at, service_in, state_in, waiting_by, waiting_for}
 use Rattle.hall.specs.State.{Connection, with_frame}
-use Rattle.hall.specs.Steps.{AskedBy, GoesOn, Works, memory_frame, work_quota}
+use Rattle.hall.specs.Steps.{AskedBy, AsksFor, GoesOn, Works, memory_frame, work_quota}
 use Rattle.hall.specs.Steps as steps
 use Rattle.hall.specs.View.{known_at}
 use Rattle.hall.specs.declared.desk.Desk.{Desk}
@@ -10,6 +10,7 @@ use Rattle.hall.specs.declared.room.Room.{Room}
 use Rattle.hall.specs.declared.seat.Frame.{Frame}
 use Rattle.hall.specs.declared.seat.Frame.TheVariants as frames
 use Rattle.hall.specs.declared.seat.Seat.{Seat}
+use Rattle.route_engine.specs.Labels.{most_labels}
 use Rattle.route_engine.specs.Pending.{settled_of}
 use Rattle.route_engine.specs.declared.pending.Pending.{Pending}
 use Rattle.route_ready.specs.World.{world_of}
@@ -64,6 +65,13 @@ module _ (desk : Desk) (seat : Seat) (place : ℕ) (pending : Pending)
       (job : IsJobOf (world_of desk.world) (take search.before (stored_of desk.profiles)) (part (received_of seat.received) search.span)
       place next)
       (counts : settled_of next ≡ settled_of pending + work_quota) where
+    -- the request that the query spells, for which no more is settled than may be
+    asks : AsksFor waited job.asked
+    asks = record { span = search.span; verdict = search.verdict; spells = job.asks.asks }
+
+    few : settled_of pending + work_quota ≤ most_labels job.asked
+    few = omega (arith, counts, job.within)
+
     -- a desk at which only the queue changes
     desk_is : record desk { queue = new.queue; alloc = new.alloc } ≡ new
     desk_is = λ i. record new { world = (sym world) i; profiles = (sym profiles) i; kept = (sym kept) i }
@@ -93,7 +101,7 @@ module _ (desk : Desk) (seat : Seat) (place : ℕ) (pending : Pending)
           added = [];
           is = (
             subst (λ (m : ℕ). GoesOn (service_at desk) (stored_of desk.profiles) waited (waiting_for waited m)) (sym counts)
-                (steps.more {settled = settled_of pending} refl),
+                (steps.more {settled = settled_of pending} {asked = job.asked} refl asks few),
             refl,
           );
           stored = stored_same;

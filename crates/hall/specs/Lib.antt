@@ -1,4 +1,5 @@
 pub mod Allowed
+pub mod Causes
 pub mod Held
 pub mod Inside
 pub mod Law
@@ -9,4 +10,6 @@ pub mod Sound
 pub mod State
 pub mod Steps
 pub mod Turns
+pub mod Uploads
 pub mod View
+pub mod Waiting

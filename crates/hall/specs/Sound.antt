@@ -20,12 +20,13 @@ pub record IsWaiting (s : State) (id : ℕ) : Type 0 where
   pub settled : ℕ
   pub phase : c.phase ≡ Waits settled
 
--- the searches of these connections wait, none of them twice
+-- these are the connections whose searches wait, none of them twice
 pub record AreWaiting (s : State) (ids : List ℕ) : Type 0 where
   pub waits : (id : ℕ) → IsAmong id ids → IsWaiting s id
   pub once : AreDifferent ids
+  pub whole : (id : ℕ) → IsWaiting s id → IsAmong id ids
 
--- each connection is as it may be, and those among the waiting wait
+-- each connection is as it may be, and those among the waiting are exactly those whose searches wait
 pub record IsSound (service : Service) (s : State) : Type 0 where
   pub sound : (id : ℕ) (c : Connection) → s.known id ≡ Some c → IsSoundIn service s.stored c c.phase
   pub queued : AreWaiting s s.waiting

@@ -1,9 +1,12 @@
 -- What an event, and a turn of work, change in a hall. This project's own rule.
-use Rattle.std.specs.Prelude.{◌≡◌, ◌≢◌, ◌⊎◌, ℕ, ◌+◌, ◌-◌, ◌≤◌, true, false, List, [], ◌∷◌, ◌++◌, length, take, Option, Some, None}
+use Rattle.std.specs.Prelude.{◌≡◌, ◌≢◌, ◌⊎◌, ℕ, ◌+◌, ◌-◌, ◌≤◌, true, false, List, [], ◌∷◌, ◌++◌, length, take, Option, Some, None, Ok}
 use Rattle.edge_io.specs.declared.event.Event.{Event}
 use Rattle.edge_io.specs.declared.event.Event.TheVariants as event
 use Rattle.hall.specs.Held.{HasRoom, IsFull}
 use Rattle.hall.specs.State.{Connection, Service, State, Reading, Waits, Answered, Silent, changed, freed, put, with_frame}
+use Rattle.route_engine.specs.Labels.{most_labels}
+use Rattle.route_http.specs.Asked.{Asked}
+use Rattle.route_http.specs.Request.{request_of}
 use Rattle.route_http.specs.declared.span.Span.{Span}
 use Rattle.session_answers.specs.Frames.{refusal_frame}
 use Rattle.session_answers.specs.Rows.{IsEarlyFrame, IsQueryFrame, IsSearched}
@@ -117,10 +120,18 @@ pub record AskedBy (c : Connection) (before : ℕ) (query : List ℕ) : Type 0 w
   pub query_is : query ≡ part c.bytes span
   pub before_is : c.before ≡ Some before
 
--- what a connection comes to by a turn of its search: it waits on, or is answered by its query or by want of
--- memory
+-- the request that the query of a connection spells
+pub record AsksFor (c : Connection) (asked : Asked) : Type 0 where
+  pub span : Span
+  pub verdict : IsVerdict c.bytes c.ended (Query span)
+  pub spells : request_of (part c.bytes span) ≡ Ok asked
+
+-- what a connection comes to by a turn of its search: it waits on, while no more is settled than may be for its
+-- request; or it is answered by its query or by want of memory
 pub data GoesOn (service : Service) (stored : List Stored) (c : Connection) : Connection → Type 0 where
-  more : {settled : ℕ} → c.phase ≡ Waits settled →
+  more :
+      {settled : ℕ} {asked : Asked} → c.phase ≡ Waits settled → AsksFor c asked →
+      settled + work_quota ≤ most_labels asked →
       GoesOn service stored c (record c { phase = Waits (settled + work_quota) })
   answers :
       {settled before : ℕ} {query frame : List ℕ} → c.phase ≡ Waits settled → AskedBy c before query →

@@ -1,6 +1,6 @@
 -- The turns of a server: how all connections are served, and a run of turns over a hub. This project's own
 -- rule.
-use Rattle.std.specs.Prelude.{◌≡◌, ◌≢◌, ℕ, suc, Bool, true, false, List, [], ◌∷◌, ◌++◌, Option, Some, None}
+use Rattle.std.specs.Prelude.{◌≡◌, ◌≢◌, ◌⊎◌, ℕ, suc, Bool, true, false, List, [], ◌∷◌, ◌++◌, Option, Some, None}
 use Rattle.edge_io.specs.Acts.{Act, Gave, Closed}
 use Rattle.edge_io.specs.declared.event.Event.{Event}
 use Rattle.edge_io.specs.declared.event.Event.TheVariants.{Over}
@@ -59,3 +59,18 @@ pub record Run (service : Service) (s : State) (n : ℕ) (over : Bool) (acts : L
   pub turned : List Act
   pub turns : Turns service s n turned new
   pub acts_are : acts ≡ turned ++ last_act over
+
+-- ---- Events of a run
+
+-- what is told of an event of a run: the acts before it, what the hall held then, the event with the bytes
+-- that came, and what the hall held after its step
+abbrev pub Meets : Type 1
+Meets = (so_far : List Act) (state : State) (event : Event) (given : List ℕ) (stepped : State) → Type 0
+
+-- the events of turns
+abbrev pub EventOf :
+    {service : Service} {s new : State} {n : ℕ} {acts : List Act} → Turns service s n acts new → Meets
+EventOf none so_far state event given stepped = ⊥
+EventOf (more {acts} {between} {event = latest} {bytes} turns turn) so_far state event given stepped =
+    EventOf turns so_far state event given stepped
+    ⊎ ((so_far ≡ acts) × (state ≡ between) × (event ≡ latest) × (given ≡ bytes) × (stepped ≡ turn.stepped))

@@ -1,5 +1,5 @@
-//! The connections of a server: what is kept of each, what each is sent, the turns over a hub, and
-//! that they don't mix.
+//! The connections of a server: what is kept of each, what each is sent, the turns over a hub, that
+//! they don't mix, and that each search comes to its end.
 #![tactic(auto)]
 
 mod desk;
@@ -18,9 +18,11 @@ mod serve_end;
 mod serving;
 mod stepping;
 mod turn;
+mod waiting;
 mod working;
 
 pub use hall::Hall;
-pub use law::connections_keep_apart;
+pub use law::{accepted_uploads_are_stored, connections_keep_apart};
 pub use serve_end::ServeEnd;
 pub use turn::serve;
+pub use waiting::each_wait_ends;

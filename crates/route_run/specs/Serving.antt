@@ -11,6 +11,9 @@ use Rattle.run_files.specs.declared.status.Status.{Status}
 use Rattle.run_files.specs.declared.status.Status.TheVariants as status
 use Rattle.hall.specs.Law.{GetsOwn}
 use Rattle.hall.specs.Served.{Served}
+use Rattle.hall.specs.Turns.{EventOf, Turns}
+use Rattle.hall.specs.Uploads.{GrowsByUploads}
+use Rattle.hall.specs.Waiting.{AllEndInTime}
 use Rattle.hall.specs.declared.serve_end.ServeEnd.{ServeEnd}
 use Rattle.hall.specs.declared.serve_end.ServeEnd.TheVariants.{Over, TurnsSpent, HubFault}
 
@@ -21,14 +24,18 @@ status_of_end TurnsSpent = status.TurnsSpent
 status_of_end HubFault = status.HubFault
 
 -- an offer was served to so many turns from an opened hub on: all that the hub told since is a run of turns;
--- and where it tells, each connection got its own
+-- after any turns from it each session that waits is answered or lost in time; and where it tells, each
+-- connection got its own, and what is stored grew by the accepted uploads alone
 pub record IsServedTo (turns : ℕ) (offer : Offer) (opened : HubSeen) (end : ServeEnd) (new : HubSeen) :
     Type 0 where
   pub left : State
   pub served : Served offer.0 turns offer.1 opened end left new
+  pub in_time : (n : ℕ) (acts : List Act) (between : State) → Turns offer.0 offer.1 n acts between →
+      AllEndInTime offer.0 between
   pub own :
       (before : List Act) → opened.acts ≡ Some before → (id : ℕ) →
-      GetsOwn offer.0 offer.1.stored left.stored id served.acts
+      GetsOwn offer.0 (EventOf served.run.turns) id served.acts
+  pub grows : (before : List Act) → opened.acts ≡ Some before → GrowsByUploads served.run
 
 -- an offer is served: the hub couldn't be opened; or it was, once and at this address, and then turns were
 -- taken

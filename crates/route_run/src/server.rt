@@ -11,7 +11,9 @@ ghost use Rattle.route_run.specs.Serving.{IsServeOutcome, IsServedTo, Serves, st
 use crate::offer::take_offer;
 use command_words::ServeCommand;
 use edge_io::{Failed, Files, Hub};
-use hall::{Hall, ServeEnd, connections_keep_apart, serve};
+use hall::{
+    Hall, ServeEnd, accepted_uploads_are_stored, connections_keep_apart, each_wait_ends, serve,
+};
 use run_files::Status;
 use std::alloc::Global;
 
@@ -61,6 +63,8 @@ fn served<H: Hub>(hall: Hall, turns: u64, hub: &mut H) -> ServeEnd
 {
     let mut hall = hall;
     connections_keep_apart();
+    accepted_uploads_are_stored();
+    each_wait_ends();
     serve(&mut hall, hub, turns)
 }
 

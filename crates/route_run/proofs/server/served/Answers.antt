@@ -1,10 +1,9 @@
-use Rattle.std.proofs.Common.{List, Option, subst, sym}
-use Rattle.edge_io.specs.Acts.{Act}
+use Rattle.std.proofs.Common.{subst, sym}
 use Rattle.hall.specs.State.{State}
 use Rattle.hall.specs.View.{service_of, state_of}
-use Rattle.hall.proofs.CallerLemmas.{AreLive-empty}
-use Rattle.hall.specs.Served.{AreLive, OpenOnceIn}
-use Rattle.hall.specs.Turns.{Run}
+use Rattle.hall.proofs.CallerLemmas.{AreLive-empty, GetsOwn-served, GrowsByUploads-served}
+use Rattle.hall.specs.Served.{AreLive}
+use Rattle.hall.specs.Turns.{Turns}
 use Rattle.route_run.proofs.server.served.Goals as goal
 
 pub serve-requires : goal.serve-requires
@@ -16,15 +15,23 @@ serve-requires g c = record {
 pub returns : goal.returns
 returns g c =
     let s = c.serve.ensures.run in
-    let left = state_of c.serve.new.hall in
+    let state = state_of c.args.hall in
     let service = service_of c.args.hall in
+    let left = state_of c.serve.new.hall in
+    let old = g.H.Hub.seen c.args.hub.now in
+    let new = g.H.Hub.seen c.serve.new.hub in
     record {
       exact = record {
         left = left;
         served = s;
+        in_time = λ n acts between turns.
+            c.each_wait_ends.ensures.law service (state_of c.args.hall).stored n acts between
+            (subst (λ (from : State). Turns service from n acts between) c.requires.empty turns);
         own = λ before told id.
-            c.connections_keep_apart.ensures.law service (state_of c.args.hall).stored s.n s.over s.acts left
-            (subst (λ (from : State). Run service from s.n s.over s.acts left) c.requires.empty s.run)
-            (subst (λ (acts : Option (List Act)). OpenOnceIn acts s.acts) told s.once) id;
+            GetsOwn-served service state.stored state c.requires.empty c.args.turns old new _ left before told s
+            c.connections_keep_apart.ensures.law id;
+        grows = λ before told.
+            GrowsByUploads-served service state.stored state c.requires.empty c.args.turns old new _ left before told s
+            c.accepted_uploads_are_stored.ensures.law;
       };
     }

@@ -1,0 +1,57 @@
+-- Each search that waits comes to its end: what every run of a server gives to a session that waits. This
+-- project's own rule.
+use Rattle.std.specs.Prelude.{◌≡◌, ◌⊎◌, ℕ, suc, ◌*◌, ◌/◌, ◌≤◌, List, Some}
+use Rattle.edge_io.specs.Acts.{Act}
+use Rattle.edge_io.specs.declared.event.Event.{Event}
+use Rattle.edge_io.specs.declared.event.Event.TheVariants.{Lost}
+use Rattle.hall.specs.Held.{most_sessions}
+use Rattle.hall.specs.State.{Connection, Service, State, Waits, empty_hall, with_frame}
+use Rattle.hall.specs.Steps.{AsksFor, work_quota}
+use Rattle.hall.specs.Turns.{Turns}
+use Rattle.hall.specs.Turns.Turns.{none, more}
+use Rattle.route_engine.specs.Labels.{most_labels}
+use Rattle.route_http.specs.Asked.{Asked}
+use Rattle.session_answers.specs.Stored.{Stored}
+
+-- ---- The end of a wait
+
+-- a turn ends the wait of a session by its event or by its turn of work: the session is lost, or it is given a
+-- frame
+pub data EndsWait (id : ℕ) (c : Connection) (event : Event) (worked : State) : Type 0 where
+  lost : event ≡ Lost id → EndsWait id c event worked
+  answered : {frame : List ℕ} → worked.known id ≡ Some (with_frame c frame) → EndsWait id c event worked
+
+-- so does one of these turns
+abbrev pub EndsAmong :
+    (service : Service) (s : State) (id : ℕ) (c : Connection) (n : ℕ) (acts : List Act) (new : State) →
+    Turns service s n acts new → Type 0
+EndsAmong service s id c n acts new none = ⊥
+EndsAmong service s id c n acts new (more {n = before} {acts = first} {between} {event} turns turn) =
+    EndsAmong service s id c before first between turns ⊎ EndsWait id c event turn.worked
+
+-- ---- The law
+
+-- the most turns that a session waits for its frame: it has a turn of work in as many turns as sessions may be
+-- held, and it has one for each `work_quota` labels that may be settled for its request, and one more
+abbrev pub most_turns : Asked → ℕ
+most_turns asked = most_sessions * suc (most_labels asked / work_quota)
+
+-- a session that waits asks for something, and whatever turns follow, so many of them end its wait: it gets a
+-- frame or is lost
+pub record EndsInTime (service : Service) (s : State) (id : ℕ) (c : Connection) : Type 0 where
+  pub asked : Asked
+  pub asks : AsksFor c asked
+  pub ends : (m : ℕ) (acts : List Act) (new : State) (turns : Turns service s m acts new) →
+      most_turns asked ≤ m → EndsAmong service s id c m acts new turns
+
+-- so it is for each session that waits
+abbrev pub AllEndInTime : Service → State → Type 0
+AllEndInTime service s = (id settled : ℕ) (c : Connection) → s.known id ≡ Some c → c.phase ≡ Waits settled →
+    EndsInTime service s id c
+
+-- no search goes on for ever: after any turns from a hall without connections, each session that waits is
+-- answered or lost in time
+abbrev pub EndsEachWait : Service → Type 0
+EndsEachWait service =
+    (given : List Stored) (n : ℕ) (acts : List Act) (s : State) → Turns service (empty_hall given) n acts s →
+    AllEndInTime service s
