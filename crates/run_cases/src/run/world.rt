@@ -171,7 +171,13 @@ impl World {
 
     /// A hub to which nobody connects.
     fn still_hub(&self) -> Result<MemHub, AllocError> {
-        MemHub::new(self.alloc, Vec::new(self.alloc), 100, 1, Vec::new(self.alloc))
+        MemHub::new(
+            self.alloc,
+            Vec::new(self.alloc),
+            100,
+            1,
+            Vec::new(self.alloc),
+        )
     }
 
     /// The words of a case from a place on.
