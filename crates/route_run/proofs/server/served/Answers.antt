@@ -29,9 +29,9 @@ returns g c =
             (subst (λ (from : State). Turns service from n acts between) c.requires.empty turns);
         own = λ before told id.
             GetsOwn-served service state.stored state c.requires.empty c.args.turns old new _ left before told s
-            c.connections_keep_apart.ensures.law id;
+            (c.connections_keep_apart.ensures.law service) id;
         grows = λ before told.
             GrowsByUploads-served service state.stored state c.requires.empty c.args.turns old new _ left before told s
-            c.accepted_uploads_are_stored.ensures.law;
+            (c.accepted_uploads_are_stored.ensures.law service);
       };
     }
