@@ -4,12 +4,15 @@ ghost use Rattle.context_check.specs.declared.error.CheckError.TheVariants.{NoMe
 
 use std::alloc::{AllocError, AllocFailed, Global};
 
-/// Why a profile may not be used, in the order in which it is tried. Lines are counted from 1.
+/// Why a profile may not be used. Overrides come first, then the sections, of each assignment its
+/// name and then its expression from the left; a missing `costfactor` comes last. Lines are counted
+/// from 1.
 #[derive(Clone, Copy)]
 pub enum CheckError {
     /// The override at this place, from 0, has a name that the global section doesn't assign.
     UnknownOverride { place: u32 },
-    /// The way section assigns a name of the global section, or the global section has a look.
+    /// The way section assigns one of the seven names with an effect in the global section, or the
+    /// global section has a look.
     WrongSection { line: u32 },
     /// A variable isn't assigned earlier in its section, nor in the global one.
     UnknownName { line: u32 },

@@ -6,7 +6,7 @@ use Rattle.std.proofs.lemmas.Nat.{mul-add-lt, mul-le, div_below}
 use Rattle.std.proofs.lemmas.Int.{ints}
 use borrow.Author.Differences.{up, down}
 use Rattle.hgt_tiles.specs.Relief.{Relief, IsRelief, sample, void}
-use Rattle.hgt_tiles.specs.Height.{step_at, share_at, around, mix, between, height_on, has_void, IsBetween}
+use Rattle.hgt_tiles.specs.Height.{step_at, share_at, around, mix, between, height_on, has_void, AgreesWithSamples}
 use Rattle.hgt_tiles.specs.declared.heights.Cell.{Cell}
 
 -- what was read at a place of the list is the sample there
@@ -90,7 +90,7 @@ unfolding share_at
 share_le r offset = omega arith
 
 -- what lies between four samples
-pub between-lawful : (cell : Cell) → cell.east ≤ 1000000 → cell.north ≤ 1000000 → IsBetween cell (between cell)
+pub between-lawful : (cell : Cell) → cell.east ≤ 1000000 → cell.north ≤ 1000000 → AgreesWithSamples cell (between cell)
 unfolding between
 between-lawful cell east north = record {
   level = λ metres p q r s.
@@ -108,8 +108,8 @@ if_known true height P p = tt
 if_known false height P p = p
 
 -- a height on a relief lies between the samples around it
-pub height_on-lawful : (r : Relief) (a b : ℕ) → IfSome (height_on r a b) (IsBetween (around r a b))
+pub height_on-lawful : (r : Relief) (a b : ℕ) → IfSome (height_on r a b) (AgreesWithSamples (around r a b))
 unfolding around
 height_on-lawful r a b =
-    if_known (has_void (around r a b)) (between (around r a b)) (IsBetween (around r a b))
+    if_known (has_void (around r a b)) (between (around r a b)) (AgreesWithSamples (around r a b))
     (between-lawful (around r a b) (share_le r a) (share_le r b))

@@ -9,7 +9,7 @@ use Rattle.std.proofs.lemmas.Map.Lookups.{exact_signed}
 use Rattle.geo_int.specs.Place.{Place}
 use Rattle.hgt_tiles.specs.Relief.{Relief}
 use Rattle.hgt_tiles.specs.Tiles.{relief_at, corner_cmp, height_of, height_if, corner_of_place, beyond, IsInterpolated}
-use Rattle.hgt_tiles.specs.Height.{height_on, around, IsBetween}
+use Rattle.hgt_tiles.specs.Height.{height_on, around, AgreesWithSamples}
 use Rattle.hgt_tiles.specs.declared.names.Corner.{Corner}
 use Rattle.hgt_tiles.proofs.HeightLemmas.{height_on-lawful}
 use Rattle.hgt_tiles.proofs.PlaceLemmas.{corner-same}
@@ -79,8 +79,8 @@ lawful-at tiles at None e = tt
 lawful-at tiles at (Some r) e =
     let a = beyond at.lon in
     let b = beyond at.lat in
-    if-weaker (height_on r a b) (IsBetween (around r a b)) (IsInterpolated tiles at)
-    (λ height h s f. subst (λ x. IsBetween (around x a b) height) (one_relief (relief_at tiles (corner_of_place at)) r s e f) h)
+    if-weaker (height_on r a b) (AgreesWithSamples (around r a b)) (IsInterpolated tiles at)
+    (λ height h s f. subst (λ x. AgreesWithSamples (around x a b) height) (one_relief (relief_at tiles (corner_of_place at)) r s e f) h)
     (height_on-lawful r a b)
 
 -- wherever it comes from

@@ -51,8 +51,8 @@ height_around cell = cond (has_void cell) None (Some (between cell))
 abbrev pub height_on : Relief → ℕ → ℕ → Option ℤ
 height_on relief a b = height_around (around relief a b)
 
--- a height between samples is theirs where they agree, and that of a sample at its own place
-pub record IsBetween (cell : Cell) (height : ℤ) : Type 0 where
+-- a height is that of the four samples where they agree, and that of a sample at its own place
+pub record AgreesWithSamples (cell : Cell) (height : ℤ) : Type 0 where
   pub level : (metres : ℤ) → cell.south_west ≡ metres → cell.south_east ≡ metres → cell.north_west ≡ metres →
       cell.north_east ≡ metres → height ≡ pos 1000000 *ℤ metres
   pub at_sample : cell.east ≡ 0 → cell.north ≡ 0 → height ≡ pos 1000000 *ℤ cell.south_west

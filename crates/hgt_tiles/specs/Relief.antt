@@ -24,7 +24,7 @@ pub record IsCorner (corner : Corner) : Type 0 where
   pub south : negsuc 89 ≤ℤ corner.lat
   pub north : corner.lat ≤ℤ pos 89
 
--- a whole grid of at most 3,600 steps, whose samples are numbers of 16 bits
+-- a whole grid of at most 3,600 steps, with a sample for each row and column
 pub record IsRelief (relief : Relief) : Type 0 where
   pub corner : IsCorner relief.corner
   pub some : 0 < relief.steps

@@ -8,7 +8,7 @@ use Rattle.std.specs.BTreeMap.{get}
 use Rattle.geo_int.specs.Place.{Place}
 use Rattle.hgt_tiles.specs.Relief.{Relief}
 use Rattle.hgt_tiles.specs.declared.names.Corner.{Corner}
-use Rattle.hgt_tiles.specs.Height.{height_on, around, IsBetween}
+use Rattle.hgt_tiles.specs.Height.{height_on, around, AgreesWithSamples}
 use Rattle.hgt_tiles.specs.declared.tile_set.Tiles.{Tiles}
 
 -- how two corners compare: by longitude, then by latitude
@@ -39,11 +39,11 @@ height_if None at = None
 unfoldable pub height_of : Tiles → Place → Option ℤ
 height_of tiles at = height_if (relief_at tiles (corner_of_place at)) at
 
--- a height is one between the four samples around a place, on the relief that is there
+-- a height agrees with the four samples around a place, on the relief that is there
 abbrev pub IsInterpolated : Tiles → Place → ℤ → Type 0
 IsInterpolated tiles at height =
     (relief : Relief) → relief_at tiles (corner_of_place at) ≡ Some relief →
-    IsBetween (around relief (beyond at.lon) (beyond at.lat)) height
+    AgreesWithSamples (around relief (beyond at.lon) (beyond at.lat)) height
 
 -- a tile was added: its corner keeps what it had, or has the tile, and every other corner what it had
 pub record AddsTile (old new : Tiles) (tile : Relief) : Type 0 where

@@ -10,7 +10,6 @@ use crate::names::{Corner, corner_of};
 use byteorder::{BigEndian, ByteOrder};
 use std::alloc::{AllocError, Global};
 use std::marker::Model;
-use thiserror::Error;
 
 /// The samples of one square degree.
 #[derive(Drop)]
@@ -31,13 +30,13 @@ impl Model for Tile {
 }
 
 /// Why a file holds no tile.
-#[derive(Clone, Copy, Debug, Drop, Error)]
+#[derive(Clone, Copy, Drop)]
 pub enum TileError {
-    #[error("the name tells no corner")]
+    /// The name tells no corner.
     Name,
-    #[error("the size is that of no tile")]
+    /// The size is that of no tile.
     Size,
-    #[error("out of memory")]
+    /// Memory ran out.
     NoMemory,
 }
 

@@ -1,4 +1,4 @@
-//! Bytes, names and numbers put at the end of a text, which stays as it is where memory runs out.
+//! Bytes, words and numbers put at the end of a text.
 
 ghost use Rattle.std.specs.Prelude.{◌≡◌, ◌++◌, IfOk, OnOk, OnErr, decimal};
 ghost use Rattle.std.specs.Fmt.{signed_decimal};

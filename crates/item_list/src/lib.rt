@@ -5,6 +5,7 @@
 mod append;
 mod bytes;
 mod compared;
+mod counts;
 mod items;
 mod names;
 mod numbers;
@@ -13,6 +14,7 @@ mod turn;
 
 pub use append::{append_bytes, append_named, append_number, append_signed, append_wide, bytes_of};
 pub use bytes::{base_name, is_digit, is_space, len_before};
+pub use counts::{narrow, next_number};
 pub use items::Items;
 pub use names::{Name, Tags};
 pub use try_clone::TryClone;

@@ -131,7 +131,8 @@ fn add_to(
     ensures room { OnOk result (has_room rows.old name.now ≡ true) }
     ensures value { OnOk result (rows.new ≡ add_line rows.old name.now (words_of spellings.now)) }
     ensures refused { IfErr result
-        (λ e. (e ≡ NoMemory) ⊎ ((has_room rows.old name.now ≡ false) × (e ≡ TooMany number))) }
+        (λ e. ((has_room rows.old name.now ≡ true) × (e ≡ NoMemory))
+        ⊎ ((has_room rows.old name.now ≡ false) × (e ≡ TooMany number))) }
 {
     if !rows.has_room(name) {
         return Err(LookupError::TooMany { line: number });

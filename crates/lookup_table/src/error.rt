@@ -4,26 +4,21 @@ ghost use Rattle.lookup_table.specs.declared.error.LookupError.TheVariants.{NoMe
 
 use crate::part::Part;
 use std::alloc::{AllocError, Global};
-use thiserror::Error;
 
-/// Why a text is no tag table, in the order in which it is found out.
-#[derive(Debug, Drop, Error)]
+/// Why a text is no tag table. The first line at fault counts, and what is missing at the end comes
+/// after all lines; of one line the faults are tried in the order in which they stand here.
+#[derive(Drop)]
 pub enum LookupError {
     /// The line isn't of the table's forms, isn't UTF-8, is a tag line before any part, or opens a
     /// part again.
-    #[error("lookup line {line}")]
     Line { line: u32 },
     /// The line adds tag 1,025 of a part or value 4,097 of a tag.
-    #[error("too many at line {line}")]
     TooMany { line: u32 },
     /// There isn't exactly one line of each version kind, both before the first part.
-    #[error("lookup version")]
     Version,
     /// The part is missing, or doesn't begin with the tag that it has to begin with.
-    #[error("first tag")]
     FirstTag { part: Part },
     /// Memory ran out.
-    #[error("out of memory")]
     NoMemory,
 }
 

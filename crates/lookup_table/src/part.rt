@@ -1,7 +1,7 @@
 //! The two parts of a tag table.
 
 /// A part of a tag table.
-#[derive(Clone, Copy, Debug)]
+#[derive(Clone, Copy)]
 pub enum Part {
     /// The tags of ways.
     Way,

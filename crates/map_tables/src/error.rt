@@ -1,5 +1,10 @@
 //! Why a text is no map.
 
+ghost use Rattle.std.specs.Prelude.{◌≡◌};
+ghost use Rattle.map_tables.specs.declared.error.MapError.TheVariants.{NoMemory};
+
+use std::alloc::AllocError;
+
 /// The kinds of elements that a map has.
 #[derive(Clone, Copy, Drop)]
 pub enum ElementKind {
@@ -43,4 +48,12 @@ pub enum MapError {
     MissingNode { way: i64, node: i64 },
     /// Memory ran out.
     NoMemory,
+}
+
+impl From<AllocError> for MapError {
+    ghost from_gives = { λ _ e. e ≡ NoMemory };
+
+    fn from(_error: AllocError) -> MapError {
+        MapError::NoMemory
+    }
 }

@@ -6,6 +6,7 @@ ghost use Rattle.map_tables.specs.Rows.{LiesWithin, LieWithin, bytes_from, membe
 
 use crate::content::Content;
 use crate::member::{Member, MemberLent};
+use item_list::narrow;
 use std::alloc::{AllocError, Global};
 use std::marker::Model;
 
@@ -50,9 +51,7 @@ impl Members {
     pub(crate) fn new(alloc: Global, members: &[Member]) -> Result<Members, AllocError>
         ensures value { IfOk result (λ all. all ≡ members.now) }
     {
-        if members.len() > 4_294_967_295 {
-            return Err(AllocError);
-        }
+        let _few = narrow(members.len())?;
         let mut words = Vec::new(alloc);
         let rows = rows_of(alloc, &mut words, members)?;
         Ok(Members { rows, words })
@@ -158,25 +157,15 @@ fn row_of(words: &mut Vec<u8>, member: &Member) -> Result<MemberRow, AllocError>
     ensures words { OnOk result
         (words.new.items ≡ words.old.items ++ (member.now.kind ++ member.now.role)) }
 {
-    let start = narrowed(words.len())?;
+    let start = narrow(words.len())?;
     words.extend_from_slice(member.kind.as_slice())?;
-    let middle = narrowed(words.len())?;
+    let middle = narrow(words.len())?;
     words.extend_from_slice(member.role.as_slice())?;
-    let end = narrowed(words.len())?;
+    let end = narrow(words.len())?;
     Ok(MemberRow {
         reference: member.reference,
         start,
         middle,
         end,
     })
-}
-
-/// A place of 32 bits, unless it is beyond.
-fn narrowed(place: usize) -> Result<u32, AllocError>
-    ensures value { IfOk result (λ narrow. narrow ≡ place) }
-{
-    if place > 4_294_967_295 {
-        return Err(AllocError);
-    }
-    Ok(place as u32)
 }

@@ -1,6 +1,6 @@
 //! Elements of one kind, each id once, in the order in which the ids came first.
 
-ghost use Rattle.std.specs.Prelude.{◌≡◌, ◌+◌, ◌<◌, List, [], ◌∷◌, ◌++◌, length, nat_le, None, OnOk, slice_get, slice_set, Some, IfErr, IfSome};
+ghost use Rattle.std.specs.Prelude.{◌≡◌, ◌+◌, ◌<◌, ◌≤◌, List, MatchResult, [], ◌∷◌, ◌++◌, length, nat_le, None, OnOk, slice_get, slice_set, Some, IfErr, IfSome};
 ghost use Rattle.map_tables.specs.Kept.{AreDistinct, given_again, HoldsAt, keep, Kept, place_of_id, total_of, with_tag};
 ghost use Rattle.map_tables.specs.Held.{Becomes};
 ghost use Rattle.map_tables.specs.declared.error.MapError.TheVariants as error_;
@@ -9,8 +9,8 @@ use crate::content::Content;
 use crate::error::{ElementKind, MapError};
 use crate::tag_lists::TagLists;
 use indexmap::IndexMap;
-use item_list::{Items, Name, Tags};
-use std::alloc::Global;
+use item_list::{Items, Name, Tags, next_number};
+use std::alloc::{AllocError, Global};
 use std::marker::Model;
 
 /// What is kept with an id: what the element consists of, and the list of its tags.
@@ -205,17 +205,12 @@ impl<C: Content> Table<C> {
             (self.new ≡ self.old ++ record { id = id; content = content; tags = tags } ∷ []) }
         ensures kept { IfErr result (λ e. (e ≡ error_.NoMemory) × (self.new ≡ self.old)) }
     {
-        let (size, place) = (content.size(), self.rows.len());
-        if place >= 4_294_967_295 || !are_within(self.total, size, 4_294_967_295) {
-            return Err(MapError::NoMemory);
-        }
-        let list = match self.lists.add(place as u32, tags) {
-            Ok(list) => list,
-            Err(_) => return Err(MapError::NoMemory),
-        };
+        let place = next_number(self.rows.len())?;
+        let total = total_with(self.total, content.size())?;
+        let list = self.lists.add(place, tags)?;
         match self.rows.insert(id, Row { content, list }) {
             Ok(_) => {
-                self.total += size as u32;
+                self.total = total;
                 Ok(())
             }
             Err(_) => Err(MapError::NoMemory),
@@ -229,6 +224,17 @@ fn id_at(ids: &[i64], place: u32) -> i64
     ensures value { slice_get ids.now place ≡ Some result }
 {
     ids[place as usize]
+}
+
+/// A count of 32 bits and so many more. A sum of 2^32 and more is answered as want of memory.
+fn total_with(count: u32, more: usize) -> Result<u32, AllocError>
+    ensures exact { MatchResult result
+        (λ sum. sum ≡ count + more) (λ _. 4294967296 ≤ count + more) }
+{
+    match u32::try_from(count as u128 + more as u128) {
+        Ok(sum) => Ok(sum),
+        Err(_) => Err(AllocError),
+    }
 }
 
 /// Whether a count and so many more are within a limit.

@@ -4,7 +4,7 @@ ghost use Rattle.std.specs.Prelude.{◌≡◌, [], ◌∷◌, ◌++◌, IfOk, Is
 ghost use Rattle.map_tables.specs.Kept.{first_tags};
 ghost use Rattle.map_tables.specs.Rows.{IsOwn, KeepsOthers, tags_in};
 
-use item_list::{Items, Name, Tags};
+use item_list::{Items, Name, Tags, next_number};
 use std::alloc::{AllocError, Global};
 use std::marker::Model;
 
@@ -74,15 +74,13 @@ impl TagLists {
         ensures others { KeepsOthers place self.old self.new }
         ensures kept { OnErr result (self.new ≡ self.old) }
     {
-        let list = self.lists.len();
+        let behind = self.lists.len();
         if tags.len() == 0 {
             return Ok(NO_LIST);
         }
-        if list >= NO_LIST as usize {
-            return Err(AllocError);
-        }
+        let list = next_number(behind)?;
         match self.lists.push((place, tags)) {
-            Ok(()) => Ok(list as u32),
+            Ok(()) => Ok(list),
             Err(_) => Err(AllocError),
         }
     }

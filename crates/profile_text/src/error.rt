@@ -3,10 +3,9 @@ ghost use Rattle.std.specs.Prelude.{◌≡◌};
 ghost use Rattle.profile_text.specs.declared.error.TextError.TheVariants.{NoMemory};
 
 use std::alloc::{AllocError, AllocFailed, Global};
-use thiserror::Error;
 
 /// Why a token can't stand where it is.
-#[derive(Clone, Copy, Debug)]
+#[derive(Clone, Copy)]
 pub enum TextKind {
     /// The text ends inside an assignment.
     End,
@@ -23,14 +22,12 @@ pub enum TextKind {
 }
 
 /// Why a text is no profile.
-#[derive(Debug, Drop, Error)]
+#[derive(Drop)]
 pub enum TextError {
     /// The first token that can't stand where it is, by its line from 1; at the text's end, the
     /// last token.
-    #[error("profile line {line}")]
     At { line: u32, kind: TextKind },
     /// Memory ran out.
-    #[error("out of memory")]
     NoMemory,
 }
 

@@ -185,7 +185,7 @@ impl Scanner {
     }
 
     /// Reads on as far as no step is given, but for escapes and other characters of several bytes.
-    pub fn advance(&mut self) -> Result<(), AllocError>
+    pub(crate) fn advance(&mut self) -> Result<(), AllocError>
         ensures value { OnOk result (ReadsOn self.old self.new) }
         ensures kept { Leaves self.old self.new }
     {

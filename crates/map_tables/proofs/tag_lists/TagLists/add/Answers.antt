@@ -12,9 +12,9 @@ returns-then-len-eq0-clause-value c =
 
 pub returns-clause-value : goal.returns-clause-value
 returns-clause-value c = elim c.match-push.branch [
-  | in-Ok w ↦ rw w.result-is (ap (λ lists. tags_in lists c.args.place c.len-list.result) w.in-Ok.ensures.items
+  | in-Ok w ↦ rw w.result-is (ap (λ lists. tags_in lists c.args.place c.in_ok-list.list) w.in-Ok.ensures.items
       ∙ ap (tags_in (c.self.inside.lists.items ++ (c.args.place, c.args.tags) ∷ []) c.args.place)
-      (c.len-list.ensures ∙ c.self.inside.lists.ok.0)
+      (c.in_ok-list.ensures.exact.0 ∙ c.len-behind.ensures ∙ c.self.inside.lists.ok.0)
       ∙ tags_in-last c.self.inside.lists.items c.args.place c.args.tags)
   | in-Err w ↦ rw w.result-is tt
 ]
