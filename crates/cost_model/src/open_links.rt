@@ -43,8 +43,7 @@ impl<'a, F: FactsOf> OpenLinks for Passages<'a, F> {
 }
 
 /// Whether the facts of a link let a rider take it: its `costfactor` is below 10000, and the charge
-/// at its end below
-/// 1000000.
+/// at its end below 1000000.
 #[tactic(auto, unfolding(crate::specs::OpenLinks::is_passable))]
 pub fn is_passable(facts: &LinkFacts) -> bool
     ensures exact { result ≡ is_passable facts.now }

@@ -29,8 +29,8 @@ impl Drop for Bound {
 
 impl Bound {
     /// The values of the global section: `uphillcost`, `downhillcost`, `uphillcutoff`,
-    /// `downhillcutoff`,
-    /// `elevationpenaltybuffer`, `elevationmaxbuffer` and `elevationbufferreduce`.
+    /// `downhillcutoff`, `elevationpenaltybuffer`, `elevationmaxbuffer` and
+    /// `elevationbufferreduce`.
     pub fn globals(&self) -> [Num; 7]
         ensures value { result ≡ self.now.globals }
     {
