@@ -2,6 +2,7 @@
 use Rattle.std.proofs.Common.{◌≡◌, ℕ, ◌≤◌, ◌+◌, ◌⊎◌, inl, inr, Bool, true, false, cond, ◌&&◌, nat_le, Option, Some, None, Result, Ok, Err, List, [], ◌∷◌, ◌++◌, length, refl, sym, ap, arith, subst}
 use Rattle.std.proofs.lemmas.Bool.Decides.{nat_tests}
 use Rattle.std.specs.List.{find}
+use Rattle.command_words.specs.Addresses.{is_address}
 use Rattle.command_words.specs.FileNames.{is_profile_file}
 use Rattle.command_words.specs.Given.{Given}
 use Rattle.command_words.specs.Value.{number_of, within, number_value, file_value, value_of, cut_word, number_in}
@@ -13,7 +14,7 @@ use Rattle.command_words.specs.declared.rows.KeyRow.{KeyRow}
 use Rattle.command_words.specs.declared.rows.Key.{Key}
 use Rattle.command_words.specs.declared.value.Value.{Value}
 
--- a number is within the limits of a form, and a text names a profile's file where the form wants one
+-- a number is within the limits of a form, and a text names a profile's file or spells an address where the form wants one
 abbrev pub FitForm : Wanted → List ℕ → ℕ → Type 0
 FitForm (Want.Number low high) text x = (low ≤ x) × (x ≤ high)
 FitForm Want.Place text x = Unit {0}
@@ -21,7 +22,7 @@ FitForm Want.Product text x = Unit {0}
 FitForm Want.File text x = Unit {0}
 FitForm Want.ProfileFile text x = is_profile_file text ≡ true
 FitForm Want.Query text x = Unit {0}
-FitForm Want.Address text x = Unit {0}
+FitForm Want.Address text x = is_address text ≡ true
 
 -- the same of the form of a row, if there is one
 abbrev pub FitRow : Option KeyRow → List ℕ → ℕ → Type 0
@@ -65,7 +66,7 @@ value-fit Want.Product text value e = tt
 value-fit Want.File text value e = tt
 value-fit Want.ProfileFile text value e = file-fit (is_profile_file text) value e
 value-fit Want.Query text value e = tt
-value-fit Want.Address text value e = tt
+value-fit Want.Address text value e = file-fit (is_address text) value e
 
 -- an entry fits its key's row
 abbrev pub FitEntry : List KeyRow → Given → Type 0

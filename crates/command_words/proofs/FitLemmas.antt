@@ -1,12 +1,14 @@
--- The numbers of a command that was read are within their limits, its places in its grid, and its profiles have names of
--- their own.
+-- The numbers of a command that was read are within their limits, its places in its grid, its profiles have names of their
+-- own, and where it listens is an address.
 use Rattle.std.proofs.Common.{◌≡◌, ℕ, ◌<◌, ◌≤◌, ◌+◌, inl, inr, true, Option, Some, None, option_map, Result, Ok, Err, MatchResult, IfOk, List, [], length, refl, arith, subst}
 use Rattle.std.proofs.lemmas.Bool.Decides.{nat_tests}
+use Rattle.command_words.specs.Addresses.{SpellsAddress, is_address}
 use Rattle.command_words.specs.Given.{Given, Named}
 use Rattle.command_words.specs.Rows.{keys_of, most_turns}
 use Rattle.command_words.specs.Value.{number_in, place_in, product_in}
 use Rattle.command_words.specs.Reader.{entry_with, entries_after, entries_of}
 use Rattle.command_words.specs.Command.{lies_in, files_with, grid_by, grid_over, grid_with, hills_with, complete, command_with, code_with, make_with, file_in, files_in, route_with, serve_with, turns_in}
+use Rattle.command_words.proofs.AddressLemmas.{address-spelled}
 use Rattle.command_words.proofs.EntryLemmas.{AllFit, split, err-not_ok, after-fit, whole-read, with-fit}
 use Rattle.command_words.proofs.ServeLemmas.{after-once, profiles-fit}
 use Rattle.command_words.specs.Fit.{IsFit, AreProfileFiles, AreOnceAfter}
@@ -157,13 +159,22 @@ hills_with-fit after None w h command a b c e = absurd (err-not_ok after command
 hills_with-fit after (Some seed) None h command a b c e = absurd (err-not_ok after command e)
 hills_with-fit after (Some seed) (Some w) None command a b c e = absurd (err-not_ok after command e)
 
--- a server takes as many events as may be, and its profiles have names of their own
+-- where a server listens is an address
+listen-fit : (listen : Option Given) → ((e : Given) → listen ≡ Some e → is_address e.text ≡ true) → (word : Named) →
+    option_map file_in listen ≡ Some word → SpellsAddress word.name
+listen-fit None fit word is = absurd (cc)
+listen-fit (Some entry) fit word is =
+    let same : file_in entry ≡ word = cc in
+    subst (λ (w : Named). SpellsAddress w.name) same (address-spelled entry.text (fit entry refl))
+
+-- a server takes as many events as may be, its profiles have names of their own, and where it listens is an address
 serve_with-fit : (after : ℕ) (lookups roads : Option Given) (profiles tiles : List Named) (listen turns : Option Given) (command :
     Command) →
     AreProfileFiles profiles → AreOnceAfter [] profiles →
+    ((e : Given) → listen ≡ Some e → is_address e.text ≡ true) →
     ((e : Given) → turns ≡ Some e → (1 ≤ number_in e.value) × (number_in e.value ≤ most_turns)) →
     serve_with after lookups roads profiles tiles listen turns ≡ Ok command → IsFit command
-serve_with-fit after (Some lookups) (Some roads) profiles tiles listen turns command named once a e =
+serve_with-fit after (Some lookups) (Some roads) profiles tiles listen turns command named once where_to a e =
     let made : ServeCommand = record {
       lookups = file_in lookups;
       map = file_in roads;
@@ -174,9 +185,16 @@ serve_with-fit after (Some lookups) (Some roads) profiles tiles listen turns com
     } in
     let same : Form.TheVariants.Serve made ≡ command = cc in
     let limits = turns-fit turns a in
-    subst IsFit same (record { some_turns = limits.0; turns = limits.1; named = named; once = once })
-serve_with-fit after None roads profiles tiles listen turns command named once a e = absurd (err-not_ok after command e)
-serve_with-fit after (Some lookups) None profiles tiles listen turns command named once a e = absurd (err-not_ok after command e)
+    subst IsFit same (record {
+      some_turns = limits.0;
+      turns = limits.1;
+      named = named;
+      once = once;
+      listens = listen-fit listen where_to;
+    })
+serve_with-fit after None roads profiles tiles listen turns command named once where_to a e = absurd (err-not_ok after command e)
+serve_with-fit after (Some lookups) None profiles tiles listen turns command named once where_to a e =
+    absurd (err-not_ok after command e)
 
 complete-fit : (name : CommandName) (entries : List Given) (after : ℕ) (command : Command) → AllFit (keys_of name) entries →
     AreOnceAfter [] (files_in Profile entries) → complete name entries after ≡ Ok command → IsFit command
@@ -203,7 +221,7 @@ complete-fit Name.Serve entries after command all once e =
     serve_with-fit after (entry_with Lookups entries) (entry_with Map entries) (files_in Profile entries) (files_in Tile entries)
     (entry_with Listen entries) (entry_with Turns entries) command
     (profiles-fit (keys_of Name.Serve) entries (λ text x fit. fit) all) once
-    (λ x is. with-fit (keys_of Name.Serve) Turns entries x all is) e
+    (λ x is. with-fit (keys_of Name.Serve) Listen entries x all is) (λ x is. with-fit (keys_of Name.Serve) Turns entries x all is) e
 
 with_words-fit : (name : CommandName) (texts : List (List ℕ)) (command : Command) → command_with name texts ≡ Ok command → IsFit command
 with_words-fit name texts command e =

@@ -1,3 +1,4 @@
+pub mod AddressLemmas
 pub mod CallerLemmas
 pub mod EntryLemmas
 pub mod FitLemmas

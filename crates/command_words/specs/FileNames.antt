@@ -3,7 +3,7 @@ use Rattle.item_list.specs.Bytes.{base_name}
 use Rattle.std.specs.List.{ends_with, starts_with, list_all}
 use Rattle.std.specs.Prelude.{ℕ, ◌-◌, ◌==◌, Bool, not, cond, ◌&&◌, ◌||◌, nat_lt, nat_le, nat_eq, List, length, take, codes}
 
--- a text names a file, or is a query or an address: it isn't empty
+-- a text names a file, or is a query: it isn't empty
 abbrev pub is_file_name : List ℕ → Bool
 is_file_name text = nat_lt 0 (length text)
 

@@ -1,8 +1,9 @@
--- The numbers of a command are within their limits, its places in its grid, and its profiles have names of
--- their own. This project's own rule.
+-- The numbers of a command are within their limits, its places in its grid, its profiles have names of their
+-- own, and its address is one. This project's own rule.
 use Rattle.std.specs.List.{list_any}
-use Rattle.std.specs.Prelude.{◌≡◌, ℕ, ◌≤◌, ◌<◌, Bool, true, false, List, [], ◌∷◌, ◌++◌}
+use Rattle.std.specs.Prelude.{◌≡◌, ℕ, ◌≤◌, ◌<◌, Bool, true, false, List, [], ◌∷◌, ◌++◌, Some}
 use Rattle.std.specs.Str.{bytes_eq}
+use Rattle.command_words.specs.Addresses.{SpellsAddress}
 use Rattle.command_words.specs.FileNames.{is_profile_file, profile_name}
 use Rattle.command_words.specs.Given.{Named}
 use Rattle.command_words.specs.Rows.{most_turns}
@@ -43,15 +44,17 @@ AreOnceAfter before (file ∷ files) =
     (is_among before (profile_name file.name) ≡ false) ×
     AreOnceAfter (before ++ profile_name file.name ∷ []) files
 
--- the events that a server takes are within their limits, and its profiles have names, each its own
+-- the events that a server takes are within their limits, its profiles have names, each its own, and where it
+-- listens is an IP address with a port
 pub record IsServeFit (command : ServeCommand) : Type 0 where
   pub some_turns : 1 ≤ command.turns
   pub turns : command.turns ≤ most_turns
   pub named : AreProfileFiles command.profiles
   pub once : AreOnceAfter [] command.profiles
+  pub listens : (word : Named) → command.listen ≡ Some word → SpellsAddress word.name
 
--- the numbers of a command are within their limits, its places in its grid, and its profiles have names of
--- their own
+-- the numbers of a command are within their limits, its places in its grid, its profiles have names of their
+-- own, and its address is one
 abbrev pub IsFit : Command → Type 0
 IsFit (Form.TheVariants.Grid command) = IsGridFit command
 IsFit (Form.TheVariants.Make command) = IsSized command.seed command.w command.h

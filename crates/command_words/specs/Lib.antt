@@ -1,3 +1,4 @@
+pub mod Addresses
 pub mod Command
 pub mod FileNames
 pub mod Fit

@@ -4,6 +4,7 @@ use Rattle.std.specs.List.{before_first, after_first, position_or_len}
 use Rattle.std.specs.Prelude.{ℕ, ◌+◌, ◌-◌, ◌*◌, ◌==◌, Bool, true, false, cond, ◌&&◌, nat_lt, nat_le, Option, Some, None, List, [], ◌∷◌, length, take, drop, position, codes}
 use Rattle.std.specs.Str.{bytes_eq}
 use Rattle.item_list.specs.Bytes.{is_digit}
+use Rattle.command_words.specs.Addresses.{is_address}
 use Rattle.command_words.specs.FileNames.{is_file_name, is_profile_file}
 use Rattle.command_words.specs.declared.rows.Form.{Form}
 use Rattle.command_words.specs.declared.rows.Form.TheVariants as Wanted
@@ -86,7 +87,7 @@ value_of Wanted.Product text = product_value (product_of text)
 value_of Wanted.File text = file_value (is_file_name text)
 value_of Wanted.ProfileFile text = file_value (is_profile_file text)
 value_of Wanted.Query text = file_value (is_file_name text)
-value_of Wanted.Address text = file_value (is_file_name text)
+value_of Wanted.Address text = file_value (is_address text)
 
 -- a byte is an equals sign
 abbrev pub is_equals : ℕ → Bool

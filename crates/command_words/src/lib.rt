@@ -2,6 +2,7 @@
 //! tells of itself.
 #![tactic(auto)]
 
+mod addresses;
 mod command;
 mod completing;
 mod entry;

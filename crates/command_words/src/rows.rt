@@ -38,7 +38,7 @@ pub enum Form {
     ProfileFile,
     /// A query.
     Query,
-    /// An address to listen at.
+    /// An address to listen at: an IP address and a port.
     Address,
 }
 

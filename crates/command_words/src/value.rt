@@ -4,6 +4,7 @@ ghost use Rattle.std.specs.Prelude.{◌≡◌, option_map};
 ghost use Rattle.command_words.specs.Refusals.{texts_in};
 ghost use Rattle.command_words.specs.Value.{cut_word, first_place, number_of, number_value, place_of, place_value, product_of, product_value, value_of, within};
 
+use crate::addresses::is_address;
 use crate::file_names::is_profile_file;
 use crate::rows::Form;
 use item_list::is_digit;
@@ -40,8 +41,9 @@ pub fn value_of(form: Form, text: &[u8]) -> Option<Value>
         Form::Number { low, high } => number_value(text, low, high),
         Form::Place => place_value(text),
         Form::Product => product_value(text),
-        Form::File | Form::Query | Form::Address if !text.is_empty() => Some(Value::Named),
+        Form::File | Form::Query if !text.is_empty() => Some(Value::Named),
         Form::ProfileFile if is_profile_file(text) => Some(Value::Named),
+        Form::Address if is_address(text) => Some(Value::Named),
         Form::File | Form::Query | Form::Address | Form::ProfileFile => None,
     }
 }
