@@ -1,0 +1,26 @@
+// A track as files, and as a command line.
+
+import { queryOf, textOf } from './ride.js';
+
+const escaped = (text) => text.replace(/[&<>"]/g, (mark) => `&#${mark.charCodeAt(0)};`);
+
+export function gpxOf(reply) {
+  const points = reply.geometry.coordinates.map(([lon, lat, height]) => (
+    `   <trkpt lat="${lat}" lon="${lon}">${height === undefined ? '' : `<ele>${height}</ele>`}</trkpt>`));
+  return ['<?xml version="1.0" encoding="UTF-8"?>',
+    '<gpx version="1.1" creator="route_serve" xmlns="http://www.topografix.com/GPX/1/1">',
+    ` <trk><name>${escaped(reply.properties.name)}</name>`, '  <trkseg>', ...points, '  </trkseg>', ' </trk>', '</gpx>', ''].join('\n');
+}
+
+// The command that answers a ride, with the file of its profile.
+export function commandOf(ride, start, file) {
+  return `${start} profile=${file} \\\n  'query=${textOf(queryOf(ride, ride.profile))}'`;
+}
+
+export function save(name, type, text) {
+  const link = document.createElement('a');
+  link.href = URL.createObjectURL(new Blob([text], { type }));
+  link.download = name;
+  link.click();
+  setTimeout(() => URL.revokeObjectURL(link.href), 1000);
+}

@@ -1,0 +1,57 @@
+// A ride: what the rider asks for. The address of the page keeps it whole.
+
+export const MOST_WAYPOINTS = 100;
+export const MOST_CIRCLES = 64;
+
+export function emptyRide(profile) {
+  return { waypoints: [], circles: [], profile, beside: '', alternative: 0, values: {} };
+}
+
+const degrees = (number) => number.toFixed(6).replace(/\.?0+$/, '');
+const place = ({ lon, lat }) => `${degrees(lon)},${degrees(lat)}`;
+const circle = (each) => `${place(each)},${Math.round(each.radius)}`;
+
+// The pairs that the server is asked with, for one of the ride's two profiles.
+export function queryOf(ride, profile) {
+  const pairs = [['lonlats', ride.waypoints.map(place).join('|')], ['profile', profile]];
+  if (ride.circles.length) pairs.push(['nogos', ride.circles.map(circle).join('|')]);
+  if (ride.alternative) pairs.push(['alternativeidx', String(ride.alternative)]);
+  if (profile === ride.profile) {
+    for (const [name, value] of Object.entries(ride.values)) pairs.push([`profile:${name}`, value]);
+  }
+  return pairs;
+}
+
+// The text of pairs, in which the marks that a query may have stay readable.
+export function textOf(pairs) {
+  const plain = (text) => encodeURIComponent(text).replace(/%(2C|7C|3A)/g, (mark) => decodeURIComponent(mark));
+  return pairs.map(([key, value]) => `${plain(key)}=${plain(value)}`).join('&');
+}
+
+// What stands behind # in the page's address.
+export function addressOf(ride) {
+  const pairs = queryOf(ride, ride.profile);
+  if (ride.beside) pairs.push(['beside', ride.beside]);
+  return textOf(pairs);
+}
+
+function placesOf(text) {
+  return text.split('|').map((part) => part.split(',').map(Number))
+    .filter(([lon, lat]) => Math.abs(lon) <= 180 && Math.abs(lat) <= 90);
+}
+
+// The ride of an address; what it doesn't tell is as in an empty one.
+export function rideOf(address, profile) {
+  const ride = emptyRide(profile);
+  for (const [key, value] of new URLSearchParams(address)) {
+    if (key === 'lonlats') ride.waypoints = placesOf(value).slice(0, MOST_WAYPOINTS).map(([lon, lat]) => ({ lon, lat }));
+    else if (key === 'nogos') {
+      ride.circles = placesOf(value).filter((each) => each[2] >= 0).slice(0, MOST_CIRCLES)
+        .map(([lon, lat, radius]) => ({ lon, lat, radius }));
+    } else if (key === 'profile') ride.profile = value;
+    else if (key === 'beside') ride.beside = value;
+    else if (key === 'alternativeidx') ride.alternative = Math.min(3, Math.max(0, Number.parseInt(value, 10) || 0));
+    else if (key.startsWith('profile:')) ride.values[key.slice('profile:'.length)] = value;
+  }
+  return ride;
+}

@@ -1,0 +1,51 @@
+// What a refusal means to a rider, and where on the map it lies.
+
+const KINDS = {
+  end: 'the text ends in the middle of an assignment',
+  token: 'this word can\'t stand here',
+  bracket: 'a bracket is missing, or one is too many',
+  section: 'this opens no section, or stands before the first one',
+  number: 'this is no number of the language',
+  deep: 'this is nested too deep',
+};
+
+const ROWS = [
+  [/^not mapped: waypoint (\d+)$/, ([p]) => ({
+    text: `Waypoint ${p + 1} is farther than 250 metres from each road that the profile and the circles leave open.`, waypoints: [p] })],
+  [/^no track: leg (\d+)$/, ([leg]) => ({
+    text: `No permitted ride leads from waypoint ${leg + 1} to waypoint ${leg + 2}. That is proved, no search gave up: a one-way, a gate, `
+      + 'a turn restriction or a circle is in the way, or the map ends too early.', waypoints: [leg, leg + 1] })],
+  [/^label budget spent: leg (\d+), alternative (\d+)$/, ([leg]) => ({
+    text: `The search from waypoint ${leg + 1} to waypoint ${leg + 2} stopped at its limit. Whether there is a track isn't known. `
+      + 'Set a waypoint between.', waypoints: [leg, leg + 1] })],
+  [/^override (\d+): unknown name$/, () => ({ text: 'The profile has no variable of one of the names that were given a value.' })],
+  [/^profile unknown$/, () => ({ text: 'The server knows no profile of that name. One that was sent is there until the server ends.' })],
+  [/^profile line (\d+): (\w+)$/, ([line], [, kind]) => ({ text: `Line ${line}: ${KINDS[kind] ?? kind}.`, line })],
+  [/^profile line (\d+): (.+)$/, ([line], [, what]) => ({ text: `Line ${line}: ${what}.`, line })],
+  [/^profile: no costfactor$/, () => ({ text: 'The section of ways assigns no costfactor.' })],
+  [/^way (\d+) (.*)$/, (_, [id, rest]) => ({ text: `On way ${id} the profile fails: ${rest}.` })],
+  [/^node (\d+) (.*)$/, (_, [id, rest]) => ({ text: `At node ${id} the profile fails: ${rest}.` })],
+  [/^global (.*)$/, (_, [rest]) => ({ text: `The profile's global section fails: ${rest}.` })],
+  [/^(\w+) is negative$/, (_, [name]) => ({ text: `The value of ${name} is below zero.` })],
+  [/^query: too many in lonlats$/, () => ({ text: 'A ride has at most 100 waypoints.' })],
+  [/^query: too many in nogos$/, () => ({ text: 'A ride has at most 64 circles.' })],
+  [/^query: bad value of nogos$/, () => ({ text: 'A circle has a radius of at most 100 kilometres.' })],
+  [/^query: bad value of (.*)$/, (_, [name]) => ({ text: `The server doesn't take this value of ${name}.` })],
+  [/^sessions full$/, () => ({ text: 'The server is busy. Ask again in a moment.' })],
+  [/^uploads full$/, () => ({ text: 'The server holds as many profiles as it can. Its operator has to start it anew.' })],
+  [/^out of memory$/, () => ({ text: 'There wasn\'t enough memory for this request.' })],
+  [/^body too long$/, () => ({ text: 'The text is too long: a profile has at most 262,144 bytes.' })],
+  [/^no answer$/, () => ({ text: 'The server doesn\'t answer.' })],
+];
+
+// The words for a refusal's line, with the waypoints or the line of a text that it names.
+export function wordsOf(line) {
+  for (const [form, words] of ROWS) {
+    const found = form.exec(line);
+    if (found) {
+      const parts = found.slice(1);
+      return { waypoints: [], ...words(parts.map(Number), parts) };
+    }
+  }
+  return { waypoints: [], text: line || 'The server refused it.' };
+}
