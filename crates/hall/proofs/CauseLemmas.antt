@@ -3,7 +3,7 @@ use Rattle.std.proofs.Common.{ℕ, Bool, List, [], ◌∷◌, ◌++◌, sym, ◌
 use Rattle.edge_io.specs.Acts.{Act, Gave, told}
 use Rattle.hall.proofs.TrafficLemmas.{EndsSilent-more, OpensThen-more, SendsNone}
 use Rattle.hall.specs.Causes.{HasCause, IsDecidedIn, OpensIn, away, memory, row}
-use Rattle.hall.specs.Law.{GetsOwn, HadNoSeat, IsFrontOf, WasSilent, waits, no_seat, silent, own}
+use Rattle.hall.specs.Law.{GetsOwn, HadNoRoom, IsFrontOf, WasSilent, waits, no_room, silent, own}
 use Rattle.hall.specs.State.{Service, State}
 use Rattle.session_answers.specs.Stored.{Stored}
 use Rattle.hall.specs.Turns.{Meets}
@@ -57,8 +57,8 @@ module _ (meets : Meets) (id : ℕ) (acts more : List Act) where
   }
 
   -- it had no seat
-  HadNoSeat-more : HadNoSeat meets id acts → HadNoSeat meets id (acts ++ more)
-  HadNoSeat-more had = record {
+  HadNoRoom-more : HadNoRoom meets id acts → HadNoRoom meets id (acts ++ more)
+  HadNoRoom-more had = record {
     since = had.since ++ more;
     state = had.state;
     opening = OpensIn-more had.since had.state had.opening;
@@ -70,7 +70,7 @@ module _ (meets : Meets) (id : ℕ) (acts more : List Act) where
   pub GetsOwn-more : (service : Service) → SendsNone (told id acts) (told id (acts ++ more)) → GetsOwn service meets id acts →
       GetsOwn service meets id (acts ++ more)
   GetsOwn-more service none (waits sent unclosed) = waits (none.sent ∙ sent) (none.closed ∙ unclosed)
-  GetsOwn-more service none (no_seat sent had) = no_seat (none.sent ∙ sent) (HadNoSeat-more had)
+  GetsOwn-more service none (no_room sent had) = no_room (none.sent ∙ sent) (HadNoRoom-more had)
   GetsOwn-more service none (silent sent was_silent) = silent (none.sent ∙ sent) (WasSilent-more was_silent)
   GetsOwn-more service none (own has) =
       own (record {

@@ -17,7 +17,7 @@ use Rattle.session_answers.specs.Rows as queries
 use Rattle.session_answers.specs.Rows.{IsEarlyFrame}
 use Rattle.session_answers.specs.Stored.{Stored, Uploaded, by_check, by_text, most_uploads, refused_with, stored_after, upload_name, upload_reply}
 use Rattle.session_answers.specs.declared.refusal.Refusal.{Refusal}
-use Rattle.session_answers.specs.declared.refusal.Refusal.TheVariants.{HeadTooLong, BadRequest, PathUnknown, MethodNotAllowed, BodyTooLong, UploadsFull, ProfileUnknown, SessionsFull, OutOfMemory}
+use Rattle.session_answers.specs.declared.refusal.Refusal.TheVariants.{HeadTooLong, BadRequest, UnknownPath, MethodNotAllowed, BodyTooLong, UploadsFull, UnknownProfile, SessionsFull, OutOfMemory}
 
 -- the status that stands in a frame, by its three digits
 abbrev pub status_in : List ℕ → ℕ
@@ -40,11 +40,11 @@ pub status-refusal : (r : Refusal) → status_in (refusal_frame r) ≡ status_of
 unfolding refusal_frame frame_of status_line digits
 status-refusal HeadTooLong = refl
 status-refusal BadRequest = refl
-status-refusal PathUnknown = refl
+status-refusal UnknownPath = refl
 status-refusal MethodNotAllowed = refl
 status-refusal BodyTooLong = refl
 status-refusal UploadsFull = refl
-status-refusal ProfileUnknown = refl
+status-refusal UnknownProfile = refl
 status-refusal SessionsFull = refl
 status-refusal OutOfMemory = refl
 
@@ -52,11 +52,11 @@ status-refusal OutOfMemory = refl
 refusal_fails : (r : Refusal) → status_of r ≢ 200
 refusal_fails HeadTooLong is = omega arith
 refusal_fails BadRequest is = omega arith
-refusal_fails PathUnknown is = omega arith
+refusal_fails UnknownPath is = omega arith
 refusal_fails MethodNotAllowed is = omega arith
 refusal_fails BodyTooLong is = omega arith
 refusal_fails UploadsFull is = omega arith
-refusal_fails ProfileUnknown is = omega arith
+refusal_fails UnknownProfile is = omega arith
 refusal_fails SessionsFull is = omega arith
 refusal_fails OutOfMemory is = omega arith
 
@@ -68,7 +68,7 @@ pub no_success-early : (service : Service) (stored : List Stored) (query frame :
     IsEarlyFrame service.world stored query frame → status_in frame ≢ 200
 no_success-early service stored query frame (queries.malformed {e} failed) is =
     omega (arith, status-400 Plain (request_line e ++ 10 ∷ []), is)
-no_success-early service stored query frame (queries.unknown asks unknown) is = no_success-refusal ProfileUnknown is
+no_success-early service stored query frame (queries.unknown asks unknown) is = no_success-refusal UnknownProfile is
 no_success-early service stored query frame (queries.early {asked} {sections} {e} asks early) is =
     omega (arith, status-422 Plain (route_line (Some sections) e ++ 10 ∷ []), is)
 

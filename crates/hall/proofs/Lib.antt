@@ -5,6 +5,7 @@ pub mod CauseLemmas
 pub mod ChangeLemmas
 pub mod CountLemmas
 pub mod EmptyLemmas
+pub mod EndedLemmas
 pub mod FewLemmas
 pub mod FrameLemmas
 pub mod FrontLemmas

@@ -10,7 +10,7 @@ use Rattle.hall.proofs.TrafficLemmas.{AreApart-more, AreApart-one, told-own}
 use Rattle.hall.proofs.VerdictLemmas.{nothing_is_undecided}
 use Rattle.hall.specs.Causes.{OpensIn, away}
 use Rattle.hall.specs.Held.{HasRoom, IsFull}
-use Rattle.hall.specs.Law.{no_seat}
+use Rattle.hall.specs.Law.{no_room}
 use Rattle.hall.specs.State.{Connection, Service, State, put}
 use Rattle.hall.specs.Steps as steps
 use Rattle.hall.specs.Steps.{Opens, full_frame, session, turned_away}
@@ -83,7 +83,7 @@ module _ (service : Service) (meets : Meets) (s stepped : State) (id : ℕ) (act
       (AreApart-one j (Gave (Opened id) bytes) off) (AreApart-one j (Closed id) off)) all
       (subst (λ (x : Option Connection). Stands service meets s.stored id (acts ++ more) x) (sym none)
       (gone (ap (λ (t : Traffic). t.opened) both)
-      (no_seat (ap (λ (t : Traffic). t.sent) both ∙ fresh.none)
+      (no_room (ap (λ (t : Traffic). t.sent) both ∙ fresh.none)
       (record { since = Closed id ∷ []; state = s; opening = opening_by (Closed id ∷ []); sessions_full = many; aways_full = turned }))))
 
   -- an opening

@@ -8,7 +8,7 @@ use Rattle.edge_io.specs.declared.event.Event.TheVariants.{Over}
 use Rattle.edge_io.proofs.CallerLemmas.{IsFresh-later, OpensOnce-more, OpensOnce-none, Tells-more, Tells-none}
 use Rattle.hall.proofs.SeatCountLemmas.{id_of}
 use Rattle.hall.specs.Sends.{Closes, Sends, nothing, taken, broken, gone, stays, done}
-use Rattle.hall.specs.Served.{ClosedDone, Goes, OpenOnceIn, SentPiece, Served, ServedAll, ServedEach, ServedOne, ServedSeat, Stepped, Takes, TookTurn, TookTurns, Turned}
+use Rattle.hall.specs.Served.{ClosedDone, Goes, OpenOnceIn, SentPiece, Served, ServedAll, ServedEach, ServedOne, ServedSeat, Stepped, TurnComesTo, TookTurn, TookTurns, Turned}
 use Rattle.hall.specs.State.{Connection, Service, State}
 use Rattle.hall.specs.Steps.{Works}
 use Rattle.hall.specs.Turns.{ServesEach, Turn, Turns, shut}
@@ -255,7 +255,7 @@ served_fault service limit s between left old mid new n turns less is tells rose
 
 -- why it ended, by the turn that ended it
 pub served_end : (service : Service) (limit : ℕ) (s between left : State) (old mid new : HubSeen) (n : ℕ) (end : ServeEnd) →
-    TookTurns service s old n between mid → n < limit → Takes service between mid (Some end) left new →
+    TookTurns service s old n between mid → n < limit → TurnComesTo service between mid (Some end) left new →
     Served service limit s old end left new
 served_end service limit s between left old mid new n why.Over turns less takes =
     served_over service limit s between left old mid new n turns less takes.0 takes.1

@@ -8,7 +8,7 @@ use Rattle.route_http.specs.declared.heads.Method.TheVariants.{Get, Post, Other}
 use Rattle.route_http.specs.declared.span.Span.{Span}
 use Rattle.session_answers.specs.Verdicts.{IsVerdict, by_path, is_whole, most_body, of_route, of_upload, part, profile_path, route_path, unfinished, verdict_by}
 use Rattle.session_answers.specs.declared.refusal.Refusal.{Refusal}
-use Rattle.session_answers.specs.declared.refusal.Refusal.TheVariants.{BadRequest, BodyTooLong, MethodNotAllowed, PathUnknown}
+use Rattle.session_answers.specs.declared.refusal.Refusal.TheVariants.{BadRequest, BodyTooLong, MethodNotAllowed, UnknownPath}
 use Rattle.session_answers.specs.declared.verdict.Verdict.{Verdict}
 use Rattle.session_answers.specs.declared.verdict.Verdict.TheVariants.{Undecided, NoByte, Refused, Upload, Query}
 
@@ -60,9 +60,9 @@ path_has_byte : (path : List ℕ) (long : ℕ) (method : Method) (query : Span) 
     by_path path long method query body bytes ≡ NoByte → ⊥
 path_has_byte path long method query body bytes is =
     by_test (λ v. v ≡ NoByte → ⊥) (bytes_eq path route_path) (of_route method query body)
-    (cond (bytes_eq path profile_path) (of_upload long method body bytes) (Refused PathUnknown))
+    (cond (bytes_eq path profile_path) (of_upload long method body bytes) (Refused UnknownPath))
     (route_is_decided method query body).has_byte
-    (by_test (λ v. v ≡ NoByte → ⊥) (bytes_eq path profile_path) (of_upload long method body bytes) (Refused PathUnknown)
+    (by_test (λ v. v ≡ NoByte → ⊥) (bytes_eq path profile_path) (of_upload long method body bytes) (Refused UnknownPath)
     (upload_has_byte long method body bytes) (λ h. cc))
     is
 
@@ -70,10 +70,10 @@ path_is_decided : (path : List ℕ) (long : ℕ) (method : Method) (query : Span
     is_whole long method body bytes ≡ true → IsDecided (by_path path long method query body bytes)
 path_is_decided path long method query body bytes whole =
     by_test IsDecided (bytes_eq path route_path) (of_route method query body)
-    (cond (bytes_eq path profile_path) (of_upload long method body bytes) (Refused PathUnknown))
+    (cond (bytes_eq path profile_path) (of_upload long method body bytes) (Refused UnknownPath))
     (route_is_decided method query body)
-    (by_test IsDecided (bytes_eq path profile_path) (of_upload long method body bytes) (Refused PathUnknown)
-    (upload_is_decided long method body bytes whole) (refused_is_decided PathUnknown))
+    (by_test IsDecided (bytes_eq path profile_path) (of_upload long method body bytes) (Refused UnknownPath)
+    (upload_is_decided long method body bytes whole) (refused_is_decided UnknownPath))
 
 whole_is_decided : (bytes : List ℕ) (long : ℕ) (method : Method) (path query : Span) (body : ℕ) →
     IsDecided (verdict_by (Whole long method path query body) bytes true)

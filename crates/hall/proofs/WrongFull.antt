@@ -29,7 +29,7 @@ use Rattle.session_answers.specs.Rows as queries
 use Rattle.session_answers.specs.Rows.{Asks, IsEarlyFrame, IsQueryFrame, kind_of}
 use Rattle.session_answers.specs.Stored.{Stored, Uploaded, by_check, by_text, most_uploads, stored_after, upload_name, upload_reply}
 use Rattle.session_answers.specs.Verdicts.{by_path, is_whole, most_body, of_route, of_upload, part, profile_path, route_path, verdict_by}
-use Rattle.session_answers.specs.declared.refusal.Refusal.TheVariants.{BadRequest, BodyTooLong, OutOfMemory, PathUnknown, ProfileUnknown, SessionsFull, UploadsFull}
+use Rattle.session_answers.specs.declared.refusal.Refusal.TheVariants.{BadRequest, BodyTooLong, OutOfMemory, UnknownPath, UnknownProfile, SessionsFull, UploadsFull}
 use Rattle.session_answers.specs.declared.verdict.Verdict.{Verdict}
 use Rattle.session_answers.specs.declared.verdict.Verdict.TheVariants.{Undecided, NoByte, Refused, Upload, Query}
 
@@ -62,8 +62,8 @@ path_never : (path : List ℕ) (long : ℕ) (method : Method) (query : Span) (bo
     NotFull (by_path path long method query body bytes)
 path_never path long method query body bytes =
     either (bytes_eq path route_path) (of_route method query body)
-    (cond (bytes_eq path profile_path) (of_upload long method body bytes) (Refused PathUnknown)) (route_never method query body)
-    (either (bytes_eq path profile_path) (of_upload long method body bytes) (Refused PathUnknown) (upload_never long method body bytes)
+    (cond (bytes_eq path profile_path) (of_upload long method body bytes) (Refused UnknownPath)) (route_never method query body)
+    (either (bytes_eq path profile_path) (of_upload long method body bytes) (Refused UnknownPath) (upload_never long method body bytes)
     (λ is. omega arith))
 
 verdict_never : (head : Head) (bytes : List ℕ) (ended : Bool) → NotFull (verdict_by head bytes ended)
@@ -81,7 +81,7 @@ query_never : (service : Service) (stored : List Stored) (query frame : List ℕ
     status_in frame ≢ 503
 query_never service stored query frame (queries.before (queries.malformed {e} failed)) is =
     omega (arith, status-400 Plain (request_line e ++ 10 ∷ []), is)
-query_never service stored query frame (queries.before (queries.unknown asks unknown)) is = omega (arith, status-refusal ProfileUnknown, is)
+query_never service stored query frame (queries.before (queries.unknown asks unknown)) is = omega (arith, status-refusal UnknownProfile, is)
 query_never service stored query frame (queries.before (queries.early {sections} {e} asks early)) is =
     omega (arith, status-422 Plain (route_line (Some sections) e ++ 10 ∷ []), is)
 query_never service stored query frame (queries.refused {sections} {e} asks answer) is =

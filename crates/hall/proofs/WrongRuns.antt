@@ -27,7 +27,7 @@ use Rattle.session_answers.specs.Rows.{Asks, IsEarlyFrame, IsQueryFrame, kind_of
 use Rattle.session_answers.specs.Stored.{Stored, by_check, by_text, find_stored, upload_reply}
 use Rattle.session_answers.specs.Verdicts.{IsVerdict, part}
 use Rattle.session_answers.specs.declared.refusal.Refusal.{Refusal}
-use Rattle.session_answers.specs.declared.refusal.Refusal.TheVariants.{BadRequest, OutOfMemory, ProfileUnknown, SessionsFull}
+use Rattle.session_answers.specs.declared.refusal.Refusal.TheVariants.{BadRequest, OutOfMemory, UnknownProfile, SessionsFull}
 use Rattle.session_answers.specs.declared.verdict.Verdict.{Verdict}
 use Rattle.session_answers.specs.declared.verdict.Verdict.TheVariants.{Undecided, Refused, Upload, Query}
 
@@ -104,8 +104,8 @@ module _ (service : Service) (meets : Meets) (id : ℕ) (acts : List Act) (frame
       ]
 
   -- it isn't told that its profile is unknown
-  pub no_unknown : frame ≡ refusal_frame ProfileUnknown → HasCause service meets id acts frame → ⊥
-  no_unknown = no_refusal ProfileUnknown (λ h. omega arith) (omega arith)
+  pub no_unknown : frame ≡ refusal_frame UnknownProfile → HasCause service meets id acts frame → ⊥
+  no_unknown = no_refusal UnknownProfile (λ h. omega arith) (omega arith)
 
   -- nor that its request was bad, whatever its peer did since
   pub no_bad_request : frame ≡ refusal_frame BadRequest → HasCause service meets id acts frame → ⊥

@@ -30,9 +30,9 @@ pub record WasSilent (meets : Meets) (id : ℕ) (acts : List Act) : Type 0 where
   pub room : HasRoom state false
   pub ends : EndsSilent id since
 
--- a connection got no seat when it opened: as many sessions were held, and as many connections turned away,
--- as may be
-pub record HadNoSeat (meets : Meets) (id : ℕ) (acts : List Act) : Type 0 where
+-- there was no room for a connection when it opened: as many sessions were held, and as many connections
+-- turned away, as may be
+pub record HadNoRoom (meets : Meets) (id : ℕ) (acts : List Act) : Type 0 where
   pub since : List Act
   pub state : State
   pub opening : OpensIn meets id acts since state
@@ -48,12 +48,12 @@ pub record HasOwnFrame (service : Service) (meets : Meets) (id : ℕ) (acts : Li
   pub sent : IsFrontOf (told id acts).sent frame
   pub whole : (told id acts).closed ≡ true → (told id acts).sent ≡ frame
 
--- what a connection gets in a run of these events: nothing, while it isn't closed; nothing, since it had no
--- seat or its peer ended before the first byte; or a front of its own frame
+-- what a connection gets in a run of these events: nothing, while it isn't closed; nothing, since there was no
+-- room for it or its peer ended before the first byte; or a front of its own frame
 pub data GetsOwn (service : Service) (meets : Meets) (id : ℕ) (acts : List Act) :
     Type 0 where
   waits : (told id acts).sent ≡ [] → (told id acts).closed ≡ false → GetsOwn service meets id acts
-  no_seat : (told id acts).sent ≡ [] → HadNoSeat meets id acts → GetsOwn service meets id acts
+  no_room : (told id acts).sent ≡ [] → HadNoRoom meets id acts → GetsOwn service meets id acts
   silent : (told id acts).sent ≡ [] → WasSilent meets id acts → GetsOwn service meets id acts
   own : HasOwnFrame service meets id acts → GetsOwn service meets id acts
 

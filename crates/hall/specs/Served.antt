@@ -128,12 +128,12 @@ pub record TookTurn (service : Service) (s : State) (old : HubSeen) (left : Stat
   pub goes : Goes old new acts
 
 -- what a turn comes to, which ends the server or not
-abbrev pub Takes : (service : Service) (s : State) (old : HubSeen) → Option ServeEnd → (left : State) (new :
-    HubSeen) → Type 0
-Takes service s old None left new = TookTurn service s old left new
-Takes service s old (Some why.Over) left new = (left ≡ s) × Goes old new (Gave events.Over [] ∷ [])
-Takes service s old (Some why.TurnsSpent) left new = ⊥
-Takes service s old (Some why.HubFault) left new = (left ≡ s) × Tells old.acts new.acts [] ×
+abbrev pub TurnComesTo : (service : Service) (s : State) (old : HubSeen) → Option ServeEnd → (left : State)
+    (new : HubSeen) → Type 0
+TurnComesTo service s old None left new = TookTurn service s old left new
+TurnComesTo service s old (Some why.Over) left new = (left ≡ s) × Goes old new (Gave events.Over [] ∷ [])
+TurnComesTo service s old (Some why.TurnsSpent) left new = ⊥
+TurnComesTo service s old (Some why.HubFault) left new = (left ≡ s) × Tells old.acts new.acts [] ×
     CountRose old.faults new.faults
 
 -- so many turns were taken

@@ -1,6 +1,6 @@
--- Each search that waits comes to its end: what every run of a server gives to a session that waits. This
--- project's own rule.
-use Rattle.std.specs.Prelude.{◌≡◌, ◌⊎◌, ℕ, suc, ◌*◌, ◌/◌, ◌≤◌, List, Some}
+-- Each search that waits comes to its end: what every run of a server gives to a session that waits, and
+-- what one run gave. This project's own rule.
+use Rattle.std.specs.Prelude.{◌≡◌, ◌⊎◌, ℕ, suc, ◌+◌, ◌*◌, ◌/◌, ◌≤◌, List, Some}
 use Rattle.edge_io.specs.Acts.{Act}
 use Rattle.edge_io.specs.declared.event.Event.{Event}
 use Rattle.edge_io.specs.declared.event.Event.TheVariants.{Lost}
@@ -29,7 +29,7 @@ EndsAmong service s id c n acts new none = ⊥
 EndsAmong service s id c n acts new (more {n = before} {acts = first} {between} {event} turns turn) =
     EndsAmong service s id c before first between turns ⊎ EndsWait id c event turn.worked
 
--- ---- The law
+-- ---- The waits that follow
 
 -- the most turns that a session waits for its frame: it has a turn of work in as many turns as sessions may be
 -- held, and it has one for each `work_quota` labels that may be settled for its request, and one more
@@ -48,6 +48,40 @@ pub record EndsInTime (service : Service) (s : State) (id : ℕ) (c : Connection
 abbrev pub AllEndInTime : Service → State → Type 0
 AllEndInTime service s = (id settled : ℕ) (c : Connection) → s.known id ≡ Some c → c.phase ≡ Waits settled →
     EndsInTime service s id c
+
+-- ---- The waits of one run
+
+-- after so many of these turns the hall held this
+abbrev pub HeldAfter :
+    {service : Service} {s new : State} {n : ℕ} {acts : List Act} → Turns service s n acts new → ℕ → State →
+    Type 0
+HeldAfter {s} none k state = (k ≡ 0) × (state ≡ s)
+HeldAfter (more {n} {new} turns turn) k state = HeldAfter turns k state ⊎ ((k ≡ suc n) × (state ≡ new))
+
+-- of these turns one behind the first so many ended the wait of a session
+abbrev pub EndedSince :
+    (id : ℕ) (c : Connection) (k : ℕ) {service : Service} {s new : State} {n : ℕ} {acts : List Act} →
+    Turns service s n acts new → Type 0
+EndedSince id c k none = ⊥
+EndedSince id c k (more {n} {event} turns turn) =
+    EndedSince id c k turns ⊎ ((k ≤ n) × EndsWait id c event turn.worked)
+
+-- a session that waited after so many of these turns asked for something; and where so many more turns were
+-- made as its request allows, one of these ended its wait
+pub record EndedInTime {service : Service} {s new : State} {n : ℕ} {acts : List Act}
+    (turns : Turns service s n acts new) (k id : ℕ) (c : Connection) : Type 0 where
+  pub asked : Asked
+  pub asks : AsksFor c asked
+  pub ended : k + most_turns asked ≤ n → EndedSince id c k turns
+
+-- in these turns no search went on for ever: so it was for each session that waited after some of them
+abbrev pub EndedEachWait :
+    {service : Service} {s new : State} {n : ℕ} {acts : List Act} → Turns service s n acts new → Type 0
+EndedEachWait turns =
+    (k : ℕ) (state : State) → HeldAfter turns k state → (id settled : ℕ) (c : Connection) →
+    state.known id ≡ Some c → c.phase ≡ Waits settled → EndedInTime turns k id c
+
+-- ---- The law
 
 -- no search goes on for ever: after any turns from a hall without connections, each session that waits is
 -- answered or lost in time

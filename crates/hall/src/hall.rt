@@ -5,7 +5,7 @@ ghost use Rattle.hall.specs.Parts.{seat_count};
 
 use crate::desk::Desk;
 use crate::ready_frames::ReadyFrames;
-use crate::room::Room;
+use crate::room::{MOST_SESSIONS, Room, SEATS};
 use crate::seat::Seat;
 use crate::serving::serve_seats;
 use crate::stepping::step;
@@ -16,12 +16,6 @@ use session_answers::{KeptProfiles, Profiles};
 use std::alloc::{AllocError, Global};
 use std::collections::VecDeque;
 use std::marker::Model;
-
-/// How many seats there are.
-const SEATS: usize = 128;
-
-/// For how many connections the queue has room.
-const MOST_WAITING: usize = 64;
 
 /// All connections of a server, with what it answers them from.
 pub struct Hall {
@@ -76,7 +70,7 @@ impl Hall {
     {
         let kept = KeptProfiles::new(alloc)?;
         let seats = free_seats(alloc)?;
-        let queue = VecDeque::with_capacity(alloc, MOST_WAITING)?;
+        let queue = VecDeque::with_capacity(alloc, MOST_SESSIONS)?;
         let ready = ReadyFrames::new(alloc)?;
         let profiles = Profiles::new(shelf);
         let desk = Desk {
@@ -125,6 +119,15 @@ impl Hall {
         ensures allowed { AreAllowed (service_of self.new) (state_of self.new) }
     {
         serve_seats(&mut self.room, &self.ready, hub);
+    }
+
+    /// What is true of a hall at any moment.
+    pub(crate) fn lawful(&self)
+        ensures sound { IsSound (service_of self.now) (state_of self.now) }
+        ensures few { (away : Bool) → AreFew (state_of self.now) away }
+        ensures allowed { AreAllowed (service_of self.now) (state_of self.now) }
+    {
+        let _room = &self.room;
     }
 }
 

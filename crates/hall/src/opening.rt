@@ -5,13 +5,10 @@ ghost use Rattle.hall.specs.Parts.{IsHeld, IsPlaced, count_of, seats_of, service
 ghost use Rattle.hall.specs.Steps.{Loses, Opens};
 
 use crate::queue::left;
-use crate::room::Room;
+use crate::room::{MOST_SESSIONS, Room};
 use crate::seat::Seat;
 use crate::seating::{session, turned_away};
 use crate::seats::{count, free_seat, put, seat_of};
-
-/// How many sessions are held at most, and how many connections are turned away at most.
-const MOST_SESSIONS: usize = 64;
 
 /// Takes in a connection that opened, where there is room for it. One that is to be closed at once
 /// is answered.

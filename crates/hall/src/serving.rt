@@ -7,13 +7,10 @@ ghost use Rattle.hall.specs.Served.{AreLive, ClosedDone, SentPiece, ServedAll, S
 
 use crate::queue::left;
 use crate::ready_frames::ReadyFrames;
-use crate::room::Room;
+use crate::room::{Room, SEATS};
 use crate::seat::Seat;
 use crate::seats::{is_free, lifted, put};
 use edge_io::Hub;
-
-/// How many seats there are.
-const SEATS: usize = 128;
 
 /// Serves each connection once, in the order of their seats.
 pub(crate) fn serve_seats<H: Hub>(room: &mut Room, ready: &ReadyFrames, hub: &mut H)

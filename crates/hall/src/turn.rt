@@ -1,9 +1,12 @@
 //! A server's turns.
 
-ghost use Rattle.std.specs.Prelude.{◌≡◌, ◌≢◌, ◌<◌, length};
+ghost use Rattle.std.specs.Prelude.{◌≡◌, ◌≢◌, ◌<◌, Bool, length};
 ghost use Rattle.edge_io.specs.Hub.{FitsBuffer, bytes_given};
 ghost use Rattle.edge_io.specs.declared.event.Event.TheVariants.{Over};
-ghost use Rattle.hall.specs.Served.{AreLive, Heard, Served, Stepped, Takes, Turned};
+ghost use Rattle.hall.specs.Allowed.{AreAllowed};
+ghost use Rattle.hall.specs.Held.{AreFew};
+ghost use Rattle.hall.specs.Served.{AreLive, Heard, Served, Stepped, TurnComesTo, Turned};
+ghost use Rattle.hall.specs.Sound.{IsSound};
 ghost use Rattle.hall.specs.View.{service_of, state_of};
 
 use crate::hall::Hall;
@@ -13,6 +16,23 @@ use edge_io::{Event, Hub};
 /// Serves the connections of a hub for at most so many turns: each takes one event, gives a search
 /// one turn, and sends a piece of each connection once.
 pub fn serve<H: Hub>(hall: &mut Hall, hub: &mut H, turns: u64) -> ServeEnd
+    requires live { AreLive (state_of hall.old) (H.seen hub.old) }
+    ensures run { Served (service_of hall.old) turns (state_of hall.old) (H.seen hub.old) result
+        (state_of hall.new) (H.seen hub.new) }
+    ensures live { AreLive (state_of hall.new) (H.seen hub.new) }
+    ensures same { service_of hall.new ≡ service_of hall.old }
+
+    ensures sound { IsSound (service_of hall.new) (state_of hall.new) }
+    ensures few { (away : Bool) → AreFew (state_of hall.new) away }
+    ensures allowed { AreAllowed (service_of hall.new) (state_of hall.new) }
+{
+    let end = take_turns(hall, hub, turns);
+    hall.lawful();
+    end
+}
+
+/// Takes at most so many turns; why the server ends.
+fn take_turns<H: Hub>(hall: &mut Hall, hub: &mut H, turns: u64) -> ServeEnd
     requires live { AreLive (state_of hall.old) (H.seen hub.old) }
     ensures run { Served (service_of hall.old) turns (state_of hall.old) (H.seen hub.old) result
         (state_of hall.new) (H.seen hub.new) }
@@ -32,7 +52,7 @@ pub fn serve<H: Hub>(hall: &mut Hall, hub: &mut H, turns: u64) -> ServeEnd
 fn take_turn<H: Hub>(hall: &mut Hall, hub: &mut H, buf: &mut [u8]) -> Option<ServeEnd>
     requires some { 0 < length buf.old }
     requires live { AreLive (state_of hall.old) (H.seen hub.old) }
-    ensures takes { Takes (service_of hall.old) (state_of hall.old) (H.seen hub.old) result
+    ensures takes { TurnComesTo (service_of hall.old) (state_of hall.old) (H.seen hub.old) result
         (state_of hall.new) (H.seen hub.new) }
     ensures live { AreLive (state_of hall.new) (H.seen hub.new) }
     ensures same { service_of hall.new ≡ service_of hall.old }

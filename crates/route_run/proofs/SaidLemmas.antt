@@ -14,10 +14,10 @@ use Rattle.route_run.proofs.CommandLemmas.{command-cause, offers-cause}
 use Rattle.route_run.specs.Ends.{Ends}
 use Rattle.route_run.specs.Offer.{Offer}
 use Rattle.route_run.specs.Outcome.{IsDone as done}
-use Rattle.route_run.specs.Outcome.{HasCause, HasHubCause, HasOpenedAll, HasReadCause, IsAnswer, IsComplete, IsDone, IsOutcome, Reach, command_in, file_words}
+use Rattle.route_run.specs.Outcome.{HasWriteCause, HasHubCause, HasOpenedAll, HasReadCause, IsAnswer, IsComplete, IsDone, IsOutcome, Reach, command_in, file_words}
 use Rattle.route_run.specs.Serving.{IsServeOutcome as outcome}
-use Rattle.route_run.specs.Serving.{Serves as serves}
-use Rattle.route_run.specs.Serving.{IsServeOutcome, Serves, status_of_end}
+use Rattle.route_run.specs.Serving.{IsServedAt as serves}
+use Rattle.route_run.specs.Serving.{IsServeOutcome, IsServedAt, status_of_end}
 use Rattle.run_files.specs.declared.status.Status.{Status}
 use Rattle.run_files.specs.declared.status.Status.TheVariants.{Done, Usage, Query, TooLong, Lookup, Text, Check, Map, Tile, Route, NotFound, ReadFault, WriteFault, TurnsSpent, HubFault, NoMemory}
 use Rattle.hall.specs.Served.{EndsBy}
@@ -27,7 +27,7 @@ use Rattle.hall.specs.declared.serve_end.ServeEnd.TheVariants as end
 -- all that is said of the status of words that are this command, or are at fault here
 pub record Said (named : Result Command ℕ) (old new : Reach) (status : Status) : Type 0 where
   pub read : HasReadCause (file_words named) status old.files new.files
-  pub written : HasCause status old.out.faults new.out.faults
+  pub written : HasWriteCause status old.out.faults new.out.faults
   pub hub : HasHubCause status old.hub.faults new.hub.faults
   pub complete :
       (command : Command) → named ≡ Ok command → (CountRose old.out.faults new.out.faults → ⊥) →
@@ -83,7 +83,7 @@ module _ (named : Result Command ℕ) (old new : Reach)
 
     -- of the end of a server, where the output has the faults that it had
     served-said : (address : List ℕ) (turns : ℕ) (offer : Offer) (status : Status) → HasOpenedAll (length (file_words named)) old.files new.files →
-        Serves address turns offer old.hub new.hub status → new.out.faults ≡ old.out.faults → Said named old new status
+        IsServedAt address turns offer old.hub new.hub status → new.out.faults ≡ old.out.faults → Said named old new status
     served-said address turns offer _ all (serves.shut fails) out =
         record { read = all; written = out; hub = fails.rose; complete = λ command is still calm quiet. absurd (quiet fails.rose) }
     served-said address turns offer _ all (serves.served {opened = opened} {end = how} does to) out = go how to.served.ends

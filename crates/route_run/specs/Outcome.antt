@@ -82,9 +82,9 @@ pub data IsDone (command : Command) (old new : Reach) (status : Status) : Type 0
       IsDone command old new status
 
 -- a write fault comes where the output's count of faults rose, and every other status leaves it
-abbrev pub HasCause : Status → ℕ → ℕ → Type 0
-HasCause WriteFault old new = CountRose old new
-HasCause status old new = new ≡ old
+abbrev pub HasWriteCause : Status → ℕ → ℕ → Type 0
+HasWriteCause WriteFault old new = CountRose old new
+HasWriteCause status old new = new ≡ old
 
 -- a hub fault comes where the hub's count of faults rose, and every other status leaves it
 abbrev pub HasHubCause : Status → ℕ → ℕ → Type 0

@@ -1,5 +1,5 @@
 -- What the command `serve` does: what it offers is served over a hub. This project's own rule.
-use Rattle.std.specs.Prelude.{ℕ, ◌≡◌, List, [], ◌∷◌, Some, Ok, Err}
+use Rattle.std.specs.Prelude.{ℕ, ◌≡◌, Bool, List, [], ◌∷◌, Some, Ok, Err}
 use Rattle.command_words.specs.Command.{address_of}
 use Rattle.command_words.specs.declared.command.ServeCommand.{ServeCommand}
 use Rattle.edge_io.specs.Acts.{Act, Listens}
@@ -9,11 +9,14 @@ use Rattle.hall.specs.State.{State}
 use Rattle.route_run.specs.Offer.{Offer, Offers}
 use Rattle.run_files.specs.declared.status.Status.{Status}
 use Rattle.run_files.specs.declared.status.Status.TheVariants as status
+use Rattle.hall.specs.Allowed.{AreAllowed}
+use Rattle.hall.specs.Held.{AreFew}
 use Rattle.hall.specs.Law.{GetsOwn}
 use Rattle.hall.specs.Served.{Served}
+use Rattle.hall.specs.Sound.{IsSound}
 use Rattle.hall.specs.Turns.{EventOf, Turns}
 use Rattle.hall.specs.Uploads.{GrowsByUploads}
-use Rattle.hall.specs.Waiting.{AllEndInTime}
+use Rattle.hall.specs.Waiting.{AllEndInTime, EndedEachWait}
 use Rattle.hall.specs.declared.serve_end.ServeEnd.{ServeEnd}
 use Rattle.hall.specs.declared.serve_end.ServeEnd.TheVariants.{Over, TurnsSpent, HubFault}
 
@@ -23,15 +26,21 @@ status_of_end Over = status.Done
 status_of_end TurnsSpent = status.TurnsSpent
 status_of_end HubFault = status.HubFault
 
--- an offer was served to so many turns from an opened hub on: all that the hub told since is a run of turns;
--- after any turns from it each session that waits is answered or lost in time; and where it tells, each
--- connection got its own, and what is stored grew by the accepted uploads alone
+-- an offer was served to so many turns from an opened hub on: all that the hub told since is a run of turns.
+-- In this run no search went on for ever: each session that waited was answered or lost in time; and so it is
+-- after any turns from the offer. What is left is sound, with no more connections than may be, and each frame
+-- in it is allowed. Where the hub tells, each connection got its own, and what is stored grew by the accepted
+-- uploads alone
 pub record IsServedTo (turns : ℕ) (offer : Offer) (opened : HubSeen) (end : ServeEnd) (new : HubSeen) :
     Type 0 where
   pub left : State
   pub served : Served offer.0 turns offer.1 opened end left new
-  pub in_time : (n : ℕ) (acts : List Act) (between : State) → Turns offer.0 offer.1 n acts between →
+  pub in_time : EndedEachWait served.run.turns
+  pub after_any : (n : ℕ) (acts : List Act) (between : State) → Turns offer.0 offer.1 n acts between →
       AllEndInTime offer.0 between
+  pub sound : IsSound offer.0 left
+  pub few : (away : Bool) → AreFew left away
+  pub allowed : AreAllowed offer.0 left
   pub own :
       (before : List Act) → opened.acts ≡ Some before → (id : ℕ) →
       GetsOwn offer.0 (EventOf served.run.turns) id served.acts
@@ -39,11 +48,11 @@ pub record IsServedTo (turns : ℕ) (offer : Offer) (opened : HubSeen) (end : Se
 
 -- an offer is served: the hub couldn't be opened; or it was, once and at this address, and then turns were
 -- taken
-pub data Serves (address : List ℕ) (turns : ℕ) (offer : Offer) (old new : HubSeen) : Status → Type 0 where
-  shut : Fails old new → Serves address turns offer old new status.HubFault
+pub data IsServedAt (address : List ℕ) (turns : ℕ) (offer : Offer) (old new : HubSeen) : Status → Type 0 where
+  shut : Fails old new → IsServedAt address turns offer old new status.HubFault
   served :
       {opened : HubSeen} {end : ServeEnd} → Does old opened (Listens address ∷ []) →
-      IsServedTo turns offer opened end new → Serves address turns offer old new (status_of_end end)
+      IsServedTo turns offer opened end new → IsServedAt address turns offer old new (status_of_end end)
 
 -- what the command `serve` does: what it offers is refused, and the hub is left; or it is served at the
 -- command's address
@@ -53,5 +62,5 @@ pub data IsServeOutcome (command : ServeCommand) (old new : FilesSeen) (hub_old 
       IsServeOutcome command old new hub_old hub_new status
   served :
       {offer : Offer} → Offers command old new (Ok offer) →
-      Serves (address_of command.listen) command.turns offer hub_old hub_new status →
+      IsServedAt (address_of command.listen) command.turns offer hub_old hub_new status →
       IsServeOutcome command old new hub_old hub_new status

@@ -6,7 +6,7 @@ ghost use Rattle.command_words.specs.Fit.{IsServeFit};
 ghost use Rattle.edge_io.specs.Acts.{Listens};
 ghost use Rattle.edge_io.specs.Hub.{Does, Fails};
 ghost use Rattle.route_run.specs.Offer.{IsNew, offer_of};
-ghost use Rattle.route_run.specs.Serving.{IsServeOutcome, IsServedTo, Serves, status_of_end};
+ghost use Rattle.route_run.specs.Serving.{IsServeOutcome, IsServedTo, IsServedAt, status_of_end};
 
 use crate::offer::take_offer;
 use command_words::ServeCommand;
@@ -38,7 +38,7 @@ pub fn serve_answer<F: Files, H: Hub>(
 /// Opens the hub at the command's address, and serves.
 fn serve_at<H: Hub>(hall: Hall, command: &ServeCommand, hub: &mut H) -> Status
     requires empty { IsNew (offer_of hall) }
-    ensures exact { Serves (address_of command.now.listen) command.now.turns (offer_of hall)
+    ensures exact { IsServedAt (address_of command.now.listen) command.now.turns (offer_of hall)
         (H.seen hub.old) (H.seen hub.new) result }
 {
     match open_at(command, hub) {

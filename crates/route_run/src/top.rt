@@ -7,7 +7,7 @@ ghost use Rattle.command_words.specs.Refusals.{texts_of};
 ghost use Rattle.command_words.specs.declared.command.Command.{Command as TheCommand};
 ghost use Rattle.edge_io.specs.Faults.{CountRose};
 ghost use Rattle.item_list.specs.Answer.{Answers};
-ghost use Rattle.route_run.specs.Outcome.{HasCause, HasHubCause, HasReadCause, IsComplete, IsDone, IsOutcome, command_in, file_words, reach};
+ghost use Rattle.route_run.specs.Outcome.{HasWriteCause, HasHubCause, HasReadCause, IsComplete, IsDone, IsOutcome, command_in, file_words, reach};
 
 use crate::sending::{send, send_output};
 use crate::server::serve_answer;
@@ -28,7 +28,7 @@ pub fn run<F: Files, O: Sink, H: Hub>(
     ensures outcome { IsOutcome (texts_of words.now)
         (reach (F.seen files.old) (O.seen out.old) (H.seen hub.old))
         (reach (F.seen files.new) (O.seen out.new) (H.seen hub.new)) result }
-    ensures cause { HasCause result (O.seen out.old).faults (O.seen out.new).faults }
+    ensures cause { HasWriteCause result (O.seen out.old).faults (O.seen out.new).faults }
     ensures read_cause { HasReadCause (file_words (command_of (texts_of words.now))) result
         (F.seen files.old) (F.seen files.new) }
     ensures hub_cause { HasHubCause result (H.seen hub.old).faults (H.seen hub.new).faults }

@@ -26,7 +26,7 @@ use Rattle.session_answers.specs.Frames.{line_frame, refusal_frame}
 use Rattle.session_answers.specs.Jobs.{IsJobOf}
 use Rattle.session_answers.specs.Rows.{Asks, IsEarlyFrame, IsQueryFrame, early, kind_of, malformed, refused, route_frame, told, unknown}
 use Rattle.session_answers.specs.Stored.{Stored}
-use Rattle.session_answers.specs.declared.refusal.Refusal.TheVariants.{ProfileUnknown}
+use Rattle.session_answers.specs.declared.refusal.Refusal.TheVariants.{UnknownProfile}
 
 -- what stands at a place is one
 one-there : (found : Option Sections) (a b : Sections) → found ≡ Some a → found ≡ Some b → a ≡ b
@@ -46,7 +46,7 @@ module _ (world : WorldValue) (stored : List Stored) (query : List ℕ) where
 
   -- a request whose profile has no place
   pub unknown-frame : (asked : Asked) (frame : List ℕ) → request_of query ≡ Ok asked →
-      name_place (names_of stored) asked.profile ≡ None → frame ≡ refusal_frame ProfileUnknown → IsEarlyFrame world stored query frame
+      name_place (names_of stored) asked.profile ≡ None → frame ≡ refusal_frame UnknownProfile → IsEarlyFrame world stored query frame
   unknown-frame asked frame asks none is =
       subst (IsEarlyFrame world stored query) (sym is) (unknown asks (unknown_at stored asked.profile none))
 

@@ -20,7 +20,7 @@ use Rattle.route_ready.specs.Worlds.{WorldValue}
 use Rattle.route_ready.specs.declared.error.RouteError.{RouteError}
 use Rattle.session_answers.specs.Frames.{line_frame, refusal_frame}
 use Rattle.session_answers.specs.Stored.{Stored, find_stored}
-use Rattle.session_answers.specs.declared.refusal.Refusal.TheVariants.{ProfileUnknown}
+use Rattle.session_answers.specs.declared.refusal.Refusal.TheVariants.{UnknownProfile}
 use Rattle.route_engine.specs.Waypoints.{AreNodes}
 
 -- a query asks for this, by the stored profile of these sections
@@ -37,10 +37,6 @@ kind_of forms.Csv = kinds.Csv
 abbrev pub route_frame : Sections → RouteError → List ℕ
 route_frame sections e = line_frame 422 (route_line (Some sections) e)
 
--- the frame of a reply
-abbrev pub reply_frame : Asked → List ℕ → List ℕ
-reply_frame asked bytes = frame_of 200 (kind_of asked.form) bytes
-
 -- the frames that answer a query before any search: it is malformed, its profile isn't stored, its profile is
 -- refused, or one of its waypoints is moved to no node
 pub data IsEarlyFrame (world : WorldValue) (stored : List Stored) (query : List ℕ) : List ℕ → Type 0 where
@@ -48,7 +44,7 @@ pub data IsEarlyFrame (world : WorldValue) (stored : List Stored) (query : List 
       IsEarlyFrame world stored query (line_frame 400 (request_line e))
   unknown :
       {asked : Asked} → request_of query ≡ Ok asked → find_stored stored asked.profile ≡ None →
-      IsEarlyFrame world stored query (refusal_frame ProfileUnknown)
+      IsEarlyFrame world stored query (refusal_frame UnknownProfile)
   early :
       {asked : Asked} {sections : Sections} {e : RouteError} → Asks stored query asked sections →
       IsEarly (question_of world sections asked) e → IsEarlyFrame world stored query (route_frame sections e)
@@ -63,7 +59,7 @@ pub data IsQueryFrame (world : WorldValue) (stored : List Stored) (query : List 
   told :
       {asked : Asked} {sections : Sections} {bytes : List ℕ} → Asks stored query asked sections →
       IsReply (question_of world sections asked) bytes →
-      IsQueryFrame world stored query (reply_frame asked bytes)
+      IsQueryFrame world stored query (frame_of 200 (kind_of asked.form) bytes)
 
 -- a query is to be searched for: its profile is stored and accepted, and each waypoint is moved to a node
 pub record IsSearched (world : WorldValue) (stored : List Stored) (query : List ℕ) : Type 0 where

@@ -6,7 +6,7 @@ use Rattle.route_http.specs.declared.heads.Head.TheVariants.{Whole, More, Bad, T
 use Rattle.route_http.specs.declared.heads.Method.{Method}
 use Rattle.route_http.specs.declared.heads.Method.TheVariants.{Get, Post, Other}
 use Rattle.route_http.specs.declared.span.Span.{Span}
-use Rattle.session_answers.specs.declared.refusal.Refusal.TheVariants.{HeadTooLong, BadRequest, PathUnknown, MethodNotAllowed, BodyTooLong}
+use Rattle.session_answers.specs.declared.refusal.Refusal.TheVariants.{HeadTooLong, BadRequest, UnknownPath, MethodNotAllowed, BodyTooLong}
 use Rattle.session_answers.specs.declared.verdict.Verdict.{Verdict}
 use Rattle.session_answers.specs.declared.verdict.Verdict.TheVariants.{Undecided, NoByte, Refused, Upload, Query}
 
@@ -64,7 +64,7 @@ abbrev pub by_path : (path : List ℕ) (long : ℕ) (method : Method) (query : S
     (bytes : List ℕ) → Verdict
 by_path path long method query body bytes =
     if bytes_eq path route_path then of_route method query body
-    else (if bytes_eq path profile_path then of_upload long method body bytes else Refused PathUnknown)
+    else (if bytes_eq path profile_path then of_upload long method body bytes else Refused UnknownPath)
 
 -- what bytes come to behind which the head may still go on
 abbrev pub unfinished : Bool → List ℕ → Verdict

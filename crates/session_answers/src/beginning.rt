@@ -85,7 +85,7 @@ fn named(
     match profiles.find(request.profile.as_slice()) {
         Some(place) => stored(alloc, world, profiles, kept, request, place),
         None => {
-            let frame = refusal_frame(alloc, Refusal::ProfileUnknown)?;
+            let frame = refusal_frame(alloc, Refusal::UnknownProfile)?;
             Ok(Begun::Frame(frame))
         }
     }

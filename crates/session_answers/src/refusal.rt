@@ -11,7 +11,7 @@ pub enum Refusal {
     /// The head is none that is served, or the peer ended before its request was whole.
     BadRequest,
     /// The path is none that is served.
-    PathUnknown,
+    UnknownPath,
     /// The method isn't that of the path.
     MethodNotAllowed,
     /// The body has more than 262,144 bytes.
@@ -19,7 +19,7 @@ pub enum Refusal {
     /// As many uploads are stored as may be.
     UploadsFull,
     /// No stored profile has the name.
-    ProfileUnknown,
+    UnknownProfile,
     /// As many sessions are held as may be.
     SessionsFull,
     /// Memory ran out.
@@ -34,11 +34,11 @@ impl Refusal {
         match self {
             Refusal::HeadTooLong => 413,
             Refusal::BadRequest => 400,
-            Refusal::PathUnknown => 404,
+            Refusal::UnknownPath => 404,
             Refusal::MethodNotAllowed => 405,
             Refusal::BodyTooLong => 413,
             Refusal::UploadsFull => 503,
-            Refusal::ProfileUnknown => 404,
+            Refusal::UnknownProfile => 404,
             Refusal::SessionsFull => 503,
             Refusal::OutOfMemory => 500,
         }
@@ -51,11 +51,11 @@ impl Refusal {
         match self {
             Refusal::HeadTooLong => b"head too long",
             Refusal::BadRequest => b"bad request",
-            Refusal::PathUnknown => b"path unknown",
+            Refusal::UnknownPath => b"path unknown",
             Refusal::MethodNotAllowed => b"method not allowed",
             Refusal::BodyTooLong => b"body too long",
             Refusal::UploadsFull => b"uploads full",
-            Refusal::ProfileUnknown => b"profile unknown",
+            Refusal::UnknownProfile => b"profile unknown",
             Refusal::SessionsFull => b"sessions full",
             Refusal::OutOfMemory => b"out of memory",
         }

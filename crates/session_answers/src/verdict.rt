@@ -102,7 +102,7 @@ fn by_path(
     } else if path == b"/brouter/profile".as_slice() {
         of_upload(long, method, body, bytes)
     } else {
-        Verdict::Refused(Refusal::PathUnknown)
+        Verdict::Refused(Refusal::UnknownPath)
     }
 }
 

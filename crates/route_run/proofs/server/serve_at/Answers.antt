@@ -1,7 +1,7 @@
 use Rattle.std.proofs.Common.{subst, sym}
 use Rattle.command_words.specs.Command.{address_of}
 use Rattle.route_run.specs.Offer.{offer_of}
-use Rattle.route_run.specs.Serving.{Serves as serves}
+use Rattle.route_run.specs.Serving.{IsServedAt as serves}
 use Rattle.route_run.proofs.server.serve_at.Goals as goal
 
 pub returns-in-Ok : goal.returns-in-Ok

@@ -1,7 +1,9 @@
 use Rattle.std.proofs.Common.{subst, sym}
-use Rattle.hall.specs.State.{State}
+use Rattle.hall.specs.Allowed.{AreAllowed}
+use Rattle.hall.specs.Sound.{IsSound}
+use Rattle.hall.specs.State.{Service, State}
 use Rattle.hall.specs.View.{service_of, state_of}
-use Rattle.hall.proofs.CallerLemmas.{AreLive-empty, GetsOwn-served, GrowsByUploads-served}
+use Rattle.hall.proofs.CallerLemmas.{AreLive-empty, EndedEachWait-served, GetsOwn-served, GrowsByUploads-served}
 use Rattle.hall.specs.Served.{AreLive}
 use Rattle.hall.specs.Turns.{Turns}
 use Rattle.route_run.proofs.server.served.Goals as goal
@@ -24,9 +26,15 @@ returns g c =
       exact = record {
         left = left;
         served = s;
-        in_time = λ n acts between turns.
+        in_time =
+            EndedEachWait-served service state.stored state c.requires.empty c.args.turns old new _ left s
+            (c.each_wait_ends.ensures.law service);
+        after_any = λ n acts between turns.
             c.each_wait_ends.ensures.law service (state_of c.args.hall).stored n acts between
             (subst (λ (from : State). Turns service from n acts between) c.requires.empty turns);
+        sound = subst (λ (x : Service). IsSound x left) c.serve.ensures.same c.serve.ensures.sound;
+        few = c.serve.ensures.few;
+        allowed = subst (λ (x : Service). AreAllowed x left) c.serve.ensures.same c.serve.ensures.allowed;
         own = λ before told id.
             GetsOwn-served service state.stored state c.requires.empty c.args.turns old new _ left before told s
             (c.connections_keep_apart.ensures.law service) id;

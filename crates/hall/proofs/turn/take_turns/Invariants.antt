@@ -2,7 +2,7 @@
 use Rattle.std.proofs.Common.{◌≡◌, length}
 use Rattle.hall.specs.View.{service_of, state_of}
 use Rattle.hall.specs.Served.{AreLive, TookTurns}
-use Rattle.hall.proofs.turn.serve.Given as goal
+use Rattle.hall.proofs.turn.take_turns.Given as goal
 
 abbrev pub invariant-turns : goal.invariant-turns
 invariant-turns g l = record {
