@@ -19,18 +19,19 @@ pub fn slots_of(modes: &Modes, links: u32) -> u32
     }
 }
 
-/// The slot of a link's label with these buffers: by the link and the buffers that must be equal.
-pub fn slot_of(slots: u32, modes: &Modes, link: u32, pair: &Pair) -> u32
-    requires slots { link < slots }
+/// The slot of the label of one of so many links with these buffers: by the link and the buffers
+/// that must be equal.
+pub fn slot_of(links: u32, modes: &Modes, link: u32, pair: &Pair) -> u32
+    requires link { link < links }
     requires pair { IsPair pair.now }
-    ensures exact { result ≡ slot_of slots modes.now link pair.now }
-    ensures within { result < slots }
+    ensures exact { result ≡ slot_of (slots_of modes.now links) modes.now link pair.now }
+    ensures within { result < slots_of modes.now links }
 
     // Where no buffer must be equal, each link has a slot of its own.
     ensures own { asks_equal modes.now ≡ false → result ≡ link }
 {
     if asks_equal(modes) {
-        mixed(slots, modes, link, pair)
+        mixed(slots_of(modes, links), modes, link, pair)
     } else {
         link
     }
