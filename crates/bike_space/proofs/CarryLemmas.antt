@@ -1,19 +1,21 @@
 -- What is carried, and what a start or a step of it is.
-use Rattle.std.proofs.Common.{◌≡◌, ℕ, ℤ, ◌<◌, ◌≤ℤ◌, Bool, true, false, ◌&&◌, nat_eq, nat_lt, int_le, cond, Some, None, IsTrue, refl, subst, arith}
+use Rattle.std.proofs.Common.{◌≡◌, ℕ, ℤ, ◌<◌, ◌≤ℤ◌, Bool, true, false, ◌&&◌, nat_eq, nat_lt, int_le, cond, Some, None, IsTrue, refl, ap, ◌∙◌, subst, arith}
 use Rattle.std.specs.Option.{is_some}
 use Rattle.std.proofs.lemmas.Bool.Decides.{nat_tests}
 use Rattle.std.proofs.lemmas.Int.{ints}
 use Rattle.elev_buffer.specs.Covers.{covers_label}
+use Rattle.elev_buffer.specs.Slots.{slot_of}
 use Rattle.elev_buffer.specs.declared.labels.Pair.{Pair}
 use Rattle.cost_model.specs.Labels.{label_of}
 use Rattle.cost_model.specs.Parts.{IsHeld}
 use Rattle.cost_model.specs.Prices.{Prices}
 use Rattle.cost_model.specs.Walks.{pair_of}
 use Rattle.cost_model.specs.declared.parts.Carry.{Carry}
+use Rattle.elev_buffer.proofs.CallerLemmas.{covers-test, slot-covered, slot-within, slots-enough}
 use Rattle.overpass_graph.proofs.CallerLemmas.{out-sound}
 use Rattle.cost_model.specs.Rides.{Leg}
 use Rattle.bike_space.specs.Spent.{terms_of}
-use Rattle.bike_space.specs.Tasks.{Task, chosen, covers_carry, entered, is_carried, is_within, may_take, rules_of}
+use Rattle.bike_space.specs.Tasks.{Task, chosen, covers_carry, entered, is_carried, is_within, may_take, rules_of, slot_on, slots_on}
 use Rattle.std.proofs.lemmas.Option.{cond_some}
 
 -- ---- What is carried
@@ -76,6 +78,20 @@ covers-parts leg a b ca cb h =
     let two = both _ _ h in
     let same : IsTrue (nat_eq a.link b.link) = two.0 in
     (grind (arith, nat_tests), two.1)
+
+-- the slot of what is carried is one of the slots
+pub slot-one_of : (leg : Leg) (carry : Carry) → carry.link < leg.ride.roads.links → slot_on leg carry < slots_on leg
+slot-one_of leg carry within =
+    slot-within (slots_on leg) (terms_of leg).modes carry.link (pair_of carry)
+    (omega (arith, within, slots-enough (terms_of leg).modes leg.ride.roads.links))
+
+-- what covers lies in the slot of what it covers
+pub covered-slot : (leg : Leg) (a b : Carry) (ca cb : ℕ) → IsTrue (covers_carry leg a ca b cb) → slot_on leg a ≡ slot_on leg b
+covered-slot leg a b ca cb h =
+    let parts = covers-parts leg a b ca cb h in
+    ap (λ (link : ℕ). slot_of (slots_on leg) (terms_of leg).modes link (pair_of a)) parts.0
+    ∙ slot-covered (terms_of leg) (label_of a ca) (label_of b cb) (slots_on leg) b.link
+    ((covers-test (terms_of leg) (label_of a ca) (label_of b cb)).0 parts.1)
 
 -- a label of the same link that covers another is what covers
 pub parts-cover : (leg : Leg) (a b : Carry) (ca cb : ℕ) → a.link ≡ b.link →

@@ -22,7 +22,7 @@ use Rattle.bike_space.specs.Remaining.{IsRemaining, rest_price}
 use Rattle.bike_space.specs.Tasks.{Task, chosen, covers_carry, entered, is_carried, may_take, rules_of}
 use Rattle.bike_space.specs.Lawful.{IsTask}
 use Rattle.bike_space.proofs.WalkLemmas.{take-follows}
-use Rattle.bike_space.proofs.CarryLemmas.{carried-is, is-carried, covers-parts, parts-cover, some-is, step-is}
+use Rattle.bike_space.proofs.CarryLemmas.{carried-is, is-carried, covered-slot, covers-parts, parts-cover, slot-one_of, some-is, step-is}
 use Rattle.std.proofs.lemmas.Option.{cond_some}
 
 module _ (task : Task) (lawful : IsTask task) where
@@ -65,6 +65,7 @@ module _ (task : Task) (lawful : IsTask task) where
     steps = λ from number state cost valid within is.
         let m = step-move from number state cost valid within is in record { valid = m.0; cheap = omega (arith, m.1) };
     cell = λ state valid. (carried-is task.leg state valid).0;
+    slot = λ state valid. slot-one_of task.leg state (carried-is task.leg state valid).0;
   }
 
   -- no start or step costs 2^81 or more
@@ -80,7 +81,7 @@ module _ (task : Task) (lawful : IsTask task) where
   -- covering is an order within a link
   has-covering : HasCovering (rules_of task)
   has-covering = record {
-    one_cell = λ a b ca cb va vb h. (covers-parts task.leg a b ca cb h).0;
+    one_slot = λ a b ca cb va vb h. covered-slot task.leg a b ca cb h;
     itself = λ a ca va. parts-cover task.leg a a ca ca refl
         (label-itself task.leg.ride.prices _ a a ca ca refl (omega arith));
     through = λ a b c ca cb cost va vb vc p q.

@@ -8,6 +8,7 @@ use Rattle.cost_model.specs.Prices.{Prices}
 use Rattle.cost_model.specs.declared.facts.LinkFacts.{LinkFacts}
 use Rattle.cost_model.specs.declared.parts.Carry.{Carry}
 use Rattle.elev_buffer.specs.Covers.{covers_label}
+use Rattle.elev_buffer.specs.Slots.{slot_of, slots_of}
 use Rattle.elev_buffer.specs.declared.labels.Pair.{Pair}
 use Rattle.overpass_graph.specs.Roads.{Roads, out_links}
 use Rattle.space_search.specs.Rules.{Rules}
@@ -78,12 +79,22 @@ unfoldable pub covers_carry : (leg : Leg) (a : Carry) (a_cost : ℕ) (b : Carry)
 covers_carry leg a a_cost b b_cost =
     nat_eq a.link b.link && covers_label (terms_of leg) (label_of a a_cost) (label_of b b_cost)
 
+-- how many slots the labels of a leg have
+abbrev pub slots_on : Leg → ℕ
+slots_on leg = slots_of (terms_of leg).modes leg.ride.roads.links
+
+-- the slot of what is carried: by its link, and by each buffer that must be equal
+abbrev pub slot_on : Leg → Carry → ℕ
+slot_on leg carry = slot_of (slots_on leg) (terms_of leg).modes carry.link (pair_of carry)
+
 -- the space that is searched
 abbrev pub rules_of : Task → Rules Carry
 rules_of task = record {
   is_valid = is_carried task.leg;
   cells = task.leg.ride.roads.links;
   cell = λ carry. carry.link;
+  slots = slots_on task.leg;
+  slot = slot_on task.leg;
   starts = length (out_links task.leg.ride.roads task.leg.start);
   start = λ choice. start_by task (chosen task.leg.ride.roads task.leg.start choice);
   steps = λ carry. length (out_links task.leg.ride.roads (task.leg.ride.roads.to carry.link));

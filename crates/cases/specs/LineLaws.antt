@@ -114,10 +114,11 @@ module _ (cells goal starts steps : ℕ) (some : 0 < cells) (starts_small : star
                   λ from number state cost valid within is. move from number state cost (on-line from valid)
                   within is;
               cell = λ state valid. on-line state valid;
+              slot = λ state valid. on-line state valid;
             };
         covering =
             record {
-              one_cell = λ a b ca cb va vb h. same-place a b ca cb h;
+              one_slot = λ a b ca cb va vb h. same-place a b ca cb h;
               itself = λ a ca va. covers-these a a ca ca refl (omega arith) (omega arith);
               through = λ a b c ca cb cc va vb vc h k.
                   covers-these a c ca cc (same-place a b ca cb h ∙ same-place b c cb cc k)

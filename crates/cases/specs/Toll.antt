@@ -23,6 +23,8 @@ toll_rules bounded =
       is_valid = λ state. cond (nat_lt state.0 3) (nat_lt state.1 10) false;
       cells = 3;
       cell = λ state. state.0;
+      slots = 3;
+      slot = λ state. state.0;
       starts = 1;
       start = λ number. Some ((0, 0), 0);
       steps = λ state. cond (state.0 == 0) 3 (cond (state.0 == 1) 1 0);

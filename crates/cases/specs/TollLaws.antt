@@ -98,10 +98,11 @@ toll-keeps_laws bounded =
                 λ from number state cost valid within is. move bounded from.0 from.1 number state cost
                 (due-small bounded from valid) is;
             cell = λ state valid. grind (arith, nat_tests);
+            slot = λ state valid. grind (arith, nat_tests);
           };
       covering =
           record {
-            one_cell = λ a b ca cb va vb h. same-place a b ca cb h;
+            one_slot = λ a b ca cb va vb h. same-place a b ca cb h;
             itself = λ a ca va. covers-these a a ca ca refl (omega arith) (omega arith);
             through = λ a b c ca cb cc va vb vc h k.
                 covers-these a c ca cc (same-place a b ca cb h ∙ same-place b c cb cc k)

@@ -86,11 +86,11 @@ impl Space for Line {
     ghost keeps_laws = { λ line. line-keeps_laws line.cells line.goal line.starts line.steps
         line.some line.starts_small line.steps_small };
 
-    fn cells(&self) -> u32 {
+    fn slots(&self) -> u32 {
         self.cells
     }
 
-    fn cell(&self, state: &(u32, u32)) -> u32 {
+    fn slot(&self, state: &(u32, u32)) -> u32 {
         state.0
     }
 

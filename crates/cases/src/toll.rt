@@ -19,11 +19,11 @@ impl Space for Toll {
 
     ghost keeps_laws = { λ toll. toll-keeps_laws toll.bounded };
 
-    fn cells(&self) -> u32 {
+    fn slots(&self) -> u32 {
         3
     }
 
-    fn cell(&self, state: &(u32, u32)) -> u32 {
+    fn slot(&self, state: &(u32, u32)) -> u32 {
         state.0
     }
 

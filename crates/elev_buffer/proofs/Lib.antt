@@ -3,5 +3,6 @@ pub mod StepLemmas
 pub mod ProductLemmas
 pub mod CoverLemmas
 pub mod TestLemmas
+pub mod SlotLemmas
 pub mod NewerLemmas
 pub mod WholeLemmas

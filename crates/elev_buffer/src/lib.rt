@@ -5,9 +5,11 @@
 mod labels;
 mod newer;
 mod orders;
+mod slots;
 mod steps;
 
 pub use labels::{Mode, Modes, Pair};
 pub use newer::supersedes;
 pub use orders::covers;
+pub use slots::{slot_of, slots_of};
 pub use steps::{Limits, Stepped, step};

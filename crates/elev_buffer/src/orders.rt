@@ -1,7 +1,8 @@
 //! When a label makes another of the same link needless.
 
-ghost use Rattle.std.specs.Prelude.{◌≡◌, ◌<◌, ◌≤◌, ◌^◌, ◌↔◌, ℤ, pos, ◌+ℤ◌, IsTrue};
+ghost use Rattle.std.specs.Prelude.{◌≡◌, ◌<◌, ◌≤◌, ◌^◌, ◌↔◌, ℕ, ℤ, pos, ◌+ℤ◌, IsTrue};
 ghost use Rattle.elev_buffer.specs.Covers.{CoversLabel, IsBelowInSums, IsBuffer, IsInOrder, IsKept, IsPair, Label, covers_label, label, price, terms};
+ghost use Rattle.elev_buffer.specs.Slots.{slot_of};
 
 use crate::labels::{Mode, Modes, Pair};
 
@@ -27,6 +28,11 @@ pub fn covers(a: &Pair, ca: u128, b: &Pair, cb: u128, kd: i64, ku: i64, modes: &
         CoversLabel (terms modes.now kd ku) (label a.now (pos ca)) third }
     ensures kept { IsTrue result →
         IsKept (terms modes.now kd ku) (label a.now (pos ca)) (label b.now (pos cb)) }
+
+    // What covers lies in the slot of what it covers, whatever their link and however many slots
+    // there are.
+    ensures one_slot { (slots link : ℕ) → IsTrue result →
+        slot_of slots modes.now link a.now ≡ slot_of slots modes.now link b.now }
 
     // Where both buffers are compensated and the second label costs no less, it is the order in
     // three sums.

@@ -48,9 +48,10 @@ module _ (plan : Plan) (forward backward : List (Option ℕ)) (from to : ℕ) (l
           steps = λ cell number state cost valid below is.
               step_of-is_move cell number state cost is;
           cell = λ state valid. ltb-true _ _ valid;
+          slot = λ state valid. ltb-true _ _ valid;
         };
         covering = record {
-          one_cell = λ a b ca cb va vb h. (covers-from a b ca cb h).0;
+          one_slot = λ a b ca cb va vb h. (covers-from a b ca cb h).0;
           itself = λ a ca va. covers-to a a ca ca refl (omega arith);
           through = λ a b c ca cb cc_ va vb vc p q.
               let first = covers-from a b ca cb p in

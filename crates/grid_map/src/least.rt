@@ -10,7 +10,7 @@ use crate::grid::Grid;
 use crate::lengths::segment_lengths;
 use crate::space::GridSpace;
 use item_list::Items;
-use space_search::{Outcome, Space, least};
+use space_search::{Outcome, least};
 use std::alloc::{AllocError, Global};
 
 /// A walk across a grid.
@@ -45,7 +45,7 @@ pub fn least_walk(
         (λ walk. IsLeastGridWalk grid.now costs from to walk.cells walk.cost)) }
 {
     let space = GridSpace::new(grid, forward, backward, from, to);
-    let limit = space.cells() as u64;
+    let limit = grid.cells() as u64;
     match least(alloc, &space, limit)? {
         Outcome::Found(run) => {
             let cells = space.walk(alloc, run.choices.as_slice())?;

@@ -10,8 +10,8 @@ ghost use Rattle.grid_map.specs.Space.{grid_rules, step_forward, step_backward};
 use crate::grid::Grid;
 use space_search::Space;
 
-/// The cells of a grid, each a state and its own cell, with a step to each neighbour that a segment
-/// joins.
+/// The cells of a grid, each a state with a cell and a slot of its own, and a step to each neighbour
+/// that a segment joins.
 ///
 /// A cell has four steps: 0 goes east, 1 north, 2 west, 3 south. A step is `None` where there is no
 /// segment or that direction is forbidden.
@@ -103,11 +103,11 @@ impl<'a> Space for GridSpace<'a> {
 
     ghost keeps_laws = { λ space. space.keeps };
 
-    fn cells(&self) -> u32 {
+    fn slots(&self) -> u32 {
         self.grid.cells()
     }
 
-    fn cell(&self, state: &u32) -> u32 {
+    fn slot(&self, state: &u32) -> u32 {
         *state
     }
 

@@ -1,4 +1,4 @@
--- The covering test goes along the chain of a cell's settled labels.
+-- The covering test goes along the chain of a slot's settled labels.
 use Rattle.std.proofs.Common.{◌≡◌, ◌≢◌, ℕ, zero, suc, ◌<◌, ◌≤◌, ◌+◌, ◌-◌, ◌⊎◌, inl, inr, length, get_or, Some, Bool, true, false, refl, ap, arith, sym, ◌∙◌, subst}
 use Rattle.std.proofs.lemmas.Option.{slice_get_read, slice_get_within}
 use Rattle.std.specs.Bool.{IsTrue}
@@ -29,16 +29,16 @@ module _ {S : Type 0} (rules : Rules S) (laws : IsSpace rules) (kept : Books S) 
   settled-valid place label s = (search.stands.reads.settled_follows place label s).valid
 
   module _ (state : S) (cost : ℕ) (later : IsLater rules kept state cost) where
-    -- the chain begins at the cell's newest label
+    -- the chain begins at the slot's newest label
     pub tested-first :
-        (cell cursor : ℕ) → cell ≡ rules.cell state → cursor ≡ get_or kept.newest cell cursor →
+        (slot cursor : ℕ) → slot ≡ rules.slot state → cursor ≡ get_or kept.newest slot cursor →
         IsTested rules kept state cost cursor
-    tested-first cell cursor at read =
-        let below : rules.cell state < rules.cells = laws.moves.cell state later.valid in
-        let there : slice_get kept.newest cell ≡ Some cursor =
-        slice_get_read kept.newest (length kept.newest) cell cursor refl (omega (arith, search.index.cells)) read in
-        let latest : IsLatest rules kept (rules.cell state) (length kept.settled) cursor =
-        subst (λ n. IsLatest rules kept n (length kept.settled) cursor) at (search.index.newest cell cursor there) in
+    tested-first slot cursor at read =
+        let below : rules.slot state < rules.slots = laws.moves.slot state later.valid in
+        let there : slice_get kept.newest slot ≡ Some cursor =
+        slice_get_read kept.newest (length kept.newest) slot cursor refl (omega (arith, search.index.slots)) read in
+        let latest : IsLatest rules kept (rules.slot state) (length kept.settled) cursor =
+        subst (λ n. IsLatest rules kept n (length kept.settled) cursor) at (search.index.newest slot cursor there) in
         record {
           tested = λ place label s same behind.
               elim (latest.last place label s same (settled-within kept place label s)) [
@@ -54,8 +54,8 @@ module _ {S : Type 0} (rules : Rules S) (laws : IsSpace rules) (kept : Books S) 
         IsSettled kept place label → IsTrue (rules.covers label.state label.cost state cost) → ⊥
     none-covers zero place label t enough s covers = omega (arith, settled-within kept place label s)
     none-covers (suc fuel) place label t enough s covers =
-        let same : rules.cell label.state ≡ rules.cell state =
-        laws.covering.one_cell label.state state label.cost cost (settled-valid place label s) later.valid covers in
+        let same : rules.slot label.state ≡ rules.slot state =
+        laws.covering.one_slot label.state state label.cost cost (settled-valid place label s) later.valid covers in
         elim (t.tested place label s same (omega arith)) [
           | inl no_cover ↦
               let covered : rules.covers label.state label.cost state cost ≡ true = covers in
@@ -73,22 +73,22 @@ module _ {S : Type 0} (rules : Rules S) (laws : IsSpace rules) (kept : Books S) 
         false-from_not (rules.covers label.state label.cost state cost)
         (none-covers (length kept.settled) place label over (omega arith) s)
 
--- Before the cursor stands a settled label of the cell.
-pub record Names {S : Type 0} (rules : Rules S) (kept : Books S) (cell cursor : ℕ) : Type 0 where
+-- Before the cursor stands a settled label of the slot.
+pub record Names {S : Type 0} (rules : Rules S) (kept : Books S) (slot cursor : ℕ) : Type 0 where
   pub search : IsSearch rules kept
   pub some : 0 < cursor
-  pub here : (label : Label S) × IsSettled kept (cursor - 1) label × (rules.cell label.state ≡ cell)
+  pub here : (label : Label S) × IsSettled kept (cursor - 1) label × (rules.slot label.state ≡ slot)
 
 -- The covering test stands at the label before the cursor.
 pub names-tested :
     {S : Type 0} (rules : Rules S) (kept : Books S) (state : S) (cost cursor : ℕ) → IsSearch rules kept →
-    0 < cursor → IsTested rules kept state cost cursor → Names rules kept (rules.cell state) cursor
+    0 < cursor → IsTested rules kept state cost cursor → Names rules kept (rules.slot state) cursor
 names-tested rules kept state cost cursor search some t =
     record { search = search; some = some; here = t.here (cursor - 1) (omega arith) }
 
-module _ {S : Type 0} (rules : Rules S) (kept : Books S) (cell cursor : ℕ) (t : Names rules kept cell cursor) where
-  -- before the cursor stands a label of the cell
-  found : (label : Label S) × IsSettled kept (cursor - 1) label × (rules.cell label.state ≡ cell)
+module _ {S : Type 0} (rules : Rules S) (kept : Books S) (slot cursor : ℕ) (t : Names rules kept slot cursor) where
+  -- before the cursor stands a label of the slot
+  found : (label : Label S) × IsSettled kept (cursor - 1) label × (rules.slot label.state ≡ slot)
   found = t.here
 
   -- its place is one of a settled label
@@ -126,15 +126,15 @@ module _ {S : Type 0} (rules : Rules S) (kept : Books S) (cell cursor : ℕ) (t 
             there = slice_get_read kept.labels (length kept.labels) number label refl within-labels reads;
           }
 
-      -- it lies in the cell
-      pub same-cell : rules.cell label.state ≡ cell
-      same-cell =
+      -- it lies in the slot
+      pub same-slot : rules.slot label.state ≡ slot
+      same-slot =
           let same : found.0 ≡ label = settled-unique kept (cursor - 1) found.0 label found.1 settled-here in
-          ap (λ (l : Label S). rules.cell l.state) (sym same) ∙ found.2
+          ap (λ (l : Label S). rules.slot l.state) (sym same) ∙ found.2
 
       module _ (next : ℕ) (reads_next : next ≡ get_or kept.older (cursor - 1) next) where
-        -- the label before it in its cell
-        pub latest : IsLatest rules kept (rules.cell label.state) (cursor - 1) next
+        -- the label before it in its slot
+        pub latest : IsLatest rules kept (rules.slot label.state) (cursor - 1) next
         latest =
             t.search.index.older (cursor - 1) next label
             (slice_get_read kept.older (length kept.older) (cursor - 1) next refl within-older reads_next) settled-here
@@ -149,16 +149,16 @@ module _ {S : Type 0} (rules : Rules S) (kept : Books S) (cell cursor : ℕ) (t 
 -- where the label before the cursor doesn't cover, the test has gone one label further
 module _ {S : Type 0} (rules : Rules S) (kept : Books S) (state : S) (cost cursor : ℕ)
     (t : IsTested rules kept state cost cursor) (label : Label S) (settled : IsSettled kept (cursor - 1) label)
-    (cell_is : rules.cell label.state ≡ rules.cell state) (next : ℕ)
-    (behind : IsLatest rules kept (rules.cell label.state) (cursor - 1) next)
+    (slot_is : rules.slot label.state ≡ rules.slot state) (next : ℕ)
+    (behind : IsLatest rules kept (rules.slot label.state) (cursor - 1) next)
     (uncovers : rules.covers label.state label.cost state cost ≡ false) where
-  -- what the test says of a label of the cell
+  -- what the test says of a label of the slot
   abbrev Tested : ℕ → Label S → Type 0
   Tested place other = (rules.covers other.state other.cost state cost ≡ false) ⊎ IsNeedless rules kept place other
 
   -- a label at or after the next cursor is this one, or was tested before, or is needless
   tested-one :
-      (place : ℕ) (other : Label S) → IsSettled kept place other → rules.cell other.state ≡ rules.cell state →
+      (place : ℕ) (other : Label S) → IsSettled kept place other → rules.slot other.state ≡ rules.slot state →
       next ≤ place → (place ≡ cursor - 1) ⊎ (place ≢ cursor - 1) → Tested place other
   tested-one place other s same later (inl is) =
       let one : label ≡ other =
@@ -167,7 +167,7 @@ module _ {S : Type 0} (rules : Rules S) (kept : Books S) (state : S) (cost curso
   tested-one place other s same later (inr elsewhere) =
       elim (cases_lt place cursor) [
         | inl h ↦
-            elim (behind.last place other s (same ∙ sym cell_is) (omega arith)) [
+            elim (behind.last place other s (same ∙ sym slot_is) (omega arith)) [
               | inl early ↦ absurd (omega arith)
               | inr needless ↦ inr needless
             ]
@@ -179,5 +179,5 @@ module _ {S : Type 0} (rules : Rules S) (kept : Books S) (state : S) (cost curso
   tested-next =
       record {
         tested = λ place other s same later. tested-one place other s same later (cases_eq place (cursor - 1));
-        here = λ place is. let h = behind.inside place is in (h.1.0, h.1.1, h.1.2 ∙ cell_is);
+        here = λ place is. let h = behind.inside place is in (h.1.0, h.1.1, h.1.2 ∙ slot_is);
       }

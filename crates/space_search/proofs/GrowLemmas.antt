@@ -1,4 +1,4 @@
--- The lists of the settled labels and the chains of the cells with one label more.
+-- The lists of the settled labels and the chains of the slots with one label more.
 use Rattle.std.proofs.Common.{◌≡◌, ℕ, ◌<◌, ◌≤◌, ◌+◌, ◌^◌, ◌⊎◌, inl, inr, List, [], ◌∷◌, ◌++◌, length, set, get_or, Some, false, refl, ap, arith, sym, ◌∙◌, subst, length-set, length-append}
 use Rattle.std.proofs.lemmas.Option.{slice_get_read, slice_get_within}
 use Rattle.std.specs.List.{slice_get}
@@ -15,22 +15,22 @@ settled_books kept rest settled newest older =
     record { labels = kept.labels; queue = rest; settled = settled; newest = newest; older = older }
 
 -- The next label, which is no goal and which no settled label covers, leaves the queue, and is written into the
--- lists of the settled ones and into the chain of its cell.
+-- lists of the settled ones and into the chain of its slot.
 pub record Writes {S : Type 0} (rules : Rules S) (kept : Books S) (number : ℕ) (label : Label S) (rest : List Entry) : Type 0 where
   pub leaving : Leaving rules kept number label rest
   pub no_goal : rules.is_goal label.state ≡ false
   pub uncovered : IsUncovered rules kept label.state label.cost
   pub room : length kept.settled + 1 < 2 ^ 32
-  pub cell : ℕ
+  pub slot : ℕ
   pub before : ℕ
   pub settled : List ℕ
   pub newest : List ℕ
   pub older : List ℕ
-  pub at : cell ≡ rules.cell label.state
-  pub inside : cell < length kept.newest
-  pub reads_before : before ≡ get_or kept.newest cell before
+  pub at : slot ≡ rules.slot label.state
+  pub inside : slot < length kept.newest
+  pub reads_before : before ≡ get_or kept.newest slot before
   pub is_settled : settled ≡ kept.settled ++ number ∷ []
-  pub is_newest : newest ≡ set kept.newest cell (length kept.settled + 1)
+  pub is_newest : newest ≡ set kept.newest slot (length kept.settled + 1)
   pub is_older : older ≡ kept.older ++ before ∷ []
 
 module _ {S : Type 0} (rules : Rules S) (kept : Books S) (number : ℕ) (label : Label S) (rest : List Entry)
@@ -74,7 +74,7 @@ module _ {S : Type 0} (rules : Rules S) (kept : Books S) (number : ℕ) (label :
   still place l (inl early) = inl early
   still place l (inr needless) = inr (needless-moved rules kept after place l grows needless)
 
-  -- what was the newest label of a cell below a place still is
+  -- what was the newest label of a slot below a place still is
   latest-grown :
       (c below cursor : ℕ) → below ≤ length kept.settled → IsLatest rules kept c below cursor →
       IsLatest rules after c below cursor
@@ -88,12 +88,12 @@ module _ {S : Type 0} (rules : Rules S) (kept : Books S) (number : ℕ) (label :
             ];
       }
 
-  -- the newest label of each cell
+  -- the newest label of each slot
   newest-new :
-      (c cursor : ℕ) → slice_get (set kept.newest w.cell (length kept.settled + 1)) c ≡ Some cursor →
+      (c cursor : ℕ) → slice_get (set kept.newest w.slot (length kept.settled + 1)) c ≡ Some cursor →
       IsLatest rules after c (length kept.settled + 1) cursor
   newest-new c cursor is =
-      elim (slice_get-set_cases kept.newest w.cell (length kept.settled + 1) c cursor is) [
+      elim (slice_get-set_cases kept.newest w.slot (length kept.settled + 1) c cursor is) [
         | inr (here, is_cursor) ↦
             (
             record {
@@ -120,23 +120,23 @@ module _ {S : Type 0} (rules : Rules S) (kept : Books S) (number : ℕ) (label :
                     | inl settled_before ↦
                         still place k (l.last place k settled_before same (settled-within kept place k settled_before))
                     | inr (last, one) ↦
-                        absurd (other (sym same ∙ ap (λ (m : Label S). rules.cell m.state) one ∙ sym w.at))
+                        absurd (other (sym same ∙ ap (λ (m : Label S). rules.slot m.state) one ∙ sym w.at))
                   ];
             }
             )
       ]
 
-  -- the label before each in its cell
+  -- the label before each in its slot
   older-new :
       (place cursor : ℕ) (l : Label S) → slice_get (kept.older ++ w.before ∷ []) place ≡ Some cursor →
       IsSettled after place l →
-      IsLatest rules after (rules.cell l.state) place cursor
+      IsLatest rules after (rules.slot l.state) place cursor
   older-new place cursor l is s =
       elim (old-or_new place l s) [
         | inl old ↦
             elim (slice_get-push_cases kept.older w.before place cursor is) [
               | inl there ↦
-                  latest-grown (rules.cell l.state) place cursor (omega (arith, settled-within kept place l old))
+                  latest-grown (rules.slot l.state) place cursor (omega (arith, settled-within kept place l old))
                   (w.leaving.search.index.older place cursor l there old)
               | inr (last, same) ↦ absurd (omega (arith, settled-within kept place l old, w.leaving.search.index.places))
             ]
@@ -144,16 +144,16 @@ module _ {S : Type 0} (rules : Rules S) (kept : Books S) (number : ℕ) (label :
             elim (slice_get-push_cases kept.older w.before place cursor is) [
               | inl there ↦ absurd (omega (arith, slice_get_within kept.older place cursor there, w.leaving.search.index.places))
               | inr (end, same) ↦
-                  let there : slice_get kept.newest w.cell ≡ Some w.before =
-                  slice_get_read kept.newest (length kept.newest) w.cell w.before refl w.inside w.reads_before in
-                  let latest : IsLatest rules kept w.cell (length kept.settled) w.before =
-                  w.leaving.search.index.newest w.cell w.before there in
-                  let moved : IsLatest rules after w.cell (length kept.settled) w.before =
-                  latest-grown w.cell (length kept.settled) w.before (omega arith) latest in
-                  let cell_is : w.cell ≡ rules.cell l.state = w.at ∙ ap (λ (m : Label S). rules.cell m.state) (sym one) in
-                  subst (λ n. IsLatest rules after (rules.cell l.state) place n) same
-                  (subst (λ n. IsLatest rules after (rules.cell l.state) n w.before) (sym last)
-                  (subst (λ n. IsLatest rules after n (length kept.settled) w.before) cell_is moved))
+                  let there : slice_get kept.newest w.slot ≡ Some w.before =
+                  slice_get_read kept.newest (length kept.newest) w.slot w.before refl w.inside w.reads_before in
+                  let latest : IsLatest rules kept w.slot (length kept.settled) w.before =
+                  w.leaving.search.index.newest w.slot w.before there in
+                  let moved : IsLatest rules after w.slot (length kept.settled) w.before =
+                  latest-grown w.slot (length kept.settled) w.before (omega arith) latest in
+                  let slot_is : w.slot ≡ rules.slot l.state = w.at ∙ ap (λ (m : Label S). rules.slot m.state) (sym one) in
+                  subst (λ n. IsLatest rules after (rules.slot l.state) place n) same
+                  (subst (λ n. IsLatest rules after (rules.slot l.state) n w.before) (sym last)
+                  (subst (λ n. IsLatest rules after n (length kept.settled) w.before) slot_is moved))
             ]
       ]
 
@@ -161,7 +161,7 @@ module _ {S : Type 0} (rules : Rules S) (kept : Books S) (number : ℕ) (label :
   pub index-new : IsIndex rules after
   index-new =
       record {
-        cells = ap length w.is_newest ∙ length-set kept.newest w.cell (length kept.settled + 1) ∙ w.leaving.search.index.cells;
+        slots = ap length w.is_newest ∙ length-set kept.newest w.slot (length kept.settled + 1) ∙ w.leaving.search.index.slots;
         places =
             let grown : length w.older ≡ length kept.older + 1 = rw w.is_older (length-append kept.older (w.before ∷ [])) in
             omega (arith, grown, longer, w.leaving.search.index.places);

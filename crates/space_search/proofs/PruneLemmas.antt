@@ -1,4 +1,4 @@
--- What a newer label of a cell supersedes may leave the cell's chain.
+-- What a newer label of a slot supersedes may leave the slot's chain.
 use Rattle.std.proofs.Common.{◌≡◌, ℕ, ◌<◌, ◌+◌, ◌-◌, inl, inr, List, length, set, get_or, Some, refl, ap, arith, sym, ◌∙◌, subst, length-set}
 use Rattle.std.proofs.lemmas.Option.{slice_get_read}
 use Rattle.std.specs.List.{slice_get}
@@ -56,28 +56,28 @@ module _ {S : Type 0} (rules : Rules S) (kept : Books S) (search : IsSearch rule
   -- each link leaves out needless labels alone
   older-relinked :
       (place cursor : ℕ) (label : Label S) → slice_get (set kept.older link next) place ≡ Some cursor →
-      IsSettled relinked place label → IsLatest rules relinked (rules.cell label.state) place cursor
+      IsSettled relinked place label → IsLatest rules relinked (rules.slot label.state) place cursor
   older-relinked place cursor label at s =
-      latest-same rules kept relinked (λ n l h. h) search.stands refl (rules.cell label.state) place cursor
+      latest-same rules kept relinked (λ n l h. h) search.stands refl (rules.slot label.state) place cursor
       (elim (slice_get-set_cases kept.older link next place cursor at) [
         | inl (other, old) ↦ search.index.older place cursor label old (back place label s)
         | inr (here, is) ↦
             let mine : IsSettled kept place may.label = subst (λ n. IsSettled kept n may.label) (sym here) may.settled in
             let one : may.label ≡ label = settled-unique kept place may.label label mine (back place label s) in
-            subst (λ n. IsLatest rules kept (rules.cell label.state) place n) is
-            (subst (λ (l : Label S). IsLatest rules kept (rules.cell l.state) place next) one
-            (subst (λ n. IsLatest rules kept (rules.cell may.label.state) n next) (sym here) may.latest))
+            subst (λ n. IsLatest rules kept (rules.slot label.state) place n) is
+            (subst (λ (l : Label S). IsLatest rules kept (rules.slot l.state) place next) one
+            (subst (λ n. IsLatest rules kept (rules.slot may.label.state) n next) (sym here) may.latest))
       ])
 
   -- the chains are those of a search
   index-relinked : IsIndex rules relinked
   index-relinked =
       record {
-        cells = search.index.cells;
+        slots = search.index.slots;
         places = length-set kept.older link next ∙ search.index.places;
-        newest = λ cell cursor at.
-            latest-same rules kept relinked (λ n l h. h) search.stands refl cell (length kept.settled) cursor
-            (search.index.newest cell cursor at);
+        newest = λ slot cursor at.
+            latest-same rules kept relinked (λ n l h. h) search.stands refl slot (length kept.settled) cursor
+            (search.index.newest slot cursor at);
         older = older-relinked;
       }
 
@@ -123,11 +123,11 @@ pruning-first rules kept label place link cursor search counted settled is read 
 module _ {S : Type 0} (rules : Rules S) (before kept : Books S) (label : Label S) (link cursor : ℕ)
     (p : IsPruning rules before kept label link cursor) (some : 0 < cursor) where
   -- the link goes to the cursor
-  linked-here : IsLatest rules kept (rules.cell p.here.0.state) link cursor
+  linked-here : IsLatest rules kept (rules.slot p.here.0.state) link cursor
   linked-here = p.search.index.older link cursor p.here.0 p.linked p.here.1
 
-  -- before the cursor stands a settled label of the cell
-  pub names-pruning : Names rules kept (rules.cell label.state) cursor
+  -- before the cursor stands a settled label of the slot
+  pub names-pruning : Names rules kept (rules.slot label.state) cursor
   names-pruning =
       let h = linked-here.inside (cursor - 1) (omega arith) in
       record { search = p.search; some = some; here = (h.1.0, h.1.1, h.1.2 ∙ p.here.2) }
@@ -138,11 +138,11 @@ module _ {S : Type 0} (rules : Rules S) (before kept : Books S) (label : Label S
 
   -- the label before the cursor, and the link from it
   module _ (other : Label S) (settled : IsSettled kept (cursor - 1) other)
-      (cell_is : rules.cell other.state ≡ rules.cell label.state) (next : ℕ)
-      (behind : IsLatest rules kept (rules.cell other.state) (cursor - 1) next) where
-    -- the two links go on in one cell
-    one-cell : rules.cell other.state ≡ rules.cell p.here.0.state
-    one-cell = cell_is ∙ sym p.here.2
+      (slot_is : rules.slot other.state ≡ rules.slot label.state) (next : ℕ)
+      (behind : IsLatest rules kept (rules.slot other.state) (cursor - 1) next) where
+    -- the two links go on in one slot
+    one-slot : rules.slot other.state ≡ rules.slot p.here.0.state
+    one-slot = slot_is ∙ sym p.here.2
 
     -- where the label that was just settled supersedes it, the chain may leave it out
     pub may-link :
@@ -155,7 +155,7 @@ module _ {S : Type 0} (rules : Rules S) (before kept : Books S) (label : Label S
           latest =
               record {
                 inside = λ q is.
-                    let h = behind.inside q is in (omega (arith, h.0, before-link), (h.1.0, h.1.1, h.1.2 ∙ one-cell));
+                    let h = behind.inside q is in (omega (arith, h.0, before-link), (h.1.0, h.1.1, h.1.2 ∙ one-slot));
                 last = λ q l s same inside.
                     elim (linked-here.last q l s same inside) [
                       | inr needless ↦ inr needless
@@ -169,7 +169,7 @@ module _ {S : Type 0} (rules : Rules S) (before kept : Books S) (label : Label S
                                 inr (needless-superseded rules kept p.search q place label l up
                                 (settled-extended rules before kept p.extends place label newest)
                                 (subst (λ (k : Label S). Supersedes rules label.state label.cost k.state k.cost) one supersedes))
-                            | inr elsewhere ↦ behind.last q l s (same ∙ sym one-cell) (omega arith)
+                            | inr elsewhere ↦ behind.last q l s (same ∙ sym one-slot) (omega arith)
                           ]
                     ];
               };
@@ -191,15 +191,15 @@ module _ {S : Type 0} (rules : Rules S) (before kept : Books S) (label : Label S
 
   -- else it goes on from the label before the cursor
   pub pruning-kept :
-      (other : Label S) → IsSettled kept (cursor - 1) other → rules.cell other.state ≡ rules.cell label.state →
+      (other : Label S) → IsSettled kept (cursor - 1) other → rules.slot other.state ≡ rules.slot label.state →
       (next : ℕ) → slice_get kept.older (cursor - 1) ≡ Some next → IsPruning rules before kept label (cursor - 1) next
-  pruning-kept other settled cell_is next linked =
+  pruning-kept other settled slot_is next linked =
       record {
         search = p.search;
         extends = p.extends;
         work = p.work;
         linked = linked;
-        here = (other, settled, cell_is);
+        here = (other, settled, slot_is);
       }
 
 -- once the pass is over, needless labels alone left the chain

@@ -113,9 +113,9 @@ module _ {S : Type 0} (rules : Rules S) (before after : Books S)
         rising = rising-same stands.rising;
       }
 
-  -- the newest of a cell below a place is as before
-  pub latest-same : (cell below cursor : ℕ) → IsLatest rules before cell below cursor → IsLatest rules after cell below cursor
-  latest-same cell below cursor l =
+  -- the newest of a slot below a place is as before
+  pub latest-same : (slot below cursor : ℕ) → IsLatest rules before slot below cursor → IsLatest rules after slot below cursor
+  latest-same slot below cursor l =
       record {
         inside = λ place is. let old = l.inside place is in (old.0, (old.1.0, keeps-same place old.1.0 old.1.1, old.1.2));
         last = λ place label s same inside.
@@ -129,13 +129,13 @@ module _ {S : Type 0} (rules : Rules S) (before after : Books S)
   pub index-same : after.newest ≡ before.newest → after.older ≡ before.older → IsIndex rules before → IsIndex rules after
   index-same newest older i =
       record {
-        cells = ap length newest ∙ i.cells;
+        slots = ap length newest ∙ i.slots;
         places = ap length older ∙ i.places ∙ sym (ap length settled);
-        newest = λ cell cursor at.
-            subst (λ n. IsLatest rules after cell n cursor) (ap length (sym settled))
-            (latest-same cell (length before.settled) cursor (i.newest cell cursor (rw (← newest) at)));
+        newest = λ slot cursor at.
+            subst (λ n. IsLatest rules after slot n cursor) (ap length (sym settled))
+            (latest-same slot (length before.settled) cursor (i.newest slot cursor (rw (← newest) at)));
         older = λ place cursor label at s.
-            latest-same (rules.cell label.state) place cursor
+            latest-same (rules.slot label.state) place cursor
             (i.older place cursor label (rw (← older) at) (keeps-back place label s));
       }
 

@@ -1,5 +1,5 @@
 -- What a search keeps while it runs: the labels that it made, the queue of those that wait, those that it
--- settled, and for each cell the chain of its settled ones. This project's own rule.
+-- settled, and for each slot the chain of its settled ones. This project's own rule.
 use Rattle.std.specs.BinaryHeap.{heap_items, IsHeap}
 use Rattle.std.specs.Bool.{IsTrue}
 use Rattle.std.specs.List.{slice_get, Contains}
@@ -29,9 +29,9 @@ pub record Books (S : Type 0) : Type 0 where
   pub queue : List Entry
   -- the numbers of the labels that were settled, in that order: a place in this list is a settled label
   pub settled : List ℕ
-  -- for each cell the place of its newest settled label in the chain, plus 1; 0 where it has none
+  -- for each slot the place of its newest settled label in the chain, plus 1; 0 where it has none
   pub newest : List ℕ
-  -- for each settled label the place of the one before it in its cell's chain, plus 1; 0 where there is none
+  -- for each settled label the place of the one before it in its slot's chain, plus 1; 0 where there is none
   pub older : List ℕ
 
 -- the lists of a search, as contracts see them
@@ -159,28 +159,28 @@ pub record IsClosed {S : Type 0} (rules : Rules S) (kept : Books S) : Type 0 whe
   pub starts : HasStarts rules kept rules.starts
   pub steps : HasStepsBelow rules kept (length kept.settled)
 
--- the cursor names a label of a cell that was settled below a place, by its place plus 1; it is 0 where it
--- names none. Those of the cell between the two are needless
-pub record IsLatest {S : Type 0} (rules : Rules S) (kept : Books S) (cell below cursor : ℕ) : Type 0 where
+-- the cursor names a label of a slot that was settled below a place, by its place plus 1; it is 0 where it
+-- names none. Those of the slot between the two are needless
+pub record IsLatest {S : Type 0} (rules : Rules S) (kept : Books S) (slot below cursor : ℕ) : Type 0 where
   pub inside :
       (place : ℕ) → cursor ≡ place + 1 →
-      (place < below) × ((label : Label S) × IsSettled kept place label × (rules.cell label.state ≡ cell))
+      (place < below) × ((label : Label S) × IsSettled kept place label × (rules.slot label.state ≡ slot))
   pub last :
-      (place : ℕ) (label : Label S) → IsSettled kept place label → rules.cell label.state ≡ cell →
+      (place : ℕ) (label : Label S) → IsSettled kept place label → rules.slot label.state ≡ slot →
       place < below →
       (place < cursor) ⊎ IsNeedless rules kept place label
 
--- the chain of each cell's settled labels, which may leave out needless ones
+-- the chain of each slot's settled labels, which may leave out needless ones
 pub record IsIndex {S : Type 0} (rules : Rules S) (kept : Books S) : Type 0 where
-  pub cells : length kept.newest ≡ rules.cells
+  pub slots : length kept.newest ≡ rules.slots
   pub places : length kept.older ≡ length kept.settled
   pub newest :
-      (cell cursor : ℕ) → slice_get kept.newest cell ≡ Some cursor →
-      IsLatest rules kept cell (length kept.settled) cursor
+      (slot cursor : ℕ) → slice_get kept.newest slot ≡ Some cursor →
+      IsLatest rules kept slot (length kept.settled) cursor
   pub older :
       (place cursor : ℕ) (label : Label S) → slice_get kept.older place ≡ Some cursor →
       IsSettled kept place label →
-      IsLatest rules kept (rules.cell label.state) place cursor
+      IsLatest rules kept (rules.slot label.state) place cursor
 
 -- what a settled label's run and cost can be read from, also after want of memory
 pub record Reads {S : Type 0} (rules : Rules S) (kept : Books S) : Type 0 where

@@ -11,7 +11,7 @@ pub record IsMove {S : Type 0} (rules : Rules S) (state : S) (cost : ℕ) : Type
   pub cheap : cost < COST_BOUND
 
 -- first group: what starts and steps give is a state of the space at a bounded cost, and each state lies
--- in one of the cells
+-- in one of the cells and in one of the slots
 pub record HasMoves {S : Type 0} (rules : Rules S) : Type 0 where
   pub starts :
       (number : ℕ) (state : S) (cost : ℕ) → number < rules.starts →
@@ -20,13 +20,14 @@ pub record HasMoves {S : Type 0} (rules : Rules S) : Type 0 where
       (from : S) (number : ℕ) (state : S) (cost : ℕ) → IsTrue (rules.is_valid from) →
       number < rules.steps from → rules.step from number ≡ Some (state, cost) → IsMove rules state cost
   pub cell : (state : S) → IsTrue (rules.is_valid state) → rules.cell state < rules.cells
+  pub slot : (state : S) → IsTrue (rules.is_valid state) → rules.slot state < rules.slots
 
--- second group: covering holds only in one cell, is reflexive and transitive, and what covers costs no
+-- second group: covering holds only in one slot, is reflexive and transitive, and what covers costs no
 -- more
 pub record HasCovering {S : Type 0} (rules : Rules S) : Type 0 where
-  pub one_cell :
+  pub one_slot :
       (a b : S) (ca cb : ℕ) → IsTrue (rules.is_valid a) → IsTrue (rules.is_valid b) →
-      IsTrue (rules.covers a ca b cb) → rules.cell a ≡ rules.cell b
+      IsTrue (rules.covers a ca b cb) → rules.slot a ≡ rules.slot b
   pub itself : (a : S) (ca : ℕ) → IsTrue (rules.is_valid a) → IsTrue (rules.covers a ca a ca)
   pub through :
       (a b c : S) (ca cb cc : ℕ) → IsTrue (rules.is_valid a) → IsTrue (rules.is_valid b) →

@@ -50,7 +50,7 @@ pub record Settles {S : Type 0} (rules : Rules S) (before after : Books S) (numb
   pub counted : length after.settled ≡ length before.settled + 1
   pub work : work_left after < work_left before
 
--- needless labels left the chain of a cell, and everything else stays
+-- needless labels left the chain of a slot, and everything else stays
 pub record Prunes {S : Type 0} (rules : Rules S) (before after : Books S) : Type 0 where
   pub kept : IsSearch rules after
   pub extends : Extends before after
@@ -65,7 +65,7 @@ pub record Relinks {S : Type 0} (rules : Rules S) (before after : Books S) (link
 pub record MayLink {S : Type 0} (rules : Rules S) (kept : Books S) (link next : ℕ) : Type 0 where
   pub label : Label S
   pub settled : IsSettled kept link label
-  pub latest : IsLatest rules kept (rules.cell label.state) link next
+  pub latest : IsLatest rules kept (rules.slot label.state) link next
 
 -- all steps of the newest settled label were offered
 pub record Advances {S : Type 0} (rules : Rules S) (before after : Books S) : Type 0 where

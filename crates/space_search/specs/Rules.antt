@@ -1,14 +1,17 @@
 -- Search spaces: what a space answers, as a record of functions. This project's own rule.
 use Rattle.std.specs.Prelude.{ℕ, ◌^◌, Bool, Option}
 
--- what a space over the states S answers: its states by a test of validity, its cells, its starts and
--- its steps by number (none where one isn't permitted, else the state reached and what that costs), its
--- goals, when a state at a cost makes another at a cost needless, and a lower bound of what is still to
--- pay from a state to a goal (none where no goal is reached from there)
+-- what a space over the states S answers: its states by a test of validity; its cells, by which labels are
+-- counted, and its slots, by which the covering test finds them; its starts and its steps by number (none
+-- where one isn't permitted, else the state reached and what that costs), its goals, when a state at a cost
+-- makes another at a cost needless, and a lower bound of what is still to pay from a state to a goal (none
+-- where no goal is reached from there)
 pub record Rules (S : Type 0) : Type 0 where
   pub is_valid : S → Bool
   pub cells : ℕ
   pub cell : S → ℕ
+  pub slots : ℕ
+  pub slot : S → ℕ
   pub starts : ℕ
   pub start : ℕ → Option (S × ℕ)
   pub steps : S → ℕ

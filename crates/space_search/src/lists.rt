@@ -8,7 +8,7 @@ use std::cmp::Reverse;
 use std::collections::BinaryHeap;
 
 /// The labels made so far by number; the queue of those that wait, least rank first, then least
-/// number; the numbers of the settled ones in order; and for each cell the chain of its settled
+/// number; the numbers of the settled ones in order; and for each slot the chain of its settled
 /// ones: the newest, and for each the one before it, by place plus 1, or 0 for none.
 pub struct Lists<T> {
     pub(crate) labels: Vec<Label<T>>,

@@ -13,7 +13,7 @@ use std::alloc::AllocError;
 use std::cmp::Reverse;
 
 /// Whether a settled label covers the state at this cost, which ranks no less than any of them.
-/// Those that left their cell's chain needn't be tested.
+/// Those that left their slot's chain needn't be tested.
 pub(crate) fn is_covered<T: Copy + Drop, S: Space<State = T>>(
     space: &S,
     lists: &Lists<T>,
@@ -28,8 +28,8 @@ pub(crate) fn is_covered<T: Copy + Drop, S: Space<State = T>>(
     ensures uncovered { result ≡ false →
         IsUncovered (S.rules space.now) (books lists.now) state.now cost }
 {
-    let cell = space.cell(state);
-    let mut cursor = lists.newest[cell as usize];
+    let slot = space.slot(state);
+    let mut cursor = lists.newest[slot as usize];
     'chain: while cursor > 0 {
         let place = (cursor - 1) as usize;
         let label = lists.labels[lists.settled[place] as usize];

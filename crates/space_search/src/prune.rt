@@ -1,4 +1,4 @@
-//! Settled labels that a newer one of their cell supersedes leave the covering test.
+//! Settled labels that a newer one of their slot supersedes leave the covering test.
 
 ghost use Rattle.std.specs.Prelude.{◌≡◌, ◌+◌, length};
 ghost use Rattle.space_search.specs.Books.{books, IsSearch, IsSettled};
@@ -8,7 +8,7 @@ use crate::label::Label;
 use crate::lists::Lists;
 use crate::space::Space;
 
-/// Takes out of the chain of its cell what the newest settled label supersedes. That stays settled.
+/// Takes out of the chain of its slot what the newest settled label supersedes. That stays settled.
 /// A space that doesn't say so of a label and itself says so of none, and isn't asked further.
 pub(crate) fn prune<T: Copy + Drop, S: Space<State = T>>(
     space: &S,

@@ -52,7 +52,7 @@ pub(crate) fn settle_next<T: Copy + Drop, S: Space<State = T>>(
 }
 
 /// Takes the next label from the queue, and puts it behind the settled ones and at the front of its
-/// cell's chain.
+/// slot's chain.
 fn settle_last<T: Copy + Drop, S: Space<State = T>>(
     space: &S,
     lists: &mut Lists<T>,
@@ -70,8 +70,8 @@ fn settle_last<T: Copy + Drop, S: Space<State = T>>(
     ensures leaves { Leaves (S.rules space.now) (books lists.old) (books lists.new) }
     ensures most { length (books lists.new).settled ≤ length (books lists.old).settled + 1 }
 {
-    let cell = space.cell(&label.state) as usize;
-    let before = lists.newest[cell];
+    let slot = space.slot(&label.state) as usize;
+    let before = lists.newest[slot];
     match lists.older.push(before) {
         Ok(()) => {}
         Err(_) => return Err(AllocError),
@@ -80,7 +80,7 @@ fn settle_last<T: Copy + Drop, S: Space<State = T>>(
         Ok(()) => {}
         Err(_) => return Err(AllocError),
     }
-    lists.newest[cell] = lists.settled.len() as u32;
+    lists.newest[slot] = lists.settled.len() as u32;
     let _taken = lists.queue.pop();
     Ok(())
 }

@@ -16,14 +16,15 @@ pub trait Space {
     /// What the space answers.
     ghost rules: { Self → Rules Self.State };
 
-    /// How many cells there are.
-    fn cells(&self) -> u32
-        ensures value { result ≡ (rules self.now).cells };
+    /// How many slots there are.
+    fn slots(&self) -> u32
+        ensures value { result ≡ (rules self.now).slots };
 
-    /// The cell in which a state lies.
-    fn cell(&self, state: &Self::State) -> u32
+    /// The slot of a state: where a state covers another, both have the same. The covering test
+    /// looks at the settled labels of a slot alone, so the fewer share one the better.
+    fn slot(&self, state: &Self::State) -> u32
         requires valid { IsTrue ((rules self.now).is_valid state.now) }
-        ensures value { result ≡ (rules self.now).cell state.now };
+        ensures value { result ≡ (rules self.now).slot state.now };
 
     /// How many starts there are.
     fn starts(&self) -> u32

@@ -131,10 +131,11 @@ module _ (cells width starts steps : ℕ) (some : 0 < cells) (starts_small : sta
                   λ from number state cost valid within is. move from number state cost (on-strip from valid)
                   within is;
               cell = λ state valid. on-strip state valid;
+              slot = λ state valid. on-strip state valid;
             };
         covering =
             record {
-              one_cell = λ a b ca cb va vb h. same-place a b ca cb h;
+              one_slot = λ a b ca cb va vb h. same-place a b ca cb h;
               itself = λ a ca va. covers-these a a ca ca refl (omega arith) (omega arith);
               through = λ a b c ca cb cc va vb vc h k.
                   covers-these a c ca cc (same-place a b ca cb h ∙ same-place b c cb cc k)

@@ -84,11 +84,11 @@ impl Space for Strip {
     ghost keeps_laws = { λ s. strip-keeps_laws s.cells s.width s.starts s.steps
         s.some s.starts_small s.steps_small };
 
-    fn cells(&self) -> u32 {
+    fn slots(&self) -> u32 {
         self.cells
     }
 
-    fn cell(&self, state: &(u32, u32)) -> u32 {
+    fn slot(&self, state: &(u32, u32)) -> u32 {
         state.0
     }
 

@@ -1,6 +1,7 @@
 use Rattle.std.proofs.Common.{arith}
 use Rattle.std.proofs.lemmas.Int.{ints, to_z-of_z}
 use Rattle.elev_buffer.proofs.CoverLemmas.{covers-trans, covers-cheaper, covers-kept, covers-sums}
+use Rattle.elev_buffer.proofs.SlotLemmas.{slot-covered}
 use Rattle.elev_buffer.proofs.TestLemmas.{one-test, covers-test}
 use Rattle.elev_buffer.proofs.orders.covers.Goals as goal
 
@@ -30,3 +31,8 @@ returns-clause-sums c =
     λ e f less.
     let sums = covers-sums _ _ _ c.requires.down_rate.low c.requires.up_rate.low e f (omega (arith, ints)) in
     (λ h. sums.0 (is.0 h), λ k. is.1 (sums.1 k))
+
+pub returns-clause-one_slot : goal.returns-clause-one_slot
+returns-clause-one_slot c =
+    let is = simp (to_z-of_z, c.ranges.kd, c.ranges.ku) at c.is_covered.ensures.exact in
+    λ slots link h. slot-covered _ _ _ slots link (is.0 h)

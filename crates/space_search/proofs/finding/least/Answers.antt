@@ -1,4 +1,4 @@
-use Rattle.std.proofs.Common.{ℕ, ap, subst, arith, sym, ◌∙◌}
+use Rattle.std.proofs.Common.{ℕ, subst, arith, ◌∙◌}
 use Rattle.std.proofs.lemmas.Result.{IfOk-weaker}
 use Rattle.space_search.specs.Limits.{IsUnspentTurn}
 use Rattle.space_search.specs.Outcome.{Answers}

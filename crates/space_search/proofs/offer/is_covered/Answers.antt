@@ -1,11 +1,11 @@
 use Rattle.std.proofs.Common.{arith, sym, ◌∙◌}
-use Rattle.space_search.proofs.ChainLemmas.{uncovered-last, names-tested, same-cell, latest, tested-first, within-settled, within-older, within-labels, settled-here, settled-valid, settled-small, next-below, tested-next}
+use Rattle.space_search.proofs.ChainLemmas.{uncovered-last, names-tested, same-slot, latest, tested-first, within-settled, within-older, within-labels, settled-here, settled-valid, settled-small, next-below, tested-next}
 use Rattle.space_search.proofs.offer.is_covered.Goals as goal
 
 pub chain-init : goal.chain-init
 chain-init g c =
     tested-first _ (g.met.S.Space.keeps_laws c.args.space.now) _ c.requires.kept c.args.state.now c.args.cost
-    c.requires.later c.cell-cell.result c.index-cursor.result.now c.cell-cell.ensures.value c.index-cursor.ensures
+    c.requires.later c.slot-slot.result c.index-cursor.result.now c.slot-slot.ensures.value c.index-cursor.ensures
 
 pub index-requires : goal.index-requires
 index-requires g c =
@@ -78,7 +78,7 @@ chain-preserved g c =
     tested-next _ _ c.args.state.now c.args.cost c.chain.cursor c.chain.invariant c.index-in-chain.result.now
     (settled-here _ _ _ c.chain.cursor names c.index.result.now c.index.ensures c.index-in-chain.result.now
     c.index-in-chain.ensures)
-    (same-cell _ _ _ c.chain.cursor names c.index.result.now c.index.ensures c.index-in-chain.result.now
+    (same-slot _ _ _ c.chain.cursor names c.index.result.now c.index.ensures c.index-in-chain.result.now
     c.index-in-chain.ensures)
     c.index-cursor-in-chain.result.now
     (latest _ _ _ c.chain.cursor names c.index.result.now c.index.ensures c.index-in-chain.result.now

@@ -1,7 +1,7 @@
 use Rattle.std.proofs.Common.{arith, refl, ◌≡◌, ◌-◌, length}
 use Rattle.std.proofs.lemmas.Option.{slice_get_read}
 use Rattle.space_search.specs.Books.{books}
-use Rattle.space_search.proofs.ChainLemmas.{within-settled, within-older, within-labels, settled-here, settled-valid, settled-small, same-cell, latest, next-below}
+use Rattle.space_search.proofs.ChainLemmas.{within-settled, within-older, within-labels, settled-here, settled-valid, settled-small, same-slot, latest, next-below}
 use Rattle.space_search.proofs.PruneLemmas.{pruning-first, names-pruning, may-link, pruning-relinked, pruning-kept}
 use Rattle.space_search.proofs.prune.prune_chain.Goals as goal
 
@@ -60,7 +60,7 @@ relink-requires-clause-may g c =
     c.index-in-chain.ensures in
     let n = c.requires.newest in
     may-link _ _ _ _ c.chain.link c.chain.cursor c.chain.invariant c.chain-test.true c.index-in-chain.result.now settled
-    (same-cell _ _ _ c.chain.cursor names c.index.result.now c.index.ensures c.index-in-chain.result.now
+    (same-slot _ _ _ c.chain.cursor names c.index.result.now c.index.ensures c.index-in-chain.result.now
     c.index-in-chain.ensures)
     c.index-next.result.now
     (latest _ _ _ c.chain.cursor names c.index.result.now c.index.ensures c.index-in-chain.result.now
@@ -92,7 +92,7 @@ chain-preserved g c =
     settled-here _ _ _ c.chain.cursor names c.index.result.now c.index.ensures c.index-in-chain.result.now
     c.index-in-chain.ensures in
     pruning-kept _ _ _ _ c.chain.link c.chain.cursor c.chain.invariant c.index-in-chain.result.now settled
-    (same-cell _ _ _ c.chain.cursor names c.index.result.now c.index.ensures c.index-in-chain.result.now
+    (same-slot _ _ _ c.chain.cursor names c.index.result.now c.index.ensures c.index-in-chain.result.now
     c.index-in-chain.ensures)
     c.index-next.result.now
     (slice_get_read c.chain.lists.older.items (length c.chain.lists.older.items) (c.chain.cursor - 1)

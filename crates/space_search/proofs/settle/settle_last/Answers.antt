@@ -29,22 +29,22 @@ returns g c =
       no_goal = c.requires.no_goal;
       uncovered = c.requires.uncovered;
       room = c.requires.room;
-      cell = c.cell-cell.result;
+      slot = c.slot-slot.result;
       before = c.index-before.result.now;
       settled = _;
       newest = _;
       older = _;
-      at = c.cell-cell.ensures.value;
+      at = c.slot-slot.ensures.value;
       inside =
           omega (
             arith,
-            c.cell-cell.ensures.value,
-            laws.moves.cell c.args.label.state (c.requires.kept.follows _ _ c.requires.next.there).valid,
-            c.requires.kept.index.cells,
+            c.slot-slot.ensures.value,
+            laws.moves.slot c.args.label.state (c.requires.kept.follows _ _ c.requires.next.there).valid,
+            c.requires.kept.index.slots,
           );
       reads_before = c.index-before.ensures;
       is_settled = c.in-Ok-push.ensures.items;
-      is_newest = ap (set c.args.lists.now.newest.items c.cell-cell.result) counted;
+      is_newest = ap (set c.args.lists.now.newest.items c.slot-slot.result) counted;
       is_older = c.in-Ok.ensures.items;
     } in
     record {
