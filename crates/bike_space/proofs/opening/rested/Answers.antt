@@ -19,6 +19,6 @@ returns-clause-wakes g c =
       used = ap length used ∙ c.requires.used;
       start = c.requires.start;
       target = c.requires.target;
-      sums = rw (cut, used, sym c.map-map.ensures.value) c.in_ok-low.ensures.exact;
+      sums = rw (cut, used) c.in_ok-low.ensures.exact;
       small = c.in_ok-low.ensures.small;
     })
