@@ -12,10 +12,7 @@ pub(crate) enum Kept {
     Narrow(Vec<u64>),
     Wide(Vec<u128>),
     /// Those below the radius, which stands for all others.
-    Near {
-        sums: Vec<u64>,
-        radius: u64,
-    },
+    Near { sums: Vec<u64>, radius: u64 },
 }
 
 /// The least sum of each node of a map, or none; or up to a radius alone, which then stands for
