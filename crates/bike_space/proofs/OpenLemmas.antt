@@ -1,9 +1,9 @@
 -- A space of a leg that was just opened is lawful, and so is one that was widened.
-use Rattle.std.proofs.Common.{◌≡◌, ℕ, ◌<◌, ◌^◌, length, Some, arith}
+use Rattle.std.proofs.Common.{◌≡◌, ◌<◌, length, arith}
 use Rattle.cost_model.specs.Facts.{AreLinks}
 use Rattle.cost_model.specs.Prices.{IsPrices}
 use Rattle.cost_model.specs.Rides.{Terrain}
-use Rattle.least_sums.specs.Sums.{AreBelow, AreLeastSumsUpTo, NodeSums, sum_of}
+use Rattle.least_sums.specs.Sums.{AreBelow, AreLeastSumsUpTo, NodeSums}
 use Rattle.overpass_graph.specs.Maps.{IsMap, roads_of}
 use Rattle.bike_space.specs.Kept.{Wakes, task_of}
 use Rattle.bike_space.specs.Lawful.{IsTask}

@@ -1,4 +1,4 @@
-use Rattle.std.proofs.Common.{length, ap, subst, sym, ◌∙◌}
+use Rattle.std.proofs.Common.{length, ap, subst, ◌∙◌}
 use Rattle.cost_model.specs.Prices.{IsPrices}
 use Rattle.overpass_graph.specs.Maps.{IsMap}
 use Rattle.bike_space.proofs.OpenLemmas.{opened-wakes}
