@@ -12,13 +12,13 @@ use Rattle.cost_model.specs.Walks.{empty_pair, pair_of}
 use Rattle.cost_model.specs.declared.facts.LinkFacts.{LinkFacts}
 use Rattle.cost_model.specs.declared.parts.Carry.{Carry}
 use Rattle.cost_model.proofs.CallerLemmas.{cost-below, covers-carried, empty-held, held-after, label-cheaper, label-itself, label-through, least_price-least, modes-allow}
-use Rattle.least_sums.proofs.CallerLemmas.{least-one, least-step, least-target, none-step}
+use Rattle.least_sums.proofs.CallerLemmas.{up-to-none, up-to-only, up-to-step, up-to-target}
 use Rattle.overpass_graph.specs.Roads.{out_links}
 use Rattle.overpass_graph.proofs.CallerLemmas.{out-sound}
 use Rattle.space_search.specs.Laws.{HasBound, HasCovering, HasEvenBound, HasMoves, CoveredAlike, IsDearest, IsSpace, KeepsCovering}
 use Rattle.space_search.specs.Runs.{Walks, rests, steps}
 use Rattle.bike_space.specs.Spent.{terms_of}
-use Rattle.bike_space.specs.Remaining.{IsRemaining, rest_price}
+use Rattle.bike_space.specs.Remaining.{IsRemainingUpTo, rest_price}
 use Rattle.bike_space.specs.Tasks.{Task, chosen, covers_carry, entered, is_carried, may_take, rules_of}
 use Rattle.bike_space.specs.Lawful.{IsTask}
 use Rattle.bike_space.proofs.WalkLemmas.{take-follows}
@@ -148,7 +148,7 @@ module _ (task : Task) (lawful : IsTask task) where
 
   -- what still has to be paid behind a link
   low-behind : (link : ℕ) → link < task.leg.ride.roads.links →
-      IsRemaining task.leg task.used (task.leg.ride.roads.to link) (task.low (task.leg.ride.roads.to link))
+      IsRemainingUpTo task.leg task.used task.radius (task.leg.ride.roads.to link) (task.low (task.leg.ride.roads.to link))
   low-behind link within = lawful.low _ (lawful.roads.to_in link within)
 
   -- an open link has its low price
@@ -157,35 +157,35 @@ module _ (task : Task) (lawful : IsTask task) where
   priced link opens = rw opens refl
 
   -- at the target nothing has still to be paid
-  rest-target : (low : Option ℕ) → IsRemaining task.leg task.used task.leg.target low → low ≡ Some 0
+  rest-target : (low : Option ℕ) → IsRemainingUpTo task.leg task.used task.radius task.leg.target low → low ≡ Some 0
   rest-target low is = ∥∥₁_elim is (hlevel props)
-      (λ h. least-target task.leg.ride.roads (rest_price task.leg task.used) task.leg.target low h)
+      (λ h. up-to-target task.leg.ride.roads (rest_price task.leg task.used) task.leg.target task.radius low h)
 
-  -- there is one least sum from a node
-  rest-one : (node : ℕ) (a b : Option ℕ) → IsRemaining task.leg task.used node a →
-      IsRemaining task.leg task.used node b → a ≡ b
-  rest-one node a b is other =
-      ∥∥₁_elim is (hlevel props) (λ h. ∥∥₁_elim other (hlevel props)
-      (λ k. least-one task.leg.ride.roads (rest_price task.leg task.used) task.leg.target node a b h k))
+  -- where there is none from a node, nothing else is
+  rest-only : (node : ℕ) (low : Option ℕ) → IsRemainingUpTo task.leg task.used task.radius node low →
+      IsRemainingUpTo task.leg task.used task.radius node None → low ≡ None
+  rest-only node low is none =
+      ∥∥₁_elim is (hlevel props) (λ h. ∥∥₁_elim none (hlevel props)
+      (λ k. up-to-only task.leg.ride.roads (rest_price task.leg task.used) task.leg.target task.radius node low h k))
 
   -- what still has to be paid falls along an open link by no more than its low price
   rest-step : (link before after : ℕ) → link < task.leg.ride.roads.links → IsTrue (task.leg.ride.is_open link) →
-      IsRemaining task.leg task.used (task.leg.ride.roads.from link) (Some before) →
-      IsRemaining task.leg task.used (task.leg.ride.roads.to link) (Some after) →
+      IsRemainingUpTo task.leg task.used task.radius (task.leg.ride.roads.from link) (Some before) →
+      IsRemainingUpTo task.leg task.used task.radius (task.leg.ride.roads.to link) (Some after) →
       before ≤ least_price (task.used link) (task.leg.ride.facts link) + after
   rest-step link before after within opens is other =
       ∥∥₁_elim is (hlevel props) (λ h. ∥∥₁_elim other (hlevel props)
-      (λ k. least-step task.leg.ride.roads (rest_price task.leg task.used) task.leg.target link _ before after within
+      (λ k. up-to-step task.leg.ride.roads (rest_price task.leg task.used) task.leg.target task.radius link _ before after within
       (priced link opens) h k))
 
   -- where the target isn't reached from before an open link, it isn't from behind it
   rest-none : (link : ℕ) → link < task.leg.ride.roads.links → IsTrue (task.leg.ride.is_open link) →
-      IsRemaining task.leg task.used (task.leg.ride.roads.from link) None →
-      IsRemaining task.leg task.used (task.leg.ride.roads.to link) None
+      IsRemainingUpTo task.leg task.used task.radius (task.leg.ride.roads.from link) None →
+      IsRemainingUpTo task.leg task.used task.radius (task.leg.ride.roads.to link) None
   rest-none link within opens is =
       ∥∥₁_elim is (hlevel props)
-      (λ h. ∣ none-step task.leg.ride.roads (rest_price task.leg task.used) task.leg.target link _ within (priced link opens)
-      h ∣₁)
+      (λ h. ∣ up-to-none task.leg.ride.roads (rest_price task.leg task.used) task.leg.target task.radius link _ within
+      (priced link opens) h ∣₁)
 
   -- at a goal nothing has still to be paid
   goal-low : (state : Carry) → IsTrue ((rules_of task).is_goal state) → (rules_of task).low state ≡ Some 0
@@ -239,11 +239,11 @@ module _ (task : Task) (lawful : IsTask task) where
       (rules_of task).low from ≡ None → (rules_of task).low state ≡ None
   low-stays from number state cost valid within step none =
       let e = step-entry from number state cost valid within step in
-      let before : IsRemaining task.leg task.used (task.leg.ride.roads.from state.link) None =
-      subst (λ n. IsRemaining task.leg task.used n None) (sym e.leaves)
-      (subst (IsRemaining task.leg task.used (task.leg.ride.roads.to from.link)) none
+      let before : IsRemainingUpTo task.leg task.used task.radius (task.leg.ride.roads.from state.link) None =
+      subst (λ n. IsRemainingUpTo task.leg task.used task.radius n None) (sym e.leaves)
+      (subst (IsRemainingUpTo task.leg task.used task.radius (task.leg.ride.roads.to from.link)) none
       (low-behind from.link (carried-is task.leg from valid).0)) in
-      rest-one (task.leg.ride.roads.to state.link) _ None (low-behind state.link e.within)
+      rest-only (task.leg.ride.roads.to state.link) _ (low-behind state.link e.within)
       (rest-none state.link e.within e.opens before)
 
   -- from a state without a bound no goal is reached
@@ -267,12 +267,12 @@ module _ (task : Task) (lawful : IsTask task) where
     hopeless = λ state end cost total numbers valid none walk goal. hopeless valid none walk goal;
     step = λ from number state cost before after valid within is first second.
         let e = step-entry from number state cost valid within is in
-        let here : IsRemaining task.leg task.used (task.leg.ride.roads.from state.link) (Some before) =
-        subst (λ n. IsRemaining task.leg task.used n (Some before)) (sym e.leaves)
-        (subst (IsRemaining task.leg task.used (task.leg.ride.roads.to from.link)) first
+        let here : IsRemainingUpTo task.leg task.used task.radius (task.leg.ride.roads.from state.link) (Some before) =
+        subst (λ n. IsRemainingUpTo task.leg task.used task.radius n (Some before)) (sym e.leaves)
+        (subst (IsRemainingUpTo task.leg task.used task.radius (task.leg.ride.roads.to from.link)) first
         (low-behind from.link (carried-is task.leg from valid).0)) in
-        let there : IsRemaining task.leg task.used (task.leg.ride.roads.to state.link) (Some after) =
-        subst (IsRemaining task.leg task.used (task.leg.ride.roads.to state.link)) second (low-behind state.link e.within) in
+        let there : IsRemainingUpTo task.leg task.used task.radius (task.leg.ride.roads.to state.link) (Some after) =
+        subst (IsRemainingUpTo task.leg task.used task.radius (task.leg.ride.roads.to state.link)) second (low-behind state.link e.within) in
         let falls = rest-step state.link before after e.within e.opens here there in
         omega (arith, falls, e.dear);
   }

@@ -1,9 +1,9 @@
--- A space of a leg that was just opened is lawful.
-use Rattle.std.proofs.Common.{◌≡◌, ℕ, ◌<◌, ◌^◌, length, Some, arith}
+-- A space of a leg that was just opened is lawful, and so is one that was widened.
+use Rattle.std.proofs.Common.{◌≡◌, ◌<◌, length, arith}
 use Rattle.cost_model.specs.Facts.{AreLinks}
 use Rattle.cost_model.specs.Prices.{IsPrices}
 use Rattle.cost_model.specs.Rides.{Terrain}
-use Rattle.least_sums.specs.Sums.{AreLeastSums, sum_of}
+use Rattle.least_sums.specs.Sums.{AreBelow, AreLeastSumsUpTo, NodeSums}
 use Rattle.overpass_graph.specs.Maps.{IsMap, roads_of}
 use Rattle.bike_space.specs.Kept.{Wakes, task_of}
 use Rattle.bike_space.specs.Lawful.{IsTask}
@@ -22,8 +22,8 @@ pub record IsOpening (terrain : Terrain) (kept : Rested) : Type 0 where
   pub start : kept.start < length terrain.map.nodes
   pub target : kept.target < length terrain.map.nodes
   pub sums :
-      AreLeastSums (roads_of terrain.map) (priced_by terrain kept.cut.items kept.used.items).price kept.target kept.low
-  pub small : (node sum : ℕ) → sum_of kept.low node ≡ Some sum → sum < 2 ^ 102
+      AreLeastSumsUpTo (roads_of terrain.map) (priced_by terrain kept.cut.items kept.used.items).price kept.target kept.low
+  pub small : AreBelow kept.low.sums
 
 -- the search is lawful
 task-lawful : (terrain : Terrain) (kept : Rested) → IsOpening terrain kept → IsTask (task_of terrain kept)
@@ -47,4 +47,37 @@ opened-wakes terrain kept is =
       sums = is.sums.counted;
       lawful = lawful;
       keeps = keeps-laws (task_of terrain kept) lawful;
+    }
+
+-- what is kept, with this to be paid
+abbrev pub with_low : Rested → NodeSums → Rested
+with_low kept low = record {
+  low = low;
+  cut = kept.cut;
+  used = kept.used;
+  start = kept.start;
+  target = kept.target;
+  turns = kept.turns;
+}
+
+-- where it may be woken it may be so with other sums, if they are the least ones
+pub widened-wakes : (terrain : Terrain) (kept : Rested) → Wakes terrain kept → (low : NodeSums) →
+    AreLeastSumsUpTo (roads_of terrain.map) (priced_by terrain kept.cut.items kept.used.items).price kept.target low →
+    AreBelow low.sums → Wakes terrain (with_low kept low)
+widened-wakes terrain kept was low sums small =
+    let lawful : IsTask (task_of terrain (with_low kept low)) = record {
+      roads = was.lawful.roads;
+      facts = was.lawful.facts;
+      prices = was.lawful.prices;
+      start_in = was.lawful.start_in;
+      target_in = was.lawful.target_in;
+      low = λ node within. ∣ sums.least node within ∣₁;
+      low_small = λ node least within at. omega (arith, small node least at);
+    } in
+    record {
+      cut = was.cut;
+      used = was.used;
+      sums = sums.counted;
+      lawful = lawful;
+      keeps = keeps-laws (task_of terrain (with_low kept low)) lawful;
     }

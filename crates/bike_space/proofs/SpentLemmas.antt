@@ -1,5 +1,5 @@
 -- The evidence of a spent limit, from what a search shows to the walks of a leg.
-use Rattle.std.proofs.Common.{Option, ◌≡◌, ◌≢◌, ℕ, pos, zero, suc, ◌+◌, ◌<◌, ◌≤◌, Bool, false, List, [], ◌∷◌, length, map, Some, IsTrue, refl, sym, ap, ◌∙◌, subst, arith}
+use Rattle.std.proofs.Common.{Option, ◌≡◌, ◌≢◌, ℕ, pos, zero, suc, ◌+◌, ◌<◌, ◌≤◌, Bool, false, List, [], ◌∷◌, length, map, Some, None, IsTrue, refl, sym, ap, ◌∙◌, subst, arith}
 use Rattle.std.proofs.lemmas.Int.{ints}
 use Rattle.std.proofs.lemmas.List.{length-map}
 use Rattle.std.specs.List.{slice_get}
@@ -14,7 +14,7 @@ use Rattle.space_search.specs.View.{Reached}
 use Rattle.cost_model.specs.Rides.{Leg}
 use Rattle.bike_space.specs.LegWalks.{IsLegWalk, IsWalkTo, end_link, leg_rank}
 use Rattle.bike_space.specs.Spent.{AreShown, IsSpentBounded, IsSpentPlain, IsSpentStrong, nth_walk, terms_of, walk_buffers, walk_label}
-use Rattle.bike_space.specs.Remaining.{IsRemaining}
+use Rattle.bike_space.specs.Remaining.{IsRemaining, IsRemainingUpTo}
 use Rattle.bike_space.specs.Tasks.{Task, covers_carry, rules_of, walk_by}
 use Rattle.bike_space.specs.Runs.{IsWalkWith}
 use Rattle.bike_space.specs.Lawful.{IsTask}
@@ -63,7 +63,8 @@ record IsShownAt (written : List ℕ → List ℕ) (task : Task) (shown : List (
 
 module _ (task : Task) (lawful : IsTask task) (start : ℕ → Option (Carry × ℕ)) (step : Carry → ℕ → Option (Carry × ℕ))
     (written : List ℕ → List ℕ) (by : IsWritten task start step written) (limit : ℕ) (shown : List (Reached Carry))
-    (spent : IsSpent (space_by task start step) limit shown) (differ : task.leg.start ≢ task.leg.target) where
+    (spent : IsSpent (space_by task start step) limit shown) (differ : task.leg.start ≢ task.leg.target)
+    (all : task.radius ≡ None) where
   -- the walks that are shown
   abbrev walks : List (List ℕ)
   walks = map (walk_as written task) shown
@@ -183,7 +184,9 @@ module _ (task : Task) (lawful : IsTask task) (start : ℕ → Option (Carry × 
         ap task.leg.ride.roads.to (sym (end-at k s)) in
         let rest : IsRemaining task.leg task.used (task.leg.ride.roads.to s.one.state.link) (Some s.low) =
         subst (IsRemaining task.leg task.used (task.leg.ride.roads.to s.one.state.link)) s.bound
-        (lawful.low _ (lawful.roads.to_in s.one.state.link (carried-is task.leg s.one.state s.valid).0)) in
+        (subst (λ r. IsRemainingUpTo task.leg task.used r (task.leg.ride.roads.to s.one.state.link)
+        (task.low (task.leg.ride.roads.to s.one.state.link))) all
+        (lawful.low _ (lawful.roads.to_in s.one.state.link (carried-is task.leg s.one.state s.valid).0))) in
         record {
           rest = s.low;
           remaining = subst (λ n. IsRemaining task.leg task.used n (Some s.low)) node rest;
@@ -201,12 +204,13 @@ walk_of task label = walk_by task.leg label.choices
 own-written : (task : Task) → IsWritten task (rules_of task).start (rules_of task).step (λ choices. choices)
 own-written task = record { runs = λ choices end cost run. run; reached = λ choices cost reaches. (choices, reaches) }
 
--- a spent limit has its evidence, with the bound
+-- a spent limit has its evidence, with the bound where that is found for all nodes
 pub spent-bounded : (task : Task) (lawful : IsTask task) (limit : ℕ) (shown : List (Reached Carry)) →
-    IsSpent (rules_of task) limit shown → task.leg.start ≢ task.leg.target →
+    IsSpent (rules_of task) limit shown → task.leg.start ≢ task.leg.target → task.radius ≡ None →
     IsSpentBounded task.leg task.used limit (map (walk_of task) shown)
-spent-bounded task lawful limit shown spent differ =
+spent-bounded task lawful limit shown spent differ all =
     spent-written task lawful (rules_of task).start (rules_of task).step (λ choices. choices) (own-written task) limit shown spent differ
+    all
 
 -- the strong form has the plain one
 pub strong-plain : (leg : Leg) (used : ℕ → Bool) (limit : ℕ) (walks : List (List ℕ)) →

@@ -23,7 +23,8 @@ abbrev pub task_of : Terrain → Rested → Task
 task_of terrain kept = record {
   leg = leg_between (setting_of terrain kept) kept.start kept.target;
   used = is_marked kept.used.items;
-  low = sum_of kept.low;
+  low = sum_of kept.low.sums;
+  radius = kept.low.radius;
 }
 
 -- what is kept fits a terrain: its lists have an entry for each link or node, and the search is lawful and
@@ -31,6 +32,6 @@ task_of terrain kept = record {
 pub record Wakes (terrain : Terrain) (kept : Rested) : Type 0 where
   pub cut : length kept.cut.items ≡ length terrain.map.links
   pub used : length kept.used.items ≡ length terrain.map.links
-  pub sums : length kept.low ≡ length terrain.map.nodes
+  pub sums : length kept.low.sums ≡ length terrain.map.nodes
   pub lawful : IsTask (task_of terrain kept)
   pub keeps : IsSpace (rules_of (task_of terrain kept))

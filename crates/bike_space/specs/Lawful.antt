@@ -1,10 +1,10 @@
--- A search on a leg that is lawful: its numbers keep their bounds, and what still has to be paid is the least
--- (this project's own rule).
+-- A search on a leg that is lawful: its numbers keep their bounds, and what still has to be paid is the least, up
+-- to a radius where there is one (this project's own rule).
 use Rattle.std.specs.Prelude.{◌≡◌, ℕ, ◌<◌, ◌^◌, Some}
 use Rattle.cost_model.specs.Facts.{AreFacts}
 use Rattle.cost_model.specs.Prices.{IsPrices}
 use Rattle.overpass_graph.specs.Roads.{IsRoads}
-use Rattle.bike_space.specs.Remaining.{IsRemaining}
+use Rattle.bike_space.specs.Remaining.{IsRemainingUpTo}
 use Rattle.bike_space.specs.Tasks.{Task}
 
 -- a lawful search on a leg
@@ -15,5 +15,5 @@ pub record IsTask (task : Task) : Type 0 where
   pub start_in : task.leg.start < task.leg.ride.roads.nodes
   pub target_in : task.leg.target < task.leg.ride.roads.nodes
   pub low : (node : ℕ) → node < task.leg.ride.roads.nodes →
-      IsRemaining task.leg task.used node (task.low node)
+      IsRemainingUpTo task.leg task.used task.radius node (task.low node)
   pub low_small : (node low : ℕ) → node < task.leg.ride.roads.nodes → task.low node ≡ Some low → low < 2 ^ 126

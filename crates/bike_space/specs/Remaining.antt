@@ -4,7 +4,7 @@ use Rattle.std.specs.Prelude.{ℕ, Bool, if◌then◌else◌, List, length, Opti
 use Rattle.cost_model.specs.Parts.{least_price}
 use Rattle.cost_model.specs.declared.facts.LinkFacts.{LinkFacts}
 use Rattle.least_sums.specs.Prices.{PricedLinks}
-use Rattle.least_sums.specs.Sums.{IsLeastSum}
+use Rattle.least_sums.specs.Sums.{IsLeastSum, IsLeastSumUpTo}
 use Rattle.cost_model.specs.OpenLinks.{open_by}
 use Rattle.cost_model.specs.Rides.{Terrain, Leg}
 use Rattle.bike_space.specs.Marks.{is_marked}
@@ -30,3 +30,9 @@ priced_by terrain cut used = record {
 -- used; none where the target isn't reached from there
 abbrev pub IsRemaining : (leg : Leg) (used : ℕ → Bool) (node : ℕ) (low : Option ℕ) → Type 0
 IsRemaining leg used node low = ∥ IsLeastSum leg.ride.roads (rest_price leg used) leg.target node low ∥₁
+
+-- the same up to a radius, where there is one: what has to be paid at least or the radius, whichever is less
+abbrev pub IsRemainingUpTo :
+    (leg : Leg) (used : ℕ → Bool) (radius : Option ℕ) (node : ℕ) (low : Option ℕ) → Type 0
+IsRemainingUpTo leg used radius node low =
+    ∥ IsLeastSumUpTo leg.ride.roads (rest_price leg used) leg.target radius node low ∥₁

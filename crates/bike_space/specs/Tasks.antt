@@ -16,11 +16,12 @@ use Rattle.cost_model.specs.Rides.{Leg}
 use Rattle.bike_space.specs.Spent.{terms_of}
 
 -- a search on a leg: the links whose segments were used, and for each node what still has to be paid from
--- there at least
+-- there at least, up to a radius where there is one
 pub record Task : Type 0 where
   pub leg : Leg
   pub used : ℕ → Bool
   pub low : ℕ → Option ℕ
+  pub radius : Option ℕ
 
 -- the link of a choice: the one at this place among those that leave a node, ascending
 abbrev pub chosen : Roads → ℕ → ℕ → ℕ

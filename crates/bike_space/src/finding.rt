@@ -44,7 +44,7 @@ impl<G: TerrainOf> TellsWalks for BikeSpace<G> {
 
     ghost answers = { λ space limit outcome. space.kept.start ≢ space.kept.target →
         (let task = task_of (G.terrain space.terrain) space.kept in
-        AnswersLeg task.leg task.used limit outcome) };
+        AnswersLeg task.leg task.used task.radius limit outcome) };
 
     fn told(&self, alloc: Global, outcome: Outcome<Run>) -> Result<Outcome<Walk>, AllocError> {
         match outcome {
@@ -70,7 +70,7 @@ pub fn least_walk<G: TerrainOf>(
     requires differ { space.now.kept.start ≢ space.now.kept.target }
     ensures answers { IfOk result (λ outcome. let task =
         task_of (G.terrain space.now.terrain) space.now.kept in
-        AnswersLeg task.leg task.used limit outcome) }
+        AnswersLeg task.leg task.used task.radius limit outcome) }
 
     // So many labels are enough: as many as links where climbing costs nothing, and as many as
     // links times pairs of buffers always.

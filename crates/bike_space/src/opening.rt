@@ -1,6 +1,6 @@
-//! A space of a leg is opened, put to rest and woken.
+//! A space of a leg is opened, widened, put to rest and woken.
 
-ghost use Rattle.std.specs.Prelude.{◌≡◌, ◌<◌, ◌-◌, ◌^◌, IfOk, length};
+ghost use Rattle.std.specs.Prelude.{◌≡◌, ◌<◌, ◌-◌, ◌^◌, IfOk, None, false, length};
 ghost use Rattle.space_search.specs.Laws.{HasEvenBound, IsDearest};
 ghost use Rattle.bike_space.specs.Kept.{Wakes, leg_asked, task_of};
 ghost use Rattle.bike_space.specs.Marks.{is_marked};
@@ -8,16 +8,21 @@ ghost use Rattle.bike_space.specs.Runs.{RunsAreWalks};
 ghost use Rattle.bike_space.specs.Tasks.{rules_of};
 
 use crate::ask::LegAsk;
-use crate::rest_prices::RestPrices;
+use crate::remaining::remaining;
 use crate::rested::Rested;
 use crate::space::BikeSpace;
 use cost_model::TerrainOf;
-use least_sums::least_sums;
 use std::alloc::{AllocError, Global};
 
 impl<G: TerrainOf> BikeSpace<G> {
-    /// The space of the walks of a leg on a terrain.
-    pub fn new(alloc: Global, terrain: G, ask: &LegAsk) -> Result<BikeSpace<G>, AllocError>
+    /// The space of the walks of a leg on a terrain. With `near` what still has to be paid is found
+    /// up to a radius alone, a little beyond the start; what is farther has that radius at least.
+    pub fn new(
+        alloc: Global,
+        terrain: G,
+        ask: &LegAsk,
+        near: bool,
+    ) -> Result<BikeSpace<G>, AllocError>
         requires cut { length ask.now.cut.now ≡ length (G.terrain terrain).map.links }
         requires used { length ask.now.used.now ≡ length (G.terrain terrain).map.links }
         requires start { ask.now.start < length (G.terrain terrain).map.nodes }
@@ -30,6 +35,10 @@ impl<G: TerrainOf> BikeSpace<G> {
         ensures used { IfOk result (λ space.
             (task_of (G.terrain terrain) space.kept).used ≡ is_marked ask.now.used.now) }
 
+        // What still has to be paid is found for all nodes where `near` doesn't say otherwise.
+        ensures whole { near ≡ false → IfOk result (λ space.
+            (task_of (G.terrain terrain) space.kept).radius ≡ None) }
+
         // It is lawful, its runs are the walks of the leg, a start or step costs below 2^81, and
         // where a state has no bound none behind it has one.
         ensures wakes { IfOk result (λ space. Wakes (G.terrain terrain) space.kept) }
@@ -40,8 +49,31 @@ impl<G: TerrainOf> BikeSpace<G> {
         ensures even { IfOk result (λ space.
             HasEvenBound (rules_of (task_of (G.terrain terrain) space.kept))) }
     {
-        let kept = rested(alloc, &terrain, ask)?;
+        let kept = rested(alloc, &terrain, ask, near)?;
         Ok(kept.wake(terrain))
+    }
+
+    /// The same space with what still has to be paid found for all nodes.
+    pub fn widened(self, alloc: Global) -> Result<BikeSpace<G>, AllocError>
+        ensures terrain { IfOk result (λ space. space.terrain ≡ self.terrain) }
+        ensures leg { IfOk result (λ space. (task_of (G.terrain self.terrain) space.kept).leg ≡
+            (task_of (G.terrain self.terrain) self.kept).leg) }
+        ensures used { IfOk result (λ space. (task_of (G.terrain self.terrain) space.kept).used ≡
+            (task_of (G.terrain self.terrain) self.kept).used) }
+        ensures whole { IfOk result (λ space.
+            (task_of (G.terrain self.terrain) space.kept).radius ≡ None) }
+        ensures wakes { IfOk result (λ space. Wakes (G.terrain self.terrain) space.kept) }
+    {
+        let BikeSpace { terrain, kept } = self;
+        let ask = LegAsk {
+            cut: kept.cut.as_slice(),
+            used: kept.used.as_slice(),
+            start: kept.start,
+            target: kept.target,
+            turns: kept.turns,
+        };
+        let low = remaining(alloc, &terrain, &ask, false)?;
+        Ok(kept.with(low).wake(terrain))
     }
 
     /// What the space keeps of its own. It takes no memory.
@@ -55,7 +87,12 @@ impl<G: TerrainOf> BikeSpace<G> {
 }
 
 /// What the space of a leg keeps.
-fn rested<G: TerrainOf>(alloc: Global, terrain: &G, ask: &LegAsk) -> Result<Rested, AllocError>
+fn rested<G: TerrainOf>(
+    alloc: Global,
+    terrain: &G,
+    ask: &LegAsk,
+    near: bool,
+) -> Result<Rested, AllocError>
     requires cut { length ask.now.cut.now ≡ length (G.terrain terrain.now).map.links }
     requires used { length ask.now.used.now ≡ length (G.terrain terrain.now).map.links }
     requires start { ask.now.start < length (G.terrain terrain.now).map.nodes }
@@ -64,18 +101,15 @@ fn rested<G: TerrainOf>(alloc: Global, terrain: &G, ask: &LegAsk) -> Result<Rest
         leg_asked (G.terrain terrain.now) ask.now) }
     ensures used { IfOk result (λ kept.
         (task_of (G.terrain terrain.now) kept).used ≡ is_marked ask.now.used.now) }
+    ensures whole { near ≡ false → IfOk result (λ kept.
+        (task_of (G.terrain terrain.now) kept).radius ≡ None) }
     ensures wakes { IfOk result (Wakes (G.terrain terrain.now)) }
 {
-    let map = terrain.map();
     // What the map and the rates promise of themselves.
+    let map = terrain.map();
     let _links = map.links();
     let _rate = terrain.rates().down_rate();
-    let prices = RestPrices {
-        terrain,
-        cut: ask.cut,
-        used: ask.used,
-    };
-    let low = least_sums(alloc, map, &prices, ask.target)?;
+    let low = remaining(alloc, terrain, ask, near)?;
     let cut = Vec::from_slice(alloc, ask.cut)?;
     let used = Vec::from_slice(alloc, ask.used)?;
     Ok(Rested {

@@ -1,5 +1,5 @@
 -- The evidence of a spent limit of a search over the junction runs of a leg, from what it shows to the walks of the leg.
-use Rattle.std.proofs.Common.{◌≢◌, ℕ, ◌<◌, List, length, map, sym, subst, arith}
+use Rattle.std.proofs.Common.{◌≡◌, ◌≢◌, None, ℕ, ◌<◌, List, length, map, sym, subst, arith}
 use Rattle.std.proofs.lemmas.List.{length-map}
 use Rattle.item_list.proofs.ListLemmas.{slice_get-there}
 use Rattle.cost_model.specs.declared.parts.Carry.{Carry}
@@ -43,8 +43,8 @@ module _ (task : Task) (lawful : IsTask task) (limit : ℕ) (shown : List (Reach
       subst (IsListOfRuns task.leg) (sym (nth-at (written_of (rules_of task)) task shown k t.0 t.1))
       (walk-runs task (run-whole (rules_of task) p.run.run))
 
-  -- a spent limit has its evidence, with the bound
-  pub spent-bounded : IsSpentBounded task.leg task.used limit walks
-  spent-bounded =
+  -- a spent limit has its evidence, with the bound where that is found for all nodes
+  pub spent-bounded : task.radius ≡ None → IsSpentBounded task.leg task.used limit walks
+  spent-bounded all =
       spent-written task lawful (run_rules (rules_of task)).start (run_rules (rules_of task)).step (written_of (rules_of task))
-      (runs-written task) limit shown spent differ
+      (runs-written task) limit shown spent differ all

@@ -20,7 +20,7 @@ impl<'a, G: TerrainOf> TellsWalks for RunSpace<'a, BikeSpace<G>> {
     ghost answers = { λ runs limit outcome. (let space = runs.space.now in
         space.kept.start ≢ space.kept.target →
         (let task = task_of (G.terrain space.terrain) space.kept in
-        AnswersByRuns task.leg task.used limit outcome)) };
+        AnswersByRuns task.leg task.used task.radius limit outcome)) };
 
     fn told(&self, alloc: Global, outcome: Outcome<Run>) -> Result<Outcome<Walk>, AllocError> {
         match outcome {
@@ -46,7 +46,7 @@ pub fn least_walk_by_runs<G: TerrainOf>(
     requires differ { space.now.kept.start ≢ space.now.kept.target }
     ensures answers { IfOk result (λ outcome. let task =
         task_of (G.terrain space.now.terrain) space.now.kept in
-        AnswersByRuns task.leg task.used limit outcome) }
+        AnswersByRuns task.leg task.used task.radius limit outcome) }
 
     // As many labels are enough as without junction runs.
     ensures enough { IsFlat (task_of (G.terrain space.now.terrain) space.now.kept).leg →

@@ -3,7 +3,7 @@
 use Rattle.std.specs.BinaryHeap.{heap_items}
 use Rattle.std.specs.List.{Contains, count_by, sum}
 use Rattle.std.specs.List.Sorted.{IsPermutation}
-use Rattle.std.specs.Prelude.{◌≡◌, ℕ, ◌+◌, ◌*◌, ◌<◌, ◌≤◌, ◌^◌, ◌⊎◌, Bool, false, List, ◌∷◌, length, get_or, map, set, Some, nat_lt}
+use Rattle.std.specs.Prelude.{◌≡◌, ℕ, ◌+◌, ◌*◌, ◌<◌, ◌≤◌, ◌^◌, ◌⊎◌, Bool, false, List, ◌∷◌, length, get_or, map, set, Option, Some, None, nat_lt}
 use Rattle.std.specs.declared.cmp.Reverse.{Reverse}
 use Rattle.overpass_graph.specs.Roads.{Roads, out_links, twin_of}
 use Rattle.least_sums.specs.Prices.{Prices, PRICE_BOUND}
@@ -118,3 +118,20 @@ pub record IsFinal (roads : Roads) (prices : Prices) (target far : ℕ) (state :
   pub done : AreDone roads prices far state
   pub empty : length state.queue ≡ 0
   pub few_nodes : roads.nodes < 2 ^ 32
+
+-- the finding ended at a radius: every open link is relaxed, or the sum behind it is no less than the radius
+pub record IsEndedAt (roads : Roads) (prices : Prices) (target far radius : ℕ) (state : State) : Type 0 where
+  pub is_state : IsState roads prices target far state
+  pub fits : radius ≤ far
+  pub done : (link price : ℕ) → link < roads.links → prices link ≡ Some price →
+      (at state (roads.from link) ≤ at state (roads.to link) + price) ⊎ (radius ≤ at state (roads.to link))
+
+-- the finding ended, at a radius or where nothing waits any more
+abbrev pub IsEnded :
+    (roads : Roads) (prices : Prices) (target far : ℕ) (radius : Option ℕ) (state : State) → Type 0
+IsEnded roads prices target far None state = IsFinal roads prices target far state
+IsEnded roads prices target far (Some radius) state = IsEndedAt roads prices target far radius state
+
+-- nothing waits with less than a number
+abbrev pub WaitNoLess : State → ℕ → Type 0
+WaitNoLess state least = (sum node : ℕ) → Contains state.queue (sum, node) → least ≤ sum

@@ -69,3 +69,32 @@ AreBelow sums = (node sum : ℕ) → sum_of sums node ≡ Some sum → sum < SUM
 pub record AreLeastSums (roads : Roads) (prices : Prices) (target : ℕ) (sums : List (Option ℕ)) : Type 0 where
   pub counted : length sums ≡ roads.nodes
   pub least : (node : ℕ) → node < roads.nodes → IsLeastSum roads prices target node (sum_of sums node)
+
+-- ---- Up to a radius
+
+-- what is found for the nodes of a map, and the radius up to which it was looked for; none where all was found
+pub record NodeSums : Type 0 where
+  pub sums : List (Option ℕ)
+  pub radius : Option ℕ
+
+-- the least sum from a node to the target, or the radius where that is no more: no walk comes to less than
+-- this, and where it is below the radius some walk comes to it
+pub record IsLeastWithin (roads : Roads) (prices : Prices) (target radius node sum : ℕ) : Type 0 where
+  pub within : sum ≤ radius
+  pub least : IsAtMostEach roads prices target node sum
+  pub found : sum < radius → HasWalk roads prices target node sum
+
+-- the least sum from a node to the target, up to a radius where there is one; none only where there is no
+-- radius and no walk leads there
+abbrev pub IsLeastSumUpTo :
+    (roads : Roads) (prices : Prices) (target : ℕ) (radius : Option ℕ) (node : ℕ) (sum : Option ℕ) → Type 0
+IsLeastSumUpTo roads prices target None node sum = IsLeastSum roads prices target node sum
+IsLeastSumUpTo roads prices target (Some radius) node None = ⊥
+IsLeastSumUpTo roads prices target (Some radius) node (Some sum) =
+    IsLeastWithin roads prices target radius node sum
+
+-- the least sums from all nodes to the target, by node, up to a radius where there is one
+pub record AreLeastSumsUpTo (roads : Roads) (prices : Prices) (target : ℕ) (found : NodeSums) : Type 0 where
+  pub counted : length found.sums ≡ roads.nodes
+  pub least : (node : ℕ) → node < roads.nodes →
+      IsLeastSumUpTo roads prices target found.radius node (sum_of found.sums node)

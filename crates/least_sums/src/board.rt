@@ -1,7 +1,7 @@
 //! The sums so far, and the nodes that wait to be looked at.
 
 ghost use Rattle.std.specs.Prelude.{◌≡◌, ◌<◌, ◌≤◌, IfOk, MatchOption, OnOk, false, [], length, replicate};
-ghost use Rattle.least_sums.specs.States.{Lowers, Pops, at, state_of};
+ghost use Rattle.least_sums.specs.States.{Lowers, Pops, WaitNoLess, at, state_of};
 
 use crate::amount::Amount;
 use std::alloc::{AllocError, Global};
@@ -63,5 +63,20 @@ impl<N: Amount> Board<N> {
             Ok(()) => Ok(()),
             Err(_) => Err(AllocError),
         }
+    }
+
+    /// The least of a number and of the sums of all entries that wait.
+    pub(crate) fn least_waiting(&self, sum: u128) -> N
+        ensures most { N.number result ≤ sum }
+        ensures fits { N.number result ≤ N.FAR }
+        ensures least { WaitNoLess (state_of N.number self.now) (N.number result) }
+    {
+        let mut least = sum.min(N::FAR);
+        let waiting = self.queue.as_slice();
+        'entries: for place in 0..waiting.len() {
+            let (sum, _node) = waiting[place].0;
+            least = least.min(sum.wide());
+        }
+        N::kept(least)
     }
 }

@@ -11,31 +11,34 @@ use std::marker::Model;
 pub(crate) enum Kept {
     Narrow(Vec<u64>),
     Wide(Vec<u128>),
+    /// Those below the radius, which stands for all others.
+    Near { sums: Vec<u64>, radius: u64 },
 }
 
-/// The least sum of each node of a map, or none.
+/// The least sum of each node of a map, or none; or up to a radius alone, which then stands for
+/// every sum that is no less.
 #[derive(Drop)]
 pub struct Sums {
     pub(crate) kept: Kept,
 }
 
 impl Model for Sums {
-    ghost use Rattle.std.specs.Prelude.{ℕ, List, Option};
-    ghost use Rattle.least_sums.specs.Keeping.{kept_sums};
-    ghost use Rattle.least_sums.specs.Sums.{AreBelow};
+    ghost use Rattle.least_sums.specs.Keeping.{kept_sums, kept_value};
+    ghost use Rattle.least_sums.specs.Sums.{AreBelow, NodeSums};
 
-    ghost Value = { List (Option ℕ) };
+    ghost Value = { NodeSums };
 
-    ghost view = { λ s. kept_sums s.kept };
+    ghost view = { λ s. kept_value s.kept };
 
     ghost invariant = { λ s. AreBelow (kept_sums s.kept) };
 }
 
 impl Sums {
-    /// The least sum of a node, none where no walk leads from it to the target.
+    /// The sum of a node: the least one, none where no walk leads from it to the target; up to a
+    /// radius the least one or the radius, whichever is less.
     pub fn of(&self, node: u32) -> Option<u128>
-        requires in_range { node < length self.now }
-        ensures value { result ≡ sum_of self.now node }
+        requires in_range { node < length self.now.sums }
+        ensures value { result ≡ sum_of self.now.sums node }
         ensures small { IfSome result (λ sum. sum < SUM_BOUND) }
     {
         match &self.kept {
@@ -50,6 +53,15 @@ impl Sums {
             Kept::Wide(sums) => {
                 let sum = sums[node as usize];
                 if sum < WIDE_FAR { Some(sum) } else { None }
+            }
+            Kept::Near { sums, radius } => {
+                let sum = sums[node as usize];
+                let radius = *radius;
+                if sum < radius {
+                    Some(sum as u128)
+                } else {
+                    Some(radius as u128)
+                }
             }
         }
     }

@@ -1,6 +1,6 @@
 -- What a search on a leg looks for, and what its turns answer, in the words of walks (this project's own
 -- rule).
-use Rattle.std.specs.Prelude.{◌≡◌, ◌≢◌, ℕ, ◌+◌, ◌<◌, ◌≤◌, Bool, IsTrue, if◌then◌else◌, List, length}
+use Rattle.std.specs.Prelude.{◌≡◌, ◌≢◌, ℕ, ◌+◌, ◌<◌, ◌≤◌, ◌^◌, Bool, true, false, IsTrue, if◌then◌else◌, List, length, None}
 use Rattle.bike_space.specs.Answers.{IsFound}
 use Rattle.bike_space.specs.Kept.{Wakes, task_of}
 use Rattle.cost_model.specs.Rides.{Terrain, Leg}
@@ -18,8 +18,8 @@ use Rattle.space_search.specs.Rules.{Rules}
 use Rattle.space_search.specs.Searches.{IsSearchOf}
 use Rattle.space_search.specs.View.{view}
 use Rattle.space_search.specs.declared.outcome.Outcome.{Outcome}
-use Rattle.space_search.specs.declared.search.Search.{Search}
 use Rattle.leg_search.specs.declared.search.LegSearch.{LegSearch}
+use Rattle.leg_search.specs.declared.search.TheConstants.{FIRST_LABELS}
 use Rattle.leg_search.specs.declared.turn.LegTurn.{LegTurn}
 
 -- ---- What is looked for
@@ -49,24 +49,32 @@ pub record IsSpentFor (quest : Quest) (walks : List (List ℕ)) : Type 0 where
 abbrev pub searched : Bool → Task → Rules Carry
 searched runs task = if runs then run_rules (rules_of task) else rules_of task
 
--- what a search on the leg of a task looks for
-abbrev pub quest_by : Task → Search Carry → Bool → Quest
-quest_by task search runs =
-    record { leg = task.leg; used = task.used; limit = (view search).limit; runs = runs }
+-- what a search on the leg of a task looks for, with so many labels at most
+abbrev pub quest_in : (task : Task) (limit : ℕ) (runs : Bool) → Quest
+quest_in task limit runs = record { leg = task.leg; used = task.used; limit = limit; runs = runs }
 
 -- what a search on a leg looks for, on a terrain
 abbrev pub quest_of : Terrain → LegSearch → Quest
-quest_of terrain s = quest_by (task_of terrain s.kept) s.search s.runs
+quest_of terrain s = quest_in (task_of terrain s.kept) s.aim.limit s.aim.runs
 
--- how many labels it has settled
+-- how many labels it has settled, those before it began anew among them
 abbrev pub settled_of : LegSearch → ℕ
-settled_of s = length (view s.search).settled
+settled_of s = s.aim.spent + length (view s.search).settled
 
--- it is a search on a leg over these, whose nodes differ
+-- it is a search on a leg over these, whose nodes differ. Before it begins anew it settles few labels, and has
+-- settled none besides its own; after that its limit is the quest's, and what still has to be paid was found
+-- for all nodes
 pub record IsSearchOn (terrain : Terrain) (s : LegSearch) : Type 0 where
   pub wakes : Wakes terrain s.kept
   pub differ : s.kept.start ≢ s.kept.target
-  pub of : IsSearchOf (searched s.runs (task_of terrain s.kept)) s.search
+  pub of : IsSearchOf (searched s.aim.runs (task_of terrain s.kept)) s.search
+  pub few : s.aim.first ≡ true → (view s.search).limit ≤ FIRST_LABELS
+  pub alone : s.aim.first ≡ true → s.aim.spent ≡ 0
+  pub limit : s.aim.first ≡ false → (view s.search).limit ≡ s.aim.limit
+  pub whole : s.aim.first ≡ false → (task_of terrain s.kept).radius ≡ None
+  pub spent : s.aim.spent ≤ FIRST_LABELS
+  pub within : (view s.search).limit ≤ s.aim.limit
+  pub small : s.aim.limit < 2 ^ 32
 
 -- ---- What a turn answers
 
@@ -88,8 +96,8 @@ AnswersLegTurn terrain quest turn =
     Says (GoesOnAs terrain quest) (AnswersQuest quest) turn.turn
 
 -- the labels that a turn settled, by how many were settled before it: the whole quota where the search goes
--- on, and else less; no more than the limit in all
+-- on, and else less; in all no more than the limit, and those before the search began anew
 pub record CountsLegTurn (quota before limit : ℕ) (turn : LegTurn) : Type 0 where
   pub settles : Settles quota turn.settled turn.turn
   pub next : Says (λ next. settled_of next ≡ before + turn.settled) (λ _. Unit {0}) turn.turn
-  pub within : before + turn.settled ≤ limit
+  pub within : before + turn.settled ≤ limit + FIRST_LABELS

@@ -5,7 +5,7 @@ ghost use Rattle.bike_space.specs.Kept.{leg_asked};
 ghost use Rattle.bike_space.specs.Marks.{is_marked};
 ghost use Rattle.leg_search.specs.Quests.{IsSearchOn, quest_of, settled_of};
 
-use crate::search::LegSearch;
+use crate::search::{Aim, FIRST_LABELS, LegSearch};
 use bike_space::{BikeSpace, LegAsk};
 use cost_model::TerrainOf;
 use space_search::Search;
@@ -13,8 +13,9 @@ use std::alloc::{AllocError, Global};
 
 impl LegSearch {
     /// A search on a leg of a terrain whose nodes differ, which settles at most `limit` labels, and
-    /// goes from junction to junction where `runs` says so. What still has to be paid from each
-    /// node is found here, once for all turns.
+    /// goes from junction to junction where `runs` says so. What still has to be paid is found here
+    /// for the nodes near the target. That is enough for most legs; where it isn't, a later turn
+    /// begins the search anew, and finds it for all nodes.
     pub fn new<G: TerrainOf>(
         alloc: Global,
         terrain: G,
@@ -39,11 +40,16 @@ impl LegSearch {
         }) }
         ensures fresh { IfOk result (λ search. settled_of search ≡ 0) }
     {
-        let space = BikeSpace::new(alloc, terrain, ask)?;
+        let space = BikeSpace::new(alloc, terrain, ask, true)?;
         Ok(LegSearch {
-            search: Search::new(alloc, limit),
+            search: Search::new(alloc, limit.min(FIRST_LABELS)),
             kept: space.rest(),
-            runs,
+            aim: Aim {
+                limit,
+                runs,
+                first: true,
+                spent: 0,
+            },
         })
     }
 }

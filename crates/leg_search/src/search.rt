@@ -4,13 +4,30 @@ use bike_space::Rested;
 use cost_model::Carry;
 use space_search::Search;
 
+/// The most labels that a search settles before it begins anew.
+pub(crate) const FIRST_LABELS: u64 = 131072;
+
+/// What a search on a leg is for, and whether it has begun anew.
+#[derive(Clone, Copy, Drop)]
+pub(crate) struct Aim {
+    /// The most labels that are settled, where what still has to be paid is found for all nodes.
+    pub(crate) limit: u64,
+    /// Whether it goes from junction to junction.
+    pub(crate) runs: bool,
+    /// Whether it hasn't begun anew: what still has to be paid is found near the target alone, and
+    /// few labels are settled.
+    pub(crate) first: bool,
+    /// How many labels were settled before it began anew; none while it hasn't.
+    pub(crate) spent: u64,
+}
+
 /// A search on a leg whose nodes differ, before its end. It borrows nothing: each turn is given the
 /// terrain again.
 #[derive(Drop)]
 pub struct LegSearch {
     pub(crate) search: Search<Carry>,
-    /// What the space keeps: its lists, and what still has to be paid, which is found once.
+    /// What the space keeps: its lists, and what still has to be paid, which is found once, or a
+    /// second time where the search begins anew.
     pub(crate) kept: Rested,
-    /// Whether it goes from junction to junction.
-    pub(crate) runs: bool,
+    pub(crate) aim: Aim,
 }

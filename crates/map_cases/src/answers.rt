@@ -5,7 +5,7 @@ use crate::map::drafts::limited;
 use crate::map::pieces::{by_sizes, cuts, fronts, told_by_piece};
 use crate::map::shown::counts_of;
 use crate::near::nearest;
-use crate::sums::all_sums;
+use crate::sums::{all_sums, near_sums};
 use crate::{class, space, track};
 use case_inputs::map_of;
 use case_rows::{Case, place_of};
@@ -27,17 +27,19 @@ const ON_TEXTS: [&str; 7] = [
 ];
 
 /// The calls on a map, whose text is the first word behind them.
-const ON_MAPS: [&str; 10] = [
+const ON_MAPS: [&str; 12] = [
     "map_cut",
     "map_counts",
     "near",
     "sums",
+    "sums_near",
     "recheck",
     "rows",
     "cost",
     "walk",
     "runs",
     "woken",
+    "ring",
 ];
 
 /// The answer to a case.
@@ -72,7 +74,8 @@ fn by_call(alloc: Global, case: &Case, map: &Map, call: usize) -> Result<String,
         1 => counts_of(alloc, map),
         2 => nearest(alloc, case, map),
         3 => all_sums(alloc, case, map),
-        4..=6 => track::answer(alloc, case, map),
+        4 => near_sums(alloc, case, map),
+        5..=7 => track::answer(alloc, case, map),
         _ => space::answer(alloc, case, map),
     }
 }

@@ -18,9 +18,12 @@ use overpass_graph::Map;
 use space_search::Outcome;
 use std::alloc::{AllocError, Global};
 
-/// The searches for a walk: from link to link, from junction to junction, and with a space that
-/// rests between turns.
-const SEARCHES: [&str; 3] = ["walk", "runs", "woken"];
+/// The searches for a walk: from link to link, from junction to junction, with a space that rests
+/// between turns, and with what still has to be paid near the target alone.
+const SEARCHES: [&str; 4] = ["walk", "runs", "woken", "ring"];
+
+/// The place of the search near the target alone.
+const RING: usize = 3;
 
 /// The two nodes of a walk, and the limit of labels.
 #[derive(Clone, Copy)]
@@ -110,7 +113,8 @@ fn walk(
         target: ends.target,
         turns: case.count(4) == 1,
     };
-    let space = BikeSpace::new(alloc, terrain, &ask)?;
+    let near = place_of(&SEARCHES, case.word(0)) == RING;
+    let space = BikeSpace::new(alloc, terrain, &ask, near)?;
     walked(alloc, case, space, terrain, ends.limit)
 }
 

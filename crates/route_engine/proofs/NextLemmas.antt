@@ -13,6 +13,7 @@ use Rattle.leg_search.specs.Quests.{AnswersQuest, GoesOnAs, IsFoundFor, IsSpentF
 use Rattle.leg_search.specs.declared.search.LegSearch.{LegSearch}
 use Rattle.space_search.specs.declared.outcome.Outcome.{Outcome}
 use Rattle.space_search.specs.declared.outcome.Outcome.TheVariants.{Found, NoWay, Budget}
+use Rattle.route_engine.specs.Labels.{most_for_walk}
 use Rattle.route_engine.specs.Plans.{Plan}
 use Rattle.route_engine.specs.Progress.{AnswersNext, EndsNext, IsHunt, IsNext, IsSpentNext, next_leg, next_quest}
 use Rattle.route_engine.specs.declared.walked.Walked.{Walked}
@@ -46,7 +47,7 @@ module _ (plan : Plan) (walked : Walked) (search : LegSearch) (hunt : IsHunt pla
       (next : LegSearch) →
       GoesOnAs plan.setting.terrain
       (quest_of plan.setting.terrain search) next →
-      settled_of next ≤ plan.limit → IsHunt plan walked next
+      settled_of next ≤ most_for_walk plan.limit → IsHunt plan walked next
   more-next next goes within = record {
     on = goes.on;
     marks = hunt.marks;
@@ -103,7 +104,7 @@ module _ (plan : Plan) (walked : Walked) (search : LegSearch) (hunt : IsHunt pla
       Says (GoesOnAs plan.setting.terrain
       (quest_of plan.setting.terrain search))
       (AnswersQuest (quest_of plan.setting.terrain search)) turn →
-      Says (λ next. settled_of next ≡ settled_of search + settled) (λ _. Unit {0}) turn → settled_of search + settled ≤ plan.limit →
+      Says (λ next. settled_of next ≡ settled_of search + settled) (λ _. Unit {0}) turn → settled_of search + settled ≤ most_for_walk plan.limit →
       AnswersNext plan walked turn
   answers-next settled (More next) goes count within = more-next next goes (omega (arith, count, within))
   answers-next settled (Done end) ends count within = ends-next end ends

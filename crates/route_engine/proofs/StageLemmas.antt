@@ -66,8 +66,8 @@ pub allowed-more :
     total ≤ allowed plan (Searching walked search) → StepsTo plan walked (settled_in search) quota settled stage true →
     total + settled ≤ allowed plan stage
 allowed-more plan walked search (Searching after next) total settled quota within steps =
-    let same : found_count plan after * plan.limit ≡ found_count plan walked * plan.limit =
-    ap (λ w. found_count plan w * plan.limit) steps.1.0 in
+    let same : found_count plan after * most_for_walk plan.limit ≡ found_count plan walked * most_for_walk plan.limit =
+    ap (λ w. found_count plan w * most_for_walk plan.limit) steps.1.0 in
     omega (arith, within, same, steps.1.1)
 allowed-more plan walked search (Found track) total settled quota within steps = absurd steps.1
 allowed-more plan walked search (Refused e) total settled quota within steps = absurd steps.1
@@ -79,32 +79,32 @@ one-more n limit = grind arith
 -- and where the walk is found, or the job is at its end
 pub allowed-next :
     (plan : Plan) (walked : Walked) (search : Option LegSearch) (stage : Stage) (total settled quota : ℕ) →
-    IsSoFar plan walked → total ≤ allowed plan (Searching walked search) → settled_in search + settled ≤ plan.limit →
+    IsSoFar plan walked → total ≤ allowed plan (Searching walked search) → settled_in search + settled ≤ most_for_walk plan.limit →
     StepsTo plan walked (settled_in search) quota settled stage false → total + settled ≤ allowed plan stage
 allowed-next plan walked search (Searching after next) total settled quota so_far within few steps =
-    let same : found_count plan after * plan.limit ≡ found_count plan walked * plan.limit + plan.limit =
-    ap (λ n. n * plan.limit) steps.1.0 ∙ one-more (found_count plan walked) plan.limit in
+    let same : found_count plan after * most_for_walk plan.limit ≡ found_count plan walked * most_for_walk plan.limit + most_for_walk plan.limit =
+    ap (λ n. n * most_for_walk plan.limit) steps.1.0 ∙ one-more (found_count plan walked) (most_for_walk plan.limit) in
     omega (arith, within, few, same)
 allowed-next plan walked search (Found track) total settled quota so_far within few steps =
-    let most = mul-le (suc (found_count plan walked)) plan.limit (walk_count plan) plan.limit
+    let most = mul-le (suc (found_count plan walked)) (most_for_walk plan.limit) (walk_count plan) (most_for_walk plan.limit)
     (omega (arith, fewer-found plan walked so_far)) (omega arith) in
-    omega (arith, within, few, most, one-more (found_count plan walked) plan.limit)
+    omega (arith, within, few, most, one-more (found_count plan walked) (most_for_walk plan.limit))
 allowed-next plan walked search (Refused e) total settled quota so_far within few steps =
-    let most = mul-le (suc (found_count plan walked)) plan.limit (walk_count plan) plan.limit
+    let most = mul-le (suc (found_count plan walked)) (most_for_walk plan.limit) (walk_count plan) (most_for_walk plan.limit)
     (omega (arith, fewer-found plan walked so_far)) (omega arith) in
-    omega (arith, within, few, most, one-more (found_count plan walked) plan.limit)
+    omega (arith, within, few, most, one-more (found_count plan walked) (most_for_walk plan.limit))
 
 -- what is allowed at a stage is no more than the limit for each walk
 pub allowed-most :
-    (plan : Plan) (stage : Stage) → IsStage plan stage → allowed plan stage ≤ walk_count plan * plan.limit
+    (plan : Plan) (stage : Stage) → IsStage plan stage → allowed plan stage ≤ walk_count plan * most_for_walk plan.limit
 allowed-most plan (Searching walked None) is =
-    let most = mul-le (found_count plan walked) plan.limit (walk_count plan) plan.limit
+    let most = mul-le (found_count plan walked) (most_for_walk plan.limit) (walk_count plan) (most_for_walk plan.limit)
     (omega (arith, fewer-found plan walked is.0)) (omega arith) in
     omega (arith, most)
 allowed-most plan (Searching walked (Some search)) is =
-    let most = mul-le (suc (found_count plan walked)) plan.limit (walk_count plan) plan.limit
+    let most = mul-le (suc (found_count plan walked)) (most_for_walk plan.limit) (walk_count plan) (most_for_walk plan.limit)
     (omega (arith, fewer-found plan walked is.0)) (omega arith) in
-    omega (arith, most, one-more (found_count plan walked) plan.limit, is.1.within)
+    omega (arith, most, one-more (found_count plan walked) (most_for_walk plan.limit), is.1.within)
 allowed-most plan (Found track) is = omega arith
 allowed-most plan (Refused e) is = omega arith
 

@@ -14,6 +14,7 @@ use Rattle.space_search.specs.Ends.{Ends}
 use Rattle.space_search.specs.declared.outcome.Outcome.{Outcome}
 use Rattle.track_legs.specs.Tracks.{no_leg}
 use Rattle.track_legs.specs.declared.track.Leg.{Leg as TrackLeg}
+use Rattle.route_engine.specs.Labels.{most_for_walk}
 use Rattle.route_engine.specs.Plans.{IsFound, IsRefusal, IsTrackFor, Plan, leg_count, nth_leg}
 use Rattle.route_engine.specs.declared.advance.Advanced.{Advanced}
 use Rattle.route_engine.specs.declared.stage.Stage.{Stage}
@@ -90,7 +91,7 @@ pub record IsHunt (plan : Plan) (walked : Walked) (search : LegSearch) : Type 0 
   pub agree : (link : ℕ) → link < length plan.setting.terrain.map.links →
       is_marked marks link ≡ is_used walked.walks link
   pub quest : quest_of plan.setting.terrain search ≡ next_quest plan walked (is_marked marks)
-  pub within : settled_of search ≤ plan.limit
+  pub within : settled_of search ≤ most_for_walk plan.limit
 
 -- there is a search for the next walk, or the nodes of its leg are one
 abbrev pub IsBegun : Plan → Walked → Option LegSearch → Type 0
@@ -126,12 +127,12 @@ IsStage plan (Searching walked search) = IsSoFar plan walked × IsBegun plan wal
 IsStage plan (Found track) = IsTrackFor plan track
 IsStage plan (Refused e) = (e ≡ NoMemory) ⊎ IsRefusal plan e
 
--- how many labels may be settled at a stage: the limit for each walk that is found, and what the search for
--- the next one has settled
+-- how many labels may be settled at a stage: as many as for a walk, for each that is found, and what the search
+-- for the next one has settled
 abbrev pub allowed : Plan → Stage → ℕ
-allowed plan (Searching walked search) = found_count plan walked * plan.limit + settled_in search
-allowed plan (Found track) = walk_count plan * plan.limit
-allowed plan (Refused e) = walk_count plan * plan.limit
+allowed plan (Searching walked search) = found_count plan walked * most_for_walk plan.limit + settled_in search
+allowed plan (Found track) = walk_count plan * most_for_walk plan.limit
+allowed plan (Refused e) = walk_count plan * most_for_walk plan.limit
 
 -- how many searches are left at a stage
 abbrev pub searches_left : Plan → Stage → ℕ
@@ -169,4 +170,4 @@ StepsTo plan walked before quota settled stage false = (settled < quota) × Come
 pub record Advances (plan : Plan) (walked : Walked) (before quota : ℕ) (advanced : Advanced) : Type 0 where
   pub stage : IsStage plan advanced.stage
   pub steps : StepsTo plan walked before quota advanced.settled advanced.stage advanced.more
-  pub within : before + advanced.settled ≤ plan.limit
+  pub within : before + advanced.settled ≤ most_for_walk plan.limit

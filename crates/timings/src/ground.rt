@@ -104,7 +104,7 @@ impl<'a> Ground<'a> {
             target: to,
             turns: true,
         };
-        let space = BikeSpace::new(rt.alloc(), terrain, &ask)?;
+        let space = BikeSpace::new(rt.alloc(), terrain, &ask, false)?;
         self.settle(rt, &space, plan)
     }
 

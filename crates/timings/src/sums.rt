@@ -11,7 +11,7 @@ use std::io;
 
 /// How many nodes have a sum.
 fn reached(map: &Map, sums: &Sums) -> u64
-    requires counted { length sums.now ≡ length map.now.nodes }
+    requires counted { length sums.now.sums ≡ length map.now.nodes }
 {
     let mut reached = 0u64;
     'nodes: for node in 0..map.nodes() {

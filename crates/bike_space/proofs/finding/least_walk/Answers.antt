@@ -12,7 +12,7 @@ pub returns-clause-answers : goal.returns-clause-answers
 returns-clause-answers g c =
     let space = c.args.space.now in
     let task = task_of (g.G.TerrainOf.terrain space.terrain) space.kept in
-    IfOk-weaker c.told.result _ (AnswersLeg task.leg task.used c.args.limit)
+    IfOk-weaker c.told.result _ (AnswersLeg task.leg task.used task.radius c.args.limit)
     (λ walked told. told c.args.limit c.requires.small c.in_ok-outcome.ensures.answers c.requires.differ) c.told.ensures.told
 
 pub returns-clause-enough : goal.returns-clause-enough

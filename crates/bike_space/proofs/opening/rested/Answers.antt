@@ -1,4 +1,4 @@
-use Rattle.std.proofs.Common.{length, ap, subst, sym, ◌∙◌}
+use Rattle.std.proofs.Common.{length, ap, subst, ◌∙◌}
 use Rattle.cost_model.specs.Prices.{IsPrices}
 use Rattle.overpass_graph.specs.Maps.{IsMap}
 use Rattle.bike_space.proofs.OpenLemmas.{opened-wakes}
@@ -19,6 +19,6 @@ returns-clause-wakes g c =
       used = ap length used ∙ c.requires.used;
       start = c.requires.start;
       target = c.requires.target;
-      sums = rw (cut, used, sym c.map-map.ensures.value) c.in_ok-low.ensures.exact;
+      sums = rw (cut, used) c.in_ok-low.ensures.exact;
       small = c.in_ok-low.ensures.small;
     })

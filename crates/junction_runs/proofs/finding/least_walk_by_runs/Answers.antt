@@ -23,11 +23,11 @@ pub returns-clause-answers : goal.returns-clause-answers
 returns-clause-answers g c =
     let space = c.args.space.now in
     let task = task_of (g.G.TerrainOf.terrain space.terrain) space.kept in
-    IfOk-weaker c.told.result _ (AnswersByRuns task.leg task.used c.args.limit)
+    IfOk-weaker c.told.result _ (AnswersByRuns task.leg task.used task.radius c.args.limit)
     (λ outcome told.
     moved c.new-runs.ensures.space
     (λ s. s.kept.start ≢ s.kept.target →
-    (let t = task_of (g.G.TerrainOf.terrain s.terrain) s.kept in AnswersByRuns t.leg t.used c.args.limit outcome))
+    (let t = task_of (g.G.TerrainOf.terrain s.terrain) s.kept in AnswersByRuns t.leg t.used t.radius c.args.limit outcome))
     (told c.args.limit c.requires.small c.in_ok-outcome.ensures.answers) c.requires.differ)
     c.told.ensures.told
 

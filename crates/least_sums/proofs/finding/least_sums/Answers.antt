@@ -19,6 +19,7 @@ returns-then-not-narrow g c =
           NARROW_FAR c.in_ok-narrow.narrow.sums.items
           (state_of (λ n. n) c.in_ok-narrow.narrow) c.in_ok-narrow.ensures.ends refl
           (not-true c.in_ok-narrow.narrow.cut c.if-not-narrow.true) (lit< tt);
+      whole = refl;
       small = kept-below (roads_of c.args.map.now) (g.P.LinkPrices.priced c.args.prices.now).price c.args.target
           NARROW_FAR c.in_ok-narrow.narrow.sums.items
           (state_of (λ n. n) c.in_ok-narrow.narrow) c.in_ok-narrow.ensures.ends refl;
@@ -37,6 +38,7 @@ returns g c =
           WIDE_FAR c.in_ok-wide.wide.sums.items
           (state_of (λ n. n) c.in_ok-wide.wide) c.in_ok-wide.ensures.ends refl
           (c.in_ok-wide.ensures.ends.is_state.uncut (lit≤ tt)) (lit< tt);
+      whole = refl;
       small = kept-below (roads_of c.args.map.now) (g.P.LinkPrices.priced c.args.prices.now).price c.args.target
           WIDE_FAR c.in_ok-wide.wide.sums.items
           (state_of (λ n. n) c.in_ok-wide.wide) c.in_ok-wide.ensures.ends refl;

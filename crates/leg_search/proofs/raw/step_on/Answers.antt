@@ -9,7 +9,8 @@ use Rattle.junction_runs.specs.RunRules.{run_rules}
 use Rattle.junction_runs.proofs.CallerLemmas.{leg-for-runs}
 use Rattle.space_search.specs.Searches.{IsSearchOf}
 use Rattle.space_search.specs.View.{view}
-use Rattle.leg_search.specs.Quests.{AnswersQuest, quest_by, searched}
+use Rattle.leg_search.specs.Quests.{searched}
+use Rattle.leg_search.specs.Steps.{AnswersStep}
 use Rattle.leg_search.proofs.AnswerLemmas.{told-links, told-runs}
 use Rattle.leg_search.proofs.raw.step_on.Goals as goal
 
@@ -43,19 +44,16 @@ returns-then-runs-clause-answers g c =
     let told =
     subst (λ s. IfOk c.step.result
     (λ step. Says (λ _. Unit {0}) (λ outcome. s.kept.start ≢ s.kept.target →
-    (let t = task_of (g.G.TerrainOf.terrain s.terrain) s.kept in AnswersByRuns t.leg t.used limit outcome)) step.1))
+    (let t = task_of (g.G.TerrainOf.terrain s.terrain) s.kept in AnswersByRuns t.leg t.used t.radius limit outcome)) step.1))
     c.new.ensures.space c.step.ensures.answers in
-    subst (λ (b : Bool). IfOk c.step.result (λ step. Says (λ _. Unit {0}) (AnswersQuest (quest_by task c.args.search.now b)) step.1))
-    (sym c.if-runs.true)
-    (IfOk-weaker c.step.result _ _ (λ step said. told-runs task.leg task.used limit c.requires.differ step.1 said) told)
+    subst (λ (b : Bool). IfOk c.step.result (AnswersStep task limit b)) (sym c.if-runs.true)
+    (IfOk-weaker c.step.result _ _ (λ step said. told-runs task limit c.requires.differ step.1 said) told)
 
 pub returns-else-runs-clause-answers : goal.returns-else-runs-clause-answers
 returns-else-runs-clause-answers g c =
     let space = c.args.space.now in
     let task = task_of (g.G.TerrainOf.terrain space.terrain) space.kept in
     let limit = (view c.args.search.now).limit in
-    subst (λ (b : Bool). IfOk c.step-else-runs.result (λ step. Says (λ _. Unit {0}) (AnswersQuest (quest_by task c.args.search.now b))
-    step.1))
-    (sym c.if-runs.false)
-    (IfOk-weaker c.step-else-runs.result _ _ (λ step said. told-links task.leg task.used limit c.requires.differ step.1 said)
+    subst (λ (b : Bool). IfOk c.step-else-runs.result (AnswersStep task limit b)) (sym c.if-runs.false)
+    (IfOk-weaker c.step-else-runs.result _ _ (λ step said. told-links task limit c.requires.differ step.1 said)
     c.step-else-runs.ensures.answers)

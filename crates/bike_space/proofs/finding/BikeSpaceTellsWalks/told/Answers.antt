@@ -37,5 +37,5 @@ pub returns-in-Budget-clause-told : goal.returns-in-Budget-clause-told
 returns-in-Budget-clause-told g c limit few is differ =
     let space = c.args.self.now in
     let task = task_of (g.G.TerrainOf.terrain space.terrain) space.kept in
-    let spent = subst (Answers (rules_of task) limit) c.in-Budget.is is in
-    (_, spent-bounded task space.wakes.lawful limit spent.0 spent.1 differ)
+    let spent = subst (Answers (rules_of task) limit) c.in-Budget.is is in λ all.
+    (_, spent-bounded task space.wakes.lawful limit spent.0 spent.1 differ all)

@@ -41,10 +41,11 @@ pub returns-in-Budget-clause-told : goal.returns-in-Budget-clause-told
 returns-in-Budget-clause-told g c limit few is differ =
     let space = c.args.self.now.space.now in
     let task = task_of (g.G.TerrainOf.terrain space.terrain) space.kept in
-    let all = subst (Answers (run_rules (rules_of task)) limit) c.in-Budget.is is in (
+    let spent = subst (Answers (run_rules (rules_of task)) limit) c.in-Budget.is is in
+    λ all. (
       _,
       record {
-        spent = spent-bounded task space.wakes.lawful limit all.0 all.1 differ;
-        runs = shown-runs task space.wakes.lawful limit all.0 all.1 differ;
+        spent = spent-bounded task space.wakes.lawful limit spent.0 spent.1 differ all;
+        runs = shown-runs task space.wakes.lawful limit spent.0 spent.1 differ;
       },
     )
