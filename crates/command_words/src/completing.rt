@@ -16,8 +16,7 @@ use crate::value::Place;
 use item_list::Items;
 
 /// The command of this name and these entries, which name these profiles and tiles, before the word
-/// at the place
-/// `after`.
+/// at the place `after`.
 #[tactic(auto, unfolding(crate::specs::Command::complete))]
 pub fn complete<'a>(
     command: CommandName,
