@@ -5,8 +5,8 @@ ghost use Rattle.hall.specs.State.{Service};
 ghost use Rattle.hall.specs.Uploads.{StoresUploads};
 
 /// Whatever a run of turns from a hall without connections does, each connection gets its own: the
-/// bytes that were sent to it stand at the front of one frame, whose cause is in this run and goes by
-/// what came from it alone.
+/// bytes that were sent to it stand at the front of one frame, whose cause is in this run: by the
+/// bytes and the end that came from it, and the profiles that were stored by then.
 pub fn connections_keep_apart()
     ensures law { (service : Service) → KeepsApart service }
 {}

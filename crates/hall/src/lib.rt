@@ -1,5 +1,5 @@
-//! The connections of a server: what is kept of each, what each is sent, the turns over a hub, that
-//! they don't mix, and that each search comes to its end.
+//! The connections of a server: what is kept of each, what each is sent, the turns over a hub, and
+//! the laws of its runs.
 #![tactic(auto)]
 
 mod desk;

@@ -144,7 +144,7 @@ HasReadCause words TurnsSpent old new = HasOpenedAll (length words) old new
 HasReadCause words HubFault old new = HasOpenedAll (length words) old new
 HasReadCause words status old new = HasOpened (length words) old new
 
--- with a command and no fault of the outside, the status is one of the command's own or want of memory
+-- the status is neither a usage fault nor a fault of the outside
 abbrev pub IsComplete : Status → Type 0
 IsComplete (Usage word) = ⊥
 IsComplete (ReadFault word) = ⊥
