@@ -6,8 +6,17 @@ use Rattle.space_search.proofs.CallerLemmas.{settled-within}
 use Rattle.leg_search.specs.Quests.{IsSearchOn, searched}
 use Rattle.leg_search.specs.Steps.{is_spent}
 use Rattle.leg_search.specs.declared.search.LegSearch.{LegSearch}
-use Rattle.leg_search.proofs.TurnLemmas.{else-anew, turn-answers, turn-counts}
+use Rattle.leg_search.proofs.TurnLemmas.{else-anew, then-first, turn-answers, turn-counts}
 use Rattle.leg_search.proofs.search.LegSearch.turn.Goals as goal
+
+pub again-requires-clause-few : goal.again-requires-clause-few
+again-requires-clause-few g c =
+    let space = c.wake-space.result in
+    let task = task_of (g.G.TerrainOf.terrain space.terrain) space.kept in
+    let most = settled-within (searched c.args.self.aim.runs task) c.step_on.new.search c.in_ok-step.ensures.of in
+    let first =
+    then-first c.args.self.aim.first (is_spent c.in_ok-step.step.1) (sym c.begins_anew.ensures.value ∙ c.if-begins_anew.true) in
+    omega (arith, c.labels.ensures.value, most, c.in_ok-step.ensures.limit, c.requires.on.few first)
 
 pub returns-clause-answers : goal.returns-clause-answers
 returns-clause-answers g c =
