@@ -1,9 +1,11 @@
 -- This project's own rule: what the answers of the system's sockets mean, and how long to wait for one.
-use Rattle.std.specs.Prelude.{◌≡◌, ◌≢◌, ◌==◌, ◌<◌, ◌⊎◌, ◌&&◌, ℕ, Result, Ok, Err, None, if◌then◌else◌}
+use Rattle.std.specs.Prelude.{◌≡◌, ◌≢◌, ◌==◌, ◌<◌, ◌⊎◌, ◌&&◌, not, ℕ, Bool, Result, Ok, Err, None, if◌then◌else◌}
 use Rattle.std.specs.declared.io.Error.{Error}
 use Rattle.std.specs.declared.io.ErrorKind.TheVariants.{WouldBlock, Interrupted}
 use Rattle.std.specs.IoError.{error_kind}
 use Rattle.edge_io.specs.Hub.{HubSeen}
+use Rattle.edge_io.specs.declared.event.Event.{Event}
+use Rattle.edge_io.specs.declared.event.Event.TheVariants.{Opened, Bytes, Ended, Lost, Quiet, Over}
 use Rattle.edge_io.specs.declared.failed.Failed.{Failed}
 use Rattle.edge_io.specs.declared.replies.Arrival as Arrived
 use Rattle.edge_io.specs.declared.replies.Reading as Read
@@ -49,9 +51,19 @@ TellsWaiting (Ok u) (Err failed) = ⊥
 TellsWaiting (Err error) (Ok v) = ⊥
 TellsWaiting (Err error) (Err failed) = Unit {0}
 
--- how many nanoseconds to wait for an event
-abbrev pub nap_of : ℕ → ℕ → ℕ
-nap_of held in_line = if (held == 0) && (in_line == 0) then 80000000 else 0
+-- how many nanoseconds to wait for an event: none where somebody waits in line, a send took all that it was
+-- offered since the last wait, or the caller has work of its own
+abbrev pub nap_of : ℕ → Bool → Bool → ℕ
+nap_of in_line moved busy = if (in_line == 0) && (not moved && not busy) then 80000000 else 0
+
+-- an event is not the last of the hub
+abbrev pub IsOn : Event → Type 0
+IsOn (Opened id) = Unit {0}
+IsOn (Bytes id n) = Unit {0}
+IsOn (Ended id) = Unit {0}
+IsOn (Lost id) = Unit {0}
+IsOn Quiet = Unit {0}
+IsOn Over = ⊥
 
 -- a hub of the system before any call
 abbrev pub fresh_hub : HubSeen

@@ -94,13 +94,12 @@ pub fn waited(answer: io::Result<()>) -> Result<(), Failed>
     }
 }
 
-/// How long to wait for an event, where so many connections are held and so many wait in line. It
-/// is no time at all but where none is, since a caller that holds connections may have work of its
-/// own.
-pub fn nap(held: usize, in_line: usize) -> Duration
-    ensures exact { as_nanos result ≡ nap_of held in_line }
+/// How long to wait for an event, where so many wait in line. It is no time at all where the caller
+/// is busy, or a send took all that it was offered, so that more may be sent.
+pub fn nap(in_line: usize, moved: bool, busy: bool) -> Duration
+    ensures exact { as_nanos result ≡ nap_of in_line moved busy }
 {
-    if held == 0 && in_line == 0 {
+    if in_line == 0 && !moved && !busy {
         Duration::from_millis(80)
     } else {
         Duration::from_millis(0)
