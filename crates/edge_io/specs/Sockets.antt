@@ -1,5 +1,5 @@
 -- This project's own rule: what the answers of the system's sockets mean, and how long to wait for one.
-use Rattle.std.specs.Prelude.{◌≡◌, ◌≢◌, ◌==◌, ◌<◌, ◌⊎◌, ◌&&◌, not, ℕ, Bool, Result, Ok, Err, None, if◌then◌else◌}
+use Rattle.std.specs.Prelude.{◌≡◌, ◌≢◌, ◌==◌, ◌<◌, ◌⊎◌, ◌&&◌, not, ℕ, Bool, true, false, Result, Ok, Err, None, if◌then◌else◌}
 use Rattle.std.specs.declared.io.Error.{Error}
 use Rattle.std.specs.declared.io.ErrorKind.TheVariants.{WouldBlock, Interrupted}
 use Rattle.std.specs.IoError.{error_kind}
@@ -19,6 +19,12 @@ TellsArrival (Ok stream) Arrived.TheVariants.Again = ⊥
 TellsArrival (Err error) (Arrived.TheVariants.Came came) = ⊥
 TellsArrival (Err error) Arrived.TheVariants.NoneNow = error_kind error ≡ WouldBlock
 TellsArrival (Err error) Arrived.TheVariants.Again = error_kind error ≢ WouldBlock
+
+-- another peer may wait behind one that came, or that couldn't be taken in
+abbrev pub may_wait : {A : Type 0} → Arrived.Arrival A → Bool
+may_wait (Arrived.TheVariants.Came came) = true
+may_wait Arrived.TheVariants.NoneNow = false
+may_wait Arrived.TheVariants.Again = true
 
 -- the error says that the call would have to wait, or was broken off
 abbrev pub IsPassing : Error → Type 0

@@ -3,7 +3,7 @@
 ghost use Rattle.std.specs.Prelude.{◌≡◌};
 ghost use Rattle.std.specs.Duration.{as_nanos};
 ghost use Rattle.std.specs.Net.Grammar.{Parses, IsSocketText};
-ghost use Rattle.edge_io.specs.Sockets.{TellsArrival, TellsReading, TellsSending, TellsWaiting, nap_of};
+ghost use Rattle.edge_io.specs.Sockets.{TellsArrival, TellsReading, TellsSending, TellsWaiting, may_wait, nap_of};
 
 use crate::failed::Failed;
 use std::io;
@@ -55,6 +55,16 @@ pub fn arrived<T>(answer: io::Result<T>) -> Arrival<T>
         Ok(stream) => Arrival::Came(stream),
         Err(error) if error.kind() == ErrorKind::WouldBlock => Arrival::NoneNow,
         Err(_) => Arrival::Again,
+    }
+}
+
+/// Whether another peer may wait behind what came of taking one in.
+pub fn may_wait<T>(arrival: &Arrival<T>) -> bool
+    ensures exact { result ≡ may_wait arrival.now }
+{
+    match arrival {
+        Arrival::Came(_) | Arrival::Again => true,
+        Arrival::NoneNow => false,
     }
 }
 

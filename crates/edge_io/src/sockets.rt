@@ -16,7 +16,7 @@ use crate::event::Event;
 use crate::failed::Failed;
 use crate::leaving::{Leaving, MOST_LEAVING};
 use crate::peers::{Peer, Peers};
-use crate::replies::{Arrival, address_of, nap};
+use crate::replies::{Arrival, address_of, may_wait, nap};
 use mio::Token;
 use mio::net::TcpStream;
 use std::alloc::Global;
@@ -156,17 +156,11 @@ impl Sockets {
         let Some(door) = &mut self.door else {
             return None;
         };
-        door.in_line = false;
-        match door.accept() {
-            Arrival::Came((stream, _)) => {
-                door.in_line = self.peers.turns.join(DOOR);
-                self.welcome(stream)
-            }
-            Arrival::NoneNow => None,
-            Arrival::Again => {
-                door.in_line = self.peers.turns.join(DOOR);
-                None
-            }
+        let arrival = door.accept();
+        door.in_line = may_wait(&arrival) && self.peers.turns.join(DOOR);
+        match arrival {
+            Arrival::Came((stream, _)) => self.welcome(stream),
+            Arrival::NoneNow | Arrival::Again => None,
         }
     }
 
