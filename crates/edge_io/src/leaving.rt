@@ -156,10 +156,10 @@ fn drained<S: Read>(leaver: &mut Leaver<S>, turns: &mut Turns, number: u64) -> b
 {
     let mut buf = [0u8; 16384];
     let reading = reading_of(&mut leaver.stream, &mut buf);
-    leaver.in_line = follow(number, reading).again && turns.join(number);
     match rest_of(leaver.left, reading) {
         Some(left) => {
             leaver.left = left;
+            leaver.in_line = follow(number, reading).again && turns.join(number);
             true
         }
         None => false,
