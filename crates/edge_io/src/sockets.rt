@@ -73,11 +73,6 @@ impl Sockets {
         }
     }
 
-    /// Whether a connection is held, so that its caller may have work of its own.
-    pub fn holds_some(&self) -> bool {
-        !self.peers.held.is_empty()
-    }
-
     /// What happens next, as far as it is known now.
     pub fn next<C: Clock>(&mut self, clock: &C, buf: &mut [u8], busy: bool) -> Result<Event, Failed>
         requires some { 0 < length buf.old }

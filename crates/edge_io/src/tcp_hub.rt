@@ -12,7 +12,7 @@ use std::marker::Model;
 use std::net::Net;
 use std::time::Clock;
 
-/// Connections over TCP, of one thread and without waiting, but where none is held.
+/// Connections over TCP, of one thread. It waits only for a caller that isn't busy.
 #[derive(Drop)]
 pub struct TcpHub<'a, R: Net> {
     rt: &'a R,
@@ -51,8 +51,7 @@ impl<R: Net + Clock> Hub for TcpHub<'_, R> {
         counted(self.sockets.open(self.rt, address), &mut self.faults)
     }
 
-    fn next(&mut self, buf: &mut [u8]) -> Result<Event, Failed> {
-        let busy = self.sockets.holds_some();
+    fn next(&mut self, buf: &mut [u8], busy: bool) -> Result<Event, Failed> {
         counted(self.sockets.next(self.rt, buf, busy), &mut self.faults)
     }
 
