@@ -143,7 +143,7 @@ fn given(alloc: Global, hub: &mut MemHub, room: usize) -> Result<String, AllocEr
     if room == 0 || room > 9 {
         return String::from_str(alloc, OUTSIDE);
     }
-    match hub.next(&mut buf[..room]) {
+    match hub.next(&mut buf[..room], false) {
         Ok(Event::Opened { id }) => format!(in alloc; "o{id}"),
         Ok(Event::Bytes { id, n }) => {
             let bytes = shown(&buf[..n.min(9)]);

@@ -1,4 +1,6 @@
 pub mod ActLemmas
 pub mod CallerLemmas
+pub mod LeavingLemmas
+pub mod PeersLemmas
 pub mod SinkLemmas
 pub mod WholeLemmas

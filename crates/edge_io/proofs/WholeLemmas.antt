@@ -4,7 +4,7 @@ use Rattle.std.proofs.KnownBytes.{Consumes-trans, Consumes-nil, Consumes-kept}
 use Rattle.std.specs.Io.KnownBytes.{Consumes, IsAtEnd}
 use Rattle.edge_io.specs.Faults.{count_after, next_count}
 use Rattle.edge_io.specs.Files.{FilesSeen, Reads, FailsToRead}
-use Rattle.edge_io.specs.Whole.{IsAllLeft, IsTooLong, ReadsBytes, ReadsOn}
+use Rattle.edge_io.specs.Whole.{IsAllLeft, IsTooLong, ReadsBytes, ReadsOn, ReadsWithin}
 
 -- these bytes of the open file were read, by no more reads than bytes, and no call failed
 pub record HasRead (old new : FilesSeen) (bytes : List ℕ) : Type 0 where
@@ -139,4 +139,13 @@ pub ReadsOn-more : (limit : ℕ) (first mid new : FilesSeen) (bytes buffer : Lis
 ReadsOn-more limit first mid new bytes buffer n fits before more = record {
   bytes = bytes ++ take n buffer;
   how = ReadsBytes-more limit first mid new bytes buffer n fits before more;
+}
+
+-- the reading ended after one more read that stayed within the limit
+pub ReadsWithin-more : (limit : ℕ) (first mid new : FilesSeen) (bytes buffer : List ℕ) (n : ℕ) → length bytes + n ≤ limit →
+    n ≤ length buffer → HasRead first mid bytes → Reads mid new buffer n → ReadsWithin limit first new
+ReadsWithin-more limit first mid new bytes buffer n within fits before more = record {
+  bytes = bytes ++ take n buffer;
+  fits = omega (arith, within, length-append bytes (take n buffer), length-take-le n buffer fits);
+  how = ReadsBytes-more limit first mid new bytes buffer n (omega (arith, within)) before more;
 }

@@ -2,6 +2,8 @@ pub mod Acts
 pub mod Faults
 pub mod Files
 pub mod Hub
+pub mod Leaving
+pub mod Peers
 pub mod Sink
 pub mod Sockets
 pub mod System

@@ -1,9 +1,11 @@
 -- This project's own rule: what the answers of the system's sockets mean, and how long to wait for one.
-use Rattle.std.specs.Prelude.{◌≡◌, ◌≢◌, ◌==◌, ◌<◌, ◌⊎◌, ◌&&◌, ℕ, Result, Ok, Err, None, if◌then◌else◌}
+use Rattle.std.specs.Prelude.{◌≡◌, ◌≢◌, ◌==◌, ◌<◌, ◌⊎◌, ◌&&◌, not, ℕ, Bool, true, false, Result, Ok, Err, None, if◌then◌else◌}
 use Rattle.std.specs.declared.io.Error.{Error}
 use Rattle.std.specs.declared.io.ErrorKind.TheVariants.{WouldBlock, Interrupted}
 use Rattle.std.specs.IoError.{error_kind}
 use Rattle.edge_io.specs.Hub.{HubSeen}
+use Rattle.edge_io.specs.declared.event.Event.{Event}
+use Rattle.edge_io.specs.declared.event.Event.TheVariants.{Opened, Bytes, Ended, Lost, Quiet, Over}
 use Rattle.edge_io.specs.declared.failed.Failed.{Failed}
 use Rattle.edge_io.specs.declared.replies.Arrival as Arrived
 use Rattle.edge_io.specs.declared.replies.Reading as Read
@@ -17,6 +19,12 @@ TellsArrival (Ok stream) Arrived.TheVariants.Again = ⊥
 TellsArrival (Err error) (Arrived.TheVariants.Came came) = ⊥
 TellsArrival (Err error) Arrived.TheVariants.NoneNow = error_kind error ≡ WouldBlock
 TellsArrival (Err error) Arrived.TheVariants.Again = error_kind error ≢ WouldBlock
+
+-- another peer may wait behind one that came, or that couldn't be taken in
+abbrev pub may_wait : {A : Type 0} → Arrived.Arrival A → Bool
+may_wait (Arrived.TheVariants.Came came) = true
+may_wait Arrived.TheVariants.NoneNow = false
+may_wait Arrived.TheVariants.Again = true
 
 -- the error says that the call would have to wait, or was broken off
 abbrev pub IsPassing : Error → Type 0
@@ -49,9 +57,19 @@ TellsWaiting (Ok u) (Err failed) = ⊥
 TellsWaiting (Err error) (Ok v) = ⊥
 TellsWaiting (Err error) (Err failed) = Unit {0}
 
--- how many nanoseconds to wait for an event
-abbrev pub nap_of : ℕ → ℕ → ℕ
-nap_of held in_line = if (held == 0) && (in_line == 0) then 80000000 else 0
+-- how many nanoseconds to wait for an event: none where somebody waits in line, a send took all that it was
+-- offered since the last wait, or the caller has work of its own
+abbrev pub nap_of : ℕ → Bool → Bool → ℕ
+nap_of in_line moved busy = if (in_line == 0) && (not moved && not busy) then 80000000 else 0
+
+-- an event is not the last of the hub
+abbrev pub IsOn : Event → Type 0
+IsOn (Opened id) = Unit {0}
+IsOn (Bytes id n) = Unit {0}
+IsOn (Ended id) = Unit {0}
+IsOn (Lost id) = Unit {0}
+IsOn Quiet = Unit {0}
+IsOn Over = ⊥
 
 -- a hub of the system before any call
 abbrev pub fresh_hub : HubSeen

@@ -1,5 +1,5 @@
 -- This project's own rule: what an answer of the system's files means.
-use Rattle.std.specs.Prelude.{◌≡◌, ◌≢◌, false, Option, Some, None, Result, Ok, Err}
+use Rattle.std.specs.Prelude.{◌≡◌, ◌≢◌, Bool, false, Option, Some, None, Result, Ok, Err, is_some}
 use Rattle.std.specs.declared.io.Error.{Error}
 use Rattle.std.specs.declared.io.ErrorKind.TheVariants.{NotFound}
 use Rattle.std.specs.IoError.{error_kind}
@@ -18,3 +18,9 @@ TellsOpened (Ok file) (Err failed) = ⊥
 TellsOpened (Err error) (Ok None) = error_kind error ≡ NotFound
 TellsOpened (Err error) (Ok (Some file)) = ⊥
 TellsOpened (Err error) (Err failed) = error_kind error ≢ NotFound
+
+-- what is open after an opening, and whether a file was found: the file that was opened, where one was, or none;
+-- a failed opening leaves what was open
+abbrev pub Settles : {A : Type 0} → (old new : Option A) → Result (Option A) Failed → Result Bool Failed → Type 0
+Settles old new (Ok file) result = (new ≡ file) × (result ≡ Ok (is_some file))
+Settles old new (Err failed) result = (new ≡ old) × (result ≡ Err failed)

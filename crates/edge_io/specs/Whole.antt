@@ -33,6 +33,12 @@ pub record ReadsOn (limit : ℕ) (old new : FilesSeen) : Type 0 where
   pub bytes : List ℕ
   pub how : ReadsBytes limit old new bytes
 
+-- some bytes were read, no more than the limit
+pub record ReadsWithin (limit : ℕ) (old new : FilesSeen) : Type 0 where
+  pub bytes : List ℕ
+  pub fits : length bytes ≤ limit
+  pub how : ReadsBytes limit old new bytes
+
 -- a fault is answered where the count of faults rose, and every other answer leaves it
 abbrev pub CountsFault : {T : Type 0} → ℕ → ℕ → Result T WholeError → Type 0
 CountsFault old new (Ok a) = new ≡ old

@@ -20,8 +20,9 @@ pub trait Hub {
             (Listens address.now ∷ [])) }
         ensures kept { OnErr result (Fails (seen self.old) (seen self.new)) };
 
-    /// The next event. New bytes are put at the front of the buffer.
-    fn next(&mut self, buf: &mut [u8]) -> Result<Event, Failed>
+    /// The next event. New bytes are put at the front of the buffer. A caller that is busy has work
+    /// of its own, so that the hub waits for nothing; for another it may wait a while.
+    fn next(&mut self, buf: &mut [u8], busy: bool) -> Result<Event, Failed>
         requires some { 0 < length buf.old }
         ensures fits { IfOk result (FitsBuffer buf.new) }
         ensures fresh { IfOk result (IsFresh (seen self.old).acts) }

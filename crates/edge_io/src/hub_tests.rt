@@ -42,7 +42,7 @@ impl Heard {
     /// Takes the hub's next event.
     fn hear<H: Hub>(&mut self, hub: &mut H) -> Result<(), Fail> {
         let mut buf = [0u8; 16];
-        match hub.next(&mut buf) {
+        match hub.next(&mut buf, false) {
             Ok(Event::Opened { id }) => {
                 self.opened = self.opened.saturating_add(1);
                 self.last = id;
@@ -112,9 +112,9 @@ fn a_whole_exchange<H: Hub>(
 
 /// Whether a hub without an address is refused, and a fresh one is quiet; then its address.
 fn quiet_at<H: Hub>(alloc: Global, hub: &mut H) -> Result<(bool, String), Fail> {
-    let refused = hub.open("nowhere").is_err() && hub.next(&mut [0u8; 1]).is_err();
+    let refused = hub.open("nowhere").is_err() && hub.next(&mut [0u8; 1], true).is_err();
     let address = opened(alloc, hub)?;
-    let quiet = hub.next(&mut [0u8; 1]) == Ok(Event::Quiet);
+    let quiet = hub.next(&mut [0u8; 1], true) == Ok(Event::Quiet);
     Ok((refused && quiet, address))
 }
 

@@ -5,9 +5,12 @@ mod door;
 mod event;
 mod failed;
 mod files;
+mod follow;
 mod hub;
 #[cfg(test)]
 mod hub_tests;
+mod leaving;
+mod peers;
 mod replies;
 mod send;
 mod sink;

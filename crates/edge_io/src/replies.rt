@@ -3,7 +3,7 @@
 ghost use Rattle.std.specs.Prelude.{◌≡◌};
 ghost use Rattle.std.specs.Duration.{as_nanos};
 ghost use Rattle.std.specs.Net.Grammar.{Parses, IsSocketText};
-ghost use Rattle.edge_io.specs.Sockets.{TellsArrival, TellsReading, TellsSending, TellsWaiting, nap_of};
+ghost use Rattle.edge_io.specs.Sockets.{TellsArrival, TellsReading, TellsSending, TellsWaiting, may_wait, nap_of};
 
 use crate::failed::Failed;
 use std::io;
@@ -58,6 +58,16 @@ pub fn arrived<T>(answer: io::Result<T>) -> Arrival<T>
     }
 }
 
+/// Whether another peer may wait behind what came of taking one in.
+pub fn may_wait<T>(arrival: &Arrival<T>) -> bool
+    ensures exact { result ≡ may_wait arrival.now }
+{
+    match arrival {
+        Arrival::Came(_) | Arrival::Again => true,
+        Arrival::NoneNow => false,
+    }
+}
+
 /// What the system's answer to a read into a buffer with room means.
 pub fn came(answer: io::Result<usize>) -> Reading
     ensures exact { TellsReading answer result }
@@ -94,13 +104,12 @@ pub fn waited(answer: io::Result<()>) -> Result<(), Failed>
     }
 }
 
-/// How long to wait for an event, where so many connections are held and so many wait in line. It
-/// is no time at all but where none is, since a caller that holds connections may have work of its
-/// own.
-pub fn nap(held: usize, in_line: usize) -> Duration
-    ensures exact { as_nanos result ≡ nap_of held in_line }
+/// How long to wait for an event, where so many wait in line. It is no time at all where the caller
+/// is busy, or a send took all that it was offered, so that more may be sent.
+pub fn nap(in_line: usize, moved: bool, busy: bool) -> Duration
+    ensures exact { as_nanos result ≡ nap_of in_line moved busy }
 {
-    if held == 0 && in_line == 0 {
+    if in_line == 0 && !moved && !busy {
         Duration::from_millis(80)
     } else {
         Duration::from_millis(0)

@@ -1,35 +1,38 @@
-//! The connections that are held, and who is next in turn.
+//! The network of the system: its listening socket, the connections that are held, and those that
+//! are left.
 
-ghost use Rattle.std.specs.Prelude.{ℕ, ◌<◌, ◌≤◌, List, length, IfOk, IfSome};
+ghost use Rattle.std.specs.Prelude.{◌≡◌, ◌≢◌, ◌<◌, ◌≤◌, ◌==◌, ◌||◌, ℕ, Bool, true, false, List, None, Some, length, IfOk, IfSome, OnOk, OnErr, OnSome, IsSome, IsNone};
+ghost use Rattle.std.specs.BTreeMap.{get, Updates};
+ghost use Rattle.std.specs.Duration.{as_nanos};
+ghost use Rattle.std.specs.Ordering.{nat_cmp};
+ghost use Rattle.edge_io.specs.Acts.{is_event_of};
 ghost use Rattle.edge_io.specs.Hub.{FitsBuffer};
+ghost use Rattle.edge_io.specs.Peers.{SendsTo, is_whole};
+ghost use Rattle.edge_io.specs.Sockets.{IsOn, nap_of};
+ghost use Rattle.edge_io.specs.declared.event.Event.TheVariants as events;
 
-use crate::door::{DOOR, Door};
+use crate::door::{DOOR, Door, hang_up, listen, time_now};
 use crate::event::Event;
 use crate::failed::Failed;
-use crate::replies::{Arrival, Reading, address_of, arrived, came, nap, taken, waited};
-use crate::turns::Turns;
+use crate::leaving::{Leaving, MOST_LEAVING};
+use crate::peers::{Peer, Peers};
+use crate::replies::{Arrival, address_of, may_wait, nap};
 use mio::Token;
-use mio::net::{TcpListener, TcpStream};
+use mio::net::TcpStream;
 use std::alloc::Global;
-use std::collections::BTreeMap;
-use std::io::{Read, Write};
 use std::net::Net;
+use std::time::{Clock, Duration};
 
-/// A connection that is held.
-#[derive(Drop)]
-struct Peer {
-    stream: TcpStream,
-    ended: bool,
-    in_line: bool,
-}
+/// For how many more in line memory is kept than are held: for all that are left, one connection
+/// more, and the listening socket.
+const SPARE: usize = MOST_LEAVING + 2;
 
-/// The listening socket, the connections that are held by their numbers, and who is next in turn.
+/// The listening socket, the connections that are held by their numbers, and those that are left.
 pub struct Sockets {
     alloc: Global,
     door: Option<Door>,
-    peers: BTreeMap<u64, Peer>,
-    turns: Turns,
-    last: u64,
+    peers: Peers<TcpStream>,
+    leaving: Leaving<TcpStream>,
 }
 
 impl Drop for Sockets {
@@ -38,8 +41,7 @@ impl Drop for Sockets {
             alloc: _,
             door: _,
             peers: _,
-            turns: _,
-            last: _,
+            leaving: _,
         } = self;
     }
 }
@@ -50,46 +52,38 @@ impl Sockets {
         Sockets {
             alloc,
             door: None,
-            peers: BTreeMap::new(alloc),
-            turns: Turns::new(alloc),
-            last: DOOR,
+            peers: Peers::new(alloc),
+            leaving: Leaving::new(alloc),
         }
     }
 
     /// Listens at this address, in place of the one before; the connections stay.
-    pub fn open<N: Net>(&mut self, net: &N, address: &str) -> Result<(), Failed> {
-        let address = address_of(address)?;
-        let Ok(listener) = TcpListener::bind(net, address) else {
-            return Err(Failed);
-        };
+    pub fn open<N: Net>(&mut self, net: &N, address: &str) -> Result<(), Failed>
+        ensures held { self.new.peers.held ≡ self.old.peers.held }
+    {
+        let listener = listen(net, address_of(address)?)?;
         match &mut self.door {
             Some(door) => door.replace(listener),
             None => {
                 let door = Door::new(self.alloc, net, listener)?;
-                self.make_room()?;
+                self.peers.make_room(SPARE)?;
                 self.door = Some(door);
                 Ok(())
             }
         }
     }
 
-    /// Keeps memory for a line of all that are held, of one more, and of the listening socket.
-    /// Whoever is ready is told once, so none of them may be missing in line for want of memory.
-    fn make_room(&mut self) -> Result<(), Failed> {
-        match self.turns.make_room(self.peers.len().saturating_add(2)) {
-            Ok(()) => Ok(()),
-            Err(_) => Err(Failed),
-        }
-    }
-
     /// What happens next, as far as it is known now.
-    pub fn next(&mut self, buf: &mut [u8]) -> Result<Event, Failed>
+    pub fn next<C: Clock>(&mut self, clock: &C, buf: &mut [u8], busy: bool) -> Result<Event, Failed>
         requires some { 0 < length buf.old }
         ensures fits { IfOk result (FitsBuffer buf.new) }
+        ensures on { IfOk result IsOn }
     {
-        self.look()?;
-        'turns: for _ in 0..self.turns.len() {
-            let Some(id) = self.turns.take() else {
+        let time = self.patience(busy);
+        self.look(time)?;
+        self.leave_over(clock);
+        'turns: for _ in 0..self.peers.turns.len() {
+            let Some(id) = self.peers.turns.take() else {
                 return Ok(Event::Quiet);
             };
             if let Some(event) = self.serve(id, buf) {
@@ -99,20 +93,43 @@ impl Sockets {
         Ok(Event::Quiet)
     }
 
-    /// Asks which sockets are ready, and puts them in line.
-    fn look(&mut self) -> Result<(), Failed> {
-        let time = nap(self.peers.len(), self.turns.len());
+    /// How long to wait now; what was sent before no longer hurries the wait after this one.
+    fn patience(&mut self, busy: bool) -> Duration
+        ensures exact { as_nanos result ≡
+            nap_of (length self.old.peers.turns.waiting) self.old.peers.moved busy }
+        ensures still { self.new.peers.moved ≡ false }
+        ensures held { self.new.peers.held ≡ self.old.peers.held }
+        ensures line { self.new.peers.turns ≡ self.old.peers.turns }
+    {
+        let time = nap(self.peers.turns.len(), self.peers.moved, busy);
+        self.peers.moved = false;
+        time
+    }
+
+    /// Lets those go that were left for too long.
+    fn leave_over<C: Clock>(&mut self, clock: &C)
+        ensures held { self.new.peers.held ≡ self.old.peers.held }
+    {
+        if !self.leaving.is_empty() {
+            self.leaving
+                .drop_all_over(&mut self.peers.turns, time_now(clock));
+        }
+    }
+
+    /// Waits for so long, and puts in line who is ready.
+    fn look(&mut self, time: Duration) -> Result<(), Failed> {
         let Some(door) = &mut self.door else {
             return Err(Failed);
         };
-        waited(door.poll.poll(&mut door.events, Some(time)))?;
+        door.wait(time)?;
         'events: for event in door.events.iter() {
             let Token(id) = event.token();
-            if id as u64 == DOOR {
-                door.in_line = door.in_line || self.turns.join(DOOR);
-            } else {
-                wake(&mut self.peers, &mut self.turns, id as u64);
-            }
+            wake(
+                &mut door.in_line,
+                &mut self.peers,
+                &mut self.leaving,
+                id as u64,
+            );
         }
         Ok(())
     }
@@ -121,117 +138,125 @@ impl Sockets {
     fn serve(&mut self, id: u64, buf: &mut [u8]) -> Option<Event>
         requires some { 0 < length buf.old }
         ensures fits { IfSome result (FitsBuffer buf.new) }
+        ensures on { IfSome result IsOn }
+        ensures own { id ≢ 0 → IfSome result (λ e. is_event_of id e ≡ true) }
+        ensures door { id ≡ 0 → IfSome result (λ e. e ≡ events.Opened self.new.peers.last) }
     {
         if id == DOOR {
-            self.admit()
-        } else {
-            self.hear(id, buf)
+            return self.admit();
         }
+        self.leaving.drain(&mut self.peers.turns, id);
+        self.peers.hear(id, buf)
     }
 
-    /// Takes in a connection that waits at the door.
+    /// Takes in a connection that waits at the door, which stays in line while more may wait.
     fn admit(&mut self) -> Option<Event>
-        ensures fits { IfSome result (λ event. (buffer : List ℕ) → FitsBuffer buffer event) }
+        ensures own { IfSome result (λ e. e ≡ events.Opened self.new.peers.last) }
     {
         let Some(door) = &mut self.door else {
             return None;
         };
-        door.in_line = false;
-        match arrived(door.listener.accept()) {
-            Arrival::Came((stream, _)) => {
-                door.in_line = self.turns.join(DOOR);
-                self.welcome(stream)
-            }
-            Arrival::NoneNow => None,
-            Arrival::Again => {
-                door.in_line = self.turns.join(DOOR);
-                None
-            }
+        let arrival = door.accept();
+        door.in_line = may_wait(&arrival) && self.peers.turns.join(DOOR);
+        match arrival {
+            Arrival::Came((stream, _)) => self.welcome(stream),
+            Arrival::NoneNow | Arrival::Again => None,
         }
     }
 
     /// Holds a connection from now on. Where it can't, the connection is dropped and nothing is
     /// told.
-    fn welcome(&mut self, mut stream: TcpStream) -> Option<Event>
-        ensures fits { IfSome result (λ event. (buffer : List ℕ) → FitsBuffer buffer event) }
+    fn welcome(&mut self, stream: TcpStream) -> Option<Event>
+        ensures own { IfSome result (λ e. e ≡ events.Opened self.new.peers.last) }
+        ensures counts { OnSome result (self.old.peers.last < self.new.peers.last) }
+        ensures held { OnSome result (Updates nat_cmp self.old.peers.held self.new.peers.held
+            self.new.peers.last
+            (Some (record { stream = stream; ended = false; in_line = false }))) }
+        ensures none { result ≡ None → (q : ℕ) →
+            get nat_cmp self.new.peers.held q ≡ get nat_cmp self.old.peers.held q }
     {
-        let Some(id) = self.last.checked_add(1) else {
+        let Some(id) = self.peers.next_number() else {
             return None;
         };
-        if self.make_room().is_err() {
+        if self.peers.make_room(SPARE).is_err() {
             return None;
         }
         let Some(door) = &self.door else {
             return None;
         };
-        let watched = door.watch(&mut stream, id);
-        let peer = Peer {
-            stream,
-            ended: false,
-            in_line: false,
-        };
-        if watched.is_err() || self.peers.insert(id, peer).is_err() {
+        let mut stream = stream;
+        if door.watch(&mut stream, id).is_err() {
             return None;
         }
-        self.last = id;
-        Some(Event::Opened { id })
-    }
-
-    /// Reads from a connection.
-    fn hear(&mut self, id: u64, buf: &mut [u8]) -> Option<Event>
-        requires some { 0 < length buf.old }
-        ensures fits { IfSome result (FitsBuffer buf.new) }
-    {
-        let Some(peer) = self.peers.get_mut(&id) else {
-            return None;
-        };
-        peer.in_line = false;
-        match came(peer.stream.read(buf)) {
-            Reading::Arrived { n } => {
-                peer.in_line = self.turns.join(id);
-                Some(Event::Bytes { id, n })
-            }
-            Reading::Ended => {
-                peer.ended = true;
-                Some(Event::Ended { id })
-            }
-            Reading::NotNow => None,
-            Reading::Again => {
-                peer.in_line = self.turns.join(id);
-                None
-            }
-            Reading::Lost => {
-                self.close(id);
-                Some(Event::Lost { id })
-            }
-        }
+        self.peers.hold(stream)
     }
 
     /// Offers bytes to a connection, which is let go where that fails.
     pub fn send(&mut self, id: u64, piece: &[u8]) -> Result<usize, Failed>
         ensures fits { IfOk result (λ n. n ≤ length piece.now) }
+        ensures held { OnOk result (IsSome (get nat_cmp self.old.peers.held id)) }
+        ensures gone { OnErr result (IsNone (get nat_cmp self.new.peers.held id)) }
+        ensures others { (q : ℕ) → (q == id) ≡ false →
+            get nat_cmp self.new.peers.held q ≡ get nat_cmp self.old.peers.held q }
+        ensures moved { self.new.peers.moved ≡
+            (self.old.peers.moved || is_whole result (length piece.now)) }
     {
-        let Some(peer) = self.peers.get_mut(&id) else {
-            return Err(Failed);
-        };
-        let answer = taken(peer.stream.write(piece));
-        if answer.is_err() {
-            self.close(id);
-        }
-        answer
+        self.peers.send(id, piece)
     }
 
-    /// Lets a connection go, which ends it.
-    pub fn close(&mut self, id: u64) {
-        self.peers.remove(&id);
+    /// Lets a connection go. Its peer is told that nothing more is sent; what it still sends is
+    /// taken for a while, since the system would else break off what it was sent.
+    pub fn close<C: Clock>(&mut self, clock: &C, id: u64)
+        ensures gone { Updates nat_cmp self.old.peers.held self.new.peers.held id None }
+        ensures moved { self.new.peers.moved ≡ self.old.peers.moved }
+    {
+        if let Some(peer) = self.peers.let_go(id) {
+            self.leave(clock, peer);
+        }
+    }
+
+    /// Leaves a connection under a number of its own, where its peer may still send.
+    fn leave<C: Clock>(&mut self, clock: &C, peer: Peer<TcpStream>)
+        ensures held { self.new.peers.held ≡ self.old.peers.held }
+        ensures moved { self.new.peers.moved ≡ self.old.peers.moved }
+    {
+        if peer.ended || hang_up(&peer.stream).is_err() {
+            return;
+        }
+        let Some(since) = time_now(clock) else {
+            return;
+        };
+        let Some(number) = self.peers.take_number() else {
+            return;
+        };
+        let Some(door) = &self.door else {
+            return;
+        };
+        let mut stream = peer.stream;
+        if door.watch_leaving(&mut stream, number).is_err() {
+            return;
+        }
+        self.leaving
+            .keep(&mut self.peers.turns, number, stream, since);
     }
 }
 
-/// Puts a connection in line that has something to read.
-fn wake(peers: &mut BTreeMap<u64, Peer>, turns: &mut Turns, id: u64) {
-    if let Some(peer) = peers.get_mut(&id) {
-        if !peer.in_line && !peer.ended {
-            peer.in_line = turns.join(id);
-        }
+/// Puts whoever has this number in line: the listening socket, a connection that is held, or one
+/// that is left.
+fn wake(
+    door_in_line: &mut bool,
+    peers: &mut Peers<TcpStream>,
+    leaving: &mut Leaving<TcpStream>,
+    id: u64,
+)
+    ensures others { (q : ℕ) → (q == id) ≡ false →
+        get nat_cmp peers.new.held q ≡ get nat_cmp peers.old.held q }
+    ensures door { id ≢ 0 → door_in_line.new ≡ door_in_line.old }
+{
+    if id != DOOR {
+        peers.wake(id);
+        leaving.wake(&mut peers.turns, id);
+    } else {
+        *door_in_line = *door_in_line || peers.turns.join(DOOR);
     }
 }

@@ -1,9 +1,9 @@
 //! The files of the system, which tell nothing of what they hold.
 
-ghost use Rattle.std.specs.Prelude.{◌≡◌};
-ghost use Rattle.edge_io.specs.System.{fresh_system, TellsOpened};
+ghost use Rattle.std.specs.Prelude.{◌≡◌, IfOk, OnErr, is_some};
+ghost use Rattle.edge_io.specs.System.{Settles, TellsOpened, fresh_system};
 
-use crate::failed::{Failed, next_count};
+use crate::failed::{Failed, counted, next_count};
 use crate::files::Files;
 use std::io::{ErrorKind, Read};
 use std::marker::Model;
@@ -61,21 +61,24 @@ fn opened<T>(answer: io::Result<T>) -> Result<Option<T>, Failed>
     }
 }
 
+/// What is open after the system's answer to an opening, and what is answered of it.
+fn settled<T: Drop>(file: &mut Option<T>, answer: Result<Option<T>, Failed>) -> Result<bool, Failed>
+    ensures exact { Settles file.old file.new answer result }
+    ensures found { IfOk result (λ found. found ≡ is_some file.new) }
+    ensures kept { OnErr result (file.new ≡ file.old) }
+{
+    let found = answer?;
+    *file = found;
+    Ok(file.is_some())
+}
+
 impl<R: rt::Files> Files for DirFiles<'_, R> {
     ghost seen = { λ s. s };
 
     fn open(&mut self, name: &str) -> Result<bool, Failed> {
         self.opens = next_count(self.opens);
-        match opened(fs::open(self.rt, name)) {
-            Ok(file) => {
-                self.file = file;
-                Ok(self.file.is_some())
-            }
-            Err(failed) => {
-                self.faults = next_count(self.faults);
-                Err(failed)
-            }
-        }
+        let answer = opened(fs::open(self.rt, name));
+        counted(settled(&mut self.file, answer), &mut self.faults)
     }
 
     fn read(&mut self, buf: &mut [u8]) -> Result<usize, Failed> {

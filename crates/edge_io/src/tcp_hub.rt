@@ -4,14 +4,15 @@ ghost use Rattle.std.specs.Prelude.{◌≡◌};
 ghost use Rattle.edge_io.specs.Sockets.{fresh_hub};
 
 use crate::event::Event;
-use crate::failed::{Failed, next_count};
+use crate::failed::{Failed, counted};
 use crate::hub::Hub;
 use crate::sockets::Sockets;
 use std::alloc::Global;
 use std::marker::Model;
 use std::net::Net;
+use std::time::Clock;
 
-/// Connections over TCP, of one thread and without waiting, but where none is held.
+/// Connections over TCP, of one thread. It waits only for a caller that isn't busy.
 #[derive(Drop)]
 pub struct TcpHub<'a, R: Net> {
     rt: &'a R,
@@ -43,40 +44,22 @@ impl<'a, R: Net> TcpHub<'a, R> {
     }
 }
 
-impl<R: Net> Hub for TcpHub<'_, R> {
+impl<R: Net + Clock> Hub for TcpHub<'_, R> {
     ghost seen = { λ s. s };
 
     fn open(&mut self, address: &str) -> Result<(), Failed> {
-        match self.sockets.open(self.rt, address) {
-            Ok(()) => Ok(()),
-            Err(failed) => {
-                self.faults = next_count(self.faults);
-                Err(failed)
-            }
-        }
+        counted(self.sockets.open(self.rt, address), &mut self.faults)
     }
 
-    fn next(&mut self, buf: &mut [u8]) -> Result<Event, Failed> {
-        match self.sockets.next(buf) {
-            Ok(event) => Ok(event),
-            Err(failed) => {
-                self.faults = next_count(self.faults);
-                Err(failed)
-            }
-        }
+    fn next(&mut self, buf: &mut [u8], busy: bool) -> Result<Event, Failed> {
+        counted(self.sockets.next(self.rt, buf, busy), &mut self.faults)
     }
 
     fn send(&mut self, id: u64, piece: &[u8]) -> Result<usize, Failed> {
-        match self.sockets.send(id, piece) {
-            Ok(n) => Ok(n),
-            Err(failed) => {
-                self.breaks = next_count(self.breaks);
-                Err(failed)
-            }
-        }
+        counted(self.sockets.send(id, piece), &mut self.breaks)
     }
 
     fn close(&mut self, id: u64) {
-        self.sockets.close(id);
+        self.sockets.close(self.rt, id);
     }
 }

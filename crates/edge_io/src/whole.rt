@@ -1,7 +1,7 @@
 //! Reading the open file as a whole.
 
 ghost use Rattle.std.specs.Prelude.{◌≡◌, ◌≤◌, true, length, IfOk, Err};
-ghost use Rattle.edge_io.specs.Whole.{IsAllLeft, IsTooLong, ReadsBytes, ReadsOn, CountsFault};
+ghost use Rattle.edge_io.specs.Whole.{IsAllLeft, IsTooLong, ReadsBytes, ReadsOn, ReadsWithin, CountsFault};
 ghost use Rattle.edge_io.specs.declared.whole_error.WholeError.{WholeError};
 
 use crate::files::Files;
@@ -19,6 +19,9 @@ pub fn read_whole<F: Files>(
     ensures exact { IfOk result (λ bytes. IsAllLeft (F.seen files.old).left bytes.items) }
     ensures fits { IfOk result (λ bytes. length bytes.items ≤ limit) }
     ensures too_long { result ≡ Err WholeError.TooLong → IsTooLong (F.seen files.old).left limit }
+    // Memory runs out for bytes within the limit alone.
+    ensures memory { result ≡ Err WholeError.NoMemory →
+        ReadsWithin limit (F.seen files.old) (F.seen files.new) }
 
     // What stands afterwards.
     ensures value { IfOk result

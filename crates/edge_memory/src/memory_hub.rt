@@ -119,7 +119,7 @@ impl Hub for MemHub {
         Ok(())
     }
 
-    fn next(&mut self, buf: &mut [u8]) -> Result<Event, Failed>
+    fn next(&mut self, buf: &mut [u8], _busy: bool) -> Result<Event, Failed>
         requires some { 0 < length buf.old }
         ensures refused { IsErr result ↔ FailsNext self.old }
         ensures exact { IfOk result (λ event. event ≡ (scene_of self.old (length buf.old)).event) }

@@ -47,7 +47,7 @@ impl Model for Hall {
 }
 
 impl Hall {
-    ghost use Rattle.std.specs.Prelude.{◌≡◌, Bool, length, IfOk};
+    ghost use Rattle.std.specs.Prelude.{◌≡◌, ◌<◌, ◌↔◌, Bool, length, IfOk, IsTrue};
     ghost use Rattle.hall.specs.Allowed.{AreAllowed};
     ghost use Rattle.hall.specs.Held.{AreFew};
     ghost use Rattle.hall.specs.Served.{AreLive, ServedAll};
@@ -94,6 +94,13 @@ impl Hall {
         ensures same { service_of self.new ≡ service_of self.old }
     {
         step(&mut self.room, event, bytes)
+    }
+
+    /// Whether a search waits for a turn.
+    pub fn has_work(&self) -> bool
+        ensures exact { IsTrue result ↔ (0 < length (state_of self.now).waiting) }
+    {
+        !self.room.desk.queue.is_empty()
     }
 
     /// Gives a turn to the search that waited longest.

@@ -1,5 +1,5 @@
 use Rattle.std.proofs.Common.{◌∙◌, arith}
-use Rattle.edge_io.proofs.WholeLemmas.{length-extended, HasRead-more, ReadsBytes-end, ReadsOn-end, ReadsOn-more, ReadsOn-fails, IsAllLeft-end, IsTooLong-more}
+use Rattle.edge_io.proofs.WholeLemmas.{length-extended, HasRead-more, ReadsBytes-end, ReadsOn-end, ReadsOn-more, ReadsOn-fails, IsAllLeft-end, IsTooLong-more, ReadsWithin-more}
 use Rattle.edge_io.proofs.whole.read_whole.Goals as goal
 
 pub returns-in_err-given-clause-kept : goal.returns-in_err-given-clause-kept
@@ -43,3 +43,8 @@ reading-preserved g c = record {
 pub returns-in_err-extend_from_slice-clause-kept : goal.returns-in_err-extend_from_slice-clause-kept
 returns-in_err-extend_from_slice-clause-kept g c =
     ReadsOn-more _ _ _ _ _ _ _ c.reading.invariant.fits c.reading.invariant.read c.in_ok-given.ensures.found
+
+pub returns-in_err-extend_from_slice-clause-memory : goal.returns-in_err-extend_from_slice-clause-memory
+returns-in_err-extend_from_slice-clause-memory g c = λ _.
+    ReadsWithin-more _ _ _ _ _ _ _ (omega (arith, c.reading.bytes.ok.0, c.len.ensures)) c.in_ok-given.ensures.fits
+    c.reading.invariant.read c.in_ok-given.ensures.found
