@@ -104,7 +104,8 @@ impl<S> Peers<S> {
         ensures held { OnSome result (Updates nat_cmp self.old.held self.new.held self.new.last
             (Some (record { stream = stream; ended = false; in_line = false }))) }
         ensures none { result ≡ None → self.new.last ≡ self.old.last }
-        ensures none_held { result ≡ None → (id : ℕ) → get nat_cmp self.new.held id ≡ get nat_cmp self.old.held id }
+        ensures none_held { result ≡ None → (id : ℕ) →
+            get nat_cmp self.new.held id ≡ get nat_cmp self.old.held id }
         ensures line { self.new.turns ≡ self.old.turns }
     {
         let Some(id) = self.next_number() else {

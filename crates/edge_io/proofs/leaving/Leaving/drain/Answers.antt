@@ -1,4 +1,4 @@
-use Rattle.std.proofs.Common.{rules, refl, ap, ◌∙◌, sym, cond, false, true}
+use Rattle.std.proofs.Common.{rules}
 use Rattle.edge_io.proofs.LeavingLemmas.{Drains-gone, Drains-left}
 use Rattle.edge_io.proofs.leaving.Leaving.drain.Goals as goal
 
