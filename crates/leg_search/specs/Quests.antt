@@ -45,6 +45,10 @@ pub record IsSpentFor (quest : Quest) (walks : List (List ℕ)) : Type 0 where
 
 -- ---- What a search stands for
 
+-- the most labels that a search settles before it begins anew
+abbrev pub first_labels : ℕ
+first_labels = FIRST_LABELS
+
 -- the space that is searched
 abbrev pub searched : Bool → Task → Rules Carry
 searched runs task = if runs then run_rules (rules_of task) else rules_of task

@@ -1,12 +1,12 @@
 -- How many labels are settled for a request at most. This project's own rule.
 use Rattle.std.specs.Prelude.{ℕ, suc, ◌+◌, ◌-◌, ◌*◌, length}
-use Rattle.leg_search.specs.declared.search.TheConstants.{FIRST_LABELS}
+use Rattle.leg_search.specs.Quests.{first_labels}
 use Rattle.route_http.specs.Asked.{Asked}
 
 -- the most labels that are settled for a walk: those that a search near the target may settle before it begins
 -- anew, and the limit
 abbrev pub most_for_walk : (limit : ℕ) → ℕ
-most_for_walk limit = limit + FIRST_LABELS
+most_for_walk limit = limit + first_labels
 
 -- the most labels that are settled between so many waypoints, in all alternatives up to this one: as many as
 -- for a walk, for each alternative from each waypoint to the next
