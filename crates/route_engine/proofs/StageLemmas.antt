@@ -4,6 +4,7 @@ use Rattle.std.proofs.lemmas.Nat.{mul-le}
 use Rattle.bike_space.specs.LegWalks.{HasNoWalk}
 use Rattle.leg_search.specs.declared.search.LegSearch.{LegSearch}
 use Rattle.route_ready.specs.declared.error.RouteError.TheVariants.{Budget, NoTrack}
+use Rattle.route_engine.specs.Labels.{most_for_walk}
 use Rattle.route_engine.specs.Plans.{IsRefusal, Plan, leg_count, no_track, spent}
 use Rattle.route_engine.specs.Progress.{ComesNextAt, IsSoFar, IsSpentNext, IsStage, IsWalkedOn, StartsAt, StepsTo}
 use Rattle.route_engine.specs.Progress.{allowed, found_count, next_leg, searches_left, settled_in, walk_count}
