@@ -101,10 +101,10 @@ module _ (file : Named) (limit : ℕ) (old opened new : FilesSeen) (bytes : List
   file-read (Err HubFault) is = absurd is
 
   -- so has that of a map
-  map-read : (result : Result MapValue Status) → IsMapAnswer file opened new result → Cause (file.word ∷ []) old new result
-  map-read (Ok map) is = whole is.1
-  map-read (Err (TooLong at)) is = still is.2
-  map-read (Err (Map at error)) is = still is.2
+  map-read : (result : Result MapValue Status) → IsMapAnswer file bytes opened new result → Cause (file.word ∷ []) old new result
+  map-read (Ok map) is = whole is.2
+  map-read (Err (TooLong at)) is = still is.3
+  map-read (Err (Map at error)) is = still is.3
   map-read (Err (ReadFault at)) is = broke at is.0 is.1
   map-read (Err NoMemory) is = still is
   map-read (Err (NotFound at)) is = absurd is
@@ -139,7 +139,7 @@ file-cause file limit = asks-cause file limit (IsFileAnswer file limit) (file-re
 -- and that of a map's file
 pub map-cause : (file : Named) (old new : FilesSeen) (result : Result MapValue Status) → TakesMap file old new result →
     Cause (file.word ∷ []) old new result
-map-cause file = asks-cause file most_map (λ read. IsMapAnswer file) (map-read file most_map)
+map-cause file = asks-cause file most_map (IsMapAnswer file) (map-read file most_map)
 
 -- nothing was opened where the files are what they were
 pub opened-none : (most : ℕ) (old new : FilesSeen) → new ≡ old → HasOpened most old new

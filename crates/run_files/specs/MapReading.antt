@@ -1,6 +1,8 @@
 -- What the bytes of a map's file come to, of which so many are taken (this project's own rule).
 use Rattle.std.specs.Prelude.{◌≡◌, ◌⊎◌, ℕ, ◌<◌, ◌≤◌, List, length, take, Option, Some, None, Result, Ok, Err}
 use Rattle.edge_io.specs.Faults.{CountRose}
+use Rattle.edge_io.specs.Files.{FilesSeen}
+use Rattle.edge_io.specs.Whole.{ReadsBytes}
 use Rattle.run_files.specs.declared.map_error.MapFileError.{MapFileError}
 use Rattle.run_files.specs.declared.map_error.MapFileError.TheVariants.{Fault, TooLong, Map, NoMemory}
 use Rattle.map_tables.specs.declared.error.MapError.{MapError}
@@ -15,21 +17,14 @@ pub record HasFaultWithin (limit : ℕ) (bytes : List ℕ) (fault : MapError) : 
   pub taken : count ≤ limit
   pub is : IsFaultOfBeginning (take count bytes) fault
 
--- the bytes are taken whole
-abbrev pub IsWhole : ℕ → List ℕ → Type 0
-IsWhole limit bytes = length bytes ≤ limit
-
--- the first fault of bytes: of those that are taken, or at the end where all are
-abbrev pub IsFaultOf : ℕ → List ℕ → MapError → Type 0
-IsFaultOf limit bytes fault = HasFaultWithin limit bytes fault ⊎
-    (IsWhole limit bytes × IsFaultOfText bytes fault)
-
--- what bytes come to: their map; that there are too many, of which those that are taken may become a map;
--- their first fault; or a fault of reading or want of memory
+-- what bytes come to: their map, where all are taken; that there are too many, of which those that are taken
+-- may become a map; the first fault of those that are taken, or at the end where all are; or a fault of reading
+-- or want of memory
 abbrev pub IsReadAs : ℕ → List ℕ → Result MapValue MapFileError → Type 0
-IsReadAs limit bytes (Ok map) = IsWhole limit bytes × IsMapOfText bytes map
+IsReadAs limit bytes (Ok map) = (length bytes ≤ limit) × IsMapOfText bytes map
 IsReadAs limit bytes (Err TooLong) = (limit < length bytes) × MayBecomeMap (take limit bytes)
-IsReadAs limit bytes (Err (Map fault)) = IsFaultOf limit bytes fault
+IsReadAs limit bytes (Err (Map fault)) = HasFaultWithin limit bytes fault ⊎
+    ((length bytes ≤ limit) × IsFaultOfText bytes fault)
 IsReadAs limit bytes (Err Fault) = Unit {0}
 IsReadAs limit bytes (Err NoMemory) = Unit {0}
 
@@ -37,6 +32,12 @@ IsReadAs limit bytes (Err NoMemory) = Unit {0}
 abbrev pub IsReadFrom : ℕ → Option (List ℕ) → Result MapValue MapFileError → Type 0
 IsReadFrom limit None result = Unit {0}
 IsReadFrom limit (Some bytes) result = IsReadAs limit bytes result
+
+-- some bytes of the open file were read, with what they come to
+pub record ReadsMap (limit : ℕ) (old new : FilesSeen) (result : Result MapValue MapFileError) : Type 0 where
+  pub bytes : List ℕ
+  pub how : ReadsBytes limit old new bytes
+  pub is : IsReadAs limit bytes result
 
 -- a fault of reading is answered where the count of faults rose, and every other answer leaves it
 abbrev pub CountsMapFault : ℕ → ℕ → Result MapValue MapFileError → Type 0

@@ -1,9 +1,6 @@
 -- The world of a command's files, with profiles. This project's own rule.
 use Rattle.std.specs.Prelude.{List, Ok}
 use Rattle.command_words.specs.Given.{Named}
-use Rattle.hgt_tiles.specs.declared.tile_set.Tiles.{Tiles}
-use Rattle.lookup_table.specs.First.{TagTable}
-use Rattle.overpass_graph.specs.Maps.{MapValue}
 use Rattle.route_ready.specs.Shelves.{shelf_of}
 use Rattle.route_ready.specs.World.{world_of}
 use Rattle.route_ready.specs.Worlds.{WorldValue}
@@ -26,13 +23,6 @@ pub record OfferedValue : Type 0 where
   pub world : WorldValue
   pub profiles : List NamedProfile
 
--- the world of a tag table, a map and tiles, with profiles
-abbrev pub offered_with : TagTable → List NamedProfile → MapValue → Tiles → OfferedValue
-offered_with table profiles map tiles = record {
-  world = record { table = table; map = map; tiles = tiles };
-  profiles = profiles;
-}
-
 -- the files of the tag table, of the profiles, of the map and of the tiles are taken in one after the other;
 -- the first refusal is the answer
 abbrev pub TakesWorld : WorldFiles → Stage OfferedValue
@@ -41,7 +31,10 @@ TakesWorld files =
     Then (TakesProfiles table files.profiles) (λ profiles.
     Then (TakesMap files.map) (λ map.
     Then (TakesTiles files.tiles) (λ tiles.
-    Settles (Ok (offered_with table profiles map tiles))))))
+    Settles {A = OfferedValue} (Ok (record {
+      world = record { table = table; map = map; tiles = tiles };
+      profiles = profiles;
+    }))))))
 
 -- what stands for what is offered
 abbrev pub offered_of : Offered → OfferedValue

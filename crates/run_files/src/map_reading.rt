@@ -1,8 +1,7 @@
 //! The map of the open file.
 
 ghost use Rattle.std.specs.Prelude.{◌≡◌, ◌<◌, ◌+◌, ◌++◌, ◌^◌, ℕ, true, List, length, take, OnOk};
-ghost use Rattle.edge_io.specs.Whole.{ReadsOn};
-ghost use Rattle.run_files.specs.MapReading.{CountsMapFault, IsReadFrom, IsTextOf, IsTold, OnFault};
+ghost use Rattle.run_files.specs.MapReading.{CountsMapFault, IsReadFrom, IsTextOf, IsTold, OnFault, ReadsMap};
 ghost use Rattle.overpass_graph.specs.Builder.{IsFaultOfBeginning, MayBecomeMap, StandsForText, fed};
 
 use crate::map_error::MapFileError;
@@ -17,7 +16,7 @@ pub fn read_map<F: Files>(alloc: Global, files: &mut F, limit: u64) -> Result<Ma
     requires ready { (F.seen files.old).is_open ≡ true }
     requires few { limit < 2 ^ 63 }
     ensures exact { IsReadFrom limit (F.seen files.old).left result }
-    ensures kept { ReadsOn limit (F.seen files.old) (F.seen files.new) }
+    ensures kept { ReadsMap limit (F.seen files.old) (F.seen files.new) result }
     ensures cause { CountsMapFault (F.seen files.old).faults (F.seen files.new).faults result }
 {
     let mut builder = MapBuilder::new(alloc);

@@ -1,28 +1,28 @@
 use Rattle.std.proofs.Common.{Err, subst}
 use Rattle.run_files.specs.Limits.{most_map}
 use Rattle.run_files.specs.Map.{IsMapAnswer}
-use Rattle.run_files.specs.MapReading.{CountsMapFault, IsReadFrom}
+use Rattle.run_files.specs.MapReading.{CountsMapFault, IsReadAs, IsReadFrom}
 use Rattle.run_files.specs.declared.map_error.MapFileError.{MapFileError}
 use Rattle.run_files.proofs.StageLemmas.{asked-failed, asked-missing, asked-read}
 use Rattle.run_files.proofs.map.take_map.Goals as goal
 
 pub returns-in-Ok-false : goal.returns-in-Ok-false
 returns-in-Ok-false g c = record {
-  taken = asked-missing c.args.file.now most_map (λ read. IsMapAnswer c.args.file.now) (g.F.Files.seen c.args.files.now)
+  taken = asked-missing c.args.file.now most_map (IsMapAnswer c.args.file.now) (g.F.Files.seen c.args.files.now)
       (g.F.Files.seen c.open.new.self) _ _ _ c.name.ensures.exact c.word-word.ensures.exact c.in-Ok-false.field-0-test
       c.in-Ok-false.ensures.found;
 }
 
 pub returns-in-Err : goal.returns-in-Err
 returns-in-Err g c = record {
-  taken = asked-failed c.args.file.now most_map (λ read. IsMapAnswer c.args.file.now) (g.F.Files.seen c.args.files.now)
+  taken = asked-failed c.args.file.now most_map (IsMapAnswer c.args.file.now) (g.F.Files.seen c.args.files.now)
       (g.F.Files.seen c.open.new.self) _ c.word-word.ensures.exact c.in-Err.ensures.kept;
 }
 
 pub returns-in-Ok : goal.returns-in-Ok
 returns-in-Ok g c = record {
   taken = asked-read _ _ _ _ _ _ c.in-Ok.ensures.kept.bytes _ _ _ c.name.ensures.exact c.in-Ok-true.field-0-test c.in-Ok-true.ensures.found
-      c.in-Ok.ensures.kept.how (c.in-Ok.ensures.exact, c.in-Ok.ensures.cause);
+      c.in-Ok.ensures.kept.how (c.in-Ok.ensures.kept.is, c.in-Ok.ensures.exact, c.in-Ok.ensures.cause);
 }
 
 pub returns-in-Err-Fault : goal.returns-in-Err-Fault
@@ -40,6 +40,7 @@ returns-in-Err-TooLong g c = record {
   taken = asked-read _ _ _ _ _ _ c.in-Err-TooLong.ensures.kept.bytes _ _ _ c.name.ensures.exact c.in-Ok-true.field-0-test
       c.in-Ok-true.ensures.found c.in-Err-TooLong.ensures.kept.how (
         c.word-word.ensures.exact,
+        subst (λ (e : MapFileError). IsReadAs most_map c.in-Err-TooLong.ensures.kept.bytes (Err e)) c.in-Err-TooLong.field-0-is c.in-Err-TooLong.ensures.kept.is,
         subst (λ (e : MapFileError). IsReadFrom most_map (g.F.Files.seen c.open.new.self).left (Err e)) c.in-Err-TooLong.field-0-is
             c.in-Err-TooLong.ensures.exact,
         subst (λ (e : MapFileError). CountsMapFault (g.F.Files.seen c.open.new.self).faults (g.F.Files.seen c.read_map.new.files).faults
@@ -52,6 +53,7 @@ returns-in-Err-Map g c = record {
   taken = asked-read _ _ _ _ _ _ c.in-Err-Map.ensures.kept.bytes _ _ _ c.name.ensures.exact c.in-Ok-true.field-0-test
       c.in-Ok-true.ensures.found c.in-Err-Map.ensures.kept.how (
         c.word-word.ensures.exact,
+        subst (λ (e : MapFileError). IsReadAs most_map c.in-Err-Map.ensures.kept.bytes (Err e)) c.in-Err-Map.field-0-is c.in-Err-Map.ensures.kept.is,
         subst (λ (e : MapFileError). IsReadFrom most_map (g.F.Files.seen c.open.new.self).left (Err e)) c.in-Err-Map.field-0-is
             c.in-Err-Map.ensures.exact,
         subst (λ (e : MapFileError). CountsMapFault (g.F.Files.seen c.open.new.self).faults (g.F.Files.seen c.read_map.new.files).faults

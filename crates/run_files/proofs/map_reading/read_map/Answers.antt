@@ -1,9 +1,9 @@
 -- What the reading of a map comes to.
-use Rattle.std.proofs.Common.{◌∙◌, ◌≤◌, ℕ, List, Err, ap, subst, refl, arith, [], ◌++◌, length, take, length-append, length-take-le}
+use Rattle.std.proofs.Common.{◌∙◌, ◌≤◌, ℕ, List, Some, Err, ap, subst, sym, refl, arith, [], ◌++◌, append-nil, length, take, length-append, length-take-le}
 use Rattle.std.proofs.lemmas.List.{take_all}
 use Rattle.std.proofs.lemmas.Result.{err_from_is_err_and}
 use Rattle.edge_io.proofs.WholeLemmas.{HasRead-none, HasRead-more, ReadsOn-end, ReadsOn-more, ReadsOn-fails, IsAllLeft-end, joined}
-use Rattle.run_files.proofs.MapReadingLemmas.{read-failed, read-whole, read-fault, read-long, fed-whole, text-counts, fault-counts}
+use Rattle.run_files.proofs.MapReadingLemmas.{reads-map, read-failed, read-whole, read-fault, read-long, fed-whole, text-counts, fault-counts}
 use Rattle.run_files.specs.MapReading.{OnFault}
 use Rattle.run_files.specs.declared.map_error.MapFileError.{MapFileError}
 use Rattle.overpass_graph.specs.Builder.{IsFaultOfBeginning, MayBecomeMap, StandsForText}
@@ -28,7 +28,10 @@ returns-in_err-given-clause-exact g c =
 
 pub returns-in_err-given-clause-kept : goal.returns-in_err-given-clause-kept
 returns-in_err-given-clause-kept g c =
-    ReadsOn-fails _ _ _ _ _ (omega (arith, c.reading.invariant.held)) c.reading.invariant.read c.in_err-given.ensures.kept
+    let (e, is, fault) = err_from_is_err_and c.from_residual.result c.from_residual.ensures.1 in
+    reads-map _ _ _ _
+    (ReadsOn-fails _ _ _ _ _ (omega (arith, c.reading.invariant.held)) c.reading.invariant.read c.in_err-given.ensures.kept)
+    (read-failed _ (Some c.reading.invariant.bytes) _ (is ∙ ap (λ (e : MapFileError). Err e) fault))
 
 -- the text ends
 pub returns-then-given-eq0-clause-exact : goal.returns-then-given-eq0-clause-exact
@@ -40,8 +43,10 @@ returns-then-given-eq0-clause-exact g c =
 
 pub returns-then-given-eq0-clause-kept : goal.returns-then-given-eq0-clause-kept
 returns-then-given-eq0-clause-kept g c =
-    ReadsOn-end _ _ _ _ _ _ _ (omega (arith, c.reading.invariant.held)) c.reading.invariant.read c.in_ok-given.ensures.found
-    c.if-given-eq0.true
+    let fits : length c.reading.invariant.bytes ≤ c.args.limit = omega (arith, c.reading.invariant.held) in
+    reads-map _ _ _ _
+    (ReadsOn-end _ _ _ _ _ _ _ fits c.reading.invariant.read c.in_ok-given.ensures.found c.if-given-eq0.true)
+    (read-whole _ (Some c.reading.invariant.bytes) _ _ fits refl (c.finish.ensures.exact _ c.reading.invariant.stands))
 
 pub returns-then-given-eq0-clause-cause : goal.returns-then-given-eq0-clause-cause
 returns-then-given-eq0-clause-cause g c =
@@ -58,7 +63,11 @@ returns-in-Err-clause-exact g c =
 
 pub returns-in-Err-clause-kept : goal.returns-in-Err-clause-kept
 returns-in-Err-clause-kept g c =
-    ReadsOn-more _ _ _ _ _ _ _ (omega (arith, c.reading.invariant.held)) c.reading.invariant.read c.in_ok-given.ensures.found
+    reads-map _ _ _ _
+    (ReadsOn-more _ _ _ _ _ _ _ (omega (arith, c.reading.invariant.held)) c.reading.invariant.read c.in_ok-given.ensures.found)
+    (read-fault (Unit {0}) _ _ (Some _) (Some []) _ _ _ c.reading.invariant.held (sym (append-nil _))
+    (subst (λ (l : List ℕ). OnFault {T = Unit {0}} (Err c.in-Err.error) (IsFaultOfBeginning (c.reading.invariant.bytes ++ l)))
+    c.within.ensures.exact (c.in-Err.ensures.exact _ c.reading.invariant.stands)))
 
 pub returns-in-Err-clause-cause : goal.returns-in-Err-clause-cause
 returns-in-Err-clause-cause g c =
@@ -75,7 +84,12 @@ returns-then-given-room-clause-exact g c =
 
 pub returns-then-given-room-clause-kept : goal.returns-then-given-room-clause-kept
 returns-then-given-room-clause-kept g c =
-    ReadsOn-more _ _ _ _ _ _ _ (omega (arith, c.reading.invariant.held)) c.reading.invariant.read c.in_ok-given.ensures.found
+    reads-map _ _ _ _
+    (ReadsOn-more _ _ _ _ _ _ _ (omega (arith, c.reading.invariant.held)) c.reading.invariant.read c.in_ok-given.ensures.found)
+    (read-long _ _ (Some _) (Some []) _ _ c.reading.invariant.held
+    (omega (arith, c.if-given-room.true, length-take-le _ _ c.in_ok-given.ensures.fits)) (sym (append-nil _))
+    (subst (λ (l : List ℕ). MayBecomeMap (c.reading.invariant.bytes ++ l)) c.within.ensures.exact
+    (c.in-Ok.ensures.found _ c.reading.invariant.stands)))
 
 -- a piece was fed
 pub reading-preserved : goal.reading-preserved
