@@ -97,7 +97,9 @@ impl Hall {
     }
 
     /// Whether a search waits for a turn.
-    pub fn has_work(&self) -> bool {
+    pub fn has_work(&self) -> bool
+        ensures exact { IsTrue result ↔ (0 < length (state_of self.now).waiting) }
+    {
         !self.room.desk.queue.is_empty()
     }
 
