@@ -108,21 +108,26 @@ HasRead-more first mid new bytes buffer extended n is some fits before more = re
   faults = more.faults ∙ before.faults;
 }
 
+-- the bytes so far, where another read failed
+pub ReadsBytes-fails : (limit : ℕ) (first mid new : FilesSeen) (bytes : List ℕ) → length bytes ≤ limit → HasRead first mid bytes →
+    FailsToRead mid new → ReadsBytes limit first new bytes
+ReadsBytes-fails limit first mid new bytes fits before fails = record {
+  times = suc before.times;
+  few = omega (arith, before.few);
+  limited = omega (arith, before.few);
+  left = Consumes-kept first.left mid.left new.left bytes before.left fails.left;
+  is_open = fails.is_open ∙ before.is_open;
+  files = fails.files ∙ before.files;
+  opens = fails.opens ∙ before.opens;
+  reads = count_more before.times first.reads mid.reads new.reads before.reads fails.reads;
+}
+
 -- a read that failed ends the reading
 pub ReadsOn-fails : (limit : ℕ) (first mid new : FilesSeen) (bytes : List ℕ) → length bytes ≤ limit → HasRead first mid bytes →
     FailsToRead mid new → ReadsOn limit first new
 ReadsOn-fails limit first mid new bytes fits before fails = record {
   bytes = bytes;
-  how = record {
-    times = suc before.times;
-    few = omega (arith, before.few);
-    limited = omega (arith, before.few);
-    left = Consumes-kept first.left mid.left new.left bytes before.left fails.left;
-    is_open = fails.is_open ∙ before.is_open;
-    files = fails.files ∙ before.files;
-    opens = fails.opens ∙ before.opens;
-    reads = count_more before.times first.reads mid.reads new.reads before.reads fails.reads;
-  };
+  how = ReadsBytes-fails limit first mid new bytes fits before fails;
 }
 
 -- the reading ended at the end of the file

@@ -1,5 +1,5 @@
 -- Kept elements and their places.
-use Rattle.std.proofs.Common.{◌≡◌, inl, ℕ, zero, suc, ◌+◌, ℤ, Bool, true, false, cond, List, [], ◌∷◌, ◌++◌, set, slice_get, Option, Some, None, Result, Ok, Err, OnOk, IfErr, refl, sym, ap, ◌∙◌, subst, arith}
+use Rattle.std.proofs.Common.{◌≡◌, inl, ℕ, zero, suc, ◌+◌, ℤ, Bool, true, false, cond, List, [], ◌∷◌, ◌++◌, set, slice_get, Option, Some, None, Result, Ok, Err, OnOk, OnErr, IfErr, refl, sym, ap, ◌∙◌, subst, arith}
 use Rattle.std.specs.Ordering.{int_eq}
 use Rattle.map_tables.specs.Kept.{Tag, Kept, kept_with, given_again, with_tags, unless, keep_beside, keep, place_in, ids_of, place_of_id, AreDistinct, total_of}
 use Rattle.map_tables.specs.Held.{Becomes}
@@ -85,7 +85,8 @@ pub Becomes-next : {A X : Type 0} (result : Result A MapError) (old new next : X
     → answer ≡ Ok next → OnOk result (new ≡ next) → IfErr result (λ e. (e ≡ NoMemory) × (new ≡ old))
     → Becomes result old new answer
 Becomes-next (Ok done) old new next answer is value kept = is ∙ ap Ok (sym value)
-Becomes-next (Err e) old new next answer is value kept = (inl kept.0, kept.1)
+Becomes-next (Err e) old new next answer is value kept =
+    (inl (kept.0, subst (λ (r : Result X MapError). OnErr r ⊥) (sym is) tt), kept.1)
 
 -- what a call leaves has what it had where each answer has
 pub Becomes-keeps : {A X : Type 0} (P : X → Type 0) (result : Result A MapError) (old new : X)

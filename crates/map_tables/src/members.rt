@@ -4,7 +4,7 @@ ghost use Rattle.std.specs.Prelude.{◌≡◌, ◌<◌, ◌≤◌, ◌++◌, len
 ghost use Rattle.map_tables.specs.Draft.{lent_member, same_member, same_members};
 ghost use Rattle.map_tables.specs.Rows.{LiesWithin, LieWithin, bytes_from, member_of, row_behind};
 
-use crate::content::Content;
+use crate::content::{Content, Given};
 use crate::member::{Member, MemberLent};
 use item_list::narrow;
 use std::alloc::{AllocError, Global};
@@ -80,12 +80,26 @@ impl Content for Members {
 
     ghost size = { length };
 
-    fn is_same(&self, other: &Members) -> bool {
-        are_same(self, other)
-    }
-
     fn size(&self) -> usize {
         self.len() as usize
+    }
+}
+
+/// The members that a relation is given with.
+#[derive(Clone, Copy)]
+pub(crate) struct MembersGiven<'a> {
+    pub(crate) members: &'a [Member],
+}
+
+impl<'a> Given<Members> for MembersGiven<'a> {
+    ghost stands = { λ given. given.members.now };
+
+    fn is_kept_as(&self, kept: &Members) -> bool {
+        are_same(kept, self.members)
+    }
+
+    fn keep(&self, alloc: Global) -> Result<Members, AllocError> {
+        Members::new(alloc, self.members)
     }
 }
 
@@ -111,14 +125,14 @@ fn part(bytes: &[u8], from: u32, to: u32) -> &[u8]
 }
 
 /// Whether these are the same members in the same order.
-fn are_same(members: &Members, others: &Members) -> bool
+fn are_same(members: &Members, others: &[Member]) -> bool
     ensures value { result ≡ same_members members.now others.now }
 {
-    if members.len() != others.len() {
+    if members.len() as usize != others.len() {
         return false;
     }
     'each: for i in 0..members.len() {
-        if !is_same(members.at(i), others.at(i)) {
+        if !is_same(members.at(i), &others[i as usize]) {
             return false;
         }
     }
@@ -126,11 +140,11 @@ fn are_same(members: &Members, others: &Members) -> bool
 }
 
 /// Whether this is the same member.
-fn is_same(member: MemberLent, other: MemberLent) -> bool
-    ensures value { result ≡ same_member (lent_member member.entry) (lent_member other.entry) }
+fn is_same(member: MemberLent, other: &Member) -> bool
+    ensures value { result ≡ same_member (lent_member member.entry) other.now }
 {
-    let same_kind = member.kind == other.kind;
-    let same_role = member.role == other.role;
+    let same_kind = member.kind == other.kind.as_slice();
+    let same_role = member.role == other.role.as_slice();
     same_kind & ((member.reference == other.reference) & same_role)
 }
 

@@ -5,7 +5,7 @@ ghost use Rattle.map_tables.specs.Kept.{AreDistinct, given_again, HoldsAt, keep,
 ghost use Rattle.map_tables.specs.Held.{Becomes};
 ghost use Rattle.map_tables.specs.declared.error.MapError.TheVariants as error_;
 
-use crate::content::Content;
+use crate::content::{Content, Given};
 use crate::error::{ElementKind, MapError};
 use crate::tag_lists::TagLists;
 use indexmap::IndexMap;
@@ -153,22 +153,24 @@ impl<C: Content> Table<C> {
 
     /// Adds an element of this kind, or gives the one of its id again. A new one is refused where
     /// it would be one too many.
-    pub(crate) fn add(
+    pub(crate) fn add<G: Given<C>>(
         &mut self,
+        alloc: Global,
         kind: ElementKind,
         id: i64,
-        content: C,
+        given: &G,
         tags: Tags,
         beyond: Option<MapError>,
     ) -> Result<(), MapError>
-        ensures exact { let new : Kept C = record { id = id; content = content; tags = tags } in
+        ensures exact { let content : C = G.stands given.now in
+            let new : Kept C = record { id = id; content = content; tags = tags } in
             Becomes result self.old self.new
             (keep C.same (error_.DoubleId kind id) beyond new self.old) }
     {
         let _distinct = self.len();
         match self.find(id) {
             Some(place) => {
-                if self.content(place).is_same(&content) {
+                if given.is_kept_as(self.content(place)) {
                     self.again(place, tags)
                 } else {
                     Err(MapError::DoubleId { kind, id })
@@ -176,7 +178,7 @@ impl<C: Content> Table<C> {
             }
             None => match beyond {
                 Some(fault) => Err(fault),
-                None => self.push(id, content, tags),
+                None => self.keep(alloc, id, given, tags),
             },
         }
     }
@@ -196,6 +198,24 @@ impl<C: Content> Table<C> {
             }
             Err(_) => Err(MapError::NoMemory),
         }
+    }
+
+    /// Puts an element at the end, as it was given.
+    fn keep<G: Given<C>>(
+        &mut self,
+        alloc: Global,
+        id: i64,
+        given: &G,
+        tags: Tags,
+    ) -> Result<(), MapError>
+        requires new { place_of_id id self.old ≡ None }
+        ensures value { let content : C = G.stands given.now in
+            OnOk result
+            (self.new ≡ self.old ++ record { id = id; content = content; tags = tags } ∷ []) }
+        ensures kept { IfErr result (λ e. (e ≡ error_.NoMemory) × (self.new ≡ self.old)) }
+    {
+        let content = given.keep(alloc)?;
+        self.push(id, content, tags)
     }
 
     /// Puts an element at the end.

@@ -7,11 +7,11 @@ ghost use Rattle.map_tables.specs.Draft.{HasDistinctIds, IsWithin, beyond_member
 ghost use Rattle.map_tables.specs.Held.{Takes};
 ghost use Rattle.map_tables.specs.declared.error.MapError.TheVariants as error_;
 
-use crate::content::{At, segments_of};
+use crate::content::{At, WayNodes, segments_of};
 use crate::error::{ElementKind, MapCount, MapError};
 use crate::limits::Limits;
 use crate::member::Member;
-use crate::members::Members;
+use crate::members::{Members, MembersGiven};
 use crate::table::{Table, are_within};
 use geo_int::Spot;
 use item_list::{Items, Name, Tags};
@@ -87,8 +87,9 @@ impl Tables {
             self.old.draft) }
     {
         let beyond = self.beyond_nodes();
+        let given = At::new(spot);
         self.nodes
-            .add(ElementKind::Node, id, At::new(spot), tags, beyond)
+            .add(self.alloc, ElementKind::Node, id, &given, tags, beyond)
     }
 
     /// Adds a way, or gives the one of this id again.
@@ -98,11 +99,9 @@ impl Tables {
             self.old.draft) }
     {
         let beyond = self.beyond_ways(nodes);
-        let nodes = match Vec::from_slice(self.alloc, nodes) {
-            Ok(nodes) => Items::from_vec(nodes),
-            Err(_) => return Err(MapError::NoMemory),
-        };
-        self.ways.add(ElementKind::Way, id, nodes, tags, beyond)
+        let given = WayNodes { nodes };
+        self.ways
+            .add(self.alloc, ElementKind::Way, id, &given, tags, beyond)
     }
 
     /// Adds a relation, or gives the one of this id again.
@@ -112,12 +111,9 @@ impl Tables {
             (record { id = id; content = members.now; tags = tags }) self.old.draft) }
     {
         let beyond = self.beyond_members(members);
-        let members = match Members::new(self.alloc, members) {
-            Ok(members) => members,
-            Err(_) => return Err(MapError::NoMemory),
-        };
+        let given = MembersGiven { members };
         self.relations
-            .add(ElementKind::Relation, id, members, tags, beyond)
+            .add(self.alloc, ElementKind::Relation, id, &given, tags, beyond)
     }
 
     /// Puts a tag behind those of a way. Where memory runs out, nothing changes.

@@ -4,7 +4,7 @@ use Rattle.std.proofs.Math.Seq.{take-append-add}
 use Rattle.std.proofs.lemmas.List.{take-append-le, take_all, take_min, length-take}
 use Rattle.std.specs.Io.KnownBytes.{Consumes}
 use Rattle.edge_io.specs.Files.{FilesSeen}
-use Rattle.edge_io.specs.Whole.{IsAllLeft, ReadsOn}
+use Rattle.edge_io.specs.Whole.{IsAllLeft, ReadsBytes}
 use Rattle.run_files.specs.MapReading.{CountsMapFault, IsReadAs, IsReadFrom, IsTextOf, IsTold, OnFault, ReadsMap}
 use Rattle.run_files.specs.declared.map_error.MapFileError.{MapFileError}
 use Rattle.run_files.specs.declared.map_error.MapFileError.TheVariants.{Fault, TooLong, Map, NoMemory}
@@ -14,9 +14,9 @@ use Rattle.overpass_graph.specs.Builder.{IsFaultOfBeginning, IsFaultOfText, MayB
 use Rattle.overpass_graph.specs.Maps.{MapValue}
 
 -- bytes that were read, with what they come to
-pub reads-map : (limit : ℕ) (old new : FilesSeen) (result : Result MapValue MapFileError) (reads : ReadsOn limit old new) →
-    IsReadAs limit reads.bytes result → ReadsMap limit old new result
-reads-map limit old new result reads is = record { bytes = reads.bytes; how = reads.how; is = is }
+pub reads-map : (limit : ℕ) (old new : FilesSeen) (bytes : List ℕ) (result : Result MapValue MapFileError) →
+    ReadsBytes limit old new bytes → IsReadAs limit bytes result → ReadsMap limit old new result
+reads-map limit old new bytes result how is = record { bytes = bytes; how = how; is = is }
 
 -- a fault of reading says nothing of the bytes
 pub read-failed : (limit : ℕ) (left : Option (List ℕ)) (result : Result MapValue MapFileError) → result ≡ Err Fault →

@@ -2,7 +2,7 @@
 use Rattle.std.proofs.Common.{◌∙◌, ◌≤◌, ℕ, List, Some, Err, ap, subst, sym, refl, arith, [], ◌++◌, append-nil, length, take, length-append, length-take-le}
 use Rattle.std.proofs.lemmas.List.{take_all}
 use Rattle.std.proofs.lemmas.Result.{err_from_is_err_and}
-use Rattle.edge_io.proofs.WholeLemmas.{HasRead-none, HasRead-more, ReadsOn-end, ReadsOn-more, ReadsOn-fails, IsAllLeft-end, joined}
+use Rattle.edge_io.proofs.WholeLemmas.{HasRead-none, HasRead-more, ReadsBytes-end, ReadsBytes-more, ReadsBytes-fails, IsAllLeft-end, joined}
 use Rattle.run_files.proofs.MapReadingLemmas.{reads-map, read-failed, read-whole, read-fault, read-long, fed-whole, text-counts, fault-counts}
 use Rattle.run_files.specs.MapReading.{OnFault}
 use Rattle.run_files.specs.declared.map_error.MapFileError.{MapFileError}
@@ -29,8 +29,8 @@ returns-in_err-given-clause-exact g c =
 pub returns-in_err-given-clause-kept : goal.returns-in_err-given-clause-kept
 returns-in_err-given-clause-kept g c =
     let (e, is, fault) = err_from_is_err_and c.from_residual.result c.from_residual.ensures.1 in
-    reads-map _ _ _ _
-    (ReadsOn-fails _ _ _ _ _ (omega (arith, c.reading.invariant.held)) c.reading.invariant.read c.in_err-given.ensures.kept)
+    reads-map _ _ _ c.reading.invariant.bytes _
+    (ReadsBytes-fails _ _ _ _ _ (omega (arith, c.reading.invariant.held)) c.reading.invariant.read c.in_err-given.ensures.kept)
     (read-failed _ (Some c.reading.invariant.bytes) _ (is ∙ ap (λ (e : MapFileError). Err e) fault))
 
 -- the text ends
@@ -44,8 +44,8 @@ returns-then-given-eq0-clause-exact g c =
 pub returns-then-given-eq0-clause-kept : goal.returns-then-given-eq0-clause-kept
 returns-then-given-eq0-clause-kept g c =
     let fits : length c.reading.invariant.bytes ≤ c.args.limit = omega (arith, c.reading.invariant.held) in
-    reads-map _ _ _ _
-    (ReadsOn-end _ _ _ _ _ _ _ fits c.reading.invariant.read c.in_ok-given.ensures.found c.if-given-eq0.true)
+    reads-map _ _ _ c.reading.invariant.bytes _
+    (ReadsBytes-end _ _ _ _ _ _ _ fits c.reading.invariant.read c.in_ok-given.ensures.found c.if-given-eq0.true)
     (read-whole _ (Some c.reading.invariant.bytes) _ _ fits refl (c.finish.ensures.exact _ c.reading.invariant.stands))
 
 pub returns-then-given-eq0-clause-cause : goal.returns-then-given-eq0-clause-cause
@@ -63,8 +63,8 @@ returns-in-Err-clause-exact g c =
 
 pub returns-in-Err-clause-kept : goal.returns-in-Err-clause-kept
 returns-in-Err-clause-kept g c =
-    reads-map _ _ _ _
-    (ReadsOn-more _ _ _ _ _ _ _ (omega (arith, c.reading.invariant.held)) c.reading.invariant.read c.in_ok-given.ensures.found)
+    reads-map _ _ _ (c.reading.invariant.bytes ++ take c.in_ok-given.given c.read.new.buf) _
+    (ReadsBytes-more _ _ _ _ _ _ _ (omega (arith, c.reading.invariant.held)) c.reading.invariant.read c.in_ok-given.ensures.found)
     (read-fault (Unit {0}) _ _ (Some _) (Some []) _ _ _ c.reading.invariant.held (sym (append-nil _))
     (subst (λ (l : List ℕ). OnFault {T = Unit {0}} (Err c.in-Err.error) (IsFaultOfBeginning (c.reading.invariant.bytes ++ l)))
     c.within.ensures.exact (c.in-Err.ensures.exact _ c.reading.invariant.stands)))
@@ -84,8 +84,8 @@ returns-then-given-room-clause-exact g c =
 
 pub returns-then-given-room-clause-kept : goal.returns-then-given-room-clause-kept
 returns-then-given-room-clause-kept g c =
-    reads-map _ _ _ _
-    (ReadsOn-more _ _ _ _ _ _ _ (omega (arith, c.reading.invariant.held)) c.reading.invariant.read c.in_ok-given.ensures.found)
+    reads-map _ _ _ (c.reading.invariant.bytes ++ take c.in_ok-given.given c.read.new.buf) _
+    (ReadsBytes-more _ _ _ _ _ _ _ (omega (arith, c.reading.invariant.held)) c.reading.invariant.read c.in_ok-given.ensures.found)
     (read-long _ _ (Some _) (Some []) _ _ c.reading.invariant.held
     (omega (arith, c.if-given-room.true, length-take-le _ _ c.in_ok-given.ensures.fits)) (sym (append-nil _))
     (subst (λ (l : List ℕ). MayBecomeMap (c.reading.invariant.bytes ++ l)) c.within.ensures.exact

@@ -21,7 +21,7 @@ pub returns-in-Err-add-clause-value : goal.returns-in-Err-add-clause-value
 returns-in-Err-add-clause-value c limits values taken =
     let here : c.in-Some.at ≡ suc (length values) = omega (arith, c.in-Some.ensures.1, taken.count) in
     elim c.in-Err-add.ensures.exact.0 [
-      | inl e ↦ inl e
+      | inl e ↦ inl e.0
       | inr e ↦ inr (element_is_refused limits values c.args.self.now.steps c.in-Some.at c.args.self.now.tables.draft here taken.draft
           (seen c.in-Ok.element) c.in-Err-add.e c.in-Ok.ensures.exact
           (subst (λ l. take_element l (seen c.in-Ok.element) c.args.self.now.tables.draft ≡ Err c.in-Err-add.e) taken.limits_are e))

@@ -6,18 +6,18 @@ use Rattle.map_tables.proofs.ListLemmas.{there}
 use Rattle.map_tables.proofs.KeptLemmas.{keep-new, keep-old, Becomes-next}
 use Rattle.map_tables.proofs.table.Table.add.Goals as goal
 
-pub returns-then-is_same : goal.returns-then-is_same
-returns-then-is_same g c =
+pub returns-then-is_kept_as : goal.returns-then-is_kept_as
+returns-then-is_kept_as g c =
     let found : place_of_id c.args.id c.args.self.now ≡ Some c.in-Some.place =
     ap (λ id. place_of_id id c.args.self.now) (sym (to_z-of_z w64 c.args.id c.ranges.id))
     ∙ sym c.in-Some.ensures.value in
     let here = there c.args.self.now c.in-Some.place c.in-Some.ensures.fits in
-    let same = ap (λ content. g.C.Content.same content c.args.content) (sym (c.content.ensures.value here.0 here.1))
-    ∙ sym c.is_same.ensures.value ∙ c.if-is_same.true in
+    let same = ap (λ content. g.C.Content.same content (g.G.Given.stands c.args.given.now)) (sym (c.content.ensures.value here.0 here.1))
+    ∙ sym c.is_kept_as.ensures.value ∙ c.if-is_kept_as.true in
     record {
       exact = Becomes-next c.again.result c.args.self.now c.again.new.self _ _
           (keep-old g.C.Content.same (DoubleId c.args.kind c.args.id) c.args.beyond
-          (record { id = c.args.id; content = c.args.content; tags = c.args.tags }) c.args.self.now c.in-Some.place
+          (record { id = c.args.id; content = g.G.Given.stands c.args.given.now; tags = c.args.tags }) c.args.self.now c.in-Some.place
           here.0 true c.len-distinct.ensures.distinct found here.1 same)
           (c.again.ensures.value here.0 here.1) c.again.ensures.kept;
     }
@@ -28,12 +28,12 @@ returns-in-Some g c =
     ap (λ id. place_of_id id c.args.self.now) (sym (to_z-of_z w64 c.args.id c.ranges.id))
     ∙ sym c.in-Some.ensures.value in
     let here = there c.args.self.now c.in-Some.place c.in-Some.ensures.fits in
-    let other = ap (λ content. g.C.Content.same content c.args.content) (sym (c.content.ensures.value here.0 here.1))
-    ∙ sym c.is_same.ensures.value ∙ c.if-is_same.false in
+    let other = ap (λ content. g.C.Content.same content (g.G.Given.stands c.args.given.now)) (sym (c.content.ensures.value here.0 here.1))
+    ∙ sym c.is_kept_as.ensures.value ∙ c.if-is_kept_as.false in
     record {
       exact = (
         inr (keep-old g.C.Content.same (DoubleId c.args.kind c.args.id) c.args.beyond
-            (record { id = c.args.id; content = c.args.content; tags = c.args.tags }) c.args.self.now c.in-Some.place
+            (record { id = c.args.id; content = g.G.Given.stands c.args.given.now; tags = c.args.tags }) c.args.self.now c.in-Some.place
             here.0 false c.len-distinct.ensures.distinct found here.1 other
             ∙ ap (λ id. Err (DoubleId c.args.kind id)) (sym (to_z-of_z w64 c.args.id c.ranges.id))),
         refl,
@@ -48,7 +48,7 @@ returns-in-Some-beyond g c =
     record {
       exact = (
         inr (keep-new g.C.Content.same (DoubleId c.args.kind c.args.id) c.args.beyond (Some c.in-Some-beyond.fault)
-            (record { id = c.args.id; content = c.args.content; tags = c.args.tags }) c.args.self.now none
+            (record { id = c.args.id; content = g.G.Given.stands c.args.given.now; tags = c.args.tags }) c.args.self.now none
             c.in-Some-beyond.is),
         refl,
       );
@@ -60,12 +60,12 @@ returns g c =
     ap (λ id. place_of_id id c.args.self.now) (sym (to_z-of_z w64 c.args.id c.ranges.id))
     ∙ sym c.in-None.ensures.value in
     record {
-      exact = Becomes-next c.push.result c.args.self.now c.push.new.self _ _
+      exact = Becomes-next c.keep.result c.args.self.now c.keep.new.self _ _
           (keep-new g.C.Content.same (DoubleId c.args.kind c.args.id) c.args.beyond None
-          (record { id = c.args.id; content = c.args.content; tags = c.args.tags }) c.args.self.now none
+          (record { id = c.args.id; content = g.G.Given.stands c.args.given.now; tags = c.args.tags }) c.args.self.now none
           c.in-None-beyond.is)
-          (subst (λ (id : ℤ). OnOk c.push.result (c.push.new.self ≡ c.args.self.now ++ record
-          { id = id; content = c.args.content; tags = c.args.tags } ∷ []))
-          (to_z-of_z w64 c.args.id c.ranges.id) c.push.ensures.value)
-          c.push.ensures.kept;
+          (subst (λ (id : ℤ). OnOk c.keep.result (c.keep.new.self ≡ c.args.self.now ++ record
+          { id = id; content = g.G.Given.stands c.args.given.now; tags = c.args.tags } ∷ []))
+          (to_z-of_z w64 c.args.id c.ranges.id) c.keep.ensures.value)
+          c.keep.ensures.kept;
     }
