@@ -9,7 +9,6 @@ use Rattle.space_search.specs.Laws.{HasRank}
 use Rattle.space_search.specs.Moves.{Offers}
 use Rattle.space_search.specs.Rules.{Rules}
 use Rattle.space_search.specs.declared.label.Label.{Label}
-use Rattle.space_search.specs.declared.label.TheConstants.{MOST_LABELS}
 use Rattle.item_list.proofs.ListLemmas.{slice_get-append, slice_get-pushed, slice_get-push_cases, Contains-cons_cases, Contains-first, Contains-rest}
 use Rattle.space_search.proofs.SameLemmas.{follows-moved, keeps-same, keeps-back, stands-same, index-same}
 
@@ -40,7 +39,7 @@ pub record Queues {S : Type 0} (rules : Rules S) (kept : Books S) (label : Label
   pub follows : Follows rules kept (length kept.settled) label
   pub above : RanksAbove rules kept label.state label.cost
   pub ranked : HasRank rules label.state label.cost rank
-  pub room : length kept.labels < MOST_LABELS
+  pub room : length kept.labels < 4294967295
   pub is : entry.0 ≡ (rank, length kept.labels)
   pub queued : IsPermutation (entry ∷ kept.queue) queue
   pub ordered : IsHeap entry_cmp kept.queue → IsHeap entry_cmp queue

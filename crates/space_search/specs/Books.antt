@@ -10,7 +10,6 @@ use Rattle.std.specs.declared.cmp.Reverse.{Reverse}
 use Rattle.space_search.specs.Laws.{HasRank}
 use Rattle.space_search.specs.Rules.{Rules, COST_BOUND}
 use Rattle.space_search.specs.declared.label.Label.{Label}
-use Rattle.space_search.specs.declared.label.TheConstants.{MOST_LABELS}
 use Rattle.space_search.specs.declared.lists.Lists.{Lists}
 
 -- an entry of the queue: the rank of its label, and the label's number
@@ -217,8 +216,8 @@ pub record Stands {S : Type 0} (rules : Rules S) (kept : Books S) : Type 0 where
 -- what holds of the lists at each moment, whatever was taken care of so far
 pub record IsSearch {S : Type 0} (rules : Rules S) (kept : Books S) : Type 0 where
   pub stands : Stands rules kept
-  -- there are no more labels than numbers for them
-  pub few : length kept.labels ≤ MOST_LABELS
+  -- there are no more labels than numbers of 32 bits for them
+  pub few : length kept.labels ≤ 4294967295
   -- each label comes from a start or a settled label
   pub follows :
       (number : ℕ) (label : Label S) → IsLabel kept number label →
@@ -243,7 +242,7 @@ pub record Extends {S : Type 0} (before after : Books S) : Type 0 where
 
 -- a bound on how many entries will still be taken from the queue
 abbrev pub work_left : {S : Type 0} → Books S → ℕ
-work_left kept = 2 * (MOST_LABELS - length kept.labels) + length kept.queue
+work_left kept = 2 * (4294967295 - length kept.labels) + length kept.queue
 
 -- each settled label keeps its place
 abbrev pub KeepsLabels : {S : Type 0} → Books S → Books S → Type 0

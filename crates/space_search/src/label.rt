@@ -1,8 +1,5 @@
 //! A label: a state that a run reaches, what that costs, and how it was reached.
 
-/// The most labels that are made; one more is answered as want of memory.
-pub(crate) const MOST_LABELS: u32 = 4294967295;
-
 /// A state with the cost of a run to it. `parent` is the place of the settled label from which the
 /// run's last step goes, plus 1, or 0 at a start; `choice` is the number of that step or start.
 #[derive(Clone, Copy)]

@@ -6,9 +6,10 @@ ghost use Rattle.space_search.specs.Moves.{Offers};
 ghost use Rattle.space_search.specs.Laws.{HasRank};
 ghost use Rattle.space_search.specs.Rules.{LOW_BOUND};
 
-use crate::label::{Label, MOST_LABELS};
+use crate::label::Label;
 use crate::lists::Lists;
 use crate::space::Space;
+use item_list::next_number;
 use std::alloc::AllocError;
 use std::cmp::Reverse;
 
@@ -82,11 +83,8 @@ fn enqueue<T: Copy + Drop, S: Space<State = T>>(
     ensures leaves { Leaves (S.rules _space.now) (books lists.old) (books lists.new) }
     ensures settled { (books lists.new).settled ≡ (books lists.old).settled }
 {
-    let number = lists.labels.len();
-    if number >= MOST_LABELS as usize {
-        return Err(AllocError);
-    }
-    let entry = Reverse((rank, number as u32));
+    let number = next_number(lists.labels.len())?;
+    let entry = Reverse((rank, number));
     match lists.labels.push(label) {
         Ok(()) => {}
         Err(_) => return Err(AllocError),

@@ -11,8 +11,8 @@ returns-in-Ok-push-clause-offers g c =
       follows = c.requires.follows;
       above = c.requires.above;
       ranked = c.requires.ranked;
-      room = omega arith;
-      is = ap (λ n. (c.args.rank, n)) (c.len-number.ensures ∙ c.args.lists.now.labels.ok.0);
+      room = omega (arith, c.in_ok-number.ensures.exact.1, c.len.ensures, c.args.lists.now.labels.ok.0);
+      is = ap (λ n. (c.args.rank, n)) (c.in_ok-number.ensures.exact.0 ∙ c.len.ensures ∙ c.args.lists.now.labels.ok.0);
       queued = c.in-Ok-push.ensures.permutation;
       ordered = c.in-Ok-push.ensures.heap_order;
     })
