@@ -30,7 +30,7 @@ pub fn read_whole<F: Files>(
     ensures cause { CountsFault (F.seen files.old).faults (F.seen files.new).faults result }
 {
     let mut bytes = Vec::new(alloc);
-    let mut buf = [0u8; 4096];
+    let mut buf = [0u8; 65_536];
     'reading: loop {
         let given = files.read(&mut buf)?;
         if given == 0 {

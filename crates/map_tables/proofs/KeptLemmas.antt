@@ -85,7 +85,7 @@ pub Becomes-next : {A X : Type 0} (result : Result A MapError) (old new next : X
     → answer ≡ Ok next → OnOk result (new ≡ next) → IfErr result (λ e. (e ≡ NoMemory) × (new ≡ old))
     → Becomes result old new answer
 Becomes-next (Ok done) old new next answer is value kept = is ∙ ap Ok (sym value)
-Becomes-next (Err e) old new next answer is value kept =
+Becomes-next {X = X} (Err e) old new next answer is value kept =
     (inl (kept.0, subst (λ (r : Result X MapError). OnErr r ⊥) (sym is) tt), kept.1)
 
 -- what a call leaves has what it had where each answer has

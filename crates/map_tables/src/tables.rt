@@ -112,8 +112,7 @@ impl Tables {
     {
         let beyond = self.beyond_members(members);
         let given = MembersGiven { members };
-        self.relations
-            .add(self.alloc, ElementKind::Relation, id, &given, tags, beyond)
+        self.relations.add(self.alloc, ElementKind::Relation, id, &given, tags, beyond)
     }
 
     /// Puts a tag behind those of a way. Where memory runs out, nothing changes.

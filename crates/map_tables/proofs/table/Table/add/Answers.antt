@@ -22,8 +22,8 @@ returns-then-is_kept_as g c =
           (c.again.ensures.value here.0 here.1) c.again.ensures.kept;
     }
 
-pub returns-in-Some : goal.returns-in-Some
-returns-in-Some g c =
+pub returns-else-is_kept_as : goal.returns-else-is_kept_as
+returns-else-is_kept_as g c =
     let found : place_of_id c.args.id c.args.self.now ≡ Some c.in-Some.place =
     ap (λ id. place_of_id id c.args.self.now) (sym (to_z-of_z w64 c.args.id c.ranges.id))
     ∙ sym c.in-Some.ensures.value in
@@ -54,8 +54,8 @@ returns-in-Some-beyond g c =
       );
     }
 
-pub returns : goal.returns
-returns g c =
+pub returns-in-None-beyond : goal.returns-in-None-beyond
+returns-in-None-beyond g c =
     let none : place_of_id c.args.id c.args.self.now ≡ None =
     ap (λ id. place_of_id id c.args.self.now) (sym (to_z-of_z w64 c.args.id c.ranges.id))
     ∙ sym c.in-None.ensures.value in

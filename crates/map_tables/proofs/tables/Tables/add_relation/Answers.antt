@@ -18,5 +18,4 @@ invariant_of-self c =
     c.add.result c.self.inside.relations c.add.new.self _ c.add.ensures.exact c.self.invariant
     (IsWithin-relations c.self.inside.limits draft c.self.invariant _ _ _
     (c.beyond_members-beyond.ensures.value
-    ∙ ap (λ (held : Held). beyond_members held.limits held.draft c.args.members.now) (sym c.self.view_is)
-    ∙ ap (beyond_members c.self.inside.limits draft) (sym c.in-Ok.ensures.value)))
+    ∙ ap (λ (held : Held). beyond_members held.limits held.draft c.args.members.now) (sym c.self.view_is)))

@@ -17,5 +17,4 @@ invariant_of-self c =
     c.add.result c.self.inside.ways c.add.new.self _ c.add.ensures.exact c.self.invariant
     (IsWithin-ways c.self.inside.limits draft c.self.invariant _ _ _
     (c.beyond_ways-beyond.ensures.value
-    ∙ ap (λ (held : Held). beyond_ways held.limits held.draft c.args.nodes.now) (sym c.self.view_is)
-    ∙ ap (beyond_ways c.self.inside.limits draft) (sym (c.from_vec-nodes.ensures.value ∙ c.in-Ok.ensures.items))))
+    ∙ ap (λ (held : Held). beyond_ways held.limits held.draft c.args.nodes.now) (sym c.self.view_is)))
