@@ -47,7 +47,7 @@ impl Model for Hall {
 }
 
 impl Hall {
-    ghost use Rattle.std.specs.Prelude.{◌≡◌, ◌<◌, ◌↔◌, Bool, length, IfOk, IsTrue};
+    ghost use Rattle.std.specs.Prelude.{◌≡◌, Bool, length, nat_lt, IfOk};
     ghost use Rattle.hall.specs.Allowed.{AreAllowed};
     ghost use Rattle.hall.specs.Held.{AreFew};
     ghost use Rattle.hall.specs.Served.{AreLive, ServedAll};
@@ -98,9 +98,9 @@ impl Hall {
 
     /// Whether a search waits for a turn.
     pub fn has_work(&self) -> bool
-        ensures exact { IsTrue result ↔ (0 < length (state_of self.now).waiting) }
+        ensures exact { result ≡ nat_lt 0 (length (state_of self.now).waiting) }
     {
-        !self.room.desk.queue.is_empty()
+        self.room.desk.queue.len() > 0
     }
 
     /// Gives a turn to the search that waited longest.
