@@ -17,8 +17,6 @@ pub record IsOpening (terrain : Terrain) (kept : Rested) : Type 0 where
   pub sound : AreLinks terrain.links
   pub is_prices : IsPrices terrain.prices
   pub counted : terrain.links.count ≡ length terrain.map.links
-  pub cut : length kept.cut.items ≡ length terrain.map.links
-  pub used : length kept.used.items ≡ length terrain.map.links
   pub start : kept.start < length terrain.map.nodes
   pub target : kept.target < length terrain.map.nodes
   pub sums :
@@ -42,8 +40,6 @@ pub opened-wakes : (terrain : Terrain) (kept : Rested) → IsOpening terrain kep
 opened-wakes terrain kept is =
     let lawful = task-lawful terrain kept is in
     record {
-      cut = is.cut;
-      used = is.used;
       sums = is.sums.counted;
       lawful = lawful;
       keeps = keeps-laws (task_of terrain kept) lawful;
@@ -75,8 +71,6 @@ widened-wakes terrain kept was low sums small =
       low_small = λ node least within at. omega (arith, small node least at);
     } in
     record {
-      cut = was.cut;
-      used = was.used;
       sums = sums.counted;
       lawful = lawful;
       keeps = keeps-laws (task_of terrain (with_low kept low)) lawful;

@@ -27,11 +27,9 @@ task_of terrain kept = record {
   radius = kept.low.radius;
 }
 
--- what is kept fits a terrain: its lists have an entry for each link or node, and the search is lawful and
--- keeps the laws of a space
+-- what is kept fits a terrain: there is a sum for each node, and the search is lawful and keeps the laws of a
+-- space
 pub record Wakes (terrain : Terrain) (kept : Rested) : Type 0 where
-  pub cut : length kept.cut.items ≡ length terrain.map.links
-  pub used : length kept.used.items ≡ length terrain.map.links
   pub sums : length kept.low.sums ≡ length terrain.map.nodes
   pub lawful : IsTask (task_of terrain kept)
   pub keeps : IsSpace (rules_of (task_of terrain kept))

@@ -23,8 +23,6 @@ impl<G: TerrainOf> BikeSpace<G> {
         ask: &LegAsk,
         near: bool,
     ) -> Result<BikeSpace<G>, AllocError>
-        requires cut { length ask.now.cut.now ≡ length (G.terrain terrain).map.links }
-        requires used { length ask.now.used.now ≡ length (G.terrain terrain).map.links }
         requires start { ask.now.start < length (G.terrain terrain).map.nodes }
         requires target { ask.now.target < length (G.terrain terrain).map.nodes }
 
@@ -93,8 +91,6 @@ fn rested<G: TerrainOf>(
     ask: &LegAsk,
     near: bool,
 ) -> Result<Rested, AllocError>
-    requires cut { length ask.now.cut.now ≡ length (G.terrain terrain.now).map.links }
-    requires used { length ask.now.used.now ≡ length (G.terrain terrain.now).map.links }
     requires start { ask.now.start < length (G.terrain terrain.now).map.nodes }
     requires target { ask.now.target < length (G.terrain terrain.now).map.nodes }
     ensures leg { IfOk result (λ kept. (task_of (G.terrain terrain.now) kept).leg ≡

@@ -19,8 +19,6 @@ pub(crate) fn remaining<G: TerrainOf>(
     ask: &LegAsk,
     near: bool,
 ) -> Result<Sums, AllocError>
-    requires cut { length ask.now.cut.now ≡ length (G.terrain terrain.now).map.links }
-    requires used { length ask.now.used.now ≡ length (G.terrain terrain.now).map.links }
     requires target { ask.now.target < length (G.terrain terrain.now).map.nodes }
     ensures exact { IfOk result (AreLeastSumsUpTo (roads_of (G.terrain terrain.now).map)
         (priced_by (G.terrain terrain.now) ask.now.cut.now ask.now.used.now).price

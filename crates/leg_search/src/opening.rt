@@ -23,8 +23,6 @@ impl LegSearch {
         limit: u64,
         runs: bool,
     ) -> Result<LegSearch, AllocError>
-        requires cut { length ask.now.cut.now ≡ length (G.terrain terrain).map.links }
-        requires used { length ask.now.used.now ≡ length (G.terrain terrain).map.links }
         requires start { ask.now.start < length (G.terrain terrain).map.nodes }
         requires target { ask.now.target < length (G.terrain terrain).map.nodes }
         requires differ { ask.now.start ≢ ask.now.target }

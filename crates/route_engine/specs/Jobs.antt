@@ -1,6 +1,5 @@
 -- What a job stands for, and what its turns answer (this project's own rule).
 use Rattle.std.specs.Prelude.{◌≡◌, ◌⊎◌, ℕ, ◌+◌, ◌<◌, ◌≤◌, ◌^◌, Bool, List, length, get_or, Option, Some, None, Result, Ok, Err, MatchResult}
-use Rattle.cost_model.specs.Modes.{modes_of}
 use Rattle.cost_model.specs.Rides.{Terrain, Setting}
 use Rattle.geo_int.specs.Place.{Place}
 use Rattle.item_list.specs.Turns.{Says, Settles}
@@ -50,8 +49,6 @@ plan_of world plan = record {
 -- limits of a request
 pub record IsPlanOn (world : WorldValue) (plan : JobPlan) : Type 0 where
   pub counted : (links_of plan.ready.value.bound).count ≡ length world.map.links
-  pub cut : length plan.cut.items ≡ length world.map.links
-  pub modes : plan.modes ≡ modes_of (links_of plan.ready.value.bound)
   pub nodes_in : (k : ℕ) → k < length plan.nodes → get_or plan.nodes k 0 < length world.map.nodes
   pub some : 2 ≤ length plan.nodes
   pub few : length plan.nodes ≤ 100

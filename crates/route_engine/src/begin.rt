@@ -55,7 +55,6 @@ fn search_with(
     used: &[bool],
 ) -> Result<LegSearch, AllocError>
     requires on { IsPlanOn (world_of world.now) plan.now }
-    requires used { length used.now ≡ length (world_of world.now).map.links }
     requires start { start < length (world_of world.now).map.nodes }
     requires target { target < length (world_of world.now).map.nodes }
     requires differ { start ≢ target }
@@ -92,7 +91,7 @@ fn terrain<'a>(world: &'a World, plan: &'a JobPlan) -> PricedMap<'a, Bound>
         world.map(),
         &plan.ready.bound,
         &plan.ready.rates,
-        plan.modes,
+        plan.ready.modes(),
     )
 }
 

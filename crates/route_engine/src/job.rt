@@ -12,13 +12,13 @@ ghost use Rattle.route_ready.specs.declared.error.RouteError.TheVariants.{NoMemo
 ghost use Rattle.way_class.specs.Links.{links_of};
 
 use crate::advance::{advance, next_stage};
+use crate::circles::cut_by;
 use crate::plan::JobPlan;
 use crate::stage::Stage;
 use crate::walked::Walked;
 use crate::waypoints::waypoint_nodes;
-use cost_model::{Passages, modes};
+use cost_model::Passages;
 use item_list::{Items, Turn};
-use nogo_areas::cut;
 use route_http::Request;
 use route_ready::{Ready, RouteError, World};
 use std::alloc::Global;
@@ -178,7 +178,7 @@ fn plan_for(
         IfErr result (λ e. (e ≡ NoMemory) ⊎
         RefusesWaypoint (open_map_of setting) (asked request.now).waypoints e) }
 {
-    let cut = cut(alloc, world.map(), request.circles.as_slice())?;
+    let cut = cut_by(alloc, world.map(), request.circles.as_slice())?;
     with_cut(alloc, world, ready, request, cut)
 }
 
@@ -209,17 +209,13 @@ fn with_cut(
     };
     match waypoint_nodes(alloc, world, &passages, request.waypoints.as_slice()) {
         Err(error) => Err(error),
-        Ok(nodes) => {
-            let modes = modes(&ready.bound);
-            Ok(JobPlan {
-                limit: request.labels,
-                nodes: Items::from_vec(nodes),
-                cut,
-                modes,
-                alternative: request.alternative,
-                runs: request.runs,
-                ready,
-            })
-        }
+        Ok(nodes) => Ok(JobPlan {
+            limit: request.labels,
+            nodes: Items::from_vec(nodes),
+            cut,
+            alternative: request.alternative,
+            runs: request.runs,
+            ready,
+        }),
     }
 }

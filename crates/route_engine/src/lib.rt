@@ -4,6 +4,7 @@
 
 mod advance;
 mod begin;
+mod circles;
 mod job;
 mod marks;
 mod pending;

@@ -1,4 +1,4 @@
-use Rattle.std.proofs.Common.{length, ap, subst, ◌∙◌}
+use Rattle.std.proofs.Common.{subst}
 use Rattle.cost_model.specs.Prices.{IsPrices}
 use Rattle.overpass_graph.specs.Maps.{IsMap}
 use Rattle.bike_space.proofs.OpenLemmas.{opened-wakes}
@@ -15,8 +15,6 @@ returns-clause-wakes g c =
       sound = g.met.G.TerrainOf.sound c.args.terrain.now;
       is_prices = subst IsPrices c.rates.ensures.value c.down_rate-rate.ensures.lawful;
       counted = g.met.G.TerrainOf.counted c.args.terrain.now;
-      cut = ap length cut ∙ c.requires.cut;
-      used = ap length used ∙ c.requires.used;
       start = c.requires.start;
       target = c.requires.target;
       sums = rw (cut, used) c.in_ok-low.ensures.exact;
