@@ -1,8 +1,8 @@
 //! The legs that were read so far.
 
 ghost use Rattle.std.specs.Prelude.{◌≡◌, ◌∷◌, ◌++◌, [], IfOk, OnOk};
-ghost use Rattle.certificate_text.specs.Drafts.{ReadsOn, Takes, form_of, forms_now, is_ended};
-ghost use Rattle.certificate_text.specs.Lines.{Cost, End, Head, Label, Leg};
+ghost use Rattle.certificate_text.specs.Drafts.{ReadsOn, Takes, form_of, forms_now, is_ended, stage_at};
+ghost use Rattle.certificate_text.specs.Lines.{Cost, End, Head, Label, Leg, Opened};
 
 use crate::certificate::{Certificate, Entry, Proof};
 use crate::line::{Line, read_line};
@@ -53,6 +53,7 @@ impl Draft {
     /// No legs yet, and room for so many.
     pub(crate) fn new(alloc: Global, room: usize) -> Result<Draft, AllocError>
         ensures value { IfOk result (λ draft. forms_now draft ≡ Head ∷ []) }
+        ensures place { IfOk result (λ draft. stage_at draft.place ≡ Opened) }
     {
         Ok(Draft {
             legs: Vec::with_capacity(alloc, room)?,
@@ -72,6 +73,7 @@ impl Draft {
     ) -> Result<bool, AllocError>
         ensures exact { IfOk result (ReadsOn map.now self.old self.new line.now) }
     {
+        let _count = map.links();
         match read_line(alloc, map, line)? {
             Some(said) => self.take(alloc, said, after),
             None => Ok(false),

@@ -6,7 +6,7 @@ ghost use Rattle.certificate_text.specs.declared.error.CertError.TheVariants.{No
 use std::alloc::AllocError;
 
 /// Why a text is no certificate.
-#[derive(Clone, Copy, Debug, PartialEq, Eq)]
+#[derive(Clone, Copy)]
 pub enum CertError {
     /// The first line that can't stand where it does, or names no link of the map, from 1; where
     /// the text ends too early, the line after its last.

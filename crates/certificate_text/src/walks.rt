@@ -18,6 +18,7 @@ pub(crate) fn walk_of(
     ensures exact { IfOk result (λ walk. Reads (walk_text map.now) (AreLinks map.now) text.now
         (option_map (λ w. w.items) walk)) }
 {
+    let _count = map.links();
     let mut walk = Vec::with_capacity(alloc, count_of(text, b' '))?;
     let mut rest = text;
     'links: while !rest.is_empty() {
