@@ -24,8 +24,8 @@ some-none x xs same = absurd cc
 
 -- two texts without it, one behind the other
 pub no-append : (c : ℕ) (xs ys : List ℕ) → HasNo c xs → HasNo c ys → HasNo c (xs ++ ys)
-no-append c [] ys first then = then
-no-append c (x ∷ xs) ys first then = (first.0, no-append c xs ys first.1 then)
+no-append c [] ys first second = second
+no-append c (x ∷ xs) ys first second = (first.0, no-append c xs ys first.1 second)
 
 -- a text with it has it
 pub no-within : (c : ℕ) (xs ys : List ℕ) → HasNo c (xs ++ (c ∷ ys)) → ⊥

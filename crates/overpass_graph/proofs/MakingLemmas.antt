@@ -10,7 +10,7 @@ use Rattle.overpass_graph.specs.Made.{IsMade, map_value}
 use Rattle.overpass_graph.specs.Making.{AreLinksFor, AreTurnsFor}
 use Rattle.overpass_graph.specs.Maps.{IsMapOf, AreIds, HasNames}
 use Rattle.overpass_graph.specs.Members.{KeptWay}
-use Rattle.overpass_graph.specs.Orders.{IsNodeOrder}
+use Rattle.overpass_graph.specs.Orders.{IsNodeOrder, picked}
 use Rattle.overpass_graph.specs.Pairs.{Net}
 use Rattle.overpass_graph.specs.RouteTags.{tag_members, tag_of_route, tag_with_id, with_route, with_routes}
 use Rattle.overpass_graph.specs.Turns.{TurnTable}

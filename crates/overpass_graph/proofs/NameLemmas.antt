@@ -35,11 +35,12 @@ ids-at (w ∷ ws) (suc k) below = ids-at ws k (omega arith)
 -- tags change no ids
 tagged-ids : (id : ℤ) (tag : Tag) (ways : List KeptWay) → ids_of (tag_with_id id tag ways) ≡ ids_of ways
 tagged-ids id tag [] = refl
-tagged-ids id tag (w ∷ ws) = by_test (int_eq w.id id)
+tagged-ids id tag (w ∷ ws) = by_test (int_eq w.id id) (tagged-ids id tag ws)
   where
-    by_test : (b : Bool) → ids_of ((if b then with_tag tag w else w) ∷ tag_with_id id tag ws) ≡ ids_of (w ∷ ws)
-    by_test true = ap (λ ids. w.id ∷ ids) (tagged-ids id tag ws)
-    by_test false = ap (λ ids. w.id ∷ ids) (tagged-ids id tag ws)
+    by_test : (b : Bool) → ids_of (tag_with_id id tag ws) ≡ ids_of ws →
+        ids_of ((if b then with_tag tag w else w) ∷ tag_with_id id tag ws) ≡ ids_of (w ∷ ws)
+    by_test true rest = ap (λ ids. w.id ∷ ids) rest
+    by_test false rest = ap (λ ids. w.id ∷ ids) rest
 
 members-ids : (tag : Tag) (members : List Member) (ways : List KeptWay) → ids_of (tag_members tag members ways) ≡ ids_of ways
 members-ids tag [] ways = refl
@@ -100,8 +101,8 @@ later low mid high (l ∷ ls) within less = (within.0, later (suc (link_weight l
 
 -- one list after the other
 within-append : (low mid high : ℕ) (xs ys : List Link) → AreWithin low mid xs → AreWithin mid high ys → AreWithin low high (xs ++ ys)
-within-append low mid high [] ys first then = earlier low mid high ys first then
-within-append low mid high (x ∷ xs) ys first then = (first.0, within-append (suc (link_weight x)) mid high xs ys first.1 then)
+within-append low mid high [] ys first second = earlier low mid high ys first second
+within-append low mid high (x ∷ xs) ys first second = (first.0, within-append (suc (link_weight x)) mid high xs ys first.1 second)
 
 -- the links of a segment
 segment-within : (nodes : List (Kept Place)) (way segment : ℕ) (x y : ℤ) → segment < 2 ^ 32 →
@@ -303,7 +304,7 @@ found-no_way map name is none link below same =
     absurd cc
 
 -- where no link has the weight, none has the name
-pub found-no_link : (map : MapValue) (name : LinkName) (way : ℕ) → IsMap map → place_of_id name.way map.ways ≡ Some way →
+found-no_link : (map : MapValue) (name : LinkName) (way : ℕ) → IsMap map → place_of_id name.way map.ways ≡ Some way →
     FindsWeight map.links (weight_of way name.segment name.back) None → FindsLink map name None
 found-no_link map name way is here none link below same =
     let found = way-of_id map link name.way is below (ap (λ (n : LinkName). n.way) same) in
@@ -314,7 +315,7 @@ found-no_link map name way is here none link below same =
     ∙ ap (λ b. weight_of way name.segment b) (ap (λ (n : LinkName). n.back) same))
 
 -- the link of the weight has the name
-pub found-link : (map : MapValue) (name : LinkName) (way link : ℕ) → IsMap map → place_of_id name.way map.ways ≡ Some way →
+found-link : (map : MapValue) (name : LinkName) (way link : ℕ) → IsMap map → place_of_id name.way map.ways ≡ Some way →
     name.segment < 2 ^ 32 → FindsWeight map.links (weight_of way name.segment name.back) (Some link) → FindsLink map name (Some link)
 found-link map name way link is here small found =
     let parts = weight-parts (link_of map link).way (link_of map link).segment (link_of map link).back way name.segment name.back
@@ -323,6 +324,13 @@ found-link map name way link is here small found =
     let below : way < length map.ways = omega (arith, slice_get_within (ids_of map.ways) way name.way at, ids-length map.ways) in
     let id_is : (way_at map.ways way).id ≡ name.way = same_Some _ _ (sym (ids-at map.ways way below) ∙ at) in
     (found.0, rw (parts.way_is, parts.segment_is, parts.back_is, id_is) refl)
+
+-- so what is found by weight is found by name
+pub found-by_weight : (map : MapValue) (name : LinkName) (way : ℕ) (found : Option ℕ) → IsMap map →
+    place_of_id name.way map.ways ≡ Some way → name.segment < 2 ^ 32 →
+    FindsWeight map.links (weight_of way name.segment name.back) found → FindsLink map name found
+found-by_weight map name way None is here small found = found-no_link map name way is here found
+found-by_weight map name way (Some link) is here small found = found-link map name way link is here small found
 
 -- two links of one name are one
 pub name-own : (map : MapValue) (a b : ℕ) → IsMap map → a < length map.links → b < length map.links → name_of map a ≡ name_of map b →
