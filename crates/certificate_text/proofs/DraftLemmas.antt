@@ -46,16 +46,16 @@ closed-push legs leg form = ap (λ fs. Head ∷ (fs ++ (form ∷ []))) (legs-pus
 
 -- a line is taken where the new draft is of the old one's lines and this one
 pub takes : (old new : Draft) (form : Form) (p q : Place) (legs later : List LegValue) (leg next : LegValue) → old.place ≡ p →
-    map leg_of old.legs.items ≡ legs → leg_of old.now ≡ leg → new.place ≡ q → map leg_of new.legs.items ≡ later → leg_of new.now ≡ next →
+    map leg_of old.legs.items ≡ legs → leg_of old.leg ≡ leg → new.place ≡ q → map leg_of new.legs.items ≡ later → leg_of new.leg ≡ next →
     Stands (stage_at p) form → stage_at q ≡ stage_after form → forms_at q later next ≡ forms_at p legs leg ++ (form ∷ []) →
     IsTaken old new form
 takes old new form p q legs later leg next old_p old_legs old_leg new_q new_legs new_leg stands stage forms = record {
   stands = subst (λ s. Stands (stage_at s) form) (sym old_p) stands;
   place = ap stage_at new_q ∙ stage;
-  forms = ap (λ s. forms_at s (map leg_of new.legs.items) (leg_of new.now)) new_q
-      ∙ ap (λ ls. forms_at q ls (leg_of new.now)) new_legs ∙ ap (forms_at q later) new_leg ∙ forms
-      ∙ sym (ap (λ s. forms_at s (map leg_of old.legs.items) (leg_of old.now) ++ (form ∷ [])) old_p
-      ∙ ap (λ ls. forms_at p ls (leg_of old.now) ++ (form ∷ [])) old_legs
+  forms = ap (λ s. forms_at s (map leg_of new.legs.items) (leg_of new.leg)) new_q
+      ∙ ap (λ ls. forms_at q ls (leg_of new.leg)) new_legs ∙ ap (forms_at q later) new_leg ∙ forms
+      ∙ sym (ap (λ s. forms_at s (map leg_of old.legs.items) (leg_of old.leg) ++ (form ∷ [])) old_p
+      ∙ ap (λ ls. forms_at p ls (leg_of old.leg) ++ (form ∷ [])) old_legs
       ∙ ap (λ l. forms_at p legs l ++ (form ∷ [])) old_leg);
 }
 
@@ -97,7 +97,7 @@ head-not place_.Ended stands = stands
 pub read-taken : (map : MapValue) (old new : Draft) (line : List ℕ) (form : Form) (b : Bool) → IsMap map →
     Reads (line_of map) (IsForm map) line (Some form) → Takes old new form b → ReadsOn map old new line b
 read-taken map old new line form true is says taken = record { form = form; fits = says.0; line_is = says.1; taken = taken }
-read-taken map old new line form false is says not_there other stands fits same =
+read-taken map old new line form false is says not_there = λ other stands fits same.
     let one : other ≡ form = line-own map other form is fits says.0 (sym same ∙ says.1) in
     not_there (subst (Stands (stage_at old.place)) one stands)
 

@@ -1,5 +1,5 @@
 -- What lines are of.
-use Rattle.std.proofs.Common.{◌≡◌, ℕ, zero, suc, ◌+◌, ◌^◌, ◌<◌, Bool, true, false, not, ◌&&◌, ◌==◌, cond, List, [], ◌∷◌, ◌++◌, length, get_or, Option, Some, None, option_map, refl, sym, ap, ◌∙◌, subst, arith, append_assoc, append-nil}
+use Rattle.std.proofs.Common.{◌≡◌, ℕ, zero, suc, ◌+◌, ◌^◌, ◌<◌, Bool, true, false, not, ◌&&◌, ◌==◌, cond, List, [], ◌∷◌, ◌++◌, length, get_or, Option, Some, None, option_map, refl, sym, ap, ◌∙◌, subst, arith, eq-eqb, append_assoc, append-nil}
 use Rattle.std.specs.Prelude.{codes, decimal}
 use Rattle.std.specs.List.{AllByRecursion}
 use Rattle.std.proofs.lemmas.List.{append_cancel_left, length-append}
@@ -15,35 +15,50 @@ use Rattle.certificate_text.proofs.PartLemmas.{walk-own, walk-no, entry-own, ent
 -- ---- The forms of lines
 
 
+-- a line that begins as a label and says nothing
+label-none : (map : MapValue) (text : List ℕ) → Reads (entry_text map) (IsEntry map) text None → (form : Form) → IsForm map form →
+    codes "label " ++ text ≡ line_of map form → ⊥
+label-none map text none Head fits same = let h : 108 ≡ 99 = ap (λ (t : List ℕ). get_or t 0 0) same in absurd (omega (arith, h))
+label-none map text none (Leg w) fits same = let h : 97 ≡ 101 = ap (λ (t : List ℕ). get_or t 1 0) same in absurd (omega (arith, h))
+label-none map text none (Cost n) fits same = let h : 108 ≡ 99 = ap (λ (t : List ℕ). get_or t 0 0) same in absurd (omega (arith, h))
+label-none map text none (Label e) fits same = none e fits (append_cancel_left (codes "label ") text _ same)
+label-none map text none End fits same = let h : 108 ≡ 101 = ap (λ (t : List ℕ). get_or t 0 0) same in absurd (omega (arith, h))
+
 -- a line that begins as a label says what follows
 pub label-line : (map : MapValue) (text : List ℕ) (o : Option (Entry)) → Reads (entry_text map) (IsEntry map) text o →
     Reads (line_of map) (IsForm map) (codes "label " ++ text) (option_map Label o)
 label-line map text (Some x) says = (says.0, ap (λ t. codes "label " ++ t) says.1)
-label-line map text None none Head fits same = let h : 108 ≡ 99 = ap (λ (t : List ℕ). get_or t 0 0) same in absurd cc
-label-line map text None none (Leg w) fits same = let h : 97 ≡ 101 = ap (λ (t : List ℕ). get_or t 1 0) same in absurd cc
-label-line map text None none (Cost n) fits same = let h : 108 ≡ 99 = ap (λ (t : List ℕ). get_or t 0 0) same in absurd cc
-label-line map text None none (Label e) fits same = none e fits (append_cancel_left (codes "label ") text _ same)
-label-line map text None none End fits same = let h : 108 ≡ 101 = ap (λ (t : List ℕ). get_or t 0 0) same in absurd cc
+label-line map text None none = label-none map text none
+
+-- a line that begins as a cost and says nothing
+cost-none : (map : MapValue) (text : List ℕ) → Reads decimal IsCost text None → (form : Form) → IsForm map form →
+    codes "cost " ++ text ≡ line_of map form → ⊥
+cost-none map text none Head fits same = let h : 111 ≡ 101 = ap (λ (t : List ℕ). get_or t 1 0) same in absurd (omega (arith, h))
+cost-none map text none (Leg w) fits same = let h : 99 ≡ 108 = ap (λ (t : List ℕ). get_or t 0 0) same in absurd (omega (arith, h))
+cost-none map text none (Cost n) fits same = none n fits (append_cancel_left (codes "cost ") text _ same)
+cost-none map text none (Label e) fits same = let h : 99 ≡ 108 = ap (λ (t : List ℕ). get_or t 0 0) same in absurd (omega (arith, h))
+cost-none map text none End fits same = let h : 99 ≡ 101 = ap (λ (t : List ℕ). get_or t 0 0) same in absurd (omega (arith, h))
 
 -- a line that begins as a cost says what follows
 pub cost-line : (map : MapValue) (text : List ℕ) (o : Option (ℕ)) → Reads decimal IsCost text o →
     Reads (line_of map) (IsForm map) (codes "cost " ++ text) (option_map Cost o)
 cost-line map text (Some x) says = (says.0, ap (λ t. codes "cost " ++ t) says.1)
-cost-line map text None none Head fits same = let h : 111 ≡ 101 = ap (λ (t : List ℕ). get_or t 1 0) same in absurd cc
-cost-line map text None none (Leg w) fits same = let h : 99 ≡ 108 = ap (λ (t : List ℕ). get_or t 0 0) same in absurd cc
-cost-line map text None none (Cost n) fits same = none n fits (append_cancel_left (codes "cost ") text _ same)
-cost-line map text None none (Label e) fits same = let h : 99 ≡ 108 = ap (λ (t : List ℕ). get_or t 0 0) same in absurd cc
-cost-line map text None none End fits same = let h : 99 ≡ 101 = ap (λ (t : List ℕ). get_or t 0 0) same in absurd cc
+cost-line map text None none = cost-none map text none
+
+-- a line that begins as a leg and says nothing
+leg-none : (map : MapValue) (text : List ℕ) → Reads (walk_text map) (AreLinks map) text None → (form : Form) → IsForm map form →
+    codes "leg" ++ text ≡ line_of map form → ⊥
+leg-none map text none Head fits same = let h : 108 ≡ 99 = ap (λ (t : List ℕ). get_or t 0 0) same in absurd (omega (arith, h))
+leg-none map text none (Leg w) fits same = none w fits (append_cancel_left (codes "leg") text _ same)
+leg-none map text none (Cost n) fits same = let h : 108 ≡ 99 = ap (λ (t : List ℕ). get_or t 0 0) same in absurd (omega (arith, h))
+leg-none map text none (Label e) fits same = let h : 101 ≡ 97 = ap (λ (t : List ℕ). get_or t 1 0) same in absurd (omega (arith, h))
+leg-none map text none End fits same = let h : 108 ≡ 101 = ap (λ (t : List ℕ). get_or t 0 0) same in absurd (omega (arith, h))
 
 -- a line that begins as a leg says what follows
 pub leg-line : (map : MapValue) (text : List ℕ) (o : Option (List ℕ)) → Reads (walk_text map) (AreLinks map) text o →
     Reads (line_of map) (IsForm map) (codes "leg" ++ text) (option_map Leg o)
 leg-line map text (Some x) says = (says.0, ap (λ t. codes "leg" ++ t) says.1)
-leg-line map text None none Head fits same = let h : 108 ≡ 99 = ap (λ (t : List ℕ). get_or t 0 0) same in absurd cc
-leg-line map text None none (Leg w) fits same = none w fits (append_cancel_left (codes "leg") text _ same)
-leg-line map text None none (Cost n) fits same = let h : 108 ≡ 99 = ap (λ (t : List ℕ). get_or t 0 0) same in absurd cc
-leg-line map text None none (Label e) fits same = let h : 101 ≡ 97 = ap (λ (t : List ℕ). get_or t 1 0) same in absurd cc
-leg-line map text None none End fits same = let h : 108 ≡ 101 = ap (λ (t : List ℕ). get_or t 0 0) same in absurd cc
+leg-line map text None none = leg-none map text none
 
 -- a line of no form
 pub no-line : (map : MapValue) (line : List ℕ) → ((rest : List ℕ) → line ≡ codes "label " ++ rest → ⊥) →
@@ -58,29 +73,29 @@ no-line map line no_label no_cost no_leg no_end no_head End fits same = no_end s
 -- lines of one text are of one form
 pub line-own : (map : MapValue) (f g : Form) → IsMap map → IsForm map f → IsForm map g → line_of map f ≡ line_of map g → f ≡ g
 line-own map Head Head is fits_f fits_g same = refl
-line-own map Head (Leg v) is fits_f fits_g same = let h : 99 ≡ 108 = ap (λ (t : List ℕ). get_or t 0 0) same in absurd cc
-line-own map Head (Cost m) is fits_f fits_g same = let h : 101 ≡ 111 = ap (λ (t : List ℕ). get_or t 1 0) same in absurd cc
-line-own map Head (Label d) is fits_f fits_g same = let h : 99 ≡ 108 = ap (λ (t : List ℕ). get_or t 0 0) same in absurd cc
-line-own map Head End is fits_f fits_g same = let h : 99 ≡ 101 = ap (λ (t : List ℕ). get_or t 0 0) same in absurd cc
-line-own map (Leg w) Head is fits_f fits_g same = let h : 108 ≡ 99 = ap (λ (t : List ℕ). get_or t 0 0) same in absurd cc
+line-own map Head (Leg v) is fits_f fits_g same = let h : 99 ≡ 108 = ap (λ (t : List ℕ). get_or t 0 0) same in absurd (omega (arith, h))
+line-own map Head (Cost m) is fits_f fits_g same = let h : 101 ≡ 111 = ap (λ (t : List ℕ). get_or t 1 0) same in absurd (omega (arith, h))
+line-own map Head (Label d) is fits_f fits_g same = let h : 99 ≡ 108 = ap (λ (t : List ℕ). get_or t 0 0) same in absurd (omega (arith, h))
+line-own map Head End is fits_f fits_g same = let h : 99 ≡ 101 = ap (λ (t : List ℕ). get_or t 0 0) same in absurd (omega (arith, h))
+line-own map (Leg w) Head is fits_f fits_g same = let h : 108 ≡ 99 = ap (λ (t : List ℕ). get_or t 0 0) same in absurd (omega (arith, h))
 line-own map (Leg w) (Leg v) is fits_f fits_g same = ap Leg (walk-own map w v is fits_f fits_g (append_cancel_left (codes "leg") (walk_text map w) (walk_text map v) same))
-line-own map (Leg w) (Cost m) is fits_f fits_g same = let h : 108 ≡ 99 = ap (λ (t : List ℕ). get_or t 0 0) same in absurd cc
-line-own map (Leg w) (Label d) is fits_f fits_g same = let h : 101 ≡ 97 = ap (λ (t : List ℕ). get_or t 1 0) same in absurd cc
-line-own map (Leg w) End is fits_f fits_g same = let h : 108 ≡ 101 = ap (λ (t : List ℕ). get_or t 0 0) same in absurd cc
-line-own map (Cost n) Head is fits_f fits_g same = let h : 111 ≡ 101 = ap (λ (t : List ℕ). get_or t 1 0) same in absurd cc
-line-own map (Cost n) (Leg v) is fits_f fits_g same = let h : 99 ≡ 108 = ap (λ (t : List ℕ). get_or t 0 0) same in absurd cc
+line-own map (Leg w) (Cost m) is fits_f fits_g same = let h : 108 ≡ 99 = ap (λ (t : List ℕ). get_or t 0 0) same in absurd (omega (arith, h))
+line-own map (Leg w) (Label d) is fits_f fits_g same = let h : 101 ≡ 97 = ap (λ (t : List ℕ). get_or t 1 0) same in absurd (omega (arith, h))
+line-own map (Leg w) End is fits_f fits_g same = let h : 108 ≡ 101 = ap (λ (t : List ℕ). get_or t 0 0) same in absurd (omega (arith, h))
+line-own map (Cost n) Head is fits_f fits_g same = let h : 111 ≡ 101 = ap (λ (t : List ℕ). get_or t 1 0) same in absurd (omega (arith, h))
+line-own map (Cost n) (Leg v) is fits_f fits_g same = let h : 99 ≡ 108 = ap (λ (t : List ℕ). get_or t 0 0) same in absurd (omega (arith, h))
 line-own map (Cost n) (Cost m) is fits_f fits_g same = ap Cost (decimal-own n m (omega (arith, fits_f)) (omega (arith, fits_g)) (append_cancel_left (codes "cost ") (decimal n) (decimal m) same))
-line-own map (Cost n) (Label d) is fits_f fits_g same = let h : 99 ≡ 108 = ap (λ (t : List ℕ). get_or t 0 0) same in absurd cc
-line-own map (Cost n) End is fits_f fits_g same = let h : 99 ≡ 101 = ap (λ (t : List ℕ). get_or t 0 0) same in absurd cc
-line-own map (Label e) Head is fits_f fits_g same = let h : 108 ≡ 99 = ap (λ (t : List ℕ). get_or t 0 0) same in absurd cc
-line-own map (Label e) (Leg v) is fits_f fits_g same = let h : 97 ≡ 101 = ap (λ (t : List ℕ). get_or t 1 0) same in absurd cc
-line-own map (Label e) (Cost m) is fits_f fits_g same = let h : 108 ≡ 99 = ap (λ (t : List ℕ). get_or t 0 0) same in absurd cc
+line-own map (Cost n) (Label d) is fits_f fits_g same = let h : 99 ≡ 108 = ap (λ (t : List ℕ). get_or t 0 0) same in absurd (omega (arith, h))
+line-own map (Cost n) End is fits_f fits_g same = let h : 99 ≡ 101 = ap (λ (t : List ℕ). get_or t 0 0) same in absurd (omega (arith, h))
+line-own map (Label e) Head is fits_f fits_g same = let h : 108 ≡ 99 = ap (λ (t : List ℕ). get_or t 0 0) same in absurd (omega (arith, h))
+line-own map (Label e) (Leg v) is fits_f fits_g same = let h : 97 ≡ 101 = ap (λ (t : List ℕ). get_or t 1 0) same in absurd (omega (arith, h))
+line-own map (Label e) (Cost m) is fits_f fits_g same = let h : 108 ≡ 99 = ap (λ (t : List ℕ). get_or t 0 0) same in absurd (omega (arith, h))
 line-own map (Label e) (Label d) is fits_f fits_g same = ap Label (entry-own map e d is fits_f fits_g (append_cancel_left (codes "label ") (entry_text map e) (entry_text map d) same))
-line-own map (Label e) End is fits_f fits_g same = let h : 108 ≡ 101 = ap (λ (t : List ℕ). get_or t 0 0) same in absurd cc
-line-own map End Head is fits_f fits_g same = let h : 101 ≡ 99 = ap (λ (t : List ℕ). get_or t 0 0) same in absurd cc
-line-own map End (Leg v) is fits_f fits_g same = let h : 101 ≡ 108 = ap (λ (t : List ℕ). get_or t 0 0) same in absurd cc
-line-own map End (Cost m) is fits_f fits_g same = let h : 101 ≡ 99 = ap (λ (t : List ℕ). get_or t 0 0) same in absurd cc
-line-own map End (Label d) is fits_f fits_g same = let h : 101 ≡ 108 = ap (λ (t : List ℕ). get_or t 0 0) same in absurd cc
+line-own map (Label e) End is fits_f fits_g same = let h : 108 ≡ 101 = ap (λ (t : List ℕ). get_or t 0 0) same in absurd (omega (arith, h))
+line-own map End Head is fits_f fits_g same = let h : 101 ≡ 99 = ap (λ (t : List ℕ). get_or t 0 0) same in absurd (omega (arith, h))
+line-own map End (Leg v) is fits_f fits_g same = let h : 101 ≡ 108 = ap (λ (t : List ℕ). get_or t 0 0) same in absurd (omega (arith, h))
+line-own map End (Cost m) is fits_f fits_g same = let h : 101 ≡ 99 = ap (λ (t : List ℕ). get_or t 0 0) same in absurd (omega (arith, h))
+line-own map End (Label d) is fits_f fits_g same = let h : 101 ≡ 108 = ap (λ (t : List ℕ). get_or t 0 0) same in absurd (omega (arith, h))
 line-own map End End is fits_f fits_g same = refl
 
 -- ---- Line ends
@@ -94,11 +109,11 @@ differs c (x ∷ xs) = not (x == c) && differs c xs
 no-tested : (c : ℕ) (text : List ℕ) → differs c text ≡ true → HasNo c text
 unfolding differs
 no-tested c [] test = tt
-no-tested c (x ∷ xs) test = by_test (x == c) refl test
+no-tested c (x ∷ xs) test = by_test (x == c) refl test (no-tested c xs)
   where
-    by_test : (b : Bool) → (x == c) ≡ b → (not b && differs c xs) ≡ true → HasNo c (x ∷ xs)
-    by_test true is test = absurd cc
-    by_test false is test = ((λ same. let h : (x == c) ≡ true = grind (arith, same) in absurd cc), no-tested c xs test)
+    by_test : (b : Bool) → (x == c) ≡ b → (not b && differs c xs) ≡ true → (differs c xs ≡ true → HasNo c xs) → HasNo c (x ∷ xs)
+    by_test true is test rest = absurd cc
+    by_test false is test rest = ((λ same. let h : (x == c) ≡ true = eq-eqb x c same in absurd cc), rest test)
 
 -- a line has no line end
 pub line-no : (map : MapValue) (form : Form) → IsMap map → IsForm map form → HasNo 10 (line_of map form)

@@ -1,5 +1,5 @@
 -- Numbers in digits.
-use Rattle.std.proofs.Common.{◌≡◌, ℕ, ℤ, pos, negsuc, zero, suc, ◌+◌, ◌^◌, ◌<◌, ◌≤◌, ◌≤ℤ◌, List, [], ◌∷◌, ◌++◌, length, Result, Ok, Err, Option, Some, None, refl, sym, ap, ◌∙◌, subst, arith}
+use Rattle.std.proofs.Common.{◌≡◌, ℕ, ℤ, Bool, true, false, pos, negsuc, zero, suc, ◌+◌, ◌^◌, ◌<◌, ◌≤◌, ◌≤ℤ◌, List, [], ◌∷◌, ◌++◌, length, Result, Ok, Err, Option, Some, None, refl, sym, ap, ◌∙◌, subst, arith}
 use Rattle.std.specs.Prelude.{FitsSigned, decimal}
 use Rattle.std.specs.Fmt.{signed_decimal}
 use Rattle.std.specs.Str.{IsUtf8}
@@ -42,37 +42,54 @@ small-id (pos n) fits = omega (arith, fits)
 small-id (negsuc n) fits = omega (arith, fits)
 
 -- digits are a text
-pub decimal-text : (bits : ℕ) (bytes : List ℕ) (n : ℕ) → n < 10 ^ 64 → bytes ≡ decimal n → IsUtf8 bytes
-decimal-text bits bytes n small same = subst IsUtf8 (sym same) (IsUtf8-from_ascii (decimal n) (IsAscii-decimal_wide n small))
+pub decimal-text : (bytes : List ℕ) (n : ℕ) → n < 10 ^ 64 → bytes ≡ decimal n → IsUtf8 bytes
+decimal-text bytes n small same = subst IsUtf8 (sym same) (IsUtf8-from_ascii (decimal n) (IsAscii-decimal_wide n small))
 
 -- so are digits with a sign
 pub signed-text : (bytes : List ℕ) (z : ℤ) → FitsSigned w64 z → bytes ≡ signed_decimal z → IsUtf8 bytes
 signed-text bytes z fits same =
     subst IsUtf8 (sym same) (IsUtf8-from_ascii (signed_decimal z) (IsAscii-signed z (small-id z fits)))
 
--- a refused text is none of a cost
-pub refused-wide : {E : Type 0} (bits : ℕ) (bytes : List ℕ) (e : E) → ParsesUnsigned bits 10 bytes (Err e) → (n : ℕ) → n < 2 ^ bits →
+-- an answer is one
+ok-same : {A : Type 0} (x y : A) (r : Result A ℕ) → r ≡ Ok x → r ≡ Ok y → x ≡ y
+ok-same x y r first second = cc
+
+-- and no refusal
+ok-err : {A : Type 0} (x : A) (r : Result A ℕ) → r ≡ Err 0 → r ≡ Ok x → ⊥
+ok-err x r first second = absurd cc
+
+-- a test has one answer
+pub not-both : (b : Bool) → b ≡ false → b ≡ true → ⊥
+not-both true wrong right = absurd cc
+not-both false wrong right = absurd cc
+
+-- a refused text is none of a number
+pub refused-wide : (bits : ℕ) (bytes : List ℕ) → ParsesUnsigned {E = ℕ} bits 10 bytes (Err 0) → (n : ℕ) → n < 2 ^ bits →
     n < 10 ^ 64 → bytes ≡ decimal n → ⊥
-refused-wide {E} bits bytes e parsed n fits small same =
-    let wrong : Err e ≡ Ok n = parse-decimal_wide bits n bytes (Err e) fits small same parsed in
-    absurd cc
+refused-wide bits bytes parsed n fits small same =
+    ok-err n (Err 0) refl (parse-decimal_wide {E = ℕ} bits n bytes (Err 0) fits small same parsed)
 
 -- a text that is read is that of no other number
-pub parsed-wide : {E : Type 0} (bits : ℕ) (bytes : List ℕ) (m : ℕ) (r : Result ℕ E) → r ≡ Ok m → ParsesUnsigned bits 10 bytes r →
+pub parsed-wide : (bits : ℕ) (bytes : List ℕ) (m : ℕ) → ParsesUnsigned {E = ℕ} bits 10 bytes (Ok m) →
     (n : ℕ) → n < 2 ^ bits → n < 10 ^ 64 → bytes ≡ decimal n → m ≡ n
-parsed-wide {E} bits bytes m r is parsed n fits small same =
-    let right : r ≡ Ok n = parse-decimal_wide bits n bytes r fits small same parsed in
-    cc
+parsed-wide bits bytes m parsed n fits small same =
+    ok-same m n (Ok m) refl (parse-decimal_wide {E = ℕ} bits n bytes (Ok m) fits small same parsed)
 
 -- the same with a sign
-pub refused-signed : {E : Type 0} (bytes : List ℕ) (e : E) → ParsesSigned w64 10 bytes (Err e) → (z : ℤ) → FitsSigned w64 z →
+pub refused-signed : (bytes : List ℕ) → ParsesSigned {E = ℕ} w64 10 bytes (Err 0) → (z : ℤ) → FitsSigned w64 z →
     bytes ≡ signed_decimal z → ⊥
-refused-signed {E} bytes e parsed z fits same =
-    let wrong : Err e ≡ Ok z = parse-signed_decimal w64 z bytes (Err e) fits (small-id z fits) same parsed in
-    absurd cc
+refused-signed bytes parsed z fits same =
+    ok-err z (Err 0) refl (parse-signed_decimal {E = ℕ} w64 z bytes (Err 0) fits (small-id z fits) same parsed)
 
-pub parsed-signed : {E : Type 0} (bytes : List ℕ) (y : ℤ) (r : Result ℤ E) → r ≡ Ok y → ParsesSigned w64 10 bytes r → (z : ℤ) →
+pub parsed-signed : (bytes : List ℕ) (y : ℤ) → ParsesSigned {E = ℕ} w64 10 bytes (Ok y) → (z : ℤ) →
     FitsSigned w64 z → bytes ≡ signed_decimal z → y ≡ z
-parsed-signed {E} bytes y r is parsed z fits same =
-    let right : r ≡ Ok z = parse-signed_decimal w64 z bytes r fits (small-id z fits) same parsed in
-    cc
+parsed-signed bytes y parsed z fits same =
+    ok-same y z (Ok y) refl (parse-signed_decimal {E = ℕ} w64 z bytes (Ok y) fits (small-id z fits) same parsed)
+
+-- no buffer is printed as a number below zero
+pub buffer-below : (bytes : List ℕ) (y : ℤ) → FitsSigned w64 y × (bytes ≡ signed_decimal y) → (pos 0 ≤ℤ y → ⊥) → (z : ℤ) → IsBuffer z →
+    bytes ≡ signed_decimal z → ⊥
+buffer-below bytes y says below z fits same =
+    let one : z ≡ y =
+    signed_decimal_injective z y (small-id z fits.1) (small-id y says.0) (sym same ∙ says.1) in
+    below (subst (λ (x : ℤ). pos 0 ≤ℤ x) one fits.0)

@@ -61,8 +61,8 @@ cost-no n fits = decimal-no 32 n (omega arith) (omega (arith, fits))
 letter-own : (b d : Bool) → letter_of b ≡ letter_of d → b ≡ d
 letter-own true true same = refl
 letter-own false false same = refl
-letter-own true false same = let h : 98 ≡ 102 = first-same 98 102 [] [] same in absurd cc
-letter-own false true same = let h : 102 ≡ 98 = first-same 102 98 [] [] same in absurd cc
+letter-own true false same = let h : 98 ≡ 102 = first-same 98 102 [] [] same in absurd (omega (arith, h))
+letter-own false true same = let h : 102 ≡ 98 = first-same 102 98 [] [] same in absurd (omega (arith, h))
 
 -- a letter isn't a low byte
 letter-no : (c : ℕ) (b : Bool) → c < 45 → HasNo c (letter_of b)
@@ -134,7 +134,7 @@ pub link-found : (map : MapValue) (text : List ℕ) (way : ℤ) (segment : ℕ) 
     (FitsSigned w64 way × IsStep (segment, back)) × (text ≡ signed_decimal way ++ (47 ∷ print_step (segment, back))) →
     FindsLink map (record { way = way; segment = segment; back = back }) found → Reads (link_text map) (IsLink map) text found
 unfolding name_text
-link-found map text way segment back None is said none link below same =
+link-found map text way segment back None is said none = λ link below same.
     none link below
     (text-own (name_of map link) (record { way = way; segment = segment; back = back }) (link-fits map link is below)
     (record { way = said.0.0; segment = said.0.1.0 }) (sym same ∙ said.1))
@@ -184,13 +184,13 @@ walking-first map text walk none =
 
 -- what is left begins with a link
 module _ (map : MapValue) (text walk rest name after : List ℕ) (is : IsMap map) (so : IsWalking map text walk rest)
-    (begins : rest ≡ 32 ∷ (name ++ after)) (no : HasNo 32 name) (at : Begins 32 after) where
+    (begins : rest ≡ 32 ∷ (name ++ after)) (free : HasNo 32 name) (at : Begins 32 after) where
   -- the name is that of the next link, and what is behind it is of those after that
   next : (left : List ℕ) → AreLinks map left → rest ≡ walk_text map left →
       (link : ℕ) × ((more : List ℕ) × ((IsLink map link × AreLinks map more) × ((name ≡ link_text map link) × (after ≡ walk_text map more))))
   next [] are same = absurd (some-none 32 (name ++ after) (sym begins ∙ same))
   next (l ∷ left) are same =
-      let both = word-same 32 name (link_text map l) after (walk_text map left) no (link-no map 32 l (omega arith) is are.0) at
+      let both = word-same 32 name (link_text map l) after (walk_text map left) free (link-no map 32 l (omega arith) is are.0) at
       (walk-begins map left)
       (rest-same 32 32 (name ++ after) (link_text map l ++ walk_text map left) (sym begins ∙ same)) in
       (l, (left, ((are.0, are.1), (both.0, both.1))))

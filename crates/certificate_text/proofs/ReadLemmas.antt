@@ -85,13 +85,13 @@ is-ended place_.Ended test = refl
 -- where no line is left, but the text isn't at its end, the next line is at fault
 pub reading-short : (map : MapValue) (text : List ℕ) (number : ℕ) (rest : List ℕ) (draft : Draft) →
     IsReading map text number rest draft → HasNo 10 rest → (rest ≡ [] → is_ended draft.place ≡ true → ⊥) → IsFirstFault map text number
-reading-short map text number rest draft so no other = record {
+reading-short map text number rest draft so free other = record {
   before = forms_now draft;
   rest = rest;
   text_is = so.text_is;
   number = so.number_is;
   standing = so.standing;
-  fault = λ form more stands fits same. no-within 10 (line_of map form) more (subst (HasNo 10) same no);
+  fault = λ form more stands fits same. no-within 10 (line_of map form) more (subst (HasNo 10) same free);
   open_end = λ empty last. other empty (is-ended draft.place (sym so.stage ∙ last));
 }
 
@@ -131,7 +131,7 @@ unfolding certificate_text
 reading-whole map text number rest draft so empty last =
     let legs = draft_legs draft in
     let forms : forms_now draft ≡ forms_of legs =
-    ap (λ p. forms_at p legs (leg_of draft.now)) (ended draft.place last) in
+    ap (λ p. forms_at p legs (leg_of draft.leg)) (ended draft.place last) in
     let all = standing-fits map Unbegun (forms_of legs) (subst (AreStanding map Unbegun) forms so.standing) in
     record {
       legs_are = legs-fit map legs (all-before (IsForm map) (legs_forms legs) (End ∷ []) all.1);
@@ -162,13 +162,13 @@ headless map text line after is cut other = record {
 
 -- nor does one without a line
 pub lineless : (map : MapValue) (text : List ℕ) → HasNo 10 text → IsFirstFault map text 1
-lineless map text no = record {
+lineless map text free = record {
   before = [];
   rest = text;
   text_is = refl;
   number = refl;
   standing = tt;
-  fault = λ form more stands fits same. no-within 10 (line_of map form) more (subst (HasNo 10) same no);
+  fault = λ form more stands fits same. no-within 10 (line_of map form) more (subst (HasNo 10) same free);
   open_end = λ empty last. absurd cc;
 }
 

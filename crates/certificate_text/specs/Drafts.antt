@@ -38,7 +38,7 @@ forms_at place_.Ended legs now = Head ∷ (legs_forms legs ++ (End ∷ []))
 
 -- the lines of a draft
 abbrev pub forms_now : Draft → List Form
-forms_now draft = forms_at draft.place (map leg_of draft.legs.items) (leg_of draft.now)
+forms_now draft = forms_at draft.place (map leg_of draft.legs.items) (leg_of draft.leg)
 
 -- a line is taken behind those of a draft
 pub record IsTaken (old new : Draft) (form : Form) : Type 0 where

@@ -26,7 +26,7 @@ pub(crate) enum Place {
 /// The legs that were read so far, the one that is being read, and where the text stands.
 pub(crate) struct Draft {
     pub(crate) legs: Vec<Proof>,
-    pub(crate) now: Proof,
+    pub(crate) leg: Proof,
     pub(crate) place: Place,
 }
 
@@ -34,7 +34,7 @@ impl Drop for Draft {
     fn drop(self) {
         let Draft {
             legs: _,
-            now: _,
+            leg: _,
             place: _,
         } = self;
     }
@@ -57,7 +57,7 @@ impl Draft {
     {
         Ok(Draft {
             legs: Vec::with_capacity(alloc, room)?,
-            now: no_leg(alloc),
+            leg: no_leg(alloc),
             place: Place::Opened,
         })
     }
@@ -99,7 +99,7 @@ impl Draft {
     {
         match self.place {
             Place::Labelled => {
-                self.now.entries.push(entry)?;
+                self.leg.entries.push(entry)?;
                 Ok(true)
             }
             _ => Ok(false),
@@ -112,8 +112,8 @@ impl Draft {
     {
         match self.place {
             Place::Walked => {
-                self.now.entries = Vec::with_capacity(alloc, labels_in(after))?;
-                self.now.cost = cost;
+                self.leg.entries = Vec::with_capacity(alloc, labels_in(after))?;
+                self.leg.cost = cost;
                 self.place = Place::Labelled;
                 Ok(true)
             }
@@ -126,13 +126,19 @@ impl Draft {
         ensures exact { IfOk result (Takes self.old self.new (Leg walk.items)) }
     {
         match self.place {
-            Place::Opened => {}
-            Place::Labelled => self.close(alloc)?,
-            _ => return Ok(false),
+            Place::Opened => {
+                self.leg.walk = walk;
+                self.place = Place::Walked;
+                Ok(true)
+            }
+            Place::Labelled => {
+                self.close(alloc)?;
+                self.leg.walk = walk;
+                self.place = Place::Walked;
+                Ok(true)
+            }
+            _ => Ok(false),
         }
-        self.now.walk = walk;
-        self.place = Place::Walked;
-        Ok(true)
     }
 
     /// Takes the last line.
@@ -140,21 +146,29 @@ impl Draft {
         ensures exact { IfOk result (Takes self.old self.new End) }
     {
         match self.place {
-            Place::Opened => {}
-            Place::Labelled => self.close(alloc)?,
-            _ => return Ok(false),
+            Place::Opened => {
+                self.place = Place::Ended;
+                Ok(true)
+            }
+            Place::Labelled => {
+                self.close(alloc)?;
+                self.place = Place::Ended;
+                Ok(true)
+            }
+            _ => Ok(false),
         }
-        self.place = Place::Ended;
-        Ok(true)
     }
 
     /// Puts the leg that was read behind the others.
     fn close(&mut self, alloc: Global) -> Result<(), AllocError>
         ensures legs { OnOk result
-            (self.new.legs.items ≡ self.old.legs.items ++ (self.old.now ∷ [])) }
+            (self.new.legs.items ≡ self.old.legs.items ++ (self.old.leg ∷ [])) }
     {
-        let now = std::mem::replace(&mut self.now, no_leg(alloc));
-        self.legs.push(now)
+        let leg = std::mem::replace(&mut self.leg, no_leg(alloc));
+        match self.legs.push(leg) {
+            Ok(()) => Ok(()),
+            Err(_) => Err(AllocError),
+        }
     }
 
     /// Whether the last line was taken.
@@ -173,7 +187,7 @@ impl Draft {
     {
         let Draft {
             legs,
-            now: _,
+            leg: _,
             place: _,
         } = self;
         Certificate { legs }

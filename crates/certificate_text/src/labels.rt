@@ -14,6 +14,7 @@ use overpass_graph::Map;
 pub(crate) fn entry_of(map: &Map, text: &[u8]) -> Option<Entry>
     ensures exact { Reads (entry_text map.now) (IsEntry map.now) text.now result }
 {
+    let _count = map.links();
     let Some(found) = cut(text, b' ') else {
         return None;
     };

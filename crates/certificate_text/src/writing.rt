@@ -1,14 +1,15 @@
 //! Certificates written as texts.
 
 ghost use Rattle.std.specs.Prelude.{◌≡◌, ◌∷◌, ◌++◌, [], IfOk, OnOk};
-ghost use Rattle.certificate_text.specs.Lines.{AreLinks, IsEntry, IsLink, entry_text, line_of, lines_of, link_text, walk_text};
+ghost use Rattle.overpass_graph.specs.Names.{letter_of, step_text};
+ghost use Rattle.certificate_text.specs.Lines.{AreLinks, IsEntry, IsLink, buffers_text, entry_text, lines_of, link_text, walk_text, weights_text};
 ghost use Rattle.certificate_text.specs.Lines.{Label};
 ghost use Rattle.certificate_text.specs.Texts.{AreLegs, IsLeg, certificate_text, labels_of, leg_forms, leg_of, legs_of};
 ghost use Rattle.std.specs.List.{AllByRecursion};
 
 use crate::certificate::{Certificate, Entry, Proof};
 use item_list::{append_bytes, append_number, append_signed, append_wide, bytes_of};
-use overpass_graph::Map;
+use overpass_graph::{Link, Map};
 use std::alloc::{AllocError, Global};
 
 /// The text of a certificate.
@@ -52,6 +53,7 @@ fn append_walk(text: &mut Vec<u8>, map: &Map, walk: &[u32]) -> Result<(), AllocE
 }
 
 /// Appends the name of a link.
+#[tactic(auto, unfolding(overpass_graph::specs::Names::name_text))]
 fn append_link(text: &mut Vec<u8>, map: &Map, link: u32) -> Result<(), AllocError>
     requires in_range { IsLink map.now link }
     ensures exact { OnOk result (text.new.items ≡ text.old.items ++ link_text map.now link) }
@@ -60,8 +62,23 @@ fn append_link(text: &mut Vec<u8>, map: &Map, link: u32) -> Result<(), AllocErro
     let taken = map.link(link);
     append_signed(text, map.way_id(taken.way))?;
     append_bytes(text, b"/")?;
-    append_number(text, u64::from(taken.segment))?;
-    append_bytes(text, if taken.back { b"/b" } else { b"/f" })
+    append_step(text, &taken)
+}
+
+/// Appends the segment and the direction of a link.
+fn append_step(text: &mut Vec<u8>, link: &Link) -> Result<(), AllocError>
+    ensures exact { OnOk result
+        (text.new.items ≡ text.old.items ++ step_text link.now.segment link.now.back) }
+{
+    append_number(text, u64::from(link.segment))?;
+    append_bytes(text, direction(link))
+}
+
+/// A link's direction, behind a slash.
+fn direction(link: &Link) -> &'static [u8]
+    ensures exact { result.now ≡ 47 ∷ letter_of link.now.back }
+{
+    if link.back { b"/b" } else { b"/f" }
 }
 
 /// Appends the lines of labels.
@@ -83,12 +100,35 @@ fn append_label(text: &mut Vec<u8>, map: &Map, entry: Entry) -> Result<(), Alloc
         (text.new.items ≡ text.old.items ++ lines_of map.now (Label entry ∷ [])) }
 {
     append_bytes(text, b"label ")?;
+    append_entry(text, map, entry)?;
+    append_bytes(text, b"\n")
+}
+
+/// Appends a label.
+fn append_entry(text: &mut Vec<u8>, map: &Map, entry: Entry) -> Result<(), AllocError>
+    requires entry { IsEntry map.now entry }
+    ensures exact { OnOk result (text.new.items ≡ text.old.items ++ entry_text map.now entry) }
+{
     append_link(text, map, entry.link)?;
     append_bytes(text, b" ")?;
+    append_weights(text, entry)
+}
+
+/// Appends the cost and the buffers of a label.
+fn append_weights(text: &mut Vec<u8>, entry: Entry) -> Result<(), AllocError>
+    ensures exact { OnOk result
+        (text.new.items ≡ text.old.items ++ weights_text entry.cost entry.down entry.up) }
+{
     append_wide(text, entry.cost)?;
     append_bytes(text, b" ")?;
-    append_signed(text, entry.down)?;
+    append_buffers(text, entry.down, entry.up)
+}
+
+/// Appends two buffers.
+fn append_buffers(text: &mut Vec<u8>, down: i64, up: i64) -> Result<(), AllocError>
+    ensures exact { OnOk result (text.new.items ≡ text.old.items ++ buffers_text down up) }
+{
+    append_signed(text, down)?;
     append_bytes(text, b" ")?;
-    append_signed(text, entry.up)?;
-    append_bytes(text, b"\n")
+    append_signed(text, up)
 }
