@@ -1,5 +1,5 @@
 -- What is read of the parts of a line.
-use Rattle.std.proofs.Common.{◌≡◌, ℕ, ℤ, zero, suc, ◌+◌, ◌^◌, ◌<◌, Bool, true, false, List, [], ◌∷◌, ◌++◌, length, get_or, Option, Some, None, refl, sym, ap, ◌∙◌, subst, arith, append_assoc, append-nil}
+use Rattle.std.proofs.Common.{◌≡◌, ℕ, ℤ, zero, suc, ◌+◌, ◌^◌, ◌<◌, Bool, true, false, List, [], ◌∷◌, ◌++◌, length, get_or, drop, Option, Some, None, refl, sym, ap, ◌∙◌, subst, arith, append_assoc, append-nil}
 use Rattle.std.specs.Prelude.{FitsSigned, decimal}
 use Rattle.std.specs.Fmt.{signed_decimal}
 use Rattle.std.specs.List.{AllByRecursion, flat_map}
@@ -220,6 +220,13 @@ module _ (map : MapValue) (text walk rest name after : List ℕ) (is : IsMap map
             let last = next left.0 left.1.0 left.1.1 in
             (last.1.0, (last.1.1.0.1, last.1.1.1.1));
       })
+
+-- a text that begins with a space and a word
+pub space-first : (rest named name after : List ℕ) → 0 < length rest → get_or rest 0 0 ≡ 32 → named ≡ drop 1 rest →
+    named ≡ name ++ after → rest ≡ 32 ∷ (name ++ after)
+space-first [] named name after some first named_is whole = absurd (omega arith)
+space-first (c ∷ rest) named name after some first named_is whole =
+    ap (λ n. n ∷ rest) first ∙ ap (λ t. 32 ∷ t) (sym named_is ∙ whole)
 
 -- where something else is left, the text says no walk
 pub walking-other : (map : MapValue) (text walk rest : List ℕ) → IsWalking map text walk rest → 0 < length rest →
