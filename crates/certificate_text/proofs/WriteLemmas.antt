@@ -8,7 +8,7 @@ use Rattle.overpass_graph.specs.Maps.{MapValue}
 use Rattle.certificate_text.specs.declared.certificate.Entry.{Entry}
 use Rattle.certificate_text.specs.declared.certificate.Proof.{Proof}
 use Rattle.certificate_text.specs.Lines.{Form, Head, Leg, Cost, Label, End, line_of, lines_of, link_text, walk_text, entry_text}
-use Rattle.certificate_text.specs.Texts.{LegValue, leg_of, leg_forms, legs_forms, labels_of, forms_of, certificate_text}
+use Rattle.certificate_text.specs.Texts.{LegValue, leg_of, leg_forms, legs_forms, labels_of, forms_of, certificate_text, IsLeg}
 use Rattle.certificate_text.proofs.DraftLemmas.{legs-push}
 use Rattle.certificate_text.proofs.LineLemmas.{lines-append}
 
@@ -17,6 +17,13 @@ pub all-at : {A : Type 0} (P : A → Type 0) (xs : List A) (k : ℕ) (d : A) →
 all-at P [] k d all below = absurd (omega arith)
 all-at P (x ∷ xs) zero d all below = all.0
 all-at P (x ∷ xs) (suc k) d all below = all-at P xs k d all.1 (omega arith)
+
+-- a leg that may be written, by its place
+pub leg-at : (map_value : MapValue) (legs : List Proof) (k : ℕ) (proof : Proof) → AllByRecursion (IsLeg map_value) (map leg_of legs) →
+    k < length legs → proof ≡ get_or legs k proof → IsLeg map_value (leg_of proof)
+leg-at map_value [] k proof all below is = absurd (omega arith)
+leg-at map_value (x ∷ xs) zero proof all below is = subst (λ p. IsLeg map_value (leg_of p)) (sym is) all.0
+leg-at map_value (x ∷ xs) (suc k) proof all below is = leg-at map_value xs k proof all.1 (omega arith) is
 
 -- the items before a place and the one at it
 pub taken-next : {A : Type 0} (xs : List A) (place : ℕ) (x d : A) → place < length xs → x ≡ get_or xs place d →
