@@ -1,18 +1,23 @@
 -- Texts that are read line after line.
-use Rattle.std.proofs.Common.{◌≡◌, ◌⊎◌, inl, inr, ℕ, zero, suc, ◌+◌, ◌^◌, ◌<◌, ◌≤◌, Bool, true, false, List, [], ◌∷◌, ◌++◌, length, map, Option, Some, None, refl, sym, ap, ◌∙◌, subst, arith, append_assoc, append-nil}
+use Rattle.std.proofs.Common.{◌≡◌, ◌⊎◌, inl, inr, ℕ, zero, suc, ◌+◌, ◌^◌, ◌<◌, ◌≤◌, Bool, true, false, List, [], ◌∷◌, ◌++◌, length, nat_eq, map, Option, Some, None, Result, Ok, Err, refl, sym, ap, ◌∙◌, subst, arith, append_assoc, append-nil}
 use Rattle.std.specs.Prelude.{codes}
 use Rattle.std.specs.List.{AllByRecursion}
+use Rattle.std.proofs.lemmas.Bool.{ne_eqb}
 use Rattle.std.proofs.lemmas.List.{length-append}
 use Rattle.overpass_graph.specs.Maps.{MapValue, IsMap}
+use Rattle.certificate_text.specs.declared.certificate.Certificate.{Certificate}
 use Rattle.certificate_text.specs.declared.certificate.Entry.{Entry}
+use Rattle.certificate_text.specs.declared.error.CertError.{CertError}
+use Rattle.certificate_text.specs.declared.error.CertError.TheVariants.{Line, NoMemory}
 use Rattle.certificate_text.specs.declared.draft.Draft.{Draft}
 use Rattle.certificate_text.specs.declared.draft.Place.{Place}
 use Rattle.certificate_text.specs.declared.draft.Place.TheVariants as place_
 use Rattle.certificate_text.specs.Drafts.{stage_at, forms_at, forms_now, is_ended, IsTaken, IsRead, ReadsOn, IsReading}
 use Rattle.certificate_text.specs.Lines.{Form, Head, Leg, Cost, Label, End, line_of, lines_of, IsForm, IsEntry, Stage, Unbegun, Opened, Walked, Labelled, Ended, Stands, AreStanding, stage_after, stage_from, IsFirstFault}
 use Rattle.certificate_text.specs.Parts.{HasNo}
-use Rattle.certificate_text.specs.Texts.{LegValue, leg_of, leg_forms, legs_forms, labels_of, forms_of, certificate_text, IsLeg, AreLegs, IsTextOf}
+use Rattle.certificate_text.specs.Texts.{LegValue, leg_of, leg_forms, legs_forms, labels_of, forms_of, certificate_text, legs_of, IsLeg, AreLegs, IsTextOf, ReadsText, IsSame}
 use Rattle.certificate_text.proofs.ByteLemmas.{no-within, cut-same}
+use Rattle.certificate_text.proofs.NumberLemmas.{not-both}
 use Rattle.certificate_text.proofs.LineLemmas.{line-no, lines-append, line-some, GoesOn, lines-same, standing-push, stage-push, standing-fits, standing-at}
 
 -- ---- While lines are read
@@ -297,3 +302,16 @@ text-own map text own legs is of fits same =
         legs-own own legs
         (sym ((head-same Head Head _ _ (forms ∙ append-nil (forms_of own))).1))
     by_more (g ∷ gs) forms rest = absurd (line-some (line_of map g) (lines_of map gs) (sym rest))
+
+-- what is read of the text of a certificate is the same one
+pub reread : (map : MapValue) (text : List ℕ) (legs : List LegValue) (r : Result Certificate CertError) → IsMap map → AreLegs map legs →
+    text ≡ certificate_text map legs → ReadsText map text r → IsSame legs r
+reread map text legs (Ok certificate) is fits same reads = text-own map text (legs_of certificate) legs is reads fits same
+reread map text legs (Err NoMemory) is fits same reads = refl
+reread map text legs (Err (Line line)) is fits same reads = absurd (reread-refused map text legs line is fits same reads)
+
+-- a list that is told to be empty is
+pub none-told : (xs : List ℕ) → true ≡ nat_eq (length xs) 0 → xs ≡ []
+none-told [] test = refl
+none-told (x ∷ xs) test =
+    absurd (not-both (nat_eq (length (x ∷ xs)) 0) (ne_eqb (length (x ∷ xs)) 0 (λ h. absurd (omega (arith, h)))) (sym test))

@@ -37,6 +37,7 @@ fn read_lines(alloc: Global, text: &[u8], map: &Map) -> Result<Certificate, Cert
     requires fits { length text.now + 2 < 2 ^ 32 }
     ensures exact { ReadsText map.now (lines_of map.now (Head ∷ []) ++ text.now) result }
 {
+    let _count = map.links();
     let mut draft = Draft::new(alloc, legs_in(text))?;
     let mut rest = text;
     let mut number = 2u32;
