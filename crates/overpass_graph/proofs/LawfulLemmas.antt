@@ -11,7 +11,7 @@ use Rattle.overpass_graph.specs.declared.pairs.Piece.{Piece}
 use Rattle.overpass_graph.specs.Links.{both_ways, has_arrow, links_between, links_of_segment, links_along, links_of_way, links_from}
 use Rattle.overpass_graph.specs.Made.{map_value}
 use Rattle.overpass_graph.specs.Making.{AreFitting}
-use Rattle.overpass_graph.specs.Maps.{IsMap, node_at, no_node, no_link, roads_of}
+use Rattle.overpass_graph.specs.Maps.{IsMap, HasNames, node_at, no_node, no_link, roads_of}
 use Rattle.overpass_graph.specs.Orders.{picked}
 use Rattle.overpass_graph.specs.Pairs.{Net, paired}
 use Rattle.overpass_graph.specs.Roads.{IsRoads, twin_of}
@@ -172,8 +172,9 @@ made-roads nodes ways laid_ways places numbers net turns ends pieces fit =
 -- fitting parts make a map
 pub lawful : (nodes : List (Kept Place)) (ways laid_ways : List (Kept (List ℤ))) (places numbers : List ℕ)
     (net : Net) (turns : TurnTable) (ends : List ℕ) (pieces : List Piece) →
-    AreFitting nodes ways laid_ways places numbers net ends pieces → IsMap (map_value nodes ways places net turns)
-lawful nodes ways laid_ways places numbers net turns ends pieces fit =
+    AreFitting nodes ways laid_ways places numbers net ends pieces → HasNames (map_value nodes ways places net turns) →
+    IsMap (map_value nodes ways places net turns)
+lawful nodes ways laid_ways places numbers net turns ends pieces fit names =
     let count : length net.links ≡ length ends = ap length fit.paired ∙ paired-length ends pieces fit.even in
     let all_laid : AreLaid (picked nodes places) (length ways) net.links =
     subst (λ ls. AreLaid (picked nodes places) (length ways) ls) (sym fit.laid)
@@ -191,4 +192,5 @@ lawful nodes ways laid_ways places numbers net turns ends pieces fit =
           ap (λ ls. (get_or ls (twin_of k) no_link).segment) fit.paired
           ∙ (twin-piece ends pieces fit.even k (omega (arith, count))).1
           ∙ sym (ap (λ ls. (get_or ls k no_link).segment) fit.paired);
+      names = names;
     }

@@ -1,20 +1,21 @@
 -- The map that is made of its parts.
-use Rattle.std.proofs.Common.{◌≡◌, ℕ, ℤ, Bool, true, false, List, [], ◌∷◌, length, Option, Some, None, refl, ap, ◌∙◌, suc}
+use Rattle.std.proofs.Common.{◌≡◌, ℕ, ℤ, ◌<◌, ◌^◌, Bool, true, false, List, [], ◌∷◌, length, Option, Some, None, refl, sym, ap, ◌∙◌, subst, suc}
 use Rattle.std.specs.Prelude.{if◌then◌else◌}
 use Rattle.std.specs.Str.{bytes_eq}
 use lib.Chars.{codes}
-use Rattle.map_tables.specs.Draft.{Draft}
-use Rattle.map_tables.specs.Kept.{Kept, Tag, AreDistinct}
+use Rattle.map_tables.specs.Draft.{Draft, segments_in}
+use Rattle.map_tables.specs.Kept.{Kept, Tag, AreDistinct, AreDifferent}
 use Rattle.map_tables.specs.declared.member.Member.{Member}
 use Rattle.overpass_graph.specs.Made.{IsMade, map_value}
 use Rattle.overpass_graph.specs.Making.{AreLinksFor, AreTurnsFor}
-use Rattle.overpass_graph.specs.Maps.{IsMapOf}
+use Rattle.overpass_graph.specs.Maps.{IsMapOf, AreIds, HasNames}
 use Rattle.overpass_graph.specs.Members.{KeptWay}
-use Rattle.overpass_graph.specs.Orders.{IsNodeOrder}
+use Rattle.overpass_graph.specs.Orders.{IsNodeOrder, picked}
 use Rattle.overpass_graph.specs.Pairs.{Net}
 use Rattle.overpass_graph.specs.RouteTags.{tag_members, tag_of_route, tag_with_id, with_route, with_routes}
 use Rattle.overpass_graph.specs.Turns.{TurnTable}
 use Rattle.overpass_graph.proofs.LawfulLemmas.{lawful}
+use Rattle.overpass_graph.proofs.NameLemmas.{ids-same, laid-in_order, routes-ids}
 use Rattle.overpass_graph.proofs.NodeLemmas.{picked-ascending, picked-same}
 
 -- ---- Tags don't change how many ways there are
@@ -47,9 +48,23 @@ routes-length (r ∷ rs) ways =
 module _ (draft : Draft) (places numbers : List ℕ) (net : Net) (turns : TurnTable)
     (order : IsNodeOrder draft.nodes places numbers) (links : AreLinksFor draft places numbers net) (at :
     AreTurnsFor draft places turns) where
+  -- the names of links differ
+  named : AreDistinct draft.ways → AreIds draft.ways → segments_in draft.ways < 2 ^ 32 →
+      HasNames (map_value draft.nodes (with_routes draft.relations draft.ways) places net turns)
+  named distinct ids few =
+      let laid = laid-in_order (picked draft.nodes places) draft.ways net.links links.fitting.laid few in
+      let same = routes-ids draft.relations draft.ways in
+      record {
+        rising = laid.rising;
+        segment_fits = laid.small;
+        way_ids = subst AreDifferent (sym same) distinct;
+        id_fits = ids-same draft.ways (with_routes draft.relations draft.ways) same ids;
+      }
+
   -- the parts fit
-  pub made : AreDistinct draft.nodes → IsMade draft.nodes (with_routes draft.relations draft.ways) places numbers net turns
-  made distinct = record {
+  pub made : AreDistinct draft.nodes → AreDistinct draft.ways → AreIds draft.ways → segments_in draft.ways < 2 ^ 32 →
+      IsMade draft.nodes (with_routes draft.relations draft.ways) places numbers net turns
+  made distinct ways ids few = record {
     distinct = distinct;
     order = order;
     net_nodes = links.nodes;
@@ -64,7 +79,8 @@ module _ (draft : Draft) (places numbers : List ℕ) (net : Net) (turns : TurnTa
           paired = links.fitting.paired;
           even = links.fitting.even;
           below = links.fitting.below;
-        });
+        })
+        (named ways ids few);
   }
 
   -- they are the map of the draft

@@ -12,6 +12,7 @@ pub mod Links
 pub mod RouteTags
 pub mod Restrictions
 pub mod Maps
+pub mod Names
 pub mod Members
 pub mod Tagging
 pub mod Making

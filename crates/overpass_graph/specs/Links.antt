@@ -1,5 +1,5 @@
 -- The links of ways (this project's own rule for the order of links, and for which segments make none).
-use Rattle.std.specs.Prelude.{ℕ, suc, ℤ, Bool, true, false, List, [], ◌∷◌, ◌++◌, slice_get, Option, Some, None, option_map, is_some, if◌then◌else◌}
+use Rattle.std.specs.Prelude.{ℕ, suc, ◌+◌, ◌*◌, ℤ, Bool, true, false, cond, List, [], ◌∷◌, ◌++◌, slice_get, Option, Some, None, option_map, is_some, if◌then◌else◌}
 use Rattle.std.specs.Ordering.{int_eq}
 use Rattle.geo_int.specs.Place.{Place}
 use Rattle.geo_int.specs.Arrow.{arrow_between}
@@ -47,6 +47,16 @@ links_of_way nodes way (a ∷ ids) = links_along nodes way 0 a ids
 abbrev pub links_from : List (Kept Place) → ℕ → List (Kept (List ℤ)) → List Link
 links_from nodes way [] = []
 links_from nodes way (w ∷ ws) = links_of_way nodes way w.content ++ links_from nodes (suc way) ws
+
+-- ---- The order of links
+
+-- what a way, a segment and a direction weigh: the way counts most, then the segment
+abbrev pub weight_of : (way segment : ℕ) → Bool → ℕ
+weight_of way segment back = way * 8589934592 + segment * 2 + cond back 1 0
+
+-- what a link weighs
+abbrev pub link_weight : Link → ℕ
+link_weight link = weight_of link.way link.segment link.back
 
 -- ---- Missing nodes
 

@@ -1,15 +1,16 @@
 -- The map of a draft: nodes by ascending id, ways with the tags of their routes, links and turn restrictions
 -- (this project's own rule).
-use Rattle.std.specs.Prelude.{◌≡◌, ◌↔◌, ℕ, ℤ, pos, ◌<ℤ◌, ◌<◌, Bool, false, List, [], length, get_or, IsSome}
+use Rattle.std.specs.Prelude.{◌≡◌, ◌↔◌, ℕ, ℤ, pos, ◌<ℤ◌, ◌<◌, ◌^◌, Bool, false, List, [], length, get_or, IsSome, FitsSigned}
+use mir.Syntax.{w64}
 use Rattle.std.specs.List.{Contains}
 use Rattle.geo_int.specs.Place.{Place, place}
 use Rattle.map_tables.specs.Draft.{Draft}
-use Rattle.map_tables.specs.Kept.{Kept}
+use Rattle.map_tables.specs.Kept.{Kept, AreDistinct}
 use Rattle.overpass_graph.specs.declared.link.Link.{Link}
 use Rattle.overpass_graph.specs.declared.restriction.Restriction.{Restriction}
 use Rattle.geo_int.specs.Arrow.{arrow_between}
 use Rattle.overpass_graph.specs.Roads.{Roads, IsRoads, twin_of}
-use Rattle.overpass_graph.specs.Links.{links_from}
+use Rattle.overpass_graph.specs.Links.{links_from, link_weight}
 use Rattle.overpass_graph.specs.RouteTags.{with_routes}
 use Rattle.overpass_graph.specs.Restrictions.{restrictions_of, forbids_any}
 
@@ -61,8 +62,21 @@ forbids_of map first second = forbids_any map.restrictions (link_of map first) (
 abbrev pub AreAscending : List (Kept Place) → Type 0
 AreAscending nodes = (i j : ℕ) → i < j → j < length nodes → (node_at nodes i).id <ℤ (node_at nodes j).id
 
+-- the ids of ways have 64 bits
+abbrev pub AreIds : List (Kept (List ℤ)) → Type 0
+AreIds ways = (way : ℕ) → way < length ways → FitsSigned w64 (way_at ways way).id
+
+-- the way, the segment and the direction of a link are those of no other: links stand in the order of their
+-- weights, segments have 32 bits, and the ids of ways differ and have 64
+pub record HasNames (map : MapValue) : Type 0 where
+  pub rising : (i j : ℕ) → i < j → j < length map.links →
+      link_weight (link_of map i) < link_weight (link_of map j)
+  pub segment_fits : (link : ℕ) → link < length map.links → (link_of map link).segment < 2 ^ 32
+  pub way_ids : AreDistinct map.ways
+  pub id_fits : AreIds map.ways
+
 -- what is known of each map: its nodes ascend, its links are roads in pairs of one segment, each of a way of
--- the map and between two nodes that have an arrow
+-- the map and between two nodes that have an arrow, and their names differ
 pub record IsMap (map : MapValue) : Type 0 where
   pub ascending : AreAscending map.nodes
   pub roads : IsRoads (roads_of map)
@@ -74,6 +88,7 @@ pub record IsMap (map : MapValue) : Type 0 where
       (link_of map (twin_of link)).way ≡ (link_of map link).way
   pub twin_segment : (link : ℕ) → link < length map.links →
       (link_of map (twin_of link)).segment ≡ (link_of map link).segment
+  pub names : HasNames map
 
 -- a map is that of a draft: its nodes are those of the draft by ascending id, all else follows from the draft
 -- and from the numbers of its nodes

@@ -8,6 +8,7 @@ mod link;
 mod making;
 mod map;
 mod members;
+mod names;
 mod order;
 mod pairs;
 mod restriction;

@@ -6,7 +6,7 @@ ghost use Rattle.map_tables.specs.Kept.{AreDistinct};
 ghost use Rattle.map_tables.specs.declared.error.MapError.TheVariants.{NoMemory};
 ghost use Rattle.overpass_graph.specs.Links.{first_missing, missing_fault};
 ghost use Rattle.overpass_graph.specs.Making.{AreLinksFor, AreTurnsFor};
-ghost use Rattle.overpass_graph.specs.Maps.{IsMapOf};
+ghost use Rattle.overpass_graph.specs.Maps.{AreIds, IsMapOf};
 ghost use Rattle.overpass_graph.specs.Orders.{IsNodeOrder};
 
 use crate::lay::lay;
@@ -63,6 +63,15 @@ fn turns_of(alloc: Global, tables: &Tables, order: &NodeOrder) -> Result<Turns, 
     Turns::new(alloc, tables.nodes(), list)
 }
 
+/// Reads the id of each way, so that it is known to have 64 bits.
+fn read_ids(tables: &Tables)
+    ensures fits { AreIds tables.now.draft.ways }
+{
+    'ways: for way in 0..tables.ways() {
+        let _id = tables.way_id(way);
+    }
+}
+
 /// The map of these parts, whose ways get the tags of their routes.
 fn with_turns(
     alloc: Global,
@@ -78,6 +87,9 @@ fn with_turns(
     ensures exact { IfOk result (λ map. IsMapOf tables.draft map) }
     ensures refused { IfErr result (λ e. e ≡ NoMemory) }
 {
+    let _limits = tables.limits();
+    let _segments = tables.segments();
+    read_ids(&tables);
     match tag_routes(alloc, &mut tables) {
         Ok(()) => Ok(Map {
             tables,

@@ -4,9 +4,11 @@ ghost use Rattle.std.specs.Prelude.{◌≡◌, ◌<◌, length};
 ghost use Rattle.geo_int.specs.Spot.{place_of};
 ghost use Rattle.map_tables.specs.Kept.{place_of_id};
 ghost use Rattle.overpass_graph.specs.Maps.{IsMap, forbids_of, link_of, node_at, roads_of, way_at};
+ghost use Rattle.overpass_graph.specs.Names.{FindsLink};
 ghost use Rattle.overpass_graph.specs.Roads.{out_links};
 
 use crate::link::Link;
+use crate::names::find;
 use crate::order::NodeOrder;
 use crate::pairs::Links;
 use crate::turns::Turns;
@@ -130,6 +132,17 @@ impl Map {
         ensures value { result ≡ link_of self.now link }
     {
         self.links.link(link)
+    }
+
+    /// The link of a way's id, a segment of it and a direction.
+    pub fn find_link(&self, way: i64, segment: u32, back: bool) -> Option<u32>
+        ensures exact { FindsLink self.now
+            (record { way = way; segment = segment; back = back }) result }
+    {
+        match self.tables.find_way(way) {
+            None => None,
+            Some(number) => find(&self.links, number, segment, back),
+        }
     }
 
     /// The links that leave a node, ascending.

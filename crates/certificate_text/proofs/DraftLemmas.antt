@@ -1,0 +1,107 @@
+-- What a draft is of where one more line is taken.
+use Rattle.std.proofs.Common.{◌≡◌, ℕ, Bool, true, false, List, [], ◌∷◌, ◌++◌, map, Option, Some, None, option_map, refl, sym, ap, ◌∙◌, subst, append_assoc, append-nil}
+use Rattle.std.proofs.lemmas.List.{map-append}
+use Rattle.overpass_graph.specs.Maps.{MapValue, IsMap}
+use Rattle.certificate_text.specs.declared.certificate.Entry.{Entry}
+use Rattle.certificate_text.specs.declared.draft.Draft.{Draft}
+use Rattle.certificate_text.specs.declared.draft.Place.{Place}
+use Rattle.certificate_text.specs.declared.draft.Place.TheVariants as place_
+use Rattle.certificate_text.specs.declared.line.Line.{Line}
+use Rattle.certificate_text.specs.Drafts.{form_of, stage_at, forms_at, forms_now, IsTaken, IsRead, Takes, ReadsOn}
+use Rattle.certificate_text.specs.Lines.{Form, Head, Leg, Cost, Label, End, Stands, IsForm, line_of, stage_after}
+use Rattle.certificate_text.specs.Parts.{Reads}
+use Rattle.certificate_text.specs.Texts.{LegValue, leg_of, leg_forms, legs_forms, labels_of}
+use Rattle.certificate_text.proofs.LineLemmas.{line-own}
+
+-- ---- The lines of legs
+
+-- one more leg
+pub legs-push : (legs : List LegValue) (leg : LegValue) → legs_forms (legs ++ leg ∷ []) ≡ legs_forms legs ++ leg_forms leg
+legs-push [] leg = append-nil (leg_forms leg)
+legs-push (l ∷ legs) leg =
+    ap (λ fs. leg_forms l ++ fs) (legs-push legs leg) ∙ sym (append_assoc (leg_forms l) (legs_forms legs) (leg_forms leg))
+
+-- one more label
+pub label-push : (legs : List LegValue) (walk : List ℕ) (cost : ℕ) (entries : List Entry) (entry : Entry) →
+    forms_at place_.Labelled legs (record { walk = walk; cost = cost; entries = entries ++ entry ∷ [] })
+    ≡ forms_at place_.Labelled legs (record { walk = walk; cost = cost; entries = entries }) ++ (Label entry ∷ [])
+label-push legs walk cost entries entry =
+    ap (λ fs. Head ∷ (legs_forms legs ++ (Leg walk ∷ Cost cost ∷ fs))) (map-append Label entries (entry ∷ []))
+    ∙ ap (λ fs. Head ∷ fs) (sym (append_assoc (legs_forms legs) (Leg walk ∷ Cost cost ∷ labels_of entries) (Label entry ∷ [])))
+
+-- the cost of the leg
+pub cost-push : (legs : List LegValue) (walk : List ℕ) (cost : ℕ) (old : LegValue) → old.walk ≡ walk →
+    forms_at place_.Labelled legs (record { walk = walk; cost = cost; entries = [] })
+    ≡ forms_at place_.Walked legs old ++ (Cost cost ∷ [])
+cost-push legs walk cost old walk_is =
+    ap (λ (w : List ℕ). Head ∷ (legs_forms legs ++ (Leg w ∷ Cost cost ∷ []))) (sym walk_is)
+    ∙ ap (λ fs. Head ∷ fs) (sym (append_assoc (legs_forms legs) (Leg old.walk ∷ []) (Cost cost ∷ [])))
+
+-- a line behind a leg that is done
+pub closed-push : (legs : List LegValue) (leg : LegValue) (form : Form) →
+    Head ∷ (legs_forms (legs ++ leg ∷ []) ++ (form ∷ [])) ≡ forms_at place_.Labelled legs leg ++ (form ∷ [])
+closed-push legs leg form = ap (λ fs. Head ∷ (fs ++ (form ∷ []))) (legs-push legs leg)
+
+-- ---- Taken lines
+
+-- a line is taken where the new draft is of the old one's lines and this one
+pub takes : (old new : Draft) (form : Form) (p q : Place) (legs later : List LegValue) (leg next : LegValue) → old.place ≡ p →
+    map leg_of old.legs.items ≡ legs → leg_of old.leg ≡ leg → new.place ≡ q → map leg_of new.legs.items ≡ later → leg_of new.leg ≡ next →
+    Stands (stage_at p) form → stage_at q ≡ stage_after form → forms_at q later next ≡ forms_at p legs leg ++ (form ∷ []) →
+    IsTaken old new form
+takes old new form p q legs later leg next old_p old_legs old_leg new_q new_legs new_leg stands stage forms = record {
+  stands = subst (λ s. Stands (stage_at s) form) (sym old_p) stands;
+  place = ap stage_at new_q ∙ stage;
+  forms = ap (λ s. forms_at s (map leg_of new.legs.items) (leg_of new.leg)) new_q
+      ∙ ap (λ ls. forms_at q ls (leg_of new.leg)) new_legs ∙ ap (forms_at q later) new_leg ∙ forms
+      ∙ sym (ap (λ s. forms_at s (map leg_of old.legs.items) (leg_of old.leg) ++ (form ∷ [])) old_p
+      ∙ ap (λ ls. forms_at p ls (leg_of old.leg) ++ (form ∷ [])) old_legs
+      ∙ ap (λ l. forms_at p legs l ++ (form ∷ [])) old_leg);
+}
+
+-- ---- Lines that can't stand
+
+pub label-not : (p : Place) (entry : Entry) → (p ≡ place_.Labelled → ⊥) → Stands (stage_at p) (Label entry) → ⊥
+label-not place_.Opened entry other stands = stands
+label-not place_.Walked entry other stands = stands
+label-not place_.Labelled entry other stands = other refl
+label-not place_.Ended entry other stands = stands
+
+pub cost-not : (p : Place) (cost : ℕ) → (p ≡ place_.Walked → ⊥) → Stands (stage_at p) (Cost cost) → ⊥
+cost-not place_.Opened cost other stands = stands
+cost-not place_.Walked cost other stands = other refl
+cost-not place_.Labelled cost other stands = stands
+cost-not place_.Ended cost other stands = stands
+
+pub leg-not : (p : Place) (walk : List ℕ) → (p ≡ place_.Opened → ⊥) → (p ≡ place_.Labelled → ⊥) → Stands (stage_at p) (Leg walk) → ⊥
+leg-not place_.Opened walk not_opened not_labelled stands = not_opened refl
+leg-not place_.Walked walk not_opened not_labelled stands = stands
+leg-not place_.Labelled walk not_opened not_labelled stands = not_labelled refl
+leg-not place_.Ended walk not_opened not_labelled stands = stands
+
+pub end-not : (p : Place) → (p ≡ place_.Opened → ⊥) → (p ≡ place_.Labelled → ⊥) → Stands (stage_at p) End → ⊥
+end-not place_.Opened not_opened not_labelled stands = not_opened refl
+end-not place_.Walked not_opened not_labelled stands = stands
+end-not place_.Labelled not_opened not_labelled stands = not_labelled refl
+end-not place_.Ended not_opened not_labelled stands = stands
+
+pub head-not : (p : Place) → Stands (stage_at p) Head → ⊥
+head-not place_.Opened stands = stands
+head-not place_.Walked stands = stands
+head-not place_.Labelled stands = stands
+head-not place_.Ended stands = stands
+
+-- ---- Texts of lines
+
+-- a line that was read is taken, or can't stand there
+pub read-taken : (map : MapValue) (old new : Draft) (line : List ℕ) (form : Form) (b : Bool) → IsMap map →
+    Reads (line_of map) (IsForm map) line (Some form) → Takes old new form b → ReadsOn map old new line b
+read-taken map old new line form true is says taken = record { form = form; fits = says.0; line_is = says.1; taken = taken }
+read-taken map old new line form false is says not_there = λ other stands fits same.
+    let one : other ≡ form = line-own map other form is fits says.0 (sym same ∙ says.1) in
+    not_there (subst (Stands (stage_at old.place)) one stands)
+
+-- a line of no form can't stand anywhere
+pub read-none : (map : MapValue) (old new : Draft) (line : List ℕ) → Reads (line_of map) (IsForm map) line None →
+    ReadsOn map old new line false
+read-none map old new line none form stands fits same = none form fits same

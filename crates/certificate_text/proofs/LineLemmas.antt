@@ -1,0 +1,196 @@
+-- What lines are of.
+use Rattle.std.proofs.Common.{◌≡◌, ℕ, zero, suc, ◌+◌, ◌^◌, ◌<◌, Bool, true, false, not, ◌&&◌, ◌==◌, cond, List, [], ◌∷◌, ◌++◌, length, get_or, Option, Some, None, option_map, refl, sym, ap, ◌∙◌, subst, arith, eq-eqb, append_assoc, append-nil}
+use Rattle.std.specs.Prelude.{codes, decimal}
+use Rattle.std.specs.List.{AllByRecursion}
+use Rattle.std.proofs.lemmas.List.{append_cancel_left, length-append}
+use Rattle.std.proofs.lemmas.Bool.{cases_eq}
+use Rattle.overpass_graph.specs.Maps.{MapValue, IsMap}
+use Rattle.certificate_text.specs.declared.certificate.Entry.{Entry}
+use Rattle.certificate_text.specs.Lines.{Form, Head, Leg, Cost, Label, End, line_of, lines_of, walk_text, entry_text, IsForm, IsCost, IsEntry, AreLinks, Stage, Unbegun, Opened, Walked, Labelled, Ended, Stands, AreStanding, stage_after, stage_from}
+use Rattle.certificate_text.specs.Parts.{HasNo, Reads}
+use Rattle.certificate_text.proofs.ByteLemmas.{some-none, no-append, cut-same}
+use Rattle.certificate_text.proofs.NumberLemmas.{decimal-no, decimal-own}
+use Rattle.certificate_text.proofs.PartLemmas.{walk-own, walk-no, entry-own, entry-no}
+
+-- ---- The forms of lines
+
+
+-- a line that begins as a label and says nothing
+label-none : (map : MapValue) (text : List ℕ) → Reads (entry_text map) (IsEntry map) text None → (form : Form) → IsForm map form →
+    codes "label " ++ text ≡ line_of map form → ⊥
+label-none map text none Head fits same = let h : 108 ≡ 99 = ap (λ (t : List ℕ). get_or t 0 0) same in absurd (omega (arith, h))
+label-none map text none (Leg w) fits same = let h : 97 ≡ 101 = ap (λ (t : List ℕ). get_or t 1 0) same in absurd (omega (arith, h))
+label-none map text none (Cost n) fits same = let h : 108 ≡ 99 = ap (λ (t : List ℕ). get_or t 0 0) same in absurd (omega (arith, h))
+label-none map text none (Label e) fits same = none e fits (append_cancel_left (codes "label ") text _ same)
+label-none map text none End fits same = let h : 108 ≡ 101 = ap (λ (t : List ℕ). get_or t 0 0) same in absurd (omega (arith, h))
+
+-- a line that begins as a label says what follows
+pub label-line : (map : MapValue) (text : List ℕ) (o : Option (Entry)) → Reads (entry_text map) (IsEntry map) text o →
+    Reads (line_of map) (IsForm map) (codes "label " ++ text) (option_map Label o)
+label-line map text (Some x) says = (says.0, ap (λ t. codes "label " ++ t) says.1)
+label-line map text None none = label-none map text none
+
+-- a line that begins as a cost and says nothing
+cost-none : (map : MapValue) (text : List ℕ) → Reads decimal IsCost text None → (form : Form) → IsForm map form →
+    codes "cost " ++ text ≡ line_of map form → ⊥
+cost-none map text none Head fits same = let h : 111 ≡ 101 = ap (λ (t : List ℕ). get_or t 1 0) same in absurd (omega (arith, h))
+cost-none map text none (Leg w) fits same = let h : 99 ≡ 108 = ap (λ (t : List ℕ). get_or t 0 0) same in absurd (omega (arith, h))
+cost-none map text none (Cost n) fits same = none n fits (append_cancel_left (codes "cost ") text _ same)
+cost-none map text none (Label e) fits same = let h : 99 ≡ 108 = ap (λ (t : List ℕ). get_or t 0 0) same in absurd (omega (arith, h))
+cost-none map text none End fits same = let h : 99 ≡ 101 = ap (λ (t : List ℕ). get_or t 0 0) same in absurd (omega (arith, h))
+
+-- a line that begins as a cost says what follows
+pub cost-line : (map : MapValue) (text : List ℕ) (o : Option (ℕ)) → Reads decimal IsCost text o →
+    Reads (line_of map) (IsForm map) (codes "cost " ++ text) (option_map Cost o)
+cost-line map text (Some x) says = (says.0, ap (λ t. codes "cost " ++ t) says.1)
+cost-line map text None none = cost-none map text none
+
+-- a line that begins as a leg and says nothing
+leg-none : (map : MapValue) (text : List ℕ) → Reads (walk_text map) (AreLinks map) text None → (form : Form) → IsForm map form →
+    codes "leg" ++ text ≡ line_of map form → ⊥
+leg-none map text none Head fits same = let h : 108 ≡ 99 = ap (λ (t : List ℕ). get_or t 0 0) same in absurd (omega (arith, h))
+leg-none map text none (Leg w) fits same = none w fits (append_cancel_left (codes "leg") text _ same)
+leg-none map text none (Cost n) fits same = let h : 108 ≡ 99 = ap (λ (t : List ℕ). get_or t 0 0) same in absurd (omega (arith, h))
+leg-none map text none (Label e) fits same = let h : 101 ≡ 97 = ap (λ (t : List ℕ). get_or t 1 0) same in absurd (omega (arith, h))
+leg-none map text none End fits same = let h : 108 ≡ 101 = ap (λ (t : List ℕ). get_or t 0 0) same in absurd (omega (arith, h))
+
+-- a line that begins as a leg says what follows
+pub leg-line : (map : MapValue) (text : List ℕ) (o : Option (List ℕ)) → Reads (walk_text map) (AreLinks map) text o →
+    Reads (line_of map) (IsForm map) (codes "leg" ++ text) (option_map Leg o)
+leg-line map text (Some x) says = (says.0, ap (λ t. codes "leg" ++ t) says.1)
+leg-line map text None none = leg-none map text none
+
+-- a line of no form
+pub no-line : (map : MapValue) (line : List ℕ) → ((rest : List ℕ) → line ≡ codes "label " ++ rest → ⊥) →
+    ((rest : List ℕ) → line ≡ codes "cost " ++ rest → ⊥) → ((rest : List ℕ) → line ≡ codes "leg" ++ rest → ⊥) →
+    (line ≡ codes "end" → ⊥) → (line ≡ codes "certificate 1" → ⊥) → Reads (line_of map) (IsForm map) line None
+no-line map line no_label no_cost no_leg no_end no_head Head fits same = no_head same
+no-line map line no_label no_cost no_leg no_end no_head (Leg walk) fits same = no_leg (walk_text map walk) same
+no-line map line no_label no_cost no_leg no_end no_head (Cost cost) fits same = no_cost (decimal cost) same
+no-line map line no_label no_cost no_leg no_end no_head (Label entry) fits same = no_label (entry_text map entry) same
+no-line map line no_label no_cost no_leg no_end no_head End fits same = no_end same
+
+-- lines of one text are of one form
+pub line-own : (map : MapValue) (f g : Form) → IsMap map → IsForm map f → IsForm map g → line_of map f ≡ line_of map g → f ≡ g
+line-own map Head Head is fits_f fits_g same = refl
+line-own map Head (Leg v) is fits_f fits_g same = let h : 99 ≡ 108 = ap (λ (t : List ℕ). get_or t 0 0) same in absurd (omega (arith, h))
+line-own map Head (Cost m) is fits_f fits_g same = let h : 101 ≡ 111 = ap (λ (t : List ℕ). get_or t 1 0) same in absurd (omega (arith, h))
+line-own map Head (Label d) is fits_f fits_g same = let h : 99 ≡ 108 = ap (λ (t : List ℕ). get_or t 0 0) same in absurd (omega (arith, h))
+line-own map Head End is fits_f fits_g same = let h : 99 ≡ 101 = ap (λ (t : List ℕ). get_or t 0 0) same in absurd (omega (arith, h))
+line-own map (Leg w) Head is fits_f fits_g same = let h : 108 ≡ 99 = ap (λ (t : List ℕ). get_or t 0 0) same in absurd (omega (arith, h))
+line-own map (Leg w) (Leg v) is fits_f fits_g same = ap Leg (walk-own map w v is fits_f fits_g (append_cancel_left (codes "leg") (walk_text map w) (walk_text map v) same))
+line-own map (Leg w) (Cost m) is fits_f fits_g same = let h : 108 ≡ 99 = ap (λ (t : List ℕ). get_or t 0 0) same in absurd (omega (arith, h))
+line-own map (Leg w) (Label d) is fits_f fits_g same = let h : 101 ≡ 97 = ap (λ (t : List ℕ). get_or t 1 0) same in absurd (omega (arith, h))
+line-own map (Leg w) End is fits_f fits_g same = let h : 108 ≡ 101 = ap (λ (t : List ℕ). get_or t 0 0) same in absurd (omega (arith, h))
+line-own map (Cost n) Head is fits_f fits_g same = let h : 111 ≡ 101 = ap (λ (t : List ℕ). get_or t 1 0) same in absurd (omega (arith, h))
+line-own map (Cost n) (Leg v) is fits_f fits_g same = let h : 99 ≡ 108 = ap (λ (t : List ℕ). get_or t 0 0) same in absurd (omega (arith, h))
+line-own map (Cost n) (Cost m) is fits_f fits_g same = ap Cost (decimal-own n m (omega (arith, fits_f)) (omega (arith, fits_g)) (append_cancel_left (codes "cost ") (decimal n) (decimal m) same))
+line-own map (Cost n) (Label d) is fits_f fits_g same = let h : 99 ≡ 108 = ap (λ (t : List ℕ). get_or t 0 0) same in absurd (omega (arith, h))
+line-own map (Cost n) End is fits_f fits_g same = let h : 99 ≡ 101 = ap (λ (t : List ℕ). get_or t 0 0) same in absurd (omega (arith, h))
+line-own map (Label e) Head is fits_f fits_g same = let h : 108 ≡ 99 = ap (λ (t : List ℕ). get_or t 0 0) same in absurd (omega (arith, h))
+line-own map (Label e) (Leg v) is fits_f fits_g same = let h : 97 ≡ 101 = ap (λ (t : List ℕ). get_or t 1 0) same in absurd (omega (arith, h))
+line-own map (Label e) (Cost m) is fits_f fits_g same = let h : 108 ≡ 99 = ap (λ (t : List ℕ). get_or t 0 0) same in absurd (omega (arith, h))
+line-own map (Label e) (Label d) is fits_f fits_g same = ap Label (entry-own map e d is fits_f fits_g (append_cancel_left (codes "label ") (entry_text map e) (entry_text map d) same))
+line-own map (Label e) End is fits_f fits_g same = let h : 108 ≡ 101 = ap (λ (t : List ℕ). get_or t 0 0) same in absurd (omega (arith, h))
+line-own map End Head is fits_f fits_g same = let h : 101 ≡ 99 = ap (λ (t : List ℕ). get_or t 0 0) same in absurd (omega (arith, h))
+line-own map End (Leg v) is fits_f fits_g same = let h : 101 ≡ 108 = ap (λ (t : List ℕ). get_or t 0 0) same in absurd (omega (arith, h))
+line-own map End (Cost m) is fits_f fits_g same = let h : 101 ≡ 99 = ap (λ (t : List ℕ). get_or t 0 0) same in absurd (omega (arith, h))
+line-own map End (Label d) is fits_f fits_g same = let h : 101 ≡ 108 = ap (λ (t : List ℕ). get_or t 0 0) same in absurd (omega (arith, h))
+line-own map End End is fits_f fits_g same = refl
+
+-- ---- Line ends
+
+-- each byte of a text is another one
+differs : ℕ → List ℕ → Bool
+differs c [] = true
+differs c (x ∷ xs) = not (x == c) && differs c xs
+
+-- so the text doesn't have it
+no-tested : (c : ℕ) (text : List ℕ) → differs c text ≡ true → HasNo c text
+unfolding differs
+no-tested c [] test = tt
+no-tested c (x ∷ xs) test = by_test (x == c) refl test (no-tested c xs)
+  where
+    by_test : (b : Bool) → (x == c) ≡ b → (not b && differs c xs) ≡ true → (differs c xs ≡ true → HasNo c xs) → HasNo c (x ∷ xs)
+    by_test true is test rest = absurd cc
+    by_test false is test rest = ((λ same. let h : (x == c) ≡ true = eq-eqb x c same in absurd cc), rest test)
+
+-- a line has no line end
+pub line-no : (map : MapValue) (form : Form) → IsMap map → IsForm map form → HasNo 10 (line_of map form)
+unfolding differs
+line-no map Head is fits = no-tested 10 (codes "certificate 1") refl
+line-no map (Leg walk) is fits =
+    no-append 10 (codes "leg") (walk_text map walk) (no-tested 10 (codes "leg") refl) (walk-no map walk is fits)
+line-no map (Cost cost) is fits =
+    no-append 10 (codes "cost ") (decimal cost) (no-tested 10 (codes "cost ") refl)
+    (decimal-no 10 cost (omega arith) (omega (arith, fits)))
+line-no map (Label entry) is fits =
+    no-append 10 (codes "label ") (entry_text map entry) (no-tested 10 (codes "label ") refl) (entry-no map entry is fits)
+line-no map End is fits = no-tested 10 (codes "end") refl
+
+-- ---- Lines in a row
+
+-- lines one after the other
+pub lines-append : (map : MapValue) (fs gs : List Form) → lines_of map (fs ++ gs) ≡ lines_of map fs ++ lines_of map gs
+lines-append map [] gs = refl
+lines-append map (f ∷ fs) gs =
+    ap (λ t. line_of map f ++ (10 ∷ t)) (lines-append map fs gs)
+    ∙ sym (append_assoc (line_of map f) (10 ∷ lines_of map fs) (lines_of map gs))
+
+-- the first of lines that end somewhere
+lines-first : (map : MapValue) (f : Form) (fs : List Form) (rest : List ℕ) →
+    lines_of map (f ∷ fs) ++ rest ≡ line_of map f ++ (10 ∷ (lines_of map fs ++ rest))
+lines-first map f fs rest = append_assoc (line_of map f) (10 ∷ lines_of map fs) rest
+
+-- a line isn't nothing
+pub line-some : (line rest : List ℕ) → line ++ (10 ∷ rest) ≡ [] → ⊥
+line-some [] rest same = some-none 10 rest same
+line-some (c ∷ line) rest same = some-none c (line ++ (10 ∷ rest)) same
+
+-- more lines, with what they are of
+pub record GoesOn (map : MapValue) (fs gs : List Form) (rest : List ℕ) : Type 0 where
+  pub more : List Form
+  pub forms : gs ≡ fs ++ more
+  pub rest_is : rest ≡ lines_of map more
+
+-- lines that begin a text of lines are its first ones
+pub lines-same : (map : MapValue) (fs gs : List Form) (rest : List ℕ) → IsMap map → AllByRecursion (IsForm map) fs →
+    AllByRecursion (IsForm map) gs → lines_of map fs ++ rest ≡ lines_of map gs → GoesOn map fs gs rest
+lines-same map [] gs rest is fits_f fits_g same = record { more = gs; forms = refl; rest_is = same }
+lines-same map (f ∷ fs) [] rest is fits_f fits_g same =
+    absurd (line-some (line_of map f) (lines_of map fs ++ rest) (sym (lines-first map f fs rest) ∙ same))
+lines-same map (f ∷ fs) (g ∷ gs) rest is fits_f fits_g same =
+    let both = cut-same 10 (line_of map f) (line_of map g) (lines_of map fs ++ rest) (lines_of map gs) (line-no map f is fits_f.0)
+    (line-no map g is fits_g.0) (sym (lines-first map f fs rest) ∙ same) in
+    let first : f ≡ g = line-own map f g is fits_f.0 fits_g.0 both.0 in
+    let later = lines-same map fs gs rest is fits_f.1 fits_g.1 both.1 in
+    record {
+      more = later.more;
+      forms = ap (λ (h : Form). h ∷ gs) (sym first) ∙ ap (λ hs. f ∷ hs) later.forms;
+      rest_is = later.rest_is;
+    }
+
+-- ---- Lines that stand
+
+-- one more line stands behind others
+pub standing-push : (map : MapValue) (stage : Stage) (fs : List Form) (f : Form) → AreStanding map stage fs → Stands (stage_from stage fs) f →
+    IsForm map f → AreStanding map stage (fs ++ f ∷ [])
+standing-push map stage [] f standing stands fits = (stands, (fits, tt))
+standing-push map stage (g ∷ fs) f standing stands fits =
+    (standing.0, (standing.1.0, standing-push map (stage_after g) fs f standing.1.1 stands fits))
+
+-- it says what may follow
+pub stage-push : (stage : Stage) (fs : List Form) (f : Form) → stage_from stage (fs ++ f ∷ []) ≡ stage_after f
+stage-push stage [] f = refl
+stage-push stage (g ∷ fs) f = stage-push (stage_after g) fs f
+
+-- lines that stand may be written
+pub standing-fits : (map : MapValue) (stage : Stage) (fs : List Form) → AreStanding map stage fs → AllByRecursion (IsForm map) fs
+standing-fits map stage [] standing = tt
+standing-fits map stage (f ∷ fs) standing = (standing.1.0, standing-fits map (stage_after f) fs standing.1.1)
+
+-- a line among others that stand
+pub standing-at : (map : MapValue) (stage : Stage) (fs : List Form) (g : Form) (gs : List Form) → AreStanding map stage (fs ++ g ∷ gs) →
+    Stands (stage_from stage fs) g × IsForm map g
+standing-at map stage [] g gs standing = (standing.0, standing.1.0)
+standing-at map stage (f ∷ fs) g gs standing = standing-at map (stage_after f) fs g gs standing.1.1

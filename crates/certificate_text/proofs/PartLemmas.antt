@@ -1,0 +1,300 @@
+-- What is read of the parts of a line.
+use Rattle.std.proofs.Common.{◌≡◌, ℕ, ℤ, zero, suc, ◌+◌, ◌^◌, ◌<◌, Bool, true, false, List, [], ◌∷◌, ◌++◌, length, get_or, drop, Option, Some, None, refl, sym, ap, ◌∙◌, subst, arith, append_assoc, append-nil}
+use Rattle.std.specs.Prelude.{FitsSigned, decimal}
+use Rattle.std.specs.Fmt.{signed_decimal}
+use Rattle.std.specs.List.{AllByRecursion, flat_map}
+use mir.Syntax.{w64}
+use Rattle.std.proofs.lemmas.Fmt.{signed_decimal_injective}
+use Rattle.std.proofs.lemmas.List.{flat_map_more}
+use Rattle.overpass_graph.specs.Maps.{MapValue, IsMap, link_of}
+use Rattle.overpass_graph.specs.Names.{LinkName, name_of, letter_of, step_text, name_text, FindsLink}
+use Rattle.overpass_graph.proofs.CallerLemmas.{name-own}
+use Rattle.certificate_text.specs.declared.certificate.Entry.{Entry}
+use Rattle.certificate_text.specs.Lines.{link_text, walk_text, entry_text, buffers_text, weights_text, IsLink, AreLinks, IsCost, IsBuffer, IsEntry}
+use Rattle.certificate_text.specs.Parts.{HasNo, Begins, Reads, IsNumber, IsStep, print_step, AreBuffers, print_buffers, AreWeights, print_weights}
+use Rattle.certificate_text.proofs.ByteLemmas.{first-same, rest-same, some-none, no-append, no-within, cut-same, word-same}
+use Rattle.certificate_text.proofs.NumberLemmas.{decimal-no, signed-no, small-id, decimal-own}
+
+-- ---- Two parts, parted by a byte that the first doesn't have
+
+module _ {A B : Type 0} (c : ℕ) (P : A → List ℕ) (Q : B → List ℕ) (IsP : A → Type 0) (IsQ : B → Type 0)
+    (no_c : (a : A) → IsP a → HasNo c (P a)) (text : List ℕ) where
+  -- a text without the byte is none of two parts
+  pub pair-uncut : HasNo c text → (p : A × B) → IsP p.0 × IsQ p.1 → text ≡ P p.0 ++ (c ∷ Q p.1) → ⊥
+  pair-uncut no_text p fits same = no-within c (P p.0) (Q p.1) (subst (HasNo c) same no_text)
+
+  -- nor is one whose first part says nothing
+  pub pair-first : (front back : List ℕ) → HasNo c front × (text ≡ front ++ (c ∷ back)) → Reads P IsP front None →
+      (p : A × B) → IsP p.0 × IsQ p.1 → text ≡ P p.0 ++ (c ∷ Q p.1) → ⊥
+  pair-first front back cut none p fits same =
+      none p.0 fits.0 (cut-same c front (P p.0) back (Q p.1) cut.0 (no_c p.0 fits.0) (sym cut.1 ∙ same)).0
+
+  -- nor is one whose second part says nothing
+  pub pair-second : (front back : List ℕ) → HasNo c front × (text ≡ front ++ (c ∷ back)) → Reads Q IsQ back None →
+      (p : A × B) → IsP p.0 × IsQ p.1 → text ≡ P p.0 ++ (c ∷ Q p.1) → ⊥
+  pair-second front back cut none p fits same =
+      none p.1 fits.1 (cut-same c front (P p.0) back (Q p.1) cut.0 (no_c p.0 fits.0) (sym cut.1 ∙ same)).1
+
+  -- two parts that say something are what the text is of
+  pub pair-both : (front back : List ℕ) (a : A) (b : B) → HasNo c front × (text ≡ front ++ (c ∷ back)) → Reads P IsP front (Some a) →
+      Reads Q IsQ back (Some b) → (IsP a × IsQ b) × (text ≡ P a ++ (c ∷ Q b))
+  pair-both front back a b cut first second =
+      ((first.0, second.0), cut.1 ∙ ap (λ t. t ++ (c ∷ back)) first.1 ∙ ap (λ t. P a ++ (c ∷ t)) second.1)
+
+-- ---- What the first parts don't have
+
+pub number-no : (n : ℕ) → IsNumber n → HasNo 47 (decimal n)
+number-no n fits = decimal-no 47 n (omega arith) (omega (arith, fits))
+
+pub id-no : (z : ℤ) → FitsSigned w64 z → HasNo 47 (signed_decimal z)
+id-no z fits = signed-no 47 z (omega arith) (λ same. absurd cc) (small-id z fits)
+
+pub buffer-no : (z : ℤ) → IsBuffer z → HasNo 32 (signed_decimal z)
+buffer-no z fits = signed-no 32 z (omega arith) (λ same. absurd cc) (small-id z fits.1)
+
+pub cost-no : (n : ℕ) → IsCost n → HasNo 32 (decimal n)
+cost-no n fits = decimal-no 32 n (omega arith) (omega (arith, fits))
+
+-- ---- Names
+
+-- the letters of two directions
+letter-own : (b d : Bool) → letter_of b ≡ letter_of d → b ≡ d
+letter-own true true same = refl
+letter-own false false same = refl
+letter-own true false same = let h : 98 ≡ 102 = first-same 98 102 [] [] same in absurd (omega (arith, h))
+letter-own false true same = let h : 102 ≡ 98 = first-same 102 98 [] [] same in absurd (omega (arith, h))
+
+-- a letter isn't a low byte
+letter-no : (c : ℕ) (b : Bool) → c < 45 → HasNo c (letter_of b)
+letter-no c true low = (λ same. absurd (omega (arith, same)), tt)
+letter-no c false low = (λ same. absurd (omega (arith, same)), tt)
+
+-- a name has 64 bits for the id, and 32 for the segment
+record FitsName (name : LinkName) : Type 0 where
+  pub way : FitsSigned w64 name.way
+  pub segment : IsNumber name.segment
+
+-- so has the name of a link
+link-fits : (map : MapValue) (link : ℕ) → IsMap map → IsLink map link → FitsName (name_of map link)
+link-fits map link is below = record {
+  way = is.names.id_fits (link_of map link).way (is.way_in link below);
+  segment = is.names.segment_fits link below;
+}
+
+-- names of equal parts are one
+names-same : (a b : LinkName) → a.way ≡ b.way → a.segment ≡ b.segment → a.back ≡ b.back → a ≡ b
+names-same a b way segment back =
+    ap (λ (w : ℤ). record { way = w; segment = a.segment; back = a.back }) way
+    ∙ ap (λ (s : ℕ). record { way = b.way; segment = s; back = a.back }) segment
+    ∙ ap (λ (d : Bool). record { way = b.way; segment = b.segment; back = d }) back
+
+-- names of one text are one
+text-own : (a b : LinkName) → FitsName a → FitsName b → name_text a ≡ name_text b → a ≡ b
+unfolding name_text
+text-own a b fits_a fits_b same =
+    let outer = cut-same 47 (signed_decimal a.way) (signed_decimal b.way) (step_text a.segment a.back) (step_text b.segment b.back)
+    (id-no a.way fits_a.way) (id-no b.way fits_b.way) same in
+    let inner = cut-same 47 (decimal a.segment) (decimal b.segment) (letter_of a.back) (letter_of b.back)
+    (number-no a.segment fits_a.segment) (number-no b.segment fits_b.segment) outer.1 in
+    names-same a b
+    (signed_decimal_injective a.way b.way (small-id a.way fits_a.way) (small-id b.way fits_b.way) outer.0)
+    (decimal-own a.segment b.segment (omega (arith, fits_a.segment)) (omega (arith, fits_b.segment)) inner.0)
+    (letter-own a.back b.back inner.1)
+
+-- links of one text are one
+pub link-own : (map : MapValue) (a b : ℕ) → IsMap map → IsLink map a → IsLink map b → link_text map a ≡ link_text map b → a ≡ b
+link-own map a b is a_in b_in same =
+    name-own map a b is a_in b_in
+    (text-own (name_of map a) (name_of map b) (link-fits map a is a_in) (link-fits map b is b_in) same)
+
+-- a link's text has no low byte
+pub link-no : (map : MapValue) (c link : ℕ) → c < 45 → IsMap map → IsLink map link → HasNo c (link_text map link)
+unfolding name_text
+link-no map c link low is below =
+    let fits = link-fits map link is below in
+    let name = name_of map link in
+    no-append c (signed_decimal name.way) (47 ∷ step_text name.segment name.back)
+    (signed-no c name.way (omega (arith, low)) (λ same. absurd (omega (arith, low, same))) (small-id name.way fits.way))
+    ((λ same. absurd (omega (arith, low, same))), no-append c (decimal name.segment) (47 ∷ letter_of name.back)
+      (decimal-no c name.segment (omega (arith, low)) (omega (arith, fits.segment)))
+      ((λ same. absurd (omega (arith, low, same))), letter-no c name.back low))
+
+-- a text that says no id and step names no link
+pub link-none : (map : MapValue) (text : List ℕ) → IsMap map →
+    ((p : ℤ × (ℕ × Bool)) → FitsSigned w64 p.0 × IsStep p.1 → text ≡ signed_decimal p.0 ++ (47 ∷ print_step p.1) → ⊥) →
+    Reads (link_text map) (IsLink map) text None
+unfolding name_text
+link-none map text is none link below same =
+    let fits = link-fits map link is below in
+    let name = name_of map link in
+    none (name.way, (name.segment, name.back)) (fits.way, (fits.segment, tt)) same
+
+-- one that does names the link that is found
+pub link-found : (map : MapValue) (text : List ℕ) (way : ℤ) (segment : ℕ) (back : Bool) (found : Option ℕ) → IsMap map →
+    (FitsSigned w64 way × IsStep (segment, back)) × (text ≡ signed_decimal way ++ (47 ∷ print_step (segment, back))) →
+    FindsLink map (record { way = way; segment = segment; back = back }) found → Reads (link_text map) (IsLink map) text found
+unfolding name_text
+link-found map text way segment back None is said none = λ link below same.
+    none link below
+    (text-own (name_of map link) (record { way = way; segment = segment; back = back }) (link-fits map link is below)
+    (record { way = said.0.0; segment = said.0.1.0 }) (sym same ∙ said.1))
+link-found map text way segment back (Some link) is said found =
+    (found.0, said.1 ∙ ap name_text (sym found.1))
+
+-- ---- Labels
+
+-- a text that says no link and weights is no label
+pub entry-none : (map : MapValue) (text : List ℕ) →
+    ((p : ℕ × (ℕ × (ℤ × ℤ))) → IsLink map p.0 × AreWeights p.1 → text ≡ link_text map p.0 ++ (32 ∷ print_weights p.1) → ⊥) →
+    Reads (entry_text map) (IsEntry map) text None
+entry-none map text none entry fits same =
+    none (entry.link, (entry.cost, (entry.down, entry.up))) (fits.link, (fits.cost, (fits.down, fits.up))) same
+
+-- one that does is
+pub entry-some : (map : MapValue) (text : List ℕ) (link cost : ℕ) (down up : ℤ) →
+    (IsLink map link × AreWeights (cost, (down, up))) × (text ≡ link_text map link ++ (32 ∷ print_weights (cost, (down, up)))) →
+    Reads (entry_text map) (IsEntry map) text (Some (record { cost = cost; down = down; up = up; link = link }))
+entry-some map text link cost down up said =
+    (record { link = said.0.0; cost = said.0.1.0; down = said.0.1.1.0; up = said.0.1.1.1 }, said.1)
+
+-- ---- Walks
+
+-- one more at the end
+pub all-push : {A : Type 0} (P : A → Type 0) (xs : List A) (x : A) → AllByRecursion P xs → P x → AllByRecursion P (xs ++ x ∷ [])
+all-push P [] x all here = (here, tt)
+all-push P (y ∷ ys) x all here = (all.0, all-push P ys x all.1 here)
+
+-- a walk's text is empty or begins with a space
+walk-begins : (map : MapValue) (walk : List ℕ) → Begins 32 (walk_text map walk)
+walk-begins map [] = tt
+walk-begins map (l ∷ walk) = refl
+
+-- a walk that was read of a text so far, where whatever walk the text is of, the rest is of what is left of it
+pub record IsWalking (map : MapValue) (text walk rest : List ℕ) : Type 0 where
+  pub so_far : text ≡ walk_text map walk ++ rest
+  pub links : AreLinks map walk
+  pub whole : (all : List ℕ) → AreLinks map all → text ≡ walk_text map all →
+      (left : List ℕ) × (AreLinks map left × (rest ≡ walk_text map left))
+
+-- at first all is left
+pub walking-first : (map : MapValue) (text walk : List ℕ) → walk ≡ [] → IsWalking map text walk text
+walking-first map text walk none =
+    subst (λ w. IsWalking map text w text) (sym none)
+    (record { so_far = refl; links = tt; whole = λ all are same. (all, (are, same)) })
+
+-- what is left begins with a link
+module _ (map : MapValue) (text walk rest name after : List ℕ) (is : IsMap map) (so : IsWalking map text walk rest)
+    (begins : rest ≡ 32 ∷ (name ++ after)) (free : HasNo 32 name) (at : Begins 32 after) where
+  -- the name is that of the next link, and what is behind it is of those after that
+  next : (left : List ℕ) → AreLinks map left → rest ≡ walk_text map left →
+      (link : ℕ) × ((more : List ℕ) × ((IsLink map link × AreLinks map more) × ((name ≡ link_text map link) × (after ≡ walk_text map more))))
+  next [] are same = absurd (some-none 32 (name ++ after) (sym begins ∙ same))
+  next (l ∷ left) are same =
+      let both = word-same 32 name (link_text map l) after (walk_text map left) free (link-no map 32 l (omega arith) is are.0) at
+      (walk-begins map left)
+      (rest-same 32 32 (name ++ after) (link_text map l ++ walk_text map left) (sym begins ∙ same)) in
+      (l, (left, ((are.0, are.1), (both.0, both.1))))
+
+  -- where the name says no link, the text says no walk
+  pub walking-lost : Reads (link_text map) (IsLink map) name None → Reads (walk_text map) (AreLinks map) text None
+  walking-lost none all are same =
+      let left = so.whole all are same in
+      let found = next left.0 left.1.0 left.1.1 in
+      none found.0 found.1.1.0.0 found.1.1.1.0
+
+  -- where it says one, reading goes on behind it
+  pub walking-next : (link : ℕ) (longer : List ℕ) → Reads (link_text map) (IsLink map) name (Some link) →
+      longer ≡ walk ++ link ∷ [] → IsWalking map text longer after
+  walking-next link longer found longer_is =
+      let step : List ℕ = 32 ∷ link_text map link in
+      let here : rest ≡ step ++ after = begins ∙ ap (λ t. 32 ∷ (t ++ after)) found.1 in
+      let more : walk_text map walk ++ step ≡ walk_text map (walk ++ link ∷ []) =
+      flat_map_more (λ (l : ℕ). 32 ∷ link_text map l) [] walk link in
+      subst (λ w. IsWalking map text w after) (sym longer_is)
+      (record {
+        so_far = so.so_far ∙ ap (λ t. walk_text map walk ++ t) here ∙ sym (append_assoc (walk_text map walk) step after)
+            ∙ ap (λ t. t ++ after) more;
+        links = all-push (IsLink map) walk link so.links found.0;
+        whole = λ all are same.
+            let left = so.whole all are same in
+            let last = next left.0 left.1.0 left.1.1 in
+            (last.1.0, (last.1.1.0.1, last.1.1.1.1));
+      })
+
+-- a text that begins with a space and a word
+pub space-first : (rest named name after : List ℕ) → 0 < length rest → get_or rest 0 0 ≡ 32 → named ≡ drop 1 rest →
+    named ≡ name ++ after → rest ≡ 32 ∷ (name ++ after)
+space-first [] named name after some first named_is whole = absurd (omega arith)
+space-first (c ∷ rest) named name after some first named_is whole =
+    ap (λ n. n ∷ rest) first ∙ ap (λ t. 32 ∷ t) (sym named_is ∙ whole)
+
+-- where something else is left, the text says no walk
+pub walking-other : (map : MapValue) (text walk rest : List ℕ) → IsWalking map text walk rest → 0 < length rest →
+    (get_or rest 0 0 ≡ 32 → ⊥) → Reads (walk_text map) (AreLinks map) text None
+walking-other map text walk rest so some other all are same =
+    let left = so.whole all are same in by_left left.0 left.1.1
+  where
+    by_left : (left : List ℕ) → rest ≡ walk_text map left → ⊥
+    by_left [] is = absurd (omega (arith, some, ap length is))
+    by_left (l ∷ left) is = other (ap (λ (t : List ℕ). get_or t 0 0) is)
+
+-- where nothing is left, it says the walk
+pub walking-last : (map : MapValue) (text walk rest : List ℕ) → IsWalking map text walk rest → length rest ≡ 0 →
+    Reads (walk_text map) (AreLinks map) text (Some walk)
+walking-last map text walk [] so none = (so.links, so.so_far ∙ append-nil (walk_text map walk))
+walking-last map text walk (c ∷ rest) so none = absurd (omega (arith, none))
+
+-- walks of one text are one
+pub walk-own : (map : MapValue) (a b : List ℕ) → IsMap map → AreLinks map a → AreLinks map b → walk_text map a ≡ walk_text map b → a ≡ b
+walk-own map [] [] is a_in b_in same = refl
+walk-own map [] (m ∷ b) is a_in b_in same = absurd (some-none 32 (link_text map m ++ walk_text map b) (sym same))
+walk-own map (l ∷ a) [] is a_in b_in same = absurd (some-none 32 (link_text map l ++ walk_text map a) same)
+walk-own map (l ∷ a) (m ∷ b) is a_in b_in same =
+    let both = word-same 32 (link_text map l) (link_text map m) (walk_text map a) (walk_text map b)
+    (link-no map 32 l (omega arith) is a_in.0) (link-no map 32 m (omega arith) is b_in.0) (walk-begins map a) (walk-begins map b)
+    (rest-same 32 32 (link_text map l ++ walk_text map a) (link_text map m ++ walk_text map b) same) in
+    ap (λ n. n ∷ a) (link-own map l m is a_in.0 b_in.0 both.0) ∙ ap (λ t. m ∷ t) (walk-own map a b is a_in.1 b_in.1 both.1)
+
+-- a walk's text has no line end
+pub walk-no : (map : MapValue) (walk : List ℕ) → IsMap map → AreLinks map walk → HasNo 10 (walk_text map walk)
+walk-no map [] is are = tt
+walk-no map (l ∷ walk) is are =
+    ((λ same. absurd cc), no-append 10 (link_text map l) (walk_text map walk) (link-no map 10 l (omega arith) is are.0)
+      (walk-no map walk is are.1))
+
+-- ---- Labels of one text
+
+-- labels of one text are one
+pub entry-own : (map : MapValue) (a b : Entry) → IsMap map → IsEntry map a → IsEntry map b → entry_text map a ≡ entry_text map b → a ≡ b
+entry-own map a b is fits_a fits_b same =
+    let first = cut-same 32 (link_text map a.link) (link_text map b.link) (weights_text a.cost a.down a.up)
+    (weights_text b.cost b.down b.up) (link-no map 32 a.link (omega arith) is fits_a.link)
+    (link-no map 32 b.link (omega arith) is fits_b.link) same in
+    let second = cut-same 32 (decimal a.cost) (decimal b.cost) (buffers_text a.down a.up) (buffers_text b.down b.up)
+    (cost-no a.cost fits_a.cost) (cost-no b.cost fits_b.cost) first.1 in
+    let third = cut-same 32 (signed_decimal a.down) (signed_decimal b.down) (signed_decimal a.up) (signed_decimal b.up)
+    (buffer-no a.down fits_a.down) (buffer-no b.down fits_b.down) second.1 in
+    let link : a.link ≡ b.link = link-own map a.link b.link is fits_a.link fits_b.link first.0 in
+    let cost : a.cost ≡ b.cost = decimal-own a.cost b.cost (omega (arith, fits_a.cost)) (omega (arith, fits_b.cost)) second.0 in
+    let down : a.down ≡ b.down =
+    signed_decimal_injective a.down b.down (small-id a.down fits_a.down.1) (small-id b.down fits_b.down.1) third.0 in
+    let up : a.up ≡ b.up = signed_decimal_injective a.up b.up (small-id a.up fits_a.up.1) (small-id b.up fits_b.up.1) third.1 in
+    entries-same a b link cost down up
+  where
+    entries-same : (a b : Entry) → a.link ≡ b.link → a.cost ≡ b.cost → a.down ≡ b.down → a.up ≡ b.up → a ≡ b
+    entries-same a b link cost down up =
+        ap (λ (x : ℕ). record { cost = x; down = a.down; up = a.up; link = a.link }) cost
+        ∙ ap (λ (x : ℤ). record { cost = b.cost; down = x; up = a.up; link = a.link }) down
+        ∙ ap (λ (x : ℤ). record { cost = b.cost; down = b.down; up = x; link = a.link }) up
+        ∙ ap (λ (x : ℕ). record { cost = b.cost; down = b.down; up = b.up; link = x }) link
+
+-- a label's text has no line end
+pub entry-no : (map : MapValue) (entry : Entry) → IsMap map → IsEntry map entry → HasNo 10 (entry_text map entry)
+entry-no map entry is fits =
+    no-append 10 (link_text map entry.link) (32 ∷ weights_text entry.cost entry.down entry.up)
+    (link-no map 10 entry.link (omega arith) is fits.link)
+    ((λ same. absurd cc), no-append 10 (decimal entry.cost) (32 ∷ buffers_text entry.down entry.up)
+      (decimal-no 10 entry.cost (omega arith) (omega (arith, fits.cost)))
+      ((λ same. absurd cc), no-append 10 (signed_decimal entry.down) (32 ∷ signed_decimal entry.up)
+        (signed-no 10 entry.down (omega arith) (λ same. absurd cc) (small-id entry.down fits.down.1))
+        ((λ same. absurd cc), signed-no 10 entry.up (omega arith) (λ same. absurd cc) (small-id entry.up fits.up.1))))

@@ -1,0 +1,317 @@
+-- Texts that are read line after line.
+use Rattle.std.proofs.Common.{◌≡◌, ◌⊎◌, inl, inr, ℕ, zero, suc, ◌+◌, ◌^◌, ◌<◌, ◌≤◌, Bool, true, false, List, [], ◌∷◌, ◌++◌, length, nat_eq, map, Option, Some, None, Result, Ok, Err, refl, sym, ap, ◌∙◌, subst, arith, append_assoc, append-nil}
+use Rattle.std.specs.Prelude.{codes}
+use Rattle.std.specs.List.{AllByRecursion}
+use Rattle.std.proofs.lemmas.Bool.{ne_eqb}
+use Rattle.std.proofs.lemmas.List.{length-append}
+use Rattle.overpass_graph.specs.Maps.{MapValue, IsMap}
+use Rattle.certificate_text.specs.declared.certificate.Certificate.{Certificate}
+use Rattle.certificate_text.specs.declared.certificate.Entry.{Entry}
+use Rattle.certificate_text.specs.declared.error.CertError.{CertError}
+use Rattle.certificate_text.specs.declared.error.CertError.TheVariants.{Line, NoMemory}
+use Rattle.certificate_text.specs.declared.draft.Draft.{Draft}
+use Rattle.certificate_text.specs.declared.draft.Place.{Place}
+use Rattle.certificate_text.specs.declared.draft.Place.TheVariants as place_
+use Rattle.certificate_text.specs.Drafts.{stage_at, forms_at, forms_now, is_ended, IsTaken, IsRead, ReadsOn, IsReading}
+use Rattle.certificate_text.specs.Lines.{Form, Head, Leg, Cost, Label, End, line_of, lines_of, IsForm, IsEntry, Stage, Unbegun, Opened, Walked, Labelled, Ended, Stands, AreStanding, stage_after, stage_from, IsFirstFault}
+use Rattle.certificate_text.specs.Parts.{HasNo}
+use Rattle.certificate_text.specs.Texts.{LegValue, leg_of, leg_forms, legs_forms, labels_of, forms_of, certificate_text, legs_of, IsLeg, AreLegs, IsTextOf, ReadsText, IsSame}
+use Rattle.certificate_text.proofs.ByteLemmas.{no-within, cut-same}
+use Rattle.certificate_text.proofs.NumberLemmas.{not-both}
+use Rattle.certificate_text.proofs.LineLemmas.{line-no, lines-append, line-some, GoesOn, lines-same, standing-push, stage-push, standing-fits, standing-at}
+
+-- ---- While lines are read
+
+-- the first line was read
+pub reading-first : (map : MapValue) (text : List ℕ) (number : ℕ) (draft : Draft) → forms_now draft ≡ Head ∷ [] →
+    stage_at draft.place ≡ Opened → number ≡ 2 → length text + 2 < 2 ^ 32 →
+    IsReading map (lines_of map (Head ∷ []) ++ text) number text draft
+reading-first map text number draft forms place number_is few = record {
+  text_is = ap (λ fs. lines_of map fs ++ text) (sym forms);
+  number_is = number_is ∙ ap (λ (fs : List Form). length fs + 1) (sym forms);
+  standing = subst (AreStanding map Unbegun) (sym forms) (tt, (tt, tt));
+  stage = ap (stage_from Unbegun) forms ∙ sym place;
+  few = omega (arith, few, number_is);
+}
+
+-- a line was cut off
+module _ (map : MapValue) (text : List ℕ) (number : ℕ) (rest line after : List ℕ) (draft : Draft) (is : IsMap map)
+    (so : IsReading map text number rest draft) (cut : HasNo 10 line × (rest ≡ line ++ (10 ∷ after))) where
+  -- where it is taken, reading goes on behind it
+  pub reading-next : (new : Draft) (next : ℕ) → IsRead map draft new line → next ≡ number + 1 → IsReading map text next after new
+  reading-next new next read next_is =
+      let forms : forms_now new ≡ forms_now draft ++ (read.form ∷ []) = read.taken.forms in
+      let here : rest ≡ lines_of map (read.form ∷ []) ++ after =
+      cut.1 ∙ ap (λ t. t ++ (10 ∷ after)) read.line_is ∙ sym (append_assoc (line_of map read.form) (10 ∷ []) after) in
+      let stands : Stands (stage_from Unbegun (forms_now draft)) read.form =
+      subst (λ s. Stands s read.form) (sym so.stage) read.taken.stands in
+      let size : length rest ≡ length line + suc (length after) = ap length cut.1 ∙ length-append line (10 ∷ after) in
+      let count : length (forms_now new) ≡ length (forms_now draft) + 1 =
+      ap length forms ∙ length-append (forms_now draft) (read.form ∷ []) in
+      record {
+        text_is = so.text_is ∙ ap (λ t. lines_of map (forms_now draft) ++ t) here
+            ∙ sym (append_assoc (lines_of map (forms_now draft)) (lines_of map (read.form ∷ [])) after)
+            ∙ ap (λ t. t ++ after) (sym (lines-append map (forms_now draft) (read.form ∷ [])) ∙ ap (lines_of map) (sym forms));
+        number_is = omega (arith, next_is, so.number_is, count);
+        standing = subst (AreStanding map Unbegun) (sym forms)
+            (standing-push map Unbegun (forms_now draft) read.form so.standing stands read.fits);
+        stage = ap (stage_from Unbegun) forms ∙ stage-push Unbegun (forms_now draft) read.form ∙ sym read.taken.place;
+        few = omega (arith, so.few, next_is, size);
+      }
+
+  -- where no line can stand there that has its text, it is the first at fault
+  pub reading-fault : (new : Draft) → ReadsOn map draft new line false → IsFirstFault map text number
+  reading-fault new none = record {
+    before = forms_now draft;
+    rest = rest;
+    text_is = so.text_is;
+    number = so.number_is;
+    standing = so.standing;
+    fault = λ form more stands fits same.
+        none form (subst (λ s. Stands s form) so.stage stands) fits
+        (cut-same 10 line (line_of map form) after more cut.0 (line-no map form is fits) (sym cut.1 ∙ same)).0;
+    open_end = λ empty ended. line-some line after (sym cut.1 ∙ empty);
+  }
+
+-- the last line was taken
+ended : (p : Place) → is_ended p ≡ true → p ≡ place_.Ended
+ended place_.Opened test = absurd cc
+ended place_.Walked test = absurd cc
+ended place_.Labelled test = absurd cc
+ended place_.Ended test = refl
+
+-- a draft that says that the last line stands before is ended
+is-ended : (p : Place) → stage_at p ≡ Ended → is_ended p ≡ true
+is-ended place_.Opened test = absurd cc
+is-ended place_.Walked test = absurd cc
+is-ended place_.Labelled test = absurd cc
+is-ended place_.Ended test = refl
+
+-- where no line is left, but the text isn't at its end, the next line is at fault
+pub reading-short : (map : MapValue) (text : List ℕ) (number : ℕ) (rest : List ℕ) (draft : Draft) →
+    IsReading map text number rest draft → HasNo 10 rest → (rest ≡ [] → is_ended draft.place ≡ true → ⊥) → IsFirstFault map text number
+reading-short map text number rest draft so free other = record {
+  before = forms_now draft;
+  rest = rest;
+  text_is = so.text_is;
+  number = so.number_is;
+  standing = so.standing;
+  fault = λ form more stands fits same. no-within 10 (line_of map form) more (subst (HasNo 10) same free);
+  open_end = λ empty last. other empty (is-ended draft.place (sym so.stage ∙ last));
+}
+
+-- ---- Legs that are told by lines
+
+-- what is so of two lists is so of the second
+all-behind : {A : Type 0} (P : A → Type 0) (xs ys : List A) → AllByRecursion P (xs ++ ys) → AllByRecursion P ys
+all-behind P [] ys all = all
+all-behind P (x ∷ xs) ys all = all-behind P xs ys all.1
+
+-- and of the first
+all-before : {A : Type 0} (P : A → Type 0) (xs ys : List A) → AllByRecursion P (xs ++ ys) → AllByRecursion P xs
+all-before P [] ys all = tt
+all-before P (x ∷ xs) ys all = (all.0, all-before P xs ys all.1)
+
+-- labels whose lines may be written may be
+labels-fit : (map : MapValue) (entries : List Entry) → AllByRecursion (IsForm map) (labels_of entries) → AllByRecursion (IsEntry map) entries
+labels-fit map [] all = tt
+labels-fit map (e ∷ entries) all = (all.0, labels-fit map entries all.1)
+
+-- so may legs
+legs-fit : (map : MapValue) (legs : List LegValue) → AllByRecursion (IsForm map) (legs_forms legs) → AreLegs map legs
+legs-fit map [] all = tt
+legs-fit map (leg ∷ legs) all =
+    let behind = all-behind (IsForm map) (leg_forms leg) (legs_forms legs) all in
+    let here = all-before (IsForm map) (leg_forms leg) (legs_forms legs) all in
+    (record { walk = here.0; cost = here.1.0; entries = labels-fit map leg.entries here.1.1 }, legs-fit map legs behind)
+
+-- the legs of a draft
+abbrev draft_legs : Draft → List LegValue
+draft_legs draft = map leg_of draft.legs.items
+
+-- a text that is read to its end is that of a certificate
+pub reading-whole : (map : MapValue) (text : List ℕ) (number : ℕ) (rest : List ℕ) (draft : Draft) →
+    IsReading map text number rest draft → rest ≡ [] → is_ended draft.place ≡ true → IsTextOf map text (draft_legs draft)
+unfolding certificate_text
+reading-whole map text number rest draft so empty last =
+    let legs = draft_legs draft in
+    let forms : forms_now draft ≡ forms_of legs =
+    ap (λ p. forms_at p legs (leg_of draft.leg)) (ended draft.place last) in
+    let all = standing-fits map Unbegun (forms_of legs) (subst (AreStanding map Unbegun) forms so.standing) in
+    record {
+      legs_are = legs-fit map legs (all-before (IsForm map) (legs_forms legs) (End ∷ []) all.1);
+      text_is = so.text_is ∙ ap (λ t. lines_of map (forms_now draft) ++ t) empty ∙ append-nil (lines_of map (forms_now draft))
+          ∙ ap (lines_of map) forms;
+    }
+
+-- a text that doesn't begin with the first line
+pub headless : (map : MapValue) (text line after : List ℕ) → IsMap map → HasNo 10 line × (text ≡ line ++ (10 ∷ after)) →
+    (line ≡ codes "certificate 1" → ⊥) → IsFirstFault map text 1
+headless map text line after is cut other = record {
+  before = [];
+  rest = text;
+  text_is = refl;
+  number = refl;
+  standing = tt;
+  fault = λ form more stands fits same. by_form form more stands fits same;
+  open_end = λ empty ended. line-some line after (sym cut.1 ∙ empty);
+}
+  where
+    by_form : (form : Form) (more : List ℕ) → Stands Unbegun form → IsForm map form → text ≡ line_of map form ++ (10 ∷ more) → ⊥
+    by_form Head more stands fits same =
+        other (cut-same 10 line (line_of map Head) after more cut.0 (line-no map Head is tt) (sym cut.1 ∙ same)).0
+    by_form (Leg walk) more stands fits same = stands
+    by_form (Cost cost) more stands fits same = stands
+    by_form (Label entry) more stands fits same = stands
+    by_form End more stands fits same = stands
+
+-- nor does one without a line
+pub lineless : (map : MapValue) (text : List ℕ) → HasNo 10 text → IsFirstFault map text 1
+lineless map text free = record {
+  before = [];
+  rest = text;
+  text_is = refl;
+  number = refl;
+  standing = tt;
+  fault = λ form more stands fits same. no-within 10 (line_of map form) more (subst (HasNo 10) same free);
+  open_end = λ empty last. absurd cc;
+}
+
+-- ---- What was written is read again
+
+-- a leg, and the last line, may stand here
+record IsFree (stage : Stage) : Type 0 where
+  pub leg : (walk : List ℕ) → Stands stage (Leg walk)
+  pub end_in : Stands stage End
+
+free-opened : IsFree Opened
+free-opened = record { leg = λ walk. tt; end_in = tt }
+
+free-labelled : IsFree Labelled
+free-labelled = record { leg = λ walk. tt; end_in = tt }
+
+-- labels stand before what stands behind them
+labels-stand : (map : MapValue) (entries : List Entry) (more : List Form) → AllByRecursion (IsEntry map) entries →
+    AreStanding map Labelled more → AreStanding map Labelled (labels_of entries ++ more)
+labels-stand map [] more fits standing = standing
+labels-stand map (e ∷ entries) more fits standing = (tt, (fits.0, labels-stand map entries more fits.1 standing))
+
+-- the lines of legs and the last line stand
+legs-stand : (map : MapValue) (stage : Stage) (legs : List LegValue) → IsFree stage → AreLegs map legs →
+    AreStanding map stage (legs_forms legs ++ (End ∷ []))
+legs-stand map stage [] free fits = (free.end_in, (tt, tt))
+legs-stand map stage (leg ∷ legs) free fits =
+    let later = legs-stand map Labelled legs free-labelled fits.1 in
+    let labels = labels-stand map leg.entries (legs_forms legs ++ (End ∷ [])) fits.0.entries later in
+    (free.leg leg.walk, (fits.0.walk, (tt, (fits.0.cost,
+      subst (AreStanding map Labelled) (sym (append_assoc (labels_of leg.entries) (legs_forms legs) (End ∷ []))) labels))))
+
+-- so do those of a certificate
+forms-stand : (map : MapValue) (legs : List LegValue) → AreLegs map legs → AreStanding map Unbegun (forms_of legs)
+forms-stand map legs fits = (tt, (tt, legs-stand map Opened legs free-opened fits))
+
+-- the last line is the last
+forms-end : (legs : List LegValue) → stage_from Unbegun (forms_of legs) ≡ Ended
+forms-end legs = stage-push Opened (legs_forms legs) End
+
+-- the text of a certificate has no first fault
+pub reread-refused : (map : MapValue) (text : List ℕ) (legs : List LegValue) (line : ℕ) → IsMap map → AreLegs map legs →
+    text ≡ certificate_text map legs → IsFirstFault map text line → ⊥
+unfolding certificate_text
+reread-refused map text legs line is fits same at =
+    let stand = forms-stand map legs fits in
+    let on = lines-same map at.before (forms_of legs) at.rest is (standing-fits map Unbegun at.before at.standing)
+    (standing-fits map Unbegun (forms_of legs) stand) (sym at.text_is ∙ same) in
+    by_more on.more on.forms on.rest_is stand
+  where
+    by_more : (more : List Form) → forms_of legs ≡ at.before ++ more → at.rest ≡ lines_of map more →
+        AreStanding map Unbegun (forms_of legs) → ⊥
+    by_more [] forms rest stand =
+        at.open_end rest (ap (stage_from Unbegun) (sym (append-nil at.before) ∙ sym forms) ∙ forms-end legs)
+    by_more (g ∷ gs) forms rest stand =
+        let there = standing-at map Unbegun at.before g gs (subst (AreStanding map Unbegun) forms stand) in
+        at.fault g (lines_of map gs) there.0 there.1 rest
+
+-- what labels are followed by
+abbrev NoLabel : List Form → Type 0
+NoLabel [] = Unit {0}
+NoLabel (Label entry ∷ fs) = ⊥
+NoLabel (Head ∷ fs) = Unit {0}
+NoLabel (Leg walk ∷ fs) = Unit {0}
+NoLabel (Cost cost ∷ fs) = Unit {0}
+NoLabel (End ∷ fs) = Unit {0}
+
+-- the lines of legs begin with no label
+legs-no_label : (legs : List LegValue) → NoLabel (legs_forms legs ++ (End ∷ []))
+legs-no_label [] = tt
+legs-no_label (leg ∷ legs) = tt
+
+-- the parts of a list
+head-same : {A : Type 0} (x y : A) (xs ys : List A) → x ∷ xs ≡ y ∷ ys → (x ≡ y) × (xs ≡ ys)
+head-same x y xs ys same = (cc, cc)
+
+-- labels of the same lines are the same, and so is what follows them
+labels-own : (es ds : List Entry) (fs gs : List Form) → NoLabel fs → NoLabel gs → labels_of es ++ fs ≡ labels_of ds ++ gs →
+    (es ≡ ds) × (fs ≡ gs)
+labels-own [] [] fs gs no_f no_g same = (refl, same)
+labels-own [] (d ∷ ds) fs gs no_f no_g same = absurd (subst NoLabel same no_f)
+labels-own (e ∷ es) [] fs gs no_f no_g same = absurd (subst NoLabel (sym same) no_g)
+labels-own (e ∷ es) (d ∷ ds) fs gs no_f no_g same =
+    let both = head-same (Label e) (Label d) (labels_of es ++ fs) (labels_of ds ++ gs) same in
+    let first : e ≡ d = let h = both.0 in cc in
+    let rest = labels-own es ds fs gs no_f no_g both.1 in
+    (ap (λ x. x ∷ es) first ∙ ap (λ xs. d ∷ xs) rest.0, rest.1)
+
+-- legs of the same lines are the same
+legs-own : (xs ys : List LegValue) → legs_forms xs ++ (End ∷ []) ≡ legs_forms ys ++ (End ∷ []) → xs ≡ ys
+legs-own [] [] same = refl
+legs-own [] (y ∷ ys) same = absurd cc
+legs-own (x ∷ xs) [] same = absurd cc
+legs-own (x ∷ xs) (y ∷ ys) same =
+    let first = head-same (Leg x.walk) (Leg y.walk) _ _ same in
+    let second = head-same (Cost x.cost) (Cost y.cost) _ _ first.1 in
+    let walk : x.walk ≡ y.walk = let h = first.0 in cc in
+    let cost : x.cost ≡ y.cost = let h = second.0 in cc in
+    let later : labels_of x.entries ++ (legs_forms xs ++ (End ∷ [])) ≡ labels_of y.entries ++ (legs_forms ys ++ (End ∷ [])) =
+    sym (append_assoc (labels_of x.entries) (legs_forms xs) (End ∷ [])) ∙ second.1
+    ∙ append_assoc (labels_of y.entries) (legs_forms ys) (End ∷ []) in
+    let both = labels-own x.entries y.entries (legs_forms xs ++ (End ∷ [])) (legs_forms ys ++ (End ∷ [])) (legs-no_label xs)
+    (legs-no_label ys) later in
+    let leg : x ≡ y = legs-same x y walk cost both.0 in
+    ap (λ l. l ∷ xs) leg ∙ ap (λ ls. y ∷ ls) (legs-own xs ys both.1)
+  where
+    legs-same : (x y : LegValue) → x.walk ≡ y.walk → x.cost ≡ y.cost → x.entries ≡ y.entries → x ≡ y
+    legs-same x y walk cost entries =
+        ap (λ (w : List ℕ). record { walk = w; cost = x.cost; entries = x.entries }) walk
+        ∙ ap (λ (c : ℕ). record { walk = y.walk; cost = c; entries = x.entries }) cost
+        ∙ ap (λ (es : List Entry). record { walk = y.walk; cost = y.cost; entries = es }) entries
+
+-- certificates of one text are one
+pub text-own : (map : MapValue) (text : List ℕ) (own legs : List LegValue) → IsMap map → IsTextOf map text own → AreLegs map legs →
+    text ≡ certificate_text map legs → own ≡ legs
+unfolding certificate_text
+text-own map text own legs is of fits same =
+    let stand = forms-stand map legs fits in
+    let stand_own = forms-stand map own of.legs_are in
+    let on = lines-same map (forms_of own) (forms_of legs) [] is (standing-fits map Unbegun (forms_of own) stand_own)
+    (standing-fits map Unbegun (forms_of legs) stand) (append-nil (lines_of map (forms_of own)) ∙ sym of.text_is ∙ same) in
+    by_more on.more on.forms on.rest_is
+  where
+    by_more : (more : List Form) → forms_of legs ≡ forms_of own ++ more → [] ≡ lines_of map more → own ≡ legs
+    by_more [] forms rest =
+        legs-own own legs
+        (sym ((head-same Head Head _ _ (forms ∙ append-nil (forms_of own))).1))
+    by_more (g ∷ gs) forms rest = absurd (line-some (line_of map g) (lines_of map gs) (sym rest))
+
+-- what is read of the text of a certificate is the same one
+pub reread : (map : MapValue) (text : List ℕ) (legs : List LegValue) (r : Result Certificate CertError) → IsMap map → AreLegs map legs →
+    text ≡ certificate_text map legs → ReadsText map text r → IsSame legs r
+reread map text legs (Ok certificate) is fits same reads = text-own map text (legs_of certificate) legs is reads fits same
+reread map text legs (Err NoMemory) is fits same reads = refl
+reread map text legs (Err (Line line)) is fits same reads = absurd (reread-refused map text legs line is fits same reads)
+
+-- a list that is told to be empty is
+pub none-told : (xs : List ℕ) → true ≡ nat_eq (length xs) 0 → xs ≡ []
+none-told [] test = refl
+none-told (x ∷ xs) test =
+    absurd (not-both (nat_eq (length (x ∷ xs)) 0) (ne_eqb (length (x ∷ xs)) 0 (λ h. absurd (omega (arith, h)))) (sym test))

@@ -1,0 +1,73 @@
+-- How the code takes one line after the other; no public clause cites this.
+use Rattle.std.specs.Prelude.{◌≡◌, ℕ, ◌+◌, ◌<◌, ◌^◌, Bool, true, false, List, [], ◌∷◌, ◌++◌, map, length}
+use Rattle.overpass_graph.specs.Maps.{MapValue}
+use Rattle.certificate_text.specs.declared.draft.Draft.{Draft}
+use Rattle.certificate_text.specs.declared.draft.Place.{Place}
+use Rattle.certificate_text.specs.declared.draft.Place.TheVariants as place_
+use Rattle.certificate_text.specs.declared.line.Line.{Line}
+use Rattle.certificate_text.specs.declared.line.Line.TheVariants as line_
+use Rattle.certificate_text.specs.Lines.{Form, Head, Leg, Cost, Label, End, Stage, Unbegun, Opened, Walked, Labelled, Ended, Stands, AreStanding, IsForm, line_of, lines_of, stage_after, stage_from}
+use Rattle.certificate_text.specs.Texts.{LegValue, leg_of, leg_forms, legs_forms}
+
+-- what a line that was read says
+abbrev pub form_of : Line → Form
+form_of line_.Head = Head
+form_of (line_.Leg walk) = Leg walk.items
+form_of (line_.Cost cost) = Cost cost
+form_of (line_.Label entry) = Label entry
+form_of line_.End = End
+
+-- what the place of a draft says of the next line
+abbrev pub stage_at : Place → Stage
+stage_at place_.Opened = Opened
+stage_at place_.Walked = Walked
+stage_at place_.Labelled = Labelled
+stage_at place_.Ended = Ended
+
+-- the last line was taken
+abbrev pub is_ended : Place → Bool
+is_ended place_.Ended = true
+is_ended place = false
+
+-- the lines of these legs and of the one that is being read
+abbrev pub forms_at : Place → List LegValue → LegValue → List Form
+forms_at place_.Opened legs now = Head ∷ legs_forms legs
+forms_at place_.Walked legs now = Head ∷ (legs_forms legs ++ (Leg now.walk ∷ []))
+forms_at place_.Labelled legs now = Head ∷ (legs_forms legs ++ leg_forms now)
+forms_at place_.Ended legs now = Head ∷ (legs_forms legs ++ (End ∷ []))
+
+-- the lines of a draft
+abbrev pub forms_now : Draft → List Form
+forms_now draft = forms_at draft.place (map leg_of draft.legs.items) (leg_of draft.leg)
+
+-- a line is taken behind those of a draft
+pub record IsTaken (old new : Draft) (form : Form) : Type 0 where
+  pub stands : Stands (stage_at old.place) form
+  pub place : stage_at new.place ≡ stage_after form
+  pub forms : forms_now new ≡ forms_now old ++ (form ∷ [])
+
+-- a line is taken, or it can't stand there
+abbrev pub Takes : Draft → Draft → Form → Bool → Type 0
+Takes old new form true = IsTaken old new form
+Takes old new form false = Stands (stage_at old.place) form → ⊥
+
+-- the text of a line is taken behind those of a draft
+pub record IsRead (map : MapValue) (old new : Draft) (line : List ℕ) : Type 0 where
+  pub form : Form
+  pub fits : IsForm map form
+  pub line_is : line ≡ line_of map form
+  pub taken : IsTaken old new form
+
+-- the text of a line is taken, or no line that can stand there has it
+abbrev pub ReadsOn : MapValue → Draft → Draft → List ℕ → Bool → Type 0
+ReadsOn map old new line true = IsRead map old new line
+ReadsOn map old new line false =
+    (form : Form) → Stands (stage_at old.place) form → IsForm map form → line ≡ line_of map form → ⊥
+
+-- what is left of a text from a line of this number on, where a draft was read of all before it
+pub record IsReading (map : MapValue) (text : List ℕ) (number : ℕ) (rest : List ℕ) (draft : Draft) : Type 0 where
+  pub text_is : text ≡ lines_of map (forms_now draft) ++ rest
+  pub number_is : number ≡ length (forms_now draft) + 1
+  pub standing : AreStanding map Unbegun (forms_now draft)
+  pub stage : stage_from Unbegun (forms_now draft) ≡ stage_at draft.place
+  pub few : number + length rest < 2 ^ 32

@@ -1,0 +1,195 @@
+//! The legs that were read so far.
+
+ghost use Rattle.std.specs.Prelude.{◌≡◌, ◌∷◌, ◌++◌, [], IfOk, OnOk};
+ghost use Rattle.certificate_text.specs.Drafts.{ReadsOn, Takes, form_of, forms_now, is_ended, stage_at};
+ghost use Rattle.certificate_text.specs.Lines.{Cost, End, Head, Label, Leg, Opened};
+
+use crate::certificate::{Certificate, Entry, Proof};
+use crate::line::{Line, read_line};
+use crate::rooms::labels_in;
+use overpass_graph::Map;
+use std::alloc::{AllocError, Global};
+
+/// Where a text stands behind a line.
+#[derive(Clone, Copy, Drop)]
+pub(crate) enum Place {
+    /// Behind the first line.
+    Opened,
+    /// Behind the walk of a leg.
+    Walked,
+    /// Behind what a walk costs, or behind a label.
+    Labelled,
+    /// Behind the last line.
+    Ended,
+}
+
+/// The legs that were read so far, the one that is being read, and where the text stands.
+pub(crate) struct Draft {
+    pub(crate) legs: Vec<Proof>,
+    pub(crate) leg: Proof,
+    pub(crate) place: Place,
+}
+
+impl Drop for Draft {
+    fn drop(self) {
+        let Draft {
+            legs: _,
+            leg: _,
+            place: _,
+        } = self;
+    }
+}
+
+/// A leg of nothing.
+fn no_leg(alloc: Global) -> Proof {
+    Proof {
+        entries: Vec::new(alloc),
+        cost: 0,
+        walk: Vec::new(alloc),
+    }
+}
+
+impl Draft {
+    /// No legs yet, and room for so many.
+    pub(crate) fn new(alloc: Global, room: usize) -> Result<Draft, AllocError>
+        ensures value { IfOk result (λ draft. forms_now draft ≡ Head ∷ []) }
+        ensures place { IfOk result (λ draft. stage_at draft.place ≡ Opened) }
+    {
+        Ok(Draft {
+            legs: Vec::with_capacity(alloc, room)?,
+            leg: no_leg(alloc),
+            place: Place::Opened,
+        })
+    }
+
+    /// Takes the text of one more line, with room for so many labels behind it; false where none
+    /// can stand there that has this text.
+    pub(crate) fn read(
+        &mut self,
+        alloc: Global,
+        map: &Map,
+        line: &[u8],
+        after: &[u8],
+    ) -> Result<bool, AllocError>
+        ensures exact { IfOk result (ReadsOn map.now self.old self.new line.now) }
+    {
+        let _count = map.links();
+        match read_line(alloc, map, line)? {
+            Some(said) => self.take(alloc, said, after),
+            None => Ok(false),
+        }
+    }
+
+    /// Takes one more line; false where it can't stand there.
+    fn take(&mut self, alloc: Global, line: Line, after: &[u8]) -> Result<bool, AllocError>
+        ensures exact { IfOk result (Takes self.old self.new (form_of line)) }
+    {
+        match line {
+            Line::Label { entry } => self.take_label(entry),
+            Line::Cost { cost } => self.take_cost(alloc, cost, after),
+            Line::Leg { walk } => self.take_leg(alloc, walk),
+            Line::End => self.take_end(alloc),
+            Line::Head => Ok(false),
+        }
+    }
+
+    /// Takes a label.
+    fn take_label(&mut self, entry: Entry) -> Result<bool, AllocError>
+        ensures exact { IfOk result (Takes self.old self.new (Label entry)) }
+    {
+        match self.place {
+            Place::Labelled => {
+                self.leg.entries.push(entry)?;
+                Ok(true)
+            }
+            _ => Ok(false),
+        }
+    }
+
+    /// Takes what a walk costs.
+    fn take_cost(&mut self, alloc: Global, cost: u128, after: &[u8]) -> Result<bool, AllocError>
+        ensures exact { IfOk result (Takes self.old self.new (Cost cost)) }
+    {
+        match self.place {
+            Place::Walked => {
+                self.leg.entries = Vec::with_capacity(alloc, labels_in(after))?;
+                self.leg.cost = cost;
+                self.place = Place::Labelled;
+                Ok(true)
+            }
+            _ => Ok(false),
+        }
+    }
+
+    /// Takes a leg with its walk.
+    fn take_leg(&mut self, alloc: Global, walk: Vec<u32>) -> Result<bool, AllocError>
+        ensures exact { IfOk result (Takes self.old self.new (Leg walk.items)) }
+    {
+        match self.place {
+            Place::Opened => {
+                self.leg.walk = walk;
+                self.place = Place::Walked;
+                Ok(true)
+            }
+            Place::Labelled => {
+                self.close(alloc)?;
+                self.leg.walk = walk;
+                self.place = Place::Walked;
+                Ok(true)
+            }
+            _ => Ok(false),
+        }
+    }
+
+    /// Takes the last line.
+    fn take_end(&mut self, alloc: Global) -> Result<bool, AllocError>
+        ensures exact { IfOk result (Takes self.old self.new End) }
+    {
+        match self.place {
+            Place::Opened => {
+                self.place = Place::Ended;
+                Ok(true)
+            }
+            Place::Labelled => {
+                self.close(alloc)?;
+                self.place = Place::Ended;
+                Ok(true)
+            }
+            _ => Ok(false),
+        }
+    }
+
+    /// Puts the leg that was read behind the others.
+    fn close(&mut self, alloc: Global) -> Result<(), AllocError>
+        ensures legs { OnOk result
+            (self.new.legs.items ≡ self.old.legs.items ++ (self.old.leg ∷ [])) }
+    {
+        let leg = std::mem::replace(&mut self.leg, no_leg(alloc));
+        match self.legs.push(leg) {
+            Ok(()) => Ok(()),
+            Err(_) => Err(AllocError),
+        }
+    }
+
+    /// Whether the last line was taken.
+    pub(crate) fn is_ended(&self) -> bool
+        ensures value { result ≡ is_ended self.now.place }
+    {
+        match self.place {
+            Place::Ended => true,
+            _ => false,
+        }
+    }
+
+    /// The certificate of all legs.
+    pub(crate) fn certificate(self) -> Certificate
+        ensures value { result.legs.items ≡ self.legs.items }
+    {
+        let Draft {
+            legs,
+            leg: _,
+            place: _,
+        } = self;
+        Certificate { legs }
+    }
+}
