@@ -63,8 +63,7 @@ record IsShownAt (written : List ℕ → List ℕ) (task : Task) (shown : List (
 
 module _ (task : Task) (lawful : IsTask task) (start : ℕ → Option (Carry × ℕ)) (step : Carry → ℕ → Option (Carry × ℕ))
     (written : List ℕ → List ℕ) (by : IsWritten task start step written) (limit : ℕ) (shown : List (Reached Carry))
-    (spent : IsSpent (space_by task start step) limit shown) (differ : task.leg.start ≢ task.leg.target)
-    (all : task.radius ≡ None) where
+    (spent : IsSpent (space_by task start step) limit shown) (differ : task.leg.start ≢ task.leg.target) where
   -- the walks that are shown
   abbrev walks : List (List ℕ)
   walks = map (walk_as written task) shown
@@ -174,10 +173,14 @@ module _ (task : Task) (lawful : IsTask task) (start : ℕ → Option (Carry × 
       let never : ⊥ = cc in
       never
 
-  -- a spent limit has its evidence, with the bound
-  pub spent-written : IsSpentBounded task.leg task.used limit walks
-  spent-written = record {
-    strong = record { shown = are-shown; rising = rising-at; apart = apart-at };
+  -- a spent limit has its evidence in the strong form
+  pub strong-written : IsSpentStrong task.leg task.used limit walks
+  strong-written = record { shown = are-shown; rising = rising-at; apart = apart-at }
+
+  -- and with the bound, where that is found for all nodes
+  pub spent-written : task.radius ≡ None → IsSpentBounded task.leg task.used limit walks
+  spent-written all = record {
+    strong = strong-written;
     bounded = λ k below.
         let s = shown-at k below in
         let node : task.leg.ride.roads.to s.one.state.link ≡ task.leg.ride.roads.to (end_link (nth_walk walks k)) =
@@ -204,7 +207,14 @@ walk_of task label = walk_by task.leg label.choices
 own-written : (task : Task) → IsWritten task (rules_of task).start (rules_of task).step (λ choices. choices)
 own-written task = record { runs = λ choices end cost run. run; reached = λ choices cost reaches. (choices, reaches) }
 
--- a spent limit has its evidence, with the bound where that is found for all nodes
+-- a spent limit has its evidence in the strong form
+pub spent-strong : (task : Task) (lawful : IsTask task) (limit : ℕ) (shown : List (Reached Carry)) →
+    IsSpent (rules_of task) limit shown → task.leg.start ≢ task.leg.target →
+    IsSpentStrong task.leg task.used limit (map (walk_of task) shown)
+spent-strong task lawful limit shown spent differ =
+    strong-written task lawful (rules_of task).start (rules_of task).step (λ choices. choices) (own-written task) limit shown spent differ
+
+-- and with the bound where that is found for all nodes
 pub spent-bounded : (task : Task) (lawful : IsTask task) (limit : ℕ) (shown : List (Reached Carry)) →
     IsSpent (rules_of task) limit shown → task.leg.start ≢ task.leg.target → task.radius ≡ None →
     IsSpentBounded task.leg task.used limit (map (walk_of task) shown)

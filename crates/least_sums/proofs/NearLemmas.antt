@@ -50,7 +50,7 @@ seen-within : (radius number : ℕ) → number < radius → seen_up_to radius nu
 seen-within radius number near = ap (λ b. Some (cond b number radius)) (lt-ltb number radius near)
 
 -- any other one for the radius
-seen-beyond : (radius number : ℕ) → radius ≤ number → seen_up_to radius number ≡ Some radius
+pub seen-beyond : (radius number : ℕ) → radius ≤ number → seen_up_to radius number ≡ Some radius
 seen-beyond radius number beyond = ap (λ b. Some (cond b number radius)) (le-ltb number radius beyond)
 
 -- none for more than the radius

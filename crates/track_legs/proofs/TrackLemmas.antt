@@ -4,7 +4,7 @@ use Rattle.std.proofs.lemmas.Bool.{cases_eq}
 use Rattle.std.proofs.lemmas.List.{get_or_default}
 use Rattle.cost_model.specs.Rides.{IsPermittedWalk, Ride}
 use Rattle.cost_model.specs.Walks.{walk_cost}
-use Rattle.track_legs.specs.Tracks.{IsLegBetween, leg_at, node_at, no_leg}
+use Rattle.track_legs.specs.Tracks.{IsLegBetween, IsWalkAt, leg_at, node_at, no_leg}
 use Rattle.track_legs.specs.declared.track.Leg.{Leg}
 use Rattle.track_legs.specs.declared.track.Track.{Track}
 
@@ -20,23 +20,34 @@ cost-held : (found : Option ℕ) (bound cost kept : ℕ) → SomeIff found (cost
 cost-held None bound cost kept is same fits = absurd (is (subst (λ n. n < bound) (sym same) fits))
 cost-held (Some n) bound cost kept is same fits = ap Some (is.1 ∙ same)
 
-module _ (ride : Ride) (a b : ℕ) (leg : Leg) (walk : List ℕ) (found : Option ℕ) (bound : ℕ)
-    (links : walk ≡ leg.links)
+module _ (ride : Ride) (a b : ℕ) (walk : List ℕ) (cost : ℕ) (found : Option ℕ) (bound : ℕ)
     (is : SomeIff found (walk_cost ride.prices ride.facts walk < bound) (walk_cost ride.prices ride.facts walk))
   where
-    -- a walk whose cost is the one that is kept is a leg
-    pub leg-there : IsPermittedWalk ride a b walk → found ≡ Some leg.cost →
-        IsLegBetween ride a b leg
-    leg-there walks same = record {
-      walk = subst (λ w. IsPermittedWalk ride a b w) links walks;
-      cost = ap (λ w. walk_cost ride.prices ride.facts w) (sym links)
-          ∙ held-cost found bound (walk_cost ride.prices ride.facts walk) leg.cost is same;
+    -- a walk whose cost is found to be so much costs so much
+    pub walk-there : IsPermittedWalk ride a b walk → found ≡ Some cost → IsWalkAt ride a b walk cost
+    walk-there walks same = record {
+      walk = walks;
+      costs = held-cost found bound (walk_cost ride.prices ride.facts walk) cost is same;
     }
 
-    -- the cost of a leg is the one that is kept
-    pub leg-cost : leg.cost < bound → IsLegBetween ride a b leg → found ≡ Some leg.cost
-    leg-cost fits leg_is = cost-held found bound (walk_cost ride.prices ride.facts walk) leg.cost is
-        (ap (λ w. walk_cost ride.prices ride.facts w) links ∙ leg_is.cost) fits
+    -- what a walk costs is found
+    pub walk-costs : cost < bound → IsWalkAt ride a b walk cost → found ≡ Some cost
+    walk-costs fits at = cost-held found bound (walk_cost ride.prices ride.facts walk) cost is at.costs fits
+
+module _ (ride : Ride) (a b : ℕ) (leg : Leg) (walk : List ℕ) (links : walk ≡ leg.links) where
+  -- a walk at the cost that is kept is a leg
+  pub leg-there : IsWalkAt ride a b walk leg.cost → IsLegBetween ride a b leg
+  leg-there at = record {
+    walk = subst (λ w. IsPermittedWalk ride a b w) links at.walk;
+    cost = ap (λ w. walk_cost ride.prices ride.facts w) (sym links) ∙ at.costs;
+  }
+
+  -- and a leg is one
+  pub leg-walk : IsLegBetween ride a b leg → IsWalkAt ride a b walk leg.cost
+  leg-walk is = record {
+    walk = subst (λ w. IsPermittedWalk ride a b w) (sym links) is.walk;
+    costs = ap (λ w. walk_cost ride.prices ride.facts w) links ∙ is.cost;
+  }
 
 -- the legs before a place and the one at it
 pub legs-more : (ride : Ride) (track : Track) (nodes : List ℕ) (legs : List Leg) (place : ℕ) (leg : Leg) →

@@ -1,5 +1,5 @@
 -- When a list of nodes and legs is a track (this project's own rule).
-use Rattle.std.specs.Prelude.{◌≡◌, ℕ, suc, ◌<◌, [], length, get_or}
+use Rattle.std.specs.Prelude.{◌≡◌, ℕ, suc, ◌<◌, List, [], length, get_or}
 use Rattle.cost_model.specs.Rides.{IsPermittedWalk, Ride}
 use Rattle.cost_model.specs.Walks.{walk_cost}
 use Rattle.track_legs.specs.declared.track.Leg.{Leg}
@@ -16,6 +16,11 @@ node_at track waypoint = get_or track.nodes waypoint 0
 -- the leg of a number: it leaves the waypoint of this number
 abbrev pub leg_at : Track → ℕ → Leg
 leg_at track number = get_or track.legs number no_leg
+
+-- a walk that a rider may take from a node to another, and that costs so much
+pub record IsWalkAt (ride : Ride) (a b : ℕ) (links : List ℕ) (cost : ℕ) : Type 0 where
+  pub walk : IsPermittedWalk ride a b links
+  pub costs : walk_cost ride.prices ride.facts links ≡ cost
 
 -- a leg between two nodes: a walk that the rider may take from the one to the other, with what it costs
 pub record IsLegBetween (ride : Ride) (a b : ℕ) (leg : Leg) : Type 0 where

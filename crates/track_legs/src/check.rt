@@ -2,7 +2,7 @@
 
 ghost use Rattle.std.specs.Prelude.{◌≡◌, ◌↔◌, ◌<◌, ◌^◌, IsTrue, Some, suc};
 ghost use Rattle.cost_model.specs.Rides.{ride_of};
-ghost use Rattle.track_legs.specs.Tracks.{IsLegBetween, IsTrack};
+ghost use Rattle.track_legs.specs.Tracks.{IsLegBetween, IsTrack, IsWalkAt};
 
 use crate::costs::cost_along;
 use crate::terrain_facts::TerrainFacts;
@@ -57,10 +57,31 @@ fn is_leg<G: TerrainOf>(
       turns = turns;
     })) start target leg.now }
 {
-    let facts = TerrainFacts { terrain };
     let walk = leg.links.as_slice();
+    is_walk_at(walk, leg.cost, start, target, terrain, cut, turns)
+}
+
+/// Whether these links are a walk between two nodes that a rider may take, and cost so much: over
+/// links that their facts let a rider take and that aren't cut, never back to where the link before
+/// left, and where `turns` count against no turn restriction. It takes no memory.
+pub fn is_walk_at<G: TerrainOf>(
+    walk: &[u32],
+    cost: u128,
+    start: u32,
+    target: u32,
+    terrain: &G,
+    cut: &[bool],
+    turns: bool,
+) -> bool
+    ensures exact { IsTrue result ↔ IsWalkAt (ride_of (record {
+      terrain = G.terrain terrain.now;
+      cut = cut.now;
+      turns = turns;
+    })) start target walk.now cost }
+{
+    let facts = TerrainFacts { terrain };
     is_walk(terrain, cut, turns, start, target, walk)
-        && is_kept(cost_along(&facts, terrain.rates(), walk), leg.cost)
+        && is_kept(cost_along(&facts, terrain.rates(), walk), cost)
 }
 
 /// Whether the cost that was found is the one that is kept.

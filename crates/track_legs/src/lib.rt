@@ -8,7 +8,7 @@ mod terrain_facts;
 mod track;
 mod walks;
 
-pub use check::recheck;
+pub use check::{is_walk_at, recheck};
 pub use costs::cost_along;
 pub use row::{Row, rows};
 pub use track::{Leg, Track};

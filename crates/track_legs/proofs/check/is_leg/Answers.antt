@@ -1,24 +1,18 @@
-use Rattle.std.proofs.Common.{◌<◌, ◌^◌, SomeIff, subst}
-use Rattle.cost_model.specs.Prices.{Prices}
 use Rattle.cost_model.specs.Rides.{ride_of}
-use Rattle.cost_model.specs.Walks.{walk_cost}
-use Rattle.track_legs.proofs.TrackLemmas.{leg-there, leg-cost}
+use Rattle.track_legs.proofs.TrackLemmas.{leg-there, leg-walk}
 use Rattle.track_legs.proofs.check.is_leg.Goals as goal
 
-pub returns-then-is_walk : goal.returns-then-is_walk
-returns-then-is_walk g c =
+pub returns : goal.returns
+returns g c =
     let terrain = g.G.TerrainOf.terrain c.args.terrain.now in
     let ride = ride_of (record { terrain = terrain; cut = c.args.cut.now; turns = c.args.turns }) in
-    let walk = c.as_slice-walk.result.now in
-    let told : SomeIff c.cost_along.result (walk_cost ride.prices ride.facts walk < 2 ^ 128) (walk_cost ride.prices ride.facts walk) =
-    subst (λ (p : Prices). SomeIff c.cost_along.result (walk_cost p ride.facts walk < 2 ^ 128) (walk_cost p ride.facts walk))
-    c.rates.ensures.value c.cost_along.ensures.exact in
+    let leg = c.args.leg.now in
+    let links = c.as_slice-walk.ensures.value in
     record {
       exact = (
-        λ yes_is. leg-there ride c.args.start c.args.target c.args.leg.now walk c.cost_along.result (2 ^ 128)
-            c.as_slice-walk.ensures.value told (c.is_walk.ensures.exact.0 c.if-is_walk.true)
-            (c.is_kept.ensures.exact.0 yes_is),
-        λ leg. c.is_kept.ensures.exact.1 (leg-cost ride c.args.start c.args.target c.args.leg.now walk
-            c.cost_along.result (2 ^ 128) c.as_slice-walk.ensures.value told c.is_kept.ensures.fits leg),
+        λ yes_is. leg-there ride c.args.start c.args.target leg c.as_slice-walk.result.now links
+            (c.is_walk_at.ensures.exact.0 yes_is),
+        λ is. c.is_walk_at.ensures.exact.1 (leg-walk ride c.args.start c.args.target leg c.as_slice-walk.result.now
+            links is),
       );
     }

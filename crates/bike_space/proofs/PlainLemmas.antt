@@ -1,0 +1,56 @@
+-- A space of a leg in which no segment is used, and whose lower bound says nothing.
+use Rattle.std.proofs.Common.{◌≡◌, ℕ, ℤ, pos, Bool, true, false, ◌&&◌, int_le, nat_lt, List, get_or, replicate, Option, Some, None, refl, ap, ◌∙◌, subst, arith}
+use Rattle.std.proofs.Math.Logic.{∥∥₁_elim}
+use Rattle.std.proofs.Props.{props}
+use Rattle.std.proofs.lemmas.Bool.Decides.{nat_tests}
+use Rattle.std.proofs.lemmas.List.{get_or_past, get_or-replicate, length-replicate}
+use Rattle.cost_model.specs.Rides.{Leg}
+use Rattle.cost_model.specs.declared.parts.Carry.{Carry}
+use Rattle.least_sums.specs.Prices.{Prices}
+use Rattle.least_sums.specs.Sums.{IsLeastSumUpTo}
+use Rattle.overpass_graph.specs.Roads.{Roads}
+use Rattle.space_search.specs.Laws.{IsBlind}
+use Rattle.bike_space.specs.Lawful.{IsTask}
+use Rattle.bike_space.specs.Marks.{is_marked}
+use Rattle.bike_space.specs.Remaining.{IsRemainingUpTo}
+use Rattle.bike_space.specs.Tasks.{Task, is_carried, rules_of}
+use Rattle.bike_space.proofs.CarryLemmas.{carried-is}
+
+-- no number is marked in a list of marks that are all false
+pub unmarked : (count : ℕ) (marks : List Bool) → marks ≡ replicate count false → (link : ℕ) → is_marked marks link ≡ false
+unmarked count marks is link =
+    ap (λ (l : List Bool). get_or l link false) is
+    ∙ (elim (nat_lt link count) as (λ (t : Bool). nat_lt link count ≡ t → get_or (replicate count false) link false ≡ false) [
+      | true ↦ λ t. get_or-replicate count link false false (grind (arith, nat_tests, t))
+      | false ↦ λ t. get_or_past (replicate count false) link false
+          (let long = length-replicate count false in grind (arith, nat_tests, t, long))
+    ] refl)
+
+-- up to a radius of 0 each least sum is 0
+least-none : (roads : Roads) (prices : Prices) (target node : ℕ) (sum : Option ℕ) →
+    IsLeastSumUpTo roads prices target (Some 0) node sum → sum ≡ Some 0
+least-none roads prices target node None none = absurd none
+least-none roads prices target node (Some sum) is =
+    let none : sum ≡ 0 = omega (arith, is.within) in ap Some none
+
+-- so the bound of a lawful search up to that radius says nothing
+pub radius-blind : (task : Task) → IsTask task → task.radius ≡ Some 0 → IsBlind (rules_of task)
+radius-blind task lawful same state valid =
+    let node = task.leg.ride.roads.to state.link in
+    let is = lawful.low node (lawful.roads.to_in state.link (carried-is task.leg state valid).0) in
+    ∥∥₁_elim (subst (λ r. IsRemainingUpTo task.leg task.used r node (task.low node)) same is) (hlevel props)
+    (λ h. least-none task.leg.ride.roads _ task.leg.target node (task.low node) h)
+
+-- ---- The test of a state
+
+-- a state is one of a leg by the numbers of its terrain
+pub carried-by : (leg : Leg) (carry : Carry) (links : ℕ) (most : ℤ) → links ≡ leg.ride.roads.links →
+    most ≡ leg.ride.prices.limits.most →
+    (nat_lt carry.link links && ((int_le (pos 0) carry.down && int_le carry.down most)
+    && (int_le (pos 0) carry.up && int_le carry.up most))) ≡ is_carried leg carry
+unfolding is_carried
+carried-by leg carry links most is_links is_most =
+    ap (λ (n : ℕ). nat_lt carry.link n && ((int_le (pos 0) carry.down && int_le carry.down most)
+    && (int_le (pos 0) carry.up && int_le carry.up most))) is_links
+    ∙ ap (λ (m : ℤ). nat_lt carry.link leg.ride.roads.links && ((int_le (pos 0) carry.down && int_le carry.down m)
+    && (int_le (pos 0) carry.up && int_le carry.up m))) is_most

@@ -1,0 +1,7 @@
+pub mod ChainLemmas
+pub mod ClosingLemmas
+pub mod LegLemmas
+pub mod VerdictLemmas
+pub mod SettledLemmas
+pub mod FoundLemmas
+pub mod CertifiedLemmas

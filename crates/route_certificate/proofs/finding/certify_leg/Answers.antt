@@ -1,0 +1,44 @@
+use Rattle.std.proofs.Common.{◌≢◌, ◌∙◌, ap, sym, subst, arith, refl, IfOk}
+use Rattle.cost_model.specs.Rides.{Leg, Terrain}
+use Rattle.bike_space.specs.Kept.{task_of}
+use Rattle.bike_space.specs.Tasks.{rules_of}
+use Rattle.space_search.specs.Laws.{IsBlind}
+use Rattle.route_certificate.specs.Asks.{leg_in}
+use Rattle.route_certificate.specs.Certified.{IsShown}
+use Rattle.route_certificate.proofs.FoundLemmas.{home-proof}
+use Rattle.route_certificate.proofs.finding.certify_leg.Goals as goal
+
+pub returns-then-start-target : goal.returns-then-start-target
+returns-then-start-target g c =
+    let leg = leg_in (g.G.TerrainOf.terrain c.args.terrain) c.args.ask.now c.args.place in
+    record { exact = home-proof leg _ c.if-start-target.true c.new-entries.ensures.items refl c.new-walk.ensures.items }
+
+pub plain-requires : goal.plain-requires
+plain-requires g c = record {
+  cut = c.requires.asked.cut;
+  start = c.requires.asked.nodes c.args.place (omega (arith, c.requires.within));
+  target = c.requires.asked.nodes _ c.requires.within;
+}
+
+pub certify_space-requires : goal.certify_space-requires
+certify_space-requires g c =
+    let kept = c.in_ok-space.space.kept in
+    let same = ap (λ (t : Terrain). (task_of t kept).leg) (ap g.G.TerrainOf.terrain c.in_ok-space.ensures.terrain)
+    ∙ c.in_ok-space.ensures.leg in
+    record {
+      unused = c.in_ok-space.ensures.unused;
+      blind = subst (λ (t : Terrain). IsBlind (rules_of (task_of t kept)))
+          (sym (ap g.G.TerrainOf.terrain c.in_ok-space.ensures.terrain)) c.in_ok-space.ensures.blind;
+      differ = subst (λ (leg : Leg). leg.start ≢ leg.target) (sym same) c.if-start-target.false;
+      small = c.requires.small;
+    }
+
+pub returns : goal.returns
+returns g c =
+    let kept = c.in_ok-space.space.kept in
+    let same = ap (λ (t : Terrain). (task_of t kept).leg) (ap g.G.TerrainOf.terrain c.in_ok-space.ensures.terrain)
+    ∙ c.in_ok-space.ensures.leg in
+    record {
+      exact = subst (λ (leg : Leg). IfOk c.certify_space.result (IsShown leg c.args.limit)) same
+          c.certify_space.ensures.exact;
+    }

@@ -1,0 +1,62 @@
+-- What has to hold of a leg of a certificate, in the order in which it is tried (this project's own rule).
+use Rattle.std.specs.Prelude.{ℕ, ◌≡◌, ◌<◌, ◌^◌, IsTrue, false, List, Option, Some, None}
+use Rattle.std.specs.List.{slice_get}
+use Rattle.certificate_text.specs.declared.certificate.Entry.{Entry}
+use Rattle.certificate_text.specs.declared.certificate.Proof.{Proof}
+use Rattle.cost_model.specs.Rides.{Leg}
+use Rattle.cost_model.specs.declared.parts.Carry.{Carry}
+use Rattle.space_search.specs.Rules.{Rules}
+use Rattle.bike_space.specs.LegWalks.{IsLegWalk, leg_cost}
+use Rattle.bike_space.specs.Tasks.{Task, is_carried, rules_of}
+use Rattle.route_certificate.specs.Closing.{Closes, IsFirstFlaw}
+use Rattle.route_certificate.specs.Entries.{carry_of}
+use Rattle.route_certificate.specs.declared.verdict.Why.{Why}
+use Rattle.route_certificate.specs.declared.verdict.Why.TheVariants.{Legs, Walk, Bounds, Start, Step, Goal}
+
+-- the leg as a space in which what is paid is the cost, and nothing is known of what still has to be paid
+abbrev pub plain_task : Leg → Task
+plain_task leg = record { leg = leg; used = λ link. false; low = λ node. Some 0; radius = Some 0 }
+
+abbrev pub leg_rules : Leg → Rules Carry
+leg_rules leg = rules_of (plain_task leg)
+
+-- the walk is one of the leg at the cost that is kept; where the leg's nodes are one, that is 0
+pub record IsWalkOf (leg : Leg) (proof : Proof) : Type 0 where
+  pub is_walk : IsLegWalk leg proof.walk.items
+  pub cost : leg_cost leg proof.walk.items ≡ proof.cost
+  pub home : leg.start ≡ leg.target → proof.cost ≡ 0
+
+-- a label's link is one of the map, both its buffers are within 0 and the most, and its cost is below 2^120
+pub record IsInBounds (leg : Leg) (entry : Entry) : Type 0 where
+  pub carried : IsTrue (is_carried leg (carry_of entry))
+  pub small : entry.cost < 2 ^ 120
+
+-- so it is of each label
+abbrev pub AreInBounds : Leg → List Entry → Type 0
+AreInBounds leg entries =
+    (place : ℕ) (entry : Entry) → slice_get entries place ≡ Some entry → IsInBounds leg entry
+
+-- the labels of a leg are in bounds, and its walk is one at the cost that is kept
+pub record IsSound (leg : Leg) (proof : Proof) : Type 0 where
+  pub walk : IsWalkOf leg proof
+  pub bounds : AreInBounds leg proof.entries.items
+
+-- and the labels are closed below that cost: all conditions hold
+pub record ShowsLeast (leg : Leg) (proof : Proof) : Type 0 where
+  pub sound : IsSound leg proof
+  pub closed : Closes (leg_rules leg) proof.cost proof.entries.items
+
+-- the labels are in bounds, and this is the first part of a closed list that fails
+pub record IsOpenAt (leg : Leg) (proof : Proof) (why : Why) : Type 0 where
+  pub sound : IsSound leg proof
+  pub flaw : IsFirstFlaw (leg_rules leg) proof.cost proof.entries.items (Some why)
+
+-- the first condition that fails of a leg; none where all hold
+abbrev pub IsFirstFault : Leg → Proof → Option Why → Type 0
+IsFirstFault leg proof None = ShowsLeast leg proof
+IsFirstFault leg proof (Some Legs) = ⊥
+IsFirstFault leg proof (Some Walk) = IsWalkOf leg proof → ⊥
+IsFirstFault leg proof (Some Bounds) = IsWalkOf leg proof × (AreInBounds leg proof.entries.items → ⊥)
+IsFirstFault leg proof (Some Start) = IsOpenAt leg proof Start
+IsFirstFault leg proof (Some Step) = IsOpenAt leg proof Step
+IsFirstFault leg proof (Some Goal) = IsOpenAt leg proof Goal

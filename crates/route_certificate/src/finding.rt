@@ -1,0 +1,136 @@
+//! The walk of a leg, with the labels that show it least.
+
+ghost use Rattle.std.specs.Prelude.{◌≡◌, ◌≢◌, ◌<◌, ◌+◌, ◌^◌, ℕ, IfOk, false, length};
+ghost use Rattle.bike_space.specs.Kept.{task_of};
+ghost use Rattle.bike_space.specs.Tasks.{rules_of};
+ghost use Rattle.space_search.specs.Laws.{IsBlind};
+ghost use Rattle.space_search.specs.Searches.{IsSearchOf};
+ghost use Rattle.space_search.specs.Turns.{EndsFound, EndsSearch};
+ghost use Rattle.space_search.specs.View.{view};
+ghost use Rattle.route_certificate.specs.Asks.{IsAsk, leg_in};
+ghost use Rattle.route_certificate.specs.Certified.{IsProof, IsShown};
+
+use crate::ask::TrackAsk;
+use crate::settled::settled_entries;
+use bike_space::BikeSpace;
+use certificate_text::Proof;
+use cost_model::{Carry, TerrainOf};
+use item_list::Turn;
+use space_search::{Outcome, Search};
+use std::alloc::{AllocError, Global};
+
+/// How many labels one turn settles at most.
+const QUOTA: u32 = 1048576;
+
+/// A least walk of the leg at a place with what shows it least, or that it has none, or that
+/// `limit` labels are settled and one more would be.
+pub(crate) fn certify_leg<G: TerrainOf>(
+    alloc: Global,
+    terrain: G,
+    ask: &TrackAsk,
+    place: usize,
+    limit: u64,
+) -> Result<Outcome<Proof>, AllocError>
+    requires asked { IsAsk (G.terrain terrain) ask.now }
+    requires within { place + 1 < length ask.now.nodes.now }
+    requires small { limit < 2 ^ 32 }
+    ensures exact { IfOk result
+        (IsShown (leg_in (G.terrain terrain) ask.now place) limit) }
+{
+    let (start, target) = (ask.nodes[place], ask.nodes[place + 1]);
+    if start == target {
+        let entries = Vec::new(alloc);
+        let walk = Vec::new(alloc);
+        let proof = Proof {
+            entries,
+            cost: 0,
+            walk,
+        };
+        return Ok(Outcome::Found(proof));
+    }
+    let space = BikeSpace::plain(alloc, terrain, ask.cut, ask.turns, start, target)?;
+    certify_space(alloc, &space, limit)
+}
+
+/// The same of the leg that a space is of, whose nodes differ.
+fn certify_space<G: TerrainOf>(
+    alloc: Global,
+    space: &BikeSpace<G>,
+    limit: u64,
+) -> Result<Outcome<Proof>, AllocError>
+    requires unused { (link : ℕ) →
+        (task_of (G.terrain space.now.terrain) space.now.kept).used link ≡ false }
+    requires blind { IsBlind (rules_of (task_of (G.terrain space.now.terrain) space.now.kept)) }
+    requires differ { space.now.kept.start ≢ space.now.kept.target }
+    requires small { limit < 2 ^ 32 }
+    ensures exact { IfOk result
+        (IsShown (task_of (G.terrain space.now.terrain) space.now.kept).leg limit) }
+{
+    let mut search = Search::new(alloc, limit);
+    'turns: loop {
+        match search.turn(space, QUOTA)? {
+            Turn::More(_) => {}
+            Turn::Done(end) => return told(alloc, space, &search, end),
+        }
+    }
+}
+
+/// The end of a search over the space of a leg, with the walk that was found.
+fn told<G: TerrainOf>(
+    alloc: Global,
+    space: &BikeSpace<G>,
+    search: &Search<Carry>,
+    end: Outcome<u32>,
+) -> Result<Outcome<Proof>, AllocError>
+    requires unused { (link : ℕ) →
+        (task_of (G.terrain space.now.terrain) space.now.kept).used link ≡ false }
+    requires blind { IsBlind (rules_of (task_of (G.terrain space.now.terrain) space.now.kept)) }
+    requires differ { space.now.kept.start ≢ space.now.kept.target }
+    requires of { IsSearchOf (rules_of (task_of (G.terrain space.now.terrain) space.now.kept))
+        search.now }
+    requires small { (view search.now).limit < 2 ^ 32 }
+    requires ends { EndsSearch (rules_of (task_of (G.terrain space.now.terrain) space.now.kept))
+        (view search.now) end }
+    ensures exact { IfOk result
+        (IsShown (task_of (G.terrain space.now.terrain) space.now.kept).leg
+        (view search.now).limit) }
+{
+    match end {
+        Outcome::Found(label) => {
+            let proof = proof_of(alloc, space, search, label)?;
+            Ok(Outcome::Found(proof))
+        }
+        Outcome::NoWay => Ok(Outcome::NoWay),
+        Outcome::Budget => Ok(Outcome::Budget),
+    }
+}
+
+/// The walk that a search found, with the labels that it settled.
+fn proof_of<G: TerrainOf>(
+    alloc: Global,
+    space: &BikeSpace<G>,
+    search: &Search<Carry>,
+    label: u32,
+) -> Result<Proof, AllocError>
+    requires unused { (link : ℕ) →
+        (task_of (G.terrain space.now.terrain) space.now.kept).used link ≡ false }
+    requires blind { IsBlind (rules_of (task_of (G.terrain space.now.terrain) space.now.kept)) }
+    requires differ { space.now.kept.start ≢ space.now.kept.target }
+    requires of { IsSearchOf (rules_of (task_of (G.terrain space.now.terrain) space.now.kept))
+        search.now }
+    requires small { (view search.now).limit < 2 ^ 32 }
+    requires found { EndsFound (rules_of (task_of (G.terrain space.now.terrain) space.now.kept))
+        (view search.now) label }
+    ensures exact { IfOk result
+        (IsProof (task_of (G.terrain space.now.terrain) space.now.kept).leg) }
+{
+    let entries = settled_entries(alloc, search)?;
+    let choices = search.choices(alloc, label)?;
+    let walk = space.link_of(alloc, choices.as_slice())?;
+    let cost = search.cost_of(label);
+    Ok(Proof {
+        entries,
+        cost,
+        walk: walk.into_vec(),
+    })
+}

@@ -1,0 +1,19 @@
+//! Lists of labels that show the walks of a track least: their check without any search, and the
+//! search that makes them.
+#![tactic(auto)]
+
+mod ask;
+mod checking;
+mod closing;
+mod entries;
+mod finding;
+mod index;
+mod leg;
+mod making;
+mod settled;
+mod verdict;
+
+pub use ask::TrackAsk;
+pub use checking::verify;
+pub use making::{Certified, certify};
+pub use verdict::{Verdict, Why};
