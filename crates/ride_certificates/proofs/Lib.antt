@@ -1,0 +1,6 @@
+pub mod AgreeLemmas
+pub mod AskLemmas
+pub mod BasisLemmas
+pub mod GroundLemmas
+pub mod LegLemmas
+pub mod ShownLemmas

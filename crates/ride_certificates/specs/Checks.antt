@@ -1,0 +1,49 @@
+-- The answer to a check of a certificate of a request (this project's own rule).
+use Rattle.std.specs.Prelude.{◌≡◌, ◌⊎◌, ℕ, ◌+◌, List, length, Result, Ok, Err, MatchResult}
+use Rattle.bike_space.specs.LegWalks.{IsLeastWalk}
+use Rattle.certificate_text.specs.declared.certificate.Certificate.{Certificate}
+use Rattle.certificate_text.specs.declared.certificate.Proof.{Proof}
+use Rattle.cost_model.specs.Rides.{Setting}
+use Rattle.ride_certificates.specs.Certificates.{AsksFor}
+use Rattle.ride_certificates.specs.Grounds.{HasLegs, HasNoLegs, leg_of}
+use Rattle.route_certificate.specs.Verdicts.{IsLegAt, IsVerdict}
+use Rattle.route_certificate.specs.declared.ask.TrackAsk.{TrackAsk}
+use Rattle.route_certificate.specs.declared.verdict.Verdict.{Verdict}
+use Rattle.route_engine.specs.Settings.{Question}
+use Rattle.route_ready.specs.declared.error.RouteError.{RouteError}
+use Rattle.route_ready.specs.declared.error.RouteError.TheVariants.{NoMemory}
+
+-- a check of a certificate of the legs between these nodes over a setting comes to this
+pub record ChecksTo (setting : Setting) (nodes : List ℕ) (certificate : Certificate) (verdict : Verdict) : Type 0 where
+  pub ask : TrackAsk
+  pub asks : AsksFor setting nodes ask
+  pub is : IsVerdict setting.terrain ask certificate verdict
+
+-- the answer to a check of a certificate of a request: there are no legs, for this reason; or there are, and
+-- this is the verdict on them
+pub data IsCheckAnswer (question : Question) (certificate : Certificate) : Result Verdict RouteError → Type 0 where
+  refused : {e : RouteError} → HasNoLegs question e → IsCheckAnswer question certificate (Err e)
+  checked :
+      {setting : Setting} {nodes : List ℕ} {verdict : Verdict} → HasLegs question setting nodes →
+      ChecksTo setting nodes certificate verdict → IsCheckAnswer question certificate (Ok verdict)
+
+-- a call gives an answer to the check, or reports want of memory
+abbrev pub Checks : Question → Certificate → Result Verdict RouteError → Type 0
+Checks question certificate result =
+    MatchResult result (λ verdict. IsCheckAnswer question certificate (Ok verdict)) (λ e. (e ≡ NoMemory) ⊎
+    IsCheckAnswer question certificate (Err e))
+
+-- each walk of a certificate is one of its leg between these nodes over a setting, and no walk of the leg
+-- costs less
+abbrev pub AreLeastOn : (setting : Setting) (nodes : List ℕ) (certificate : Certificate) → Type 0
+AreLeastOn setting nodes certificate =
+    (number : ℕ) (proof : Proof) → IsLegAt certificate number proof →
+    IsLeastWalk (leg_of setting nodes number) proof.walk.items
+
+-- so it is on the legs of a question, for each of which there is a walk
+pub record AreLeastFor (question : Question) (certificate : Certificate) : Type 0 where
+  pub setting : Setting
+  pub nodes : List ℕ
+  pub legs : HasLegs question setting nodes
+  pub one_fewer : length certificate.legs.items + 1 ≡ length nodes
+  pub least : AreLeastOn setting nodes certificate

@@ -1,0 +1,4 @@
+pub mod Bases
+pub mod Certificates
+pub mod Checks
+pub mod Grounds

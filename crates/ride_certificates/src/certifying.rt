@@ -1,0 +1,87 @@
+//! The certificate of a request.
+
+ghost use Rattle.std.specs.Prelude.{◌≡◌, ◌<◌, ◌^◌, IfOk, Ok, Result};
+ghost use Rattle.certificate_text.specs.declared.certificate.Certificate.{Certificate};
+ghost use Rattle.profile_text.specs.Expr.{sections_in};
+ghost use Rattle.ride_certificates.specs.Bases.{IsBasisOn, setting_on};
+ghost use Rattle.ride_certificates.specs.Certificates.{Certifies, CertifiesTo, told_of};
+ghost use Rattle.ride_certificates.specs.Checks.{IsCheckAnswer};
+ghost use Rattle.route_certificate.specs.Verdicts.{total_cost};
+ghost use Rattle.route_certificate.specs.declared.verdict.Verdict.{Verdict};
+ghost use Rattle.route_certificate.specs.declared.verdict.Verdict.TheVariants.{Yes};
+ghost use Rattle.route_engine.specs.Jobs.{IsWithin};
+ghost use Rattle.route_engine.specs.Replies.{question_of};
+ghost use Rattle.route_http.specs.Seen.{asked};
+ghost use Rattle.route_ready.specs.World.{world_of};
+ghost use Rattle.route_ready.specs.declared.error.RouteError.{RouteError};
+
+use crate::basis::{Basis, basis_of, terrain};
+use certificate_text::Certificate;
+use profile_text::Profile;
+use route_certificate::{Certified, TrackAsk};
+use route_http::Request;
+use route_ready::{RouteError, World};
+use std::alloc::{AllocError, Global};
+
+/// A certificate of the track that a request asks for over a world by a profile, or why there is
+/// none. Each leg is searched without a lower bound, and `runs` has no effect.
+pub fn certify(
+    alloc: Global,
+    world: &World,
+    profile: &Profile,
+    request: Request,
+) -> Result<Certificate, RouteError>
+    requires within { IsWithin (asked request) }
+    requires first { (asked request).alternative ≡ 0 }
+    ensures exact { let question =
+        question_of (world_of world.now) (sections_in profile.now) (asked request) in
+        Certifies question result }
+
+    // Whatever a check of what is given answers, for the same question, is yes.
+    ensures agrees { let question =
+        question_of (world_of world.now) (sections_in profile.now) (asked request) in
+        IfOk result (λ certificate. (answer : Result Verdict RouteError) →
+        IsCheckAnswer question certificate answer → answer ≡ Ok (Yes (total_cost certificate))) }
+{
+    match basis_of(alloc, world, profile, &request) {
+        Ok(basis) => {
+            let found = certify_on(alloc, world, &basis, request.labels)?;
+            told(found)
+        }
+        Err(error) => Err(error),
+    }
+}
+
+/// What certifying the legs of a request comes to.
+fn certify_on(
+    alloc: Global,
+    world: &World,
+    basis: &Basis,
+    limit: u64,
+) -> Result<Certified, AllocError>
+    requires on { IsBasisOn (world_of world.now) basis.now }
+    requires small { limit < 2 ^ 32 }
+    ensures exact { IfOk result
+        (CertifiesTo (setting_on (world_of world.now) basis.now) basis.now.nodes.items limit) }
+{
+    let ask = TrackAsk {
+        nodes: basis.nodes.as_slice(),
+        cut: basis.cut.as_slice(),
+        turns: basis.ready.turns,
+    };
+    route_certificate::certify(alloc, terrain(world, basis), &ask, limit)
+}
+
+/// What is told of what certifying comes to.
+fn told(found: Certified) -> Result<Certificate, RouteError>
+    ensures exact { result ≡ told_of found }
+{
+    match found {
+        Certified::Shown(certificate) => Ok(certificate),
+        Certified::NoWalk { leg } => Err(RouteError::NoTrack { leg }),
+        Certified::Spent { leg } => Err(RouteError::Budget {
+            leg,
+            alternative: 0,
+        }),
+    }
+}

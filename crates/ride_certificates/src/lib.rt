@@ -1,0 +1,10 @@
+//! Certificates of requests: the tracks that they ask for, shown least by lists of labels, and the
+//! check of such a certificate without any search.
+#![tactic(auto)]
+
+mod basis;
+mod certifying;
+mod checking;
+
+pub use certifying::certify;
+pub use checking::check_certificate;
