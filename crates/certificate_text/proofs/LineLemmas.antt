@@ -14,7 +14,6 @@ use Rattle.certificate_text.proofs.PartLemmas.{walk-own, walk-no, entry-own, ent
 
 -- ---- The forms of lines
 
-
 -- a line that begins as a label and says nothing
 label-none : (map : MapValue) (text : List ℕ) → Reads (entry_text map) (IsEntry map) text None → (form : Form) → IsForm map form →
     codes "label " ++ text ≡ line_of map form → ⊥

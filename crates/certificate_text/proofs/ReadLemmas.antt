@@ -202,9 +202,19 @@ legs-stand : (map : MapValue) (stage : Stage) (legs : List LegValue) → IsFree 
 legs-stand map stage [] free fits = (free.end_in, (tt, tt))
 legs-stand map stage (leg ∷ legs) free fits =
     let later = legs-stand map Labelled legs free-labelled fits.1 in
-    let labels = labels-stand map leg.entries (legs_forms legs ++ (End ∷ [])) fits.0.entries later in
-    (free.leg leg.walk, (fits.0.walk, (tt, (fits.0.cost,
-      subst (AreStanding map Labelled) (sym (append_assoc (labels_of leg.entries) (legs_forms legs) (End ∷ []))) labels))))
+    let labels = labels-stand map leg.entries (legs_forms legs ++ (End ∷ [])) fits.0.entries later in (
+      free.leg leg.walk,
+      (
+        fits.0.walk,
+        (
+          tt,
+          (
+            fits.0.cost,
+            subst (AreStanding map Labelled) (sym (append_assoc (labels_of leg.entries) (legs_forms legs) (End ∷ []))) labels,
+          ),
+        ),
+      ),
+    )
 
 -- so do those of a certificate
 forms-stand : (map : MapValue) (legs : List LegValue) → AreLegs map legs → AreStanding map Unbegun (forms_of legs)

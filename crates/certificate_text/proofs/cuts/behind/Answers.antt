@@ -9,5 +9,5 @@ returns-else-eq c = record {
   exact = behind-other c.args.text.now c.args.front.now c.split_at.result.0.now c.split_at.result.1.now c.split_at.ensures.by_index.0
       c.split_at.ensures.front_len
       (λ same. not-both c.eq.result c.if-eq.false
-          (c.eq.ensures ∙ ap (bytes_eq c.split_at.result.0.now) (sym same) ∙ bytes_eq-refl c.split_at.result.0.now));
+      (c.eq.ensures ∙ ap (bytes_eq c.split_at.result.0.now) (sym same) ∙ bytes_eq-refl c.split_at.result.0.now));
 }

@@ -25,7 +25,7 @@ returns-else-eq-clause-exact c =
     headless c.args.map.now c.args.text.now c.in-Some.found.0.now c.in-Some.found.1.now c.links-count.ensures.lawful
     c.in-Some.ensures.exact
     (λ same. not-both c.eq.result c.if-eq.false
-        (c.eq.ensures ∙ ap (bytes_eq c.in-Some.found.0.now) (c.as_slice.ensures ∙ sym same) ∙ bytes_eq-refl c.in-Some.found.0.now))
+    (c.eq.ensures ∙ ap (bytes_eq c.in-Some.found.0.now) (c.as_slice.ensures ∙ sym same) ∙ bytes_eq-refl c.in-Some.found.0.now))
 
 pub returns-else-eq-clause-reread : goal.returns-else-eq-clause-reread
 returns-else-eq-clause-reread c = λ legs fits same.
@@ -33,4 +33,4 @@ returns-else-eq-clause-reread c = λ legs fits same.
     (headless c.args.map.now c.args.text.now c.in-Some.found.0.now c.in-Some.found.1.now c.links-count.ensures.lawful
     c.in-Some.ensures.exact
     (λ same. not-both c.eq.result c.if-eq.false
-        (c.eq.ensures ∙ ap (bytes_eq c.in-Some.found.0.now) (c.as_slice.ensures ∙ sym same) ∙ bytes_eq-refl c.in-Some.found.0.now))))
+    (c.eq.ensures ∙ ap (bytes_eq c.in-Some.found.0.now) (c.as_slice.ensures ∙ sym same) ∙ bytes_eq-refl c.in-Some.found.0.now))))
