@@ -1,8 +1,8 @@
 -- What is read of the parts of a line.
-use Rattle.std.proofs.Common.{◌≡◌, ℕ, ℤ, zero, suc, ◌+◌, ◌^◌, ◌<◌, Bool, true, false, List, [], ◌∷◌, ◌++◌, length, get_or, drop, Option, Some, None, refl, sym, ap, ◌∙◌, subst, arith, append_assoc, append-nil}
+use Rattle.std.proofs.Common.{◌≡◌, ℕ, ℤ, ◌<◌, Bool, true, false, List, [], ◌∷◌, ◌++◌, length, get_or, drop, Option, Some, None, refl, sym, ap, ◌∙◌, subst, arith, append_assoc, append-nil}
 use Rattle.std.specs.Prelude.{FitsSigned, decimal}
 use Rattle.std.specs.Fmt.{signed_decimal}
-use Rattle.std.specs.List.{AllByRecursion, flat_map}
+use Rattle.std.specs.List.{AllByRecursion}
 use mir.Syntax.{w64}
 use Rattle.std.proofs.lemmas.Fmt.{signed_decimal_injective}
 use Rattle.std.proofs.lemmas.List.{flat_map_more}
@@ -11,7 +11,7 @@ use Rattle.overpass_graph.specs.Names.{LinkName, name_of, letter_of, step_text, 
 use Rattle.overpass_graph.proofs.CallerLemmas.{name-own}
 use Rattle.certificate_text.specs.declared.certificate.Entry.{Entry}
 use Rattle.certificate_text.specs.Lines.{link_text, walk_text, entry_text, buffers_text, weights_text, IsLink, AreLinks, IsCost, IsBuffer, IsEntry}
-use Rattle.certificate_text.specs.Parts.{HasNo, Begins, Reads, IsNumber, IsStep, print_step, AreBuffers, print_buffers, AreWeights, print_weights}
+use Rattle.certificate_text.specs.Parts.{HasNo, Begins, Reads, IsNumber, IsStep, print_step, AreWeights, print_weights}
 use Rattle.certificate_text.proofs.ByteLemmas.{first-same, rest-same, some-none, no-append, no-within, cut-same, word-same}
 use Rattle.certificate_text.proofs.NumberLemmas.{decimal-no, signed-no, small-id, decimal-own}
 

@@ -1,5 +1,5 @@
 -- Texts that are read line after line.
-use Rattle.std.proofs.Common.{◌≡◌, ◌⊎◌, inl, inr, ℕ, zero, suc, ◌+◌, ◌^◌, ◌<◌, ◌≤◌, Bool, true, false, List, [], ◌∷◌, ◌++◌, length, nat_eq, map, Option, Some, None, Result, Ok, Err, refl, sym, ap, ◌∙◌, subst, arith, append_assoc, append-nil}
+use Rattle.std.proofs.Common.{◌≡◌, ℕ, suc, ◌+◌, ◌^◌, ◌<◌, true, false, List, [], ◌∷◌, ◌++◌, length, nat_eq, map, Result, Ok, Err, refl, sym, ap, ◌∙◌, subst, arith, append_assoc, append-nil}
 use Rattle.std.specs.Prelude.{codes}
 use Rattle.std.specs.List.{AllByRecursion}
 use Rattle.std.proofs.lemmas.Bool.{ne_eqb}
@@ -12,13 +12,13 @@ use Rattle.certificate_text.specs.declared.error.CertError.TheVariants.{Line, No
 use Rattle.certificate_text.specs.declared.draft.Draft.{Draft}
 use Rattle.certificate_text.specs.declared.draft.Place.{Place}
 use Rattle.certificate_text.specs.declared.draft.Place.TheVariants as place_
-use Rattle.certificate_text.specs.Drafts.{stage_at, forms_at, forms_now, is_ended, IsTaken, IsRead, ReadsOn, IsReading}
-use Rattle.certificate_text.specs.Lines.{Form, Head, Leg, Cost, Label, End, line_of, lines_of, IsForm, IsEntry, Stage, Unbegun, Opened, Walked, Labelled, Ended, Stands, AreStanding, stage_after, stage_from, IsFirstFault}
+use Rattle.certificate_text.specs.Drafts.{stage_at, forms_at, forms_now, is_ended, IsRead, ReadsOn, IsReading}
+use Rattle.certificate_text.specs.Lines.{Form, Head, Leg, Cost, Label, End, line_of, lines_of, IsForm, IsEntry, Stage, Unbegun, Opened, Labelled, Ended, Stands, AreStanding, stage_from, IsFirstFault}
 use Rattle.certificate_text.specs.Parts.{HasNo}
-use Rattle.certificate_text.specs.Texts.{LegValue, leg_of, leg_forms, legs_forms, labels_of, forms_of, certificate_text, legs_of, IsLeg, AreLegs, IsTextOf, ReadsText, IsSame}
+use Rattle.certificate_text.specs.Texts.{LegValue, leg_of, leg_forms, legs_forms, labels_of, forms_of, certificate_text, legs_of, AreLegs, IsTextOf, ReadsText, IsSame}
 use Rattle.certificate_text.proofs.ByteLemmas.{no-within, cut-same}
 use Rattle.certificate_text.proofs.NumberLemmas.{not-both}
-use Rattle.certificate_text.proofs.LineLemmas.{line-no, lines-append, line-some, GoesOn, lines-same, standing-push, stage-push, standing-fits, standing-at}
+use Rattle.certificate_text.proofs.LineLemmas.{line-no, lines-append, line-some, lines-same, standing-push, stage-push, standing-fits, standing-at}
 
 -- ---- While lines are read
 

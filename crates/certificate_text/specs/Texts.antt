@@ -1,5 +1,5 @@
 -- Certificates as texts (this project's own format).
-use Rattle.std.specs.Prelude.{◌≡◌, ◌⊎◌, ℕ, List, [], ◌∷◌, ◌++◌, map, MatchResult, Result}
+use Rattle.std.specs.Prelude.{◌≡◌, ℕ, List, [], ◌∷◌, ◌++◌, map, MatchResult, Result}
 use Rattle.std.specs.List.{AllByRecursion}
 use Rattle.overpass_graph.specs.Maps.{MapValue}
 use Rattle.certificate_text.specs.declared.certificate.Certificate.{Certificate}

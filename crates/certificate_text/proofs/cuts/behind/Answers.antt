@@ -1,4 +1,4 @@
-use Rattle.std.proofs.Common.{◌≡◌, ◌∙◌, ap, sym, bytes_eq}
+use Rattle.std.proofs.Common.{◌∙◌, ap, sym, bytes_eq}
 use Rattle.item_list.proofs.TestLemmas.{bytes_eq-refl}
 use Rattle.certificate_text.proofs.ByteLemmas.{behind-other}
 use Rattle.certificate_text.proofs.NumberLemmas.{not-both}
