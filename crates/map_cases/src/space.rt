@@ -1,6 +1,6 @@
 //! Cases on walks of least rank.
 
-mod ways;
+pub(crate) mod ways;
 mod woken;
 
 ghost use Rattle.std.specs.Prelude.{◌≡◌, ◌≢◌, ◌<◌, ◌^◌, IfSome, length};
@@ -51,7 +51,7 @@ pub(crate) fn answer(alloc: Global, case: &Case, map: &Map) -> Result<String, Al
 }
 
 /// The rates of the seven global values that words 5 to 11 are.
-fn rates_of_case(case: &Case) -> Option<Rates> {
+pub(crate) fn rates_of_case(case: &Case) -> Option<Rates> {
     rates_of(&[
         case.signed(5),
         case.signed(6),
@@ -81,7 +81,7 @@ fn ends_of(case: &Case, map: &Map) -> Option<Ends>
 }
 
 /// For each character of a word whether it is 1: a list as long as the word.
-fn marks(alloc: Global, word: &[u8]) -> Result<Vec<bool>, AllocError> {
+pub(crate) fn marks(alloc: Global, word: &[u8]) -> Result<Vec<bool>, AllocError> {
     let mut marks = Vec::new(alloc);
     'signs: for place in 0..word.len() {
         marks.push(word[place] == b'1')?;
