@@ -23,7 +23,6 @@ impl<G: TerrainOf> BikeSpace<G> {
         start: u32,
         target: u32,
     ) -> Result<BikeSpace<G>, AllocError>
-        requires cut { length cut.now ≡ length (G.terrain terrain).map.links }
         requires start { start < length (G.terrain terrain).map.nodes }
         requires target { target < length (G.terrain terrain).map.nodes }
 
@@ -57,7 +56,6 @@ fn rested<G: TerrainOf>(
     start: u32,
     target: u32,
 ) -> Result<Rested, AllocError>
-    requires cut { length cut.now ≡ length (G.terrain terrain.now).map.links }
     requires start { start < length (G.terrain terrain.now).map.nodes }
     requires target { target < length (G.terrain terrain.now).map.nodes }
     ensures leg { IfOk result (λ kept. (task_of (G.terrain terrain.now) kept).leg ≡

@@ -1,13 +1,12 @@
 -- What a draft is of where one more line is taken.
-use Rattle.std.proofs.Common.{◌≡◌, ℕ, Bool, true, false, List, [], ◌∷◌, ◌++◌, map, Option, Some, None, option_map, refl, sym, ap, ◌∙◌, subst, append_assoc, append-nil}
+use Rattle.std.proofs.Common.{◌≡◌, ℕ, Bool, true, false, List, [], ◌∷◌, ◌++◌, map, Some, None, refl, sym, ap, ◌∙◌, subst, append_assoc, append-nil}
 use Rattle.std.proofs.lemmas.List.{map-append}
 use Rattle.overpass_graph.specs.Maps.{MapValue, IsMap}
 use Rattle.certificate_text.specs.declared.certificate.Entry.{Entry}
 use Rattle.certificate_text.specs.declared.draft.Draft.{Draft}
 use Rattle.certificate_text.specs.declared.draft.Place.{Place}
 use Rattle.certificate_text.specs.declared.draft.Place.TheVariants as place_
-use Rattle.certificate_text.specs.declared.line.Line.{Line}
-use Rattle.certificate_text.specs.Drafts.{form_of, stage_at, forms_at, forms_now, IsTaken, IsRead, Takes, ReadsOn}
+use Rattle.certificate_text.specs.Drafts.{stage_at, forms_at, IsTaken, Takes, ReadsOn}
 use Rattle.certificate_text.specs.Lines.{Form, Head, Leg, Cost, Label, End, Stands, IsForm, line_of, stage_after}
 use Rattle.certificate_text.specs.Parts.{Reads}
 use Rattle.certificate_text.specs.Texts.{LegValue, leg_of, leg_forms, legs_forms, labels_of}

@@ -1,3 +1,4 @@
+pub mod CallerLemmas
 pub mod ByteLemmas
 pub mod NumberLemmas
 pub mod PartLemmas

@@ -1,19 +1,17 @@
 -- What lines are of.
-use Rattle.std.proofs.Common.{◌≡◌, ℕ, zero, suc, ◌+◌, ◌^◌, ◌<◌, Bool, true, false, not, ◌&&◌, ◌==◌, cond, List, [], ◌∷◌, ◌++◌, length, get_or, Option, Some, None, option_map, refl, sym, ap, ◌∙◌, subst, arith, eq-eqb, append_assoc, append-nil}
+use Rattle.std.proofs.Common.{◌≡◌, ℕ, Bool, true, false, not, ◌&&◌, ◌==◌, List, [], ◌∷◌, ◌++◌, get_or, Option, Some, None, option_map, refl, sym, ap, ◌∙◌, arith, eq-eqb, append_assoc}
 use Rattle.std.specs.Prelude.{codes, decimal}
 use Rattle.std.specs.List.{AllByRecursion}
-use Rattle.std.proofs.lemmas.List.{append_cancel_left, length-append}
-use Rattle.std.proofs.lemmas.Bool.{cases_eq}
+use Rattle.std.proofs.lemmas.List.{append_cancel_left}
 use Rattle.overpass_graph.specs.Maps.{MapValue, IsMap}
 use Rattle.certificate_text.specs.declared.certificate.Entry.{Entry}
-use Rattle.certificate_text.specs.Lines.{Form, Head, Leg, Cost, Label, End, line_of, lines_of, walk_text, entry_text, IsForm, IsCost, IsEntry, AreLinks, Stage, Unbegun, Opened, Walked, Labelled, Ended, Stands, AreStanding, stage_after, stage_from}
+use Rattle.certificate_text.specs.Lines.{Form, Head, Leg, Cost, Label, End, line_of, lines_of, walk_text, entry_text, IsForm, IsCost, IsEntry, AreLinks, Stage, Stands, AreStanding, stage_after, stage_from}
 use Rattle.certificate_text.specs.Parts.{HasNo, Reads}
 use Rattle.certificate_text.proofs.ByteLemmas.{some-none, no-append, cut-same}
 use Rattle.certificate_text.proofs.NumberLemmas.{decimal-no, decimal-own}
 use Rattle.certificate_text.proofs.PartLemmas.{walk-own, walk-no, entry-own, entry-no}
 
 -- ---- The forms of lines
-
 
 -- a line that begins as a label and says nothing
 label-none : (map : MapValue) (text : List ℕ) → Reads (entry_text map) (IsEntry map) text None → (form : Form) → IsForm map form →

@@ -1,8 +1,8 @@
 -- What is read of the parts of a line.
-use Rattle.std.proofs.Common.{◌≡◌, ℕ, ℤ, zero, suc, ◌+◌, ◌^◌, ◌<◌, Bool, true, false, List, [], ◌∷◌, ◌++◌, length, get_or, drop, Option, Some, None, refl, sym, ap, ◌∙◌, subst, arith, append_assoc, append-nil}
+use Rattle.std.proofs.Common.{◌≡◌, ℕ, ℤ, ◌<◌, Bool, true, false, List, [], ◌∷◌, ◌++◌, length, get_or, drop, Option, Some, None, refl, sym, ap, ◌∙◌, subst, arith, append_assoc, append-nil}
 use Rattle.std.specs.Prelude.{FitsSigned, decimal}
 use Rattle.std.specs.Fmt.{signed_decimal}
-use Rattle.std.specs.List.{AllByRecursion, flat_map}
+use Rattle.std.specs.List.{AllByRecursion}
 use mir.Syntax.{w64}
 use Rattle.std.proofs.lemmas.Fmt.{signed_decimal_injective}
 use Rattle.std.proofs.lemmas.List.{flat_map_more}
@@ -11,7 +11,7 @@ use Rattle.overpass_graph.specs.Names.{LinkName, name_of, letter_of, step_text, 
 use Rattle.overpass_graph.proofs.CallerLemmas.{name-own}
 use Rattle.certificate_text.specs.declared.certificate.Entry.{Entry}
 use Rattle.certificate_text.specs.Lines.{link_text, walk_text, entry_text, buffers_text, weights_text, IsLink, AreLinks, IsCost, IsBuffer, IsEntry}
-use Rattle.certificate_text.specs.Parts.{HasNo, Begins, Reads, IsNumber, IsStep, print_step, AreBuffers, print_buffers, AreWeights, print_weights}
+use Rattle.certificate_text.specs.Parts.{HasNo, Begins, Reads, IsNumber, IsStep, print_step, AreWeights, print_weights}
 use Rattle.certificate_text.proofs.ByteLemmas.{first-same, rest-same, some-none, no-append, no-within, cut-same, word-same}
 use Rattle.certificate_text.proofs.NumberLemmas.{decimal-no, signed-no, small-id, decimal-own}
 
@@ -114,10 +114,12 @@ link-no map c link low is below =
     let fits = link-fits map link is below in
     let name = name_of map link in
     no-append c (signed_decimal name.way) (47 ∷ step_text name.segment name.back)
-    (signed-no c name.way (omega (arith, low)) (λ same. absurd (omega (arith, low, same))) (small-id name.way fits.way))
-    ((λ same. absurd (omega (arith, low, same))), no-append c (decimal name.segment) (47 ∷ letter_of name.back)
-      (decimal-no c name.segment (omega (arith, low)) (omega (arith, fits.segment)))
-      ((λ same. absurd (omega (arith, low, same))), letter-no c name.back low))
+    (signed-no c name.way (omega (arith, low)) (λ same. absurd (omega (arith, low, same))) (small-id name.way fits.way)) (
+      (λ same. absurd (omega (arith, low, same))),
+      no-append c (decimal name.segment) (47 ∷ letter_of name.back)
+          (decimal-no c name.segment (omega (arith, low)) (omega (arith, fits.segment)))
+          ((λ same. absurd (omega (arith, low, same))), letter-no c name.back low),
+    )
 
 -- a text that says no id and step names no link
 pub link-none : (map : MapValue) (text : List ℕ) → IsMap map →
@@ -258,9 +260,11 @@ walk-own map (l ∷ a) (m ∷ b) is a_in b_in same =
 -- a walk's text has no line end
 pub walk-no : (map : MapValue) (walk : List ℕ) → IsMap map → AreLinks map walk → HasNo 10 (walk_text map walk)
 walk-no map [] is are = tt
-walk-no map (l ∷ walk) is are =
-    ((λ same. absurd cc), no-append 10 (link_text map l) (walk_text map walk) (link-no map 10 l (omega arith) is are.0)
-      (walk-no map walk is are.1))
+walk-no map (l ∷ walk) is are = (
+  (λ same. absurd cc),
+  no-append 10 (link_text map l) (walk_text map walk) (link-no map 10 l (omega arith) is are.0)
+      (walk-no map walk is are.1),
+)
 
 -- ---- Labels of one text
 
@@ -292,9 +296,13 @@ entry-own map a b is fits_a fits_b same =
 pub entry-no : (map : MapValue) (entry : Entry) → IsMap map → IsEntry map entry → HasNo 10 (entry_text map entry)
 entry-no map entry is fits =
     no-append 10 (link_text map entry.link) (32 ∷ weights_text entry.cost entry.down entry.up)
-    (link-no map 10 entry.link (omega arith) is fits.link)
-    ((λ same. absurd cc), no-append 10 (decimal entry.cost) (32 ∷ buffers_text entry.down entry.up)
-      (decimal-no 10 entry.cost (omega arith) (omega (arith, fits.cost)))
-      ((λ same. absurd cc), no-append 10 (signed_decimal entry.down) (32 ∷ signed_decimal entry.up)
-        (signed-no 10 entry.down (omega arith) (λ same. absurd cc) (small-id entry.down fits.down.1))
-        ((λ same. absurd cc), signed-no 10 entry.up (omega arith) (λ same. absurd cc) (small-id entry.up fits.up.1))))
+    (link-no map 10 entry.link (omega arith) is fits.link) (
+      (λ same. absurd cc),
+      no-append 10 (decimal entry.cost) (32 ∷ buffers_text entry.down entry.up)
+          (decimal-no 10 entry.cost (omega arith) (omega (arith, fits.cost))) (
+            (λ same. absurd cc),
+            no-append 10 (signed_decimal entry.down) (32 ∷ signed_decimal entry.up)
+                (signed-no 10 entry.down (omega arith) (λ same. absurd cc) (small-id entry.down fits.down.1))
+                ((λ same. absurd cc), signed-no 10 entry.up (omega arith) (λ same. absurd cc) (small-id entry.up fits.up.1)),
+          ),
+    )

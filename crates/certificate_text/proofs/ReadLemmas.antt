@@ -1,6 +1,6 @@
 -- Texts that are read line after line.
-use Rattle.std.proofs.Common.{◌≡◌, ◌⊎◌, inl, inr, ℕ, zero, suc, ◌+◌, ◌^◌, ◌<◌, ◌≤◌, Bool, true, false, List, [], ◌∷◌, ◌++◌, length, nat_eq, map, Option, Some, None, Result, Ok, Err, refl, sym, ap, ◌∙◌, subst, arith, append_assoc, append-nil}
-use Rattle.std.specs.Prelude.{codes}
+use Rattle.std.proofs.Common.{◌≡◌, ℕ, suc, ◌+◌, ◌^◌, ◌<◌, ◌≤◌, true, false, List, [], ◌∷◌, ◌++◌, length, nat_eq, map, Result, Ok, Err, refl, sym, ap, ◌∙◌, subst, arith, append_assoc, append-nil}
+use Rattle.std.specs.Prelude.{IfOk, codes}
 use Rattle.std.specs.List.{AllByRecursion}
 use Rattle.std.proofs.lemmas.Bool.{ne_eqb}
 use Rattle.std.proofs.lemmas.List.{length-append}
@@ -12,13 +12,13 @@ use Rattle.certificate_text.specs.declared.error.CertError.TheVariants.{Line, No
 use Rattle.certificate_text.specs.declared.draft.Draft.{Draft}
 use Rattle.certificate_text.specs.declared.draft.Place.{Place}
 use Rattle.certificate_text.specs.declared.draft.Place.TheVariants as place_
-use Rattle.certificate_text.specs.Drafts.{stage_at, forms_at, forms_now, is_ended, IsTaken, IsRead, ReadsOn, IsReading}
-use Rattle.certificate_text.specs.Lines.{Form, Head, Leg, Cost, Label, End, line_of, lines_of, IsForm, IsEntry, Stage, Unbegun, Opened, Walked, Labelled, Ended, Stands, AreStanding, stage_after, stage_from, IsFirstFault}
+use Rattle.certificate_text.specs.Drafts.{stage_at, forms_at, forms_now, is_ended, IsRead, ReadsOn, IsReading}
+use Rattle.certificate_text.specs.Lines.{Form, Head, Leg, Cost, Label, End, line_of, lines_of, link_text, walk_text, IsForm, IsEntry, Stage, Unbegun, Opened, Labelled, Ended, Stands, AreStanding, stage_from, IsFirstFault}
 use Rattle.certificate_text.specs.Parts.{HasNo}
-use Rattle.certificate_text.specs.Texts.{LegValue, leg_of, leg_forms, legs_forms, labels_of, forms_of, certificate_text, legs_of, IsLeg, AreLegs, IsTextOf, ReadsText, IsSame}
+use Rattle.certificate_text.specs.Texts.{LegValue, leg_of, leg_forms, legs_forms, labels_of, forms_of, certificate_text, legs_of, AreLegs, IsTextOf, AreShort, ReadsText, IsSame}
 use Rattle.certificate_text.proofs.ByteLemmas.{no-within, cut-same}
 use Rattle.certificate_text.proofs.NumberLemmas.{not-both}
-use Rattle.certificate_text.proofs.LineLemmas.{line-no, lines-append, line-some, GoesOn, lines-same, standing-push, stage-push, standing-fits, standing-at}
+use Rattle.certificate_text.proofs.LineLemmas.{line-no, lines-append, line-some, lines-same, standing-push, stage-push, standing-fits, standing-at}
 
 -- ---- While lines are read
 
@@ -202,9 +202,19 @@ legs-stand : (map : MapValue) (stage : Stage) (legs : List LegValue) → IsFree 
 legs-stand map stage [] free fits = (free.end_in, (tt, tt))
 legs-stand map stage (leg ∷ legs) free fits =
     let later = legs-stand map Labelled legs free-labelled fits.1 in
-    let labels = labels-stand map leg.entries (legs_forms legs ++ (End ∷ [])) fits.0.entries later in
-    (free.leg leg.walk, (fits.0.walk, (tt, (fits.0.cost,
-      subst (AreStanding map Labelled) (sym (append_assoc (labels_of leg.entries) (legs_forms legs) (End ∷ []))) labels))))
+    let labels = labels-stand map leg.entries (legs_forms legs ++ (End ∷ [])) fits.0.entries later in (
+      free.leg leg.walk,
+      (
+        fits.0.walk,
+        (
+          tt,
+          (
+            fits.0.cost,
+            subst (AreStanding map Labelled) (sym (append_assoc (labels_of leg.entries) (legs_forms legs) (End ∷ []))) labels,
+          ),
+        ),
+      ),
+    )
 
 -- so do those of a certificate
 forms-stand : (map : MapValue) (legs : List LegValue) → AreLegs map legs → AreStanding map Unbegun (forms_of legs)
@@ -315,3 +325,50 @@ pub none-told : (xs : List ℕ) → true ≡ nat_eq (length xs) 0 → xs ≡ []
 none-told [] test = refl
 none-told (x ∷ xs) test =
     absurd (not-both (nat_eq (length (x ∷ xs)) 0) (ne_eqb (length (x ∷ xs)) 0 (λ h. absurd (omega (arith, h)))) (sym test))
+
+-- ---- Walks that a text tells are short
+
+-- a walk has no more links than its text has bytes
+walk-length : (map : MapValue) (walk : List ℕ) → length walk ≤ length (walk_text map walk)
+walk-length map [] = omega arith
+walk-length map (l ∷ walk) = omega (arith, walk-length map walk, length-append (link_text map l) (walk_text map walk))
+
+-- nor more than the line that tells it
+leg-length : (map : MapValue) (walk : List ℕ) → length walk ≤ length (line_of map (Leg walk))
+leg-length map walk = omega (arith, walk-length map walk, length-append (codes "leg") (walk_text map walk))
+
+-- lines behind a line take no more room than both
+line-length : (map : MapValue) (f : Form) (fs : List Form) →
+    length (line_of map f) + length (lines_of map fs) ≤ length (lines_of map (f ∷ fs))
+line-length map f fs = omega (arith, length-append (line_of map f) (10 ∷ lines_of map fs))
+
+-- lines behind labels take no more room than both
+labels-length : (map : MapValue) (entries : List Entry) (fs : List Form) →
+    length (lines_of map fs) ≤ length (lines_of map (labels_of entries ++ fs))
+labels-length map [] fs = omega arith
+labels-length map (e ∷ entries) fs =
+    omega (arith, labels-length map entries fs, line-length map (Label e) (labels_of entries ++ fs))
+
+-- so the walks of legs are short where their lines are
+legs-short : (map : MapValue) (legs : List LegValue) (more : List Form) → length (lines_of map (legs_forms legs ++ more)) < 2 ^ 32 →
+    AreShort legs
+legs-short map [] more few = tt
+legs-short map (leg ∷ legs) more few =
+    let later : List Form = legs_forms legs ++ more in
+    let behind : (labels_of leg.entries ++ legs_forms legs) ++ more ≡ labels_of leg.entries ++ later =
+    append_assoc (labels_of leg.entries) (legs_forms legs) more in
+    let first = line-length map (Leg leg.walk) (Cost leg.cost ∷ ((labels_of leg.entries ++ legs_forms legs) ++ more)) in
+    let second = line-length map (Cost leg.cost) ((labels_of leg.entries ++ legs_forms legs) ++ more) in
+    let labels = labels-length map leg.entries later in
+    let same : length (lines_of map ((labels_of leg.entries ++ legs_forms legs) ++ more))
+    ≡ length (lines_of map (labels_of leg.entries ++ later)) = ap (λ fs. length (lines_of map fs)) behind in
+    (omega (arith, few, first, leg-length map leg.walk), legs-short map legs more (omega (arith, few, first, second, labels, same)))
+
+-- what is read of a short text is short
+pub read-short : (map : MapValue) (text : List ℕ) (r : Result Certificate CertError) → ReadsText map text r → length text < 2 ^ 32 →
+    IfOk r (λ certificate. AreShort (legs_of certificate))
+unfolding certificate_text
+read-short map text (Ok certificate) reads few =
+    legs-short map (legs_of certificate) (End ∷ [])
+    (omega (arith, few, ap length reads.text_is, line-length map Head (legs_forms (legs_of certificate) ++ (End ∷ []))))
+read-short map text (Err e) reads few = tt

@@ -1,5 +1,5 @@
 -- How the code reads the parts of a line; no public clause cites this.
-use Rattle.std.specs.Prelude.{◌≡◌, ℕ, ◌<◌, ◌^◌, ℤ, Bool, List, [], ◌∷◌, ◌++◌, Option, Some, None}
+use Rattle.std.specs.Prelude.{◌≡◌, ℕ, ◌<◌, ◌^◌, ℤ, Bool, List, [], ◌∷◌, Option, Some, None}
 use Rattle.overpass_graph.specs.Names.{step_text}
 use Rattle.certificate_text.specs.Lines.{IsBuffer, IsCost, buffers_text, weights_text}
 

@@ -1,5 +1,5 @@
 -- Certificates as texts (this project's own format).
-use Rattle.std.specs.Prelude.{◌≡◌, ◌⊎◌, ℕ, List, [], ◌∷◌, ◌++◌, map, MatchResult, Result}
+use Rattle.std.specs.Prelude.{◌≡◌, ◌<◌, ◌^◌, length, ℕ, List, [], ◌∷◌, ◌++◌, map, MatchResult, Result}
 use Rattle.std.specs.List.{AllByRecursion}
 use Rattle.overpass_graph.specs.Maps.{MapValue}
 use Rattle.certificate_text.specs.declared.certificate.Certificate.{Certificate}
@@ -53,6 +53,10 @@ pub record IsLeg (map : MapValue) (leg : LegValue) : Type 0 where
 -- legs that may be written
 abbrev pub AreLegs : MapValue → List LegValue → Type 0
 AreLegs map legs = AllByRecursion (IsLeg map) legs
+
+-- each walk has fewer than 2^32 links
+abbrev pub AreShort : List LegValue → Type 0
+AreShort legs = AllByRecursion (λ leg. length leg.walk < 2 ^ 32) legs
 
 -- a text is that of a certificate of these legs
 pub record IsTextOf (map : MapValue) (text : List ℕ) (legs : List LegValue) : Type 0 where

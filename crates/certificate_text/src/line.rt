@@ -29,11 +29,7 @@ pub(crate) enum Line {
 }
 
 /// What a line says, if it is of one of the forms.
-pub(crate) fn read_line(
-    alloc: Global,
-    map: &Map,
-    line: &[u8],
-) -> Result<Option<Line>, AllocError>
+pub(crate) fn read_line(alloc: Global, map: &Map, line: &[u8]) -> Result<Option<Line>, AllocError>
     ensures exact { IfOk result (λ said.
         Reads (line_of map.now) (IsForm map.now) line.now (option_map form_of said)) }
 {

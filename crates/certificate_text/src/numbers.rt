@@ -87,13 +87,7 @@ pub(crate) fn buffer_of(text: &[u8]) -> Option<i64>
     ensures exact { Reads signed_decimal IsBuffer text.now result }
 {
     match id_of(text) {
-        Some(buffer) => {
-            if buffer >= 0 {
-                Some(buffer)
-            } else {
-                None
-            }
-        }
+        Some(buffer) => { if buffer >= 0 { Some(buffer) } else { None } }
         None => None,
     }
 }

@@ -1,8 +1,8 @@
 //! Certificates read from their texts.
 
-ghost use Rattle.std.specs.Prelude.{◌≡◌, ◌+◌, ◌∷◌, ◌++◌, ◌<◌, ◌^◌, [], List, length, MatchResult};
+ghost use Rattle.std.specs.Prelude.{IfOk, ◌≡◌, ◌+◌, ◌∷◌, ◌++◌, ◌<◌, ◌^◌, [], List, length, MatchResult};
 ghost use Rattle.certificate_text.specs.Lines.{Head, lines_of};
-ghost use Rattle.certificate_text.specs.Texts.{AreLegs, IsSame, LegValue, ReadsText, certificate_text};
+ghost use Rattle.certificate_text.specs.Texts.{AreLegs, AreShort, IsSame, LegValue, ReadsText, certificate_text, legs_of};
 
 use crate::certificate::Certificate;
 use crate::cuts::cut;
@@ -16,6 +16,7 @@ use std::alloc::Global;
 pub fn read(alloc: Global, text: &[u8], map: &Map) -> Result<Certificate, CertError>
     requires fits { length text.now < 2 ^ 32 }
     ensures exact { ReadsText map.now text.now result }
+    ensures few { IfOk result (λ certificate. AreShort (legs_of certificate)) }
     // What was written of a certificate is read as the same one.
     ensures reread { (legs : List LegValue) → AreLegs map.now legs →
         text.now ≡ certificate_text map.now legs → IsSame legs result }

@@ -10,11 +10,7 @@ use overpass_graph::Map;
 use std::alloc::{AllocError, Global};
 
 /// The walk that a text says, each link behind a space.
-pub(crate) fn walk_of(
-    alloc: Global,
-    map: &Map,
-    text: &[u8],
-) -> Result<Option<Vec<u32>>, AllocError>
+pub(crate) fn walk_of(alloc: Global, map: &Map, text: &[u8]) -> Result<Option<Vec<u32>>, AllocError>
     ensures exact { IfOk result (λ walk. Reads (walk_text map.now) (AreLinks map.now) text.now
         (option_map (λ w. w.items) walk)) }
 {

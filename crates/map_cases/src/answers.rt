@@ -6,7 +6,7 @@ use crate::map::pieces::{by_sizes, cuts, fronts, told_by_piece};
 use crate::map::shown::counts_of;
 use crate::near::nearest;
 use crate::sums::{all_sums, near_sums};
-use crate::{class, space, track};
+use crate::{certificates, class, space, track};
 use case_inputs::map_of;
 use case_rows::{Case, place_of};
 use overpass_graph::Map;
@@ -27,7 +27,7 @@ const ON_TEXTS: [&str; 7] = [
 ];
 
 /// The calls on a map, whose text is the first word behind them.
-const ON_MAPS: [&str; 12] = [
+const ON_MAPS: [&str; 14] = [
     "map_cut",
     "map_counts",
     "near",
@@ -40,6 +40,8 @@ const ON_MAPS: [&str; 12] = [
     "runs",
     "woken",
     "ring",
+    "certify",
+    "check",
 ];
 
 /// The answer to a case.
@@ -76,6 +78,7 @@ fn by_call(alloc: Global, case: &Case, map: &Map, call: usize) -> Result<String,
         3 => all_sums(alloc, case, map),
         4 => near_sums(alloc, case, map),
         5..=7 => track::answer(alloc, case, map),
-        _ => space::answer(alloc, case, map),
+        8..=11 => space::answer(alloc, case, map),
+        _ => certificates::answer(alloc, case, map),
     }
 }

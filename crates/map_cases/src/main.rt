@@ -1,8 +1,9 @@
 //! Runs tables of cases on maps: texts of maps and what comes of them, the nearest nodes of
-//! waypoints, least sums, tracks, walks of least rank, and profiles bound to maps.
+//! waypoints, least sums, tracks, walks of least rank, profiles bound to maps, and certificates.
 #![tactic(auto)]
 
 mod answers;
+mod certificates;
 mod class;
 mod given;
 mod map;

@@ -1,9 +1,9 @@
 //! Cases on walks of least rank.
 
-mod ways;
+pub(crate) mod ways;
 mod woken;
 
-ghost use Rattle.std.specs.Prelude.{◌≡◌, ◌≢◌, ◌<◌, ◌^◌, IfOk, IfSome, length};
+ghost use Rattle.std.specs.Prelude.{◌≡◌, ◌≢◌, ◌<◌, ◌^◌, IfSome, length};
 ghost use Rattle.map_cases.specs.Ends.{AreEnds};
 
 use crate::answers::OUTSIDE;
@@ -51,7 +51,7 @@ pub(crate) fn answer(alloc: Global, case: &Case, map: &Map) -> Result<String, Al
 }
 
 /// The rates of the seven global values that words 5 to 11 are.
-fn rates_of_case(case: &Case) -> Option<Rates> {
+pub(crate) fn rates_of_case(case: &Case) -> Option<Rates> {
     rates_of(&[
         case.signed(5),
         case.signed(6),
@@ -80,13 +80,11 @@ fn ends_of(case: &Case, map: &Map) -> Option<Ends>
     })
 }
 
-/// For each link whether its character in a word is 1.
-fn marks(alloc: Global, word: &[u8], links: u32) -> Result<Vec<bool>, AllocError>
-    ensures counted { IfOk result (λ marks. length marks.items ≡ links) }
-{
+/// For each character of a word whether it is 1: a list as long as the word.
+pub(crate) fn marks(alloc: Global, word: &[u8]) -> Result<Vec<bool>, AllocError> {
     let mut marks = Vec::new(alloc);
-    'links: for link in 0..links as usize {
-        marks.push(word.get(link) == Some(&b'1'))?;
+    'signs: for place in 0..word.len() {
+        marks.push(word[place] == b'1')?;
     }
     Ok(marks)
 }
@@ -103,8 +101,8 @@ fn walk(
     requires counted { length given.now.facts.items ≡ length map.now.links }
     requires ends { AreEnds (length map.now.nodes) ends.from ends.target ends.limit }
 {
-    let cut = marks(alloc, case.word(15), map.links())?;
-    let used = marks(alloc, case.word(16), map.links())?;
+    let cut = marks(alloc, case.word(15))?;
+    let used = marks(alloc, case.word(16))?;
     let terrain = PricedMap::new(map, given, rates, modes(given));
     let ask = LegAsk {
         cut: cut.as_slice(),

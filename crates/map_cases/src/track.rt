@@ -1,7 +1,7 @@
 //! Cases on tracks.
 
 mod facts;
-mod legs;
+pub(crate) mod legs;
 
 ghost use Rattle.std.specs.Prelude.{◌≡◌, ◌<◌, IsTrue, length};
 ghost use Rattle.track_legs.specs.Rows.{AreBelow, HasLinksBelow};

@@ -1,5 +1,5 @@
 -- Names of links: the order in which links are laid, and what is found by it.
-use Rattle.std.proofs.Common.{◌≡◌, ℕ, ℤ, zero, suc, ◌+◌, ◌-◌, ◌*◌, ◌/◌, ◌^◌, ◌<◌, ◌≤◌, ◌⊎◌, Bool, true, false, cond, inl, inr, List, [], ◌∷◌, ◌++◌, length, get_or, slice_get, Option, Some, None, refl, sym, ap, ◌∙◌, subst, arith}
+use Rattle.std.proofs.Common.{◌≡◌, ℕ, ℤ, zero, suc, ◌+◌, ◌^◌, ◌<◌, ◌≤◌, ◌⊎◌, Bool, true, false, cond, inl, inr, List, [], ◌∷◌, ◌++◌, length, get_or, slice_get, Option, Some, None, refl, sym, ap, ◌∙◌, subst, arith}
 use Rattle.std.specs.Prelude.{if◌then◌else◌, FitsSigned}
 use mir.Syntax.{w64}
 use Rattle.std.specs.Ordering.{int_eq}
@@ -9,12 +9,12 @@ use Rattle.std.proofs.lemmas.Bool.{cases_eq}
 use Rattle.std.proofs.lemmas.Option.{same_Some, slice_get_within}
 use Rattle.geo_int.specs.Place.{Place}
 use Rattle.map_tables.specs.Draft.{segments_in, segment_count}
-use Rattle.map_tables.specs.Kept.{Kept, Tag, AreDistinct, AreDifferent, ids_of, place_of_id, with_tag}
+use Rattle.map_tables.specs.Kept.{Kept, Tag, ids_of, place_of_id, with_tag}
 use Rattle.map_tables.specs.declared.member.Member.{Member}
 use Rattle.map_tables.proofs.CallerLemmas.{place_in-at, place_in-own}
 use Rattle.overpass_graph.specs.declared.link.Link.{Link}
 use Rattle.overpass_graph.specs.Links.{both_ways, has_arrow, links_between, links_of_segment, links_along, links_of_way, links_from, weight_of, link_weight}
-use Rattle.overpass_graph.specs.Maps.{MapValue, IsMap, HasNames, AreIds, link_of, way_at, no_link}
+use Rattle.overpass_graph.specs.Maps.{MapValue, IsMap, AreIds, link_of, way_at, no_link}
 use Rattle.overpass_graph.specs.Members.{KeptWay}
 use Rattle.overpass_graph.specs.Names.{LinkName, name_of, FindsLink, FindsWeight, AreInOrder, IsPlaceOf}
 use Rattle.overpass_graph.specs.RouteTags.{tag_members, tag_of_route, tag_with_id, with_route, with_routes}

@@ -12,8 +12,7 @@ abbrev pub leg_in : (terrain : Terrain) (ask : TrackAsk) (number : ℕ) → Leg
 leg_in terrain ask number =
     leg_between (setting_in terrain ask) (get_or ask.nodes.now number 0) (get_or ask.nodes.now (number + 1) 0)
 
--- what may be asked on a terrain: it says of each link whether it is cut, and names at most 100 nodes of the map
+-- what may be asked on a terrain: it names at most 100 nodes of the map
 pub record IsAsk (terrain : Terrain) (ask : TrackAsk) : Type 0 where
-  pub cut : length ask.cut.now ≡ length terrain.map.links
   pub few : length ask.nodes.now ≤ 100
   pub nodes : (k : ℕ) → k < length ask.nodes.now → get_or ask.nodes.now k 0 < length terrain.map.nodes

@@ -1,5 +1,4 @@
-use Rattle.std.proofs.Common.{length, ap, subst, ◌∙◌}
-use Rattle.std.proofs.lemmas.List.{length-replicate}
+use Rattle.std.proofs.Common.{subst}
 use Rattle.cost_model.specs.Prices.{IsPrices}
 use Rattle.least_sums.specs.Sums.{AreLeastSumsUpTo}
 use Rattle.overpass_graph.specs.Maps.{IsMap, roads_of}
@@ -15,7 +14,6 @@ returns-clause-unused g c =
 pub returns-clause-wakes : goal.returns-clause-wakes
 returns-clause-wakes g c =
     let terrain = g.G.TerrainOf.terrain c.args.terrain.now in
-    let used = c.in_ok-used.ensures.items_if_clones_equal (λ y same. same) in
     let prices = (priced_by terrain c.in_ok-cut.cut.items c.in_ok-used.used.items).price in
     opened-wakes terrain _
     (record {
@@ -23,9 +21,6 @@ returns-clause-wakes g c =
       sound = g.met.G.TerrainOf.sound c.args.terrain.now;
       is_prices = subst IsPrices c.rates.ensures.value c.down_rate-rate.ensures.lawful;
       counted = g.met.G.TerrainOf.counted c.args.terrain.now;
-      cut = ap length c.in_ok-cut.ensures.items ∙ c.requires.cut;
-      used = ap length used ∙ length-replicate _ _ ∙ c.links-links.ensures.value
-          ∙ ap (λ m. length m.links) c.map-map.ensures.value;
       start = c.requires.start;
       target = c.requires.target;
       sums = subst (λ m. AreLeastSumsUpTo (roads_of m) prices c.args.target c.in_ok-low.low) c.map-map.ensures.value

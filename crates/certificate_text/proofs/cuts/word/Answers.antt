@@ -1,6 +1,4 @@
-use Rattle.std.proofs.Common.{◌≡◌, ◌∙◌, ap, sym, subst, take, drop}
-use Rattle.std.specs.List.{prefix_len}
-use Rattle.item_list.specs.Bytes.{is_other}
+use Rattle.std.proofs.Common.{◌∙◌, ap, sym, subst, take, drop}
 use Rattle.certificate_text.specs.Parts.{HasNo, Begins}
 use Rattle.certificate_text.proofs.ByteLemmas.{cut-parts}
 use Rattle.certificate_text.proofs.cuts.word.Goals as goal

@@ -1,4 +1,4 @@
-use Rattle.std.proofs.Common.{◌≡◌, ◌<◌, ◌^◌, ◌∙◌, ap, sym, arith}
+use Rattle.std.proofs.Common.{◌≡◌, ◌∙◌, ap, sym, arith}
 use Rattle.std.specs.Prelude.{decimal}
 use Rattle.certificate_text.proofs.NumberLemmas.{decimal-text, refused-wide, parsed-wide, not-both}
 use Rattle.certificate_text.proofs.numbers.number_of.Goals as goal

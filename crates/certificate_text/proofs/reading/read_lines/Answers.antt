@@ -1,5 +1,5 @@
-use Rattle.std.proofs.Common.{◌≡◌, ◌∙◌, ◌∷◌, ◌++◌, [], map, true, length, nat_eq, refl, sym, ap, subst}
-use Rattle.certificate_text.specs.Drafts.{ReadsOn, is_ended}
+use Rattle.std.proofs.Common.{◌∙◌, ◌∷◌, ◌++◌, [], map, length, nat_eq, refl, sym, ap, subst}
+use Rattle.certificate_text.specs.Drafts.{ReadsOn}
 use Rattle.certificate_text.specs.Lines.{Head, lines_of}
 use Rattle.certificate_text.specs.Texts.{IsTextOf, leg_of}
 use Rattle.certificate_text.proofs.NumberLemmas.{not-both}

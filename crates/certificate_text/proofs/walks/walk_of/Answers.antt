@@ -1,4 +1,3 @@
-use Rattle.std.proofs.Common.{◌≡◌, ◌<◌, ◌++◌, ◌∷◌, length, rules}
 use Rattle.item_list.proofs.ListLemmas.{some_from_test}
 use Rattle.certificate_text.proofs.PartLemmas.{space-first, walking-lost, walking-next, walking-other}
 use Rattle.certificate_text.proofs.walks.walk_of.Goals as goal

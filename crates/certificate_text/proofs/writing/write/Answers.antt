@@ -1,8 +1,5 @@
-use Rattle.std.proofs.Common.{◌≡◌, ◌<◌, get_or, length, map, sym, ap, subst, arith}
+use Rattle.std.proofs.Common.{arith}
 use Rattle.std.specs.Prelude.{codes}
-use Rattle.std.specs.List.{AllByRecursion}
-use Rattle.std.proofs.lemmas.List.{length-map, get_or-map}
-use Rattle.certificate_text.specs.Texts.{IsLeg, leg_of}
 use Rattle.certificate_text.proofs.WriteLemmas.{legs-more, all-written, leg-at}
 use Rattle.certificate_text.proofs.writing.write.Goals as goal
 

@@ -1,6 +1,5 @@
-use Rattle.std.proofs.Common.{◌<◌, ◌≤◌, ◌+◌, ◌-◌, ◌/◌, ◌∙◌, get_or, refl, ap, arith}
+use Rattle.std.proofs.Common.{◌+◌, ◌-◌, ◌/◌, ◌∙◌, refl, ap, arith}
 use Rattle.overpass_graph.specs.Links.{link_weight}
-use Rattle.overpass_graph.specs.Maps.{no_link}
 use Rattle.overpass_graph.proofs.NameLemmas.{halving-less, halving-more}
 use Rattle.overpass_graph.proofs.names.place_of.Goals as goal
 

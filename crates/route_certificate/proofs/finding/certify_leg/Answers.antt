@@ -15,7 +15,6 @@ returns-then-start-target g c =
 
 pub plain-requires : goal.plain-requires
 plain-requires g c = record {
-  cut = c.requires.asked.cut;
   start = c.requires.asked.nodes c.args.place (omega (arith, c.requires.within));
   target = c.requires.asked.nodes _ c.requires.within;
 }

@@ -7,7 +7,6 @@ use Rattle.route_certificate.proofs.leg.leg_fault.Goals as goal
 
 pub plain-requires : goal.plain-requires
 plain-requires g c = record {
-  cut = c.requires.asked.cut;
   start = c.requires.asked.nodes c.args.place (omega (arith, c.requires.within));
   target = c.requires.asked.nodes _ c.requires.within;
 }

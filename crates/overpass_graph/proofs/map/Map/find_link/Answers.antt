@@ -5,7 +5,7 @@ use Rattle.std.proofs.lemmas.Int.{to_z-of_z}
 use Rattle.map_tables.specs.Kept.{place_of_id}
 use Rattle.overpass_graph.specs.Links.{weight_of}
 use Rattle.overpass_graph.specs.Maps.{MapValue}
-use Rattle.overpass_graph.specs.Names.{FindsWeight, FindsLink}
+use Rattle.overpass_graph.specs.Names.{FindsWeight}
 use Rattle.overpass_graph.proofs.MapLemmas.{made-lawful}
 use Rattle.overpass_graph.proofs.NameLemmas.{found-no_way, found-by_weight}
 use Rattle.overpass_graph.proofs.map.Map.find_link.Goals as goal
