@@ -29,7 +29,6 @@ module _ (world : WorldValue) (basis : Basis) (terrain : Terrain) (ask : TrackAs
   -- it may be asked
   pub may-ask : IsBasisOn world basis → IsAsk terrain ask
   may-ask on = record {
-    cut = ap length cut ∙ on.marked ∙ ap (λ (t : Terrain). length t.map.links) (sym on_terrain);
     few = subst (λ (ns : List ℕ). length ns ≤ 100) (sym nodes) on.few;
     nodes = λ k below.
         subst (λ (t : Terrain). get_or ask.nodes.now k 0 < length t.map.nodes) (sym on_terrain)

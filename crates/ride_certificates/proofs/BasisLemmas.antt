@@ -89,7 +89,6 @@ pub basis-over :
 basis-over world basis circles waypoints counted some few are nodes = record {
   on = record {
     counted = counted;
-    marked = ap length are ∙ marks-long world.map circles;
     some = omega (arith, nodes.count, some);
     few = omega (arith, nodes.count, few);
     nodes_in = nodes-in (land_by world basis.ready basis.cut.items) world.map waypoints basis.nodes.items refl nodes;

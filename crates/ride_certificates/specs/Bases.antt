@@ -11,10 +11,9 @@ use Rattle.route_engine.specs.Waypoints.{AreNodes}
 use Rattle.route_ready.specs.Worlds.{WorldValue}
 use Rattle.way_class.specs.Links.{links_of}
 
--- it fits a world: it has facts and a mark for each link, and at least one and at most 100 nodes of the map
+-- it fits a world: it has facts for each link, and at least one and at most 100 nodes of the map
 pub record IsBasisOn (world : WorldValue) (basis : Basis) : Type 0 where
   pub counted : (links_of basis.ready.bound).count ≡ length world.map.links
-  pub marked : length basis.cut.items ≡ length world.map.links
   pub some : 1 ≤ length basis.nodes.items
   pub few : length basis.nodes.items ≤ 100
   pub nodes_in : (k : ℕ) → k < length basis.nodes.items → get_or basis.nodes.items k 0 < length world.map.nodes
