@@ -1,6 +1,7 @@
 -- What is asked for a request that was made ready, and what is said of that.
-use Rattle.std.proofs.Common.{◌≡◌, ℕ, ◌+◌, ◌<◌, ◌≤◌, Bool, List, length, get_or, sym, ap, ◌∙◌, subst}
-use Rattle.bike_space.specs.LegWalks.{IsLeastWalk}
+use Rattle.std.proofs.Common.{◌≡◌, ℕ, ◌<◌, ◌≤◌, Bool, List, length, get_or, sym, ap, ◌∙◌, subst}
+use Rattle.std.proofs.lemmas.Option.{slice_get_within}
+use Rattle.bike_space.specs.LegWalks.{IsLeastWalk, leg_cost}
 use Rattle.certificate_text.specs.declared.certificate.Certificate.{Certificate}
 use Rattle.cost_model.specs.OpenLinks.{is_cut}
 use Rattle.cost_model.specs.Rides.{Leg, Setting, Terrain}
@@ -111,17 +112,23 @@ module _ (world : WorldValue) (question : Question) (basis : Basis) (is : IsBasi
   pub basis-legs : HasLegs question is.setting basis.nodes.items
   basis-legs = record { whole = is.whole; are = is.is.nodes }
 
-  -- with yes its walks are least
+  -- with yes its walks are least, at the costs that are kept
   pub yes-least : (certificate : Certificate) (verdict : Verdict) (cost : ℕ) →
       ChecksTo (setting_on world basis) basis.nodes.items certificate verdict →
       AreLeastOn (setting_on world basis) basis.nodes.items certificate → verdict ≡ Yes cost →
-      AreLeastFor question certificate
-  yes-least certificate verdict cost checks least says = record {
-    setting = is.setting;
-    nodes = basis.nodes.items;
-    legs = basis-legs;
-    one_fewer =
-        (yes-accepted (setting_on world basis).terrain checks.ask certificate verdict cost checks.is says).one_fewer
-        ∙ ap length checks.asks.nodes;
-    least = least-moved world is.setting question.asked.waypoints basis is.is certificate least;
-  }
+      AreLeastFor question certificate cost
+  yes-least certificate verdict cost checks least says =
+      let over = checks-moved world is.setting question.asked.waypoints basis is.is certificate verdict checks in
+      let all = yes-accepted is.setting.terrain over.ask certificate verdict cost over.is says in
+      record {
+        setting = is.setting;
+        nodes = basis.nodes.items;
+        legs = basis-legs;
+        one_fewer = all.one_fewer ∙ ap length over.asks.nodes;
+        least = least-moved world is.setting question.asked.waypoints basis is.is certificate least;
+        costs = λ number proof there.
+            ap (λ (leg : Leg). leg_cost leg proof.walk.items)
+            (sym (leg-asked is.setting basis.nodes.items over.ask number over.asks))
+            ∙ (all.hold number proof (slice_get_within certificate.legs.items number proof there) there).sound.walk.cost;
+        together = all.cost;
+      }

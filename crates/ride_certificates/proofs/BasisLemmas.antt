@@ -1,7 +1,6 @@
 -- A request that is made ready, by what the calls below say.
-use Rattle.std.proofs.Common.{◌≡◌, ◌⊎◌, inl, inr, ℕ, zero, suc, ◌<◌, ◌≤◌, Bool, false, List, [], ◌∷◌, map, length, get_or, Result, Ok, Err, MatchResult, refl, sym, ap, ◌∙◌, subst, arith}
+use Rattle.std.proofs.Common.{◌≡◌, ◌⊎◌, inl, inr, ℕ, zero, suc, ◌≤◌, Bool, false, List, [], ◌∷◌, map, length, get_or, Result, Ok, Err, MatchResult, refl, ap, ◌∙◌, subst, arith}
 use Rattle.std.proofs.lemmas.Bool.Decides.{nat_tests}
-use Rattle.std.proofs.lemmas.List.{length-map}
 use Rattle.std.proofs.lemmas.Option.{slice_get_past}
 use Rattle.cost_model.specs.OpenLinks.{is_cut, open_by}
 use Rattle.cost_model.specs.Rides.{Setting}
@@ -43,11 +42,6 @@ unfolding cut_of
 marks-seen roads [] link = none-cut roads roads.links link
 marks-seen roads (circle ∷ circles) link =
     ap (λ (marks : List Bool). is_cut marks link) (cut-seen roads (circle ∷ circles) (grind (arith, nat_tests)))
-
--- there is one for each link
-pub marks-long : (roads : MapValue) (circles : List Circle) → length (cut_of roads circles) ≡ length roads.links
-unfolding cut_of
-marks-long roads circles = length-map roads.links (cuts_link roads circles)
 
 -- ---- Over a setting
 

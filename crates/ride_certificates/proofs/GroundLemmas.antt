@@ -1,5 +1,5 @@
 -- A question has one setting without facts beyond its map, and so the legs that it has are one list.
-use Rattle.std.proofs.Common.{◌≡◌, ℕ, ◌<◌, ◌≤◌, inl, inr, Bool, List, length, Result, Ok, Err, refl, sym, ap, ◌∙◌, subst, arith}
+use Rattle.std.proofs.Common.{◌≡◌, ℕ, inl, inr, Bool, List, length, Ok, sym, ap, ◌∙◌, subst, arith}
 use Rattle.std.proofs.lemmas.Bool.{cases_lt}
 use Rattle.cost_model.specs.Rides.{Setting}
 use Rattle.cost_model.specs.declared.facts.LinkFacts.{LinkFacts}

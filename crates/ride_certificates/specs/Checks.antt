@@ -1,12 +1,12 @@
 -- The answer to a check of a certificate of a request (this project's own rule).
 use Rattle.std.specs.Prelude.{◌≡◌, ◌⊎◌, ℕ, ◌+◌, List, length, Result, Ok, Err, MatchResult}
-use Rattle.bike_space.specs.LegWalks.{IsLeastWalk}
+use Rattle.bike_space.specs.LegWalks.{IsLeastWalk, leg_cost}
 use Rattle.certificate_text.specs.declared.certificate.Certificate.{Certificate}
 use Rattle.certificate_text.specs.declared.certificate.Proof.{Proof}
 use Rattle.cost_model.specs.Rides.{Setting}
 use Rattle.ride_certificates.specs.Certificates.{AsksFor}
 use Rattle.ride_certificates.specs.Grounds.{HasLegs, HasNoLegs, leg_of}
-use Rattle.route_certificate.specs.Verdicts.{IsLegAt, IsVerdict}
+use Rattle.route_certificate.specs.Verdicts.{IsLegAt, IsVerdict, total_cost}
 use Rattle.route_certificate.specs.declared.ask.TrackAsk.{TrackAsk}
 use Rattle.route_certificate.specs.declared.verdict.Verdict.{Verdict}
 use Rattle.route_engine.specs.Settings.{Question}
@@ -40,10 +40,15 @@ AreLeastOn setting nodes certificate =
     (number : ℕ) (proof : Proof) → IsLegAt certificate number proof →
     IsLeastWalk (leg_of setting nodes number) proof.walk.items
 
--- so it is on the legs of a question, for each of which there is a walk
-pub record AreLeastFor (question : Question) (certificate : Certificate) : Type 0 where
+-- so it is on the legs of a question, for each of which there is a walk at the cost that is kept; together they
+-- cost this
+pub record AreLeastFor (question : Question) (certificate : Certificate) (sum : ℕ) : Type 0 where
   pub setting : Setting
   pub nodes : List ℕ
   pub legs : HasLegs question setting nodes
   pub one_fewer : length certificate.legs.items + 1 ≡ length nodes
   pub least : AreLeastOn setting nodes certificate
+  pub costs :
+      (number : ℕ) (proof : Proof) → IsLegAt certificate number proof →
+      leg_cost (leg_of setting nodes number) proof.walk.items ≡ proof.cost
+  pub together : sum ≡ total_cost certificate

@@ -35,11 +35,12 @@ pub fn check_certificate(
         question_of (world_of world.now) (sections_in profile.now) (asked request.now) in
         Checks question certificate.now result }
 
-    // With `Yes` each leg's walk is one between the waypoints' nodes, and none costs less.
+    // With `Yes` each leg's walk is one between the waypoints' nodes, none costs less, and together
+    // they cost this.
     ensures least { let question =
         question_of (world_of world.now) (sections_in profile.now) (asked request.now) in
         IfOk result (λ verdict. (cost : ℕ) → verdict ≡ Yes cost →
-        AreLeastFor question certificate.now) }
+        AreLeastFor question certificate.now cost) }
 {
     match basis_of(alloc, world, profile, request) {
         Ok(basis) => {
