@@ -4,4 +4,5 @@ pub mod BasisLemmas
 pub mod CallerLemmas
 pub mod GroundLemmas
 pub mod LegLemmas
+pub mod RefusalLemmas
 pub mod ShownLemmas

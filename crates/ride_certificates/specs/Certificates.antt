@@ -8,6 +8,7 @@ use Rattle.route_certificate.specs.Certified.{IsCertified}
 use Rattle.route_certificate.specs.declared.ask.TrackAsk.{TrackAsk}
 use Rattle.route_certificate.specs.declared.making.Certified.{Certified}
 use Rattle.route_certificate.specs.declared.making.Certified.TheVariants.{Shown, NoWalk, Spent}
+use Rattle.route_engine.specs.Answers.{IsAnswer}
 use Rattle.route_engine.specs.Settings.{Question}
 use Rattle.route_ready.specs.declared.error.RouteError.{RouteError}
 use Rattle.route_ready.specs.declared.error.RouteError.TheVariants.{Budget, NoMemory, NoTrack}
@@ -51,3 +52,9 @@ abbrev pub Certifies : Question → Result Certificate RouteError → Type 0
 Certifies question result =
     MatchResult result (λ certificate. IsCertificateAnswer question (Ok certificate)) (λ e. (e ≡ NoMemory) ⊎
     IsCertificateAnswer question (Err e))
+
+-- why there is no certificate: for a reason for which there is no track; or the limit of labels was spent on this
+-- leg, with its evidence
+pub data IsRefusedAsTrack (question : Question) : RouteError → Type 0 where
+  no_track : {e : RouteError} → IsAnswer question (Err e) → IsRefusedAsTrack question e
+  only_spent : {leg : ℕ} → ComesTo question (Spent leg) → IsRefusedAsTrack question (Budget leg 0)

@@ -1,10 +1,10 @@
 //! The certificate of a request.
 
-ghost use Rattle.std.specs.Prelude.{◌≡◌, ◌<◌, ◌^◌, IfOk, Ok, Result};
+ghost use Rattle.std.specs.Prelude.{◌≡◌, ◌⊎◌, ◌<◌, ◌^◌, IfErr, IfOk, Ok, Result};
 ghost use Rattle.certificate_text.specs.declared.certificate.Certificate.{Certificate};
 ghost use Rattle.profile_text.specs.Expr.{sections_in};
 ghost use Rattle.ride_certificates.specs.Bases.{IsBasisOn, setting_on};
-ghost use Rattle.ride_certificates.specs.Certificates.{Certifies, CertifiesTo, told_of};
+ghost use Rattle.ride_certificates.specs.Certificates.{Certifies, CertifiesTo, IsRefusedAsTrack, told_of};
 ghost use Rattle.ride_certificates.specs.Checks.{IsCheckAnswer};
 ghost use Rattle.route_certificate.specs.Verdicts.{total_cost};
 ghost use Rattle.route_certificate.specs.declared.verdict.Verdict.{Verdict};
@@ -14,6 +14,7 @@ ghost use Rattle.route_engine.specs.Replies.{question_of};
 ghost use Rattle.route_http.specs.Seen.{asked};
 ghost use Rattle.route_ready.specs.World.{world_of};
 ghost use Rattle.route_ready.specs.declared.error.RouteError.{RouteError};
+ghost use Rattle.route_ready.specs.declared.error.RouteError.TheVariants.{NoMemory};
 
 use crate::basis::{Basis, basis_of, terrain};
 use certificate_text::Certificate;
@@ -42,6 +43,11 @@ pub fn certify(
         question_of (world_of world.now) (sections_in profile.now) (asked request) in
         IfOk result (λ certificate. (answer : Result Verdict RouteError) →
         IsCheckAnswer question certificate answer → answer ≡ Ok (Yes (total_cost certificate))) }
+
+    // Whatever refuses it refuses the track too, but for a spent limit.
+    ensures refused { let question =
+        question_of (world_of world.now) (sections_in profile.now) (asked request) in
+        IfErr result (λ e. (e ≡ NoMemory) ⊎ IsRefusedAsTrack question e) }
 {
     match basis_of(alloc, world, profile, &request) {
         Ok(basis) => {

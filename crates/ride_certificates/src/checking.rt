@@ -1,15 +1,17 @@
 //! The check of a certificate of a request.
 
-ghost use Rattle.std.specs.Prelude.{◌≡◌, ℕ, IfOk};
+ghost use Rattle.std.specs.Prelude.{◌≡◌, ◌⊎◌, ℕ, Err, IfErr, IfOk};
 ghost use Rattle.profile_text.specs.Expr.{sections_in};
 ghost use Rattle.ride_certificates.specs.Bases.{IsBasisOn, setting_on};
 ghost use Rattle.ride_certificates.specs.Checks.{AreLeastFor, AreLeastOn, Checks, ChecksTo};
 ghost use Rattle.route_certificate.specs.Verdicts.{AreShort};
 ghost use Rattle.route_certificate.specs.declared.verdict.Verdict.TheVariants.{Yes};
+ghost use Rattle.route_engine.specs.Answers.{IsAnswer};
 ghost use Rattle.route_engine.specs.Jobs.{IsWithin};
 ghost use Rattle.route_engine.specs.Replies.{question_of};
 ghost use Rattle.route_http.specs.Seen.{asked};
 ghost use Rattle.route_ready.specs.World.{world_of};
+ghost use Rattle.route_ready.specs.declared.error.RouteError.TheVariants.{NoMemory};
 
 use crate::basis::{Basis, basis_of, terrain};
 use certificate_text::Certificate;
@@ -41,6 +43,11 @@ pub fn check_certificate(
         question_of (world_of world.now) (sections_in profile.now) (asked request.now) in
         IfOk result (λ verdict. (cost : ℕ) → verdict ≡ Yes cost →
         AreLeastFor question certificate.now cost) }
+
+    // Whatever refuses the check refuses the track too.
+    ensures refused { let question =
+        question_of (world_of world.now) (sections_in profile.now) (asked request.now) in
+        IfErr result (λ e. (e ≡ NoMemory) ⊎ IsAnswer question (Err e)) }
 {
     match basis_of(alloc, world, profile, request) {
         Ok(basis) => {

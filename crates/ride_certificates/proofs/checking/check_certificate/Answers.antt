@@ -5,6 +5,7 @@ use Rattle.route_http.specs.Seen.{asked}
 use Rattle.route_ready.specs.World.{world_of}
 use Rattle.ride_certificates.proofs.AgreeLemmas.{none-checked}
 use Rattle.ride_certificates.proofs.AskLemmas.{basis-legs, checks-moved, yes-least}
+use Rattle.ride_certificates.proofs.RefusalLemmas.{early-refuses}
 use Rattle.ride_certificates.proofs.checking.check_certificate.Goals as goal
 
 pub returns-in_ok-verdict-in-Ok-clause-exact : goal.returns-in_ok-verdict-in-Ok-clause-exact
@@ -28,3 +29,8 @@ pub returns-in-Err-clause-exact : goal.returns-in-Err-clause-exact
 returns-in-Err-clause-exact c =
     let question = question_of (world_of c.args.world.now) (sections_in c.args.profile.now) (asked c.args.request.now) in
     none-checked question c.args.certificate.now c.in-Err.error c.in-Err.ensures.exact
+
+pub returns-in-Err-clause-refused : goal.returns-in-Err-clause-refused
+returns-in-Err-clause-refused c =
+    let question = question_of (world_of c.args.world.now) (sections_in c.args.profile.now) (asked c.args.request.now) in
+    early-refuses question c.in-Err.error c.in-Err.ensures.exact

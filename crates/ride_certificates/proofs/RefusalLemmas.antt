@@ -1,0 +1,84 @@
+-- What refuses a certificate refuses the track that is asked for too, but for a spent limit.
+use Rattle.std.proofs.Common.{◌≡◌, ◌⊎◌, inl, inr, ℕ, suc, ◌+◌, List, length, get_or, Err, IfErr, refl, sym, ap, ◌∙◌, subst, arith}
+use Rattle.bike_space.specs.LegWalks.{HasNoWalk, IsLegWalk}
+use Rattle.cost_model.specs.Rides.{Leg, Setting, Terrain, leg_between}
+use Rattle.ride_certificates.specs.Certificates.{CertifiesTo, IsRefusedAsTrack, no_track, only_spent, told_of}
+use Rattle.ride_certificates.specs.Grounds.{HasLegs, HasNoLegs, leg_of, refused, unmapped}
+use Rattle.route_certificate.specs.Asks.{leg_in}
+use Rattle.route_certificate.specs.Certified.{IsCertified, IsFirst, no_walk, shown, spent}
+use Rattle.route_certificate.specs.declared.ask.TrackAsk.{TrackAsk}
+use Rattle.route_certificate.specs.declared.making.Certified.{Certified}
+use Rattle.route_certificate.specs.declared.making.Certified.TheVariants.{Shown, NoWalk, Spent}
+use Rattle.route_engine.specs.Answers.{IsAnswer, plan_for, refused as route_refused, trackless as route_trackless, unmapped as route_unmapped}
+use Rattle.route_engine.specs.Plans.{HasNoTrack, nth_leg, no_track as first_trackless}
+use Rattle.route_engine.specs.Settings.{Question}
+use Rattle.route_ready.specs.declared.error.RouteError.{RouteError}
+use Rattle.route_ready.specs.declared.error.RouteError.TheVariants.{NoMemory, NoTrack}
+use Rattle.ride_certificates.proofs.LegLemmas.{leg-asked}
+
+-- why a question has no legs is why it has no track
+none-refuses : (question : Question) (e : RouteError) → HasNoLegs question e → IsAnswer question (Err e)
+none-refuses question e (refused is) = route_refused is
+none-refuses question e (unmapped whole refuses) =
+    subst (λ (f : RouteError). IsAnswer question (Err f)) (sym refuses.is) (route_unmapped whole.over refuses.unmapped)
+
+-- a leg without a walk is the first such
+record IsWalkless (terrain : Terrain) (ask : TrackAsk) (leg : ℕ) : Type 0 where
+  first : IsFirst terrain ask leg
+  none : HasNoWalk (leg_in terrain ask leg)
+
+-- so it is told
+walkless : (terrain : Terrain) (ask : TrackAsk) (limit : ℕ) (found : Certified) (leg : ℕ) →
+    IsCertified terrain ask limit found → found ≡ NoWalk leg → IsWalkless terrain ask leg
+walkless terrain ask limit found leg (shown short is) same =
+    let never : ⊥ = cc in
+    absurd never
+walkless terrain ask limit found leg (no_walk {leg = at} first none) same =
+    let one : at ≡ leg = cc in
+    subst (IsWalkless terrain ask) one (record { first = first; none = none })
+walkless terrain ask limit found leg (spent first evidence) same =
+    let never : ⊥ = cc in
+    absurd never
+
+module _ (question : Question) (setting : Setting) (nodes : List ℕ) (legs : HasLegs question setting nodes) where
+  -- the legs are those of the plan of the request
+  leg-planned : (number : ℕ) → leg_of setting nodes number ≡ nth_leg (plan_for question setting nodes) number
+  leg-planned number =
+      let more : number + 1 ≡ suc number = omega arith in
+      ap (λ (n : ℕ). leg_between setting (get_or nodes number 0) (get_or nodes n 0)) more
+
+  -- the first leg without a walk is why there is no track
+  trackless-answer : (leg : ℕ) → CertifiesTo setting nodes question.asked.labels (NoWalk leg) →
+      IsAnswer question (Err (NoTrack leg))
+  trackless-answer leg comes =
+      let is = walkless setting.terrain comes.ask question.asked.labels (NoWalk leg) leg comes.is refl in
+      let planned : (k : ℕ) → leg_in setting.terrain comes.ask k ≡ nth_leg (plan_for question setting nodes) k =
+      λ k. leg-asked setting nodes comes.ask k comes.asks ∙ leg-planned k in
+      let none : HasNoTrack (plan_for question setting nodes) leg = record {
+        within = omega (arith, is.first.within, ap length comes.asks.nodes);
+        before = λ k below.
+            let walk = is.first.before k below in
+            (walk.0, subst (λ (l : Leg). IsLegWalk l walk.0) (planned k) walk.1.is_walk);
+        none = subst HasNoWalk (planned leg) is.none;
+      } in
+      route_trackless legs.whole.over legs.are (first_trackless none)
+
+  -- what is told of certifying is refused as the track is
+  pub told-refuses : (found : Certified) → CertifiesTo setting nodes question.asked.labels found →
+      IfErr (told_of found) (λ e. (e ≡ NoMemory) ⊎ IsRefusedAsTrack question e)
+  told-refuses (Shown certificate) comes = _
+  told-refuses (NoWalk leg) comes = inr (no_track (trackless-answer leg comes))
+  told-refuses (Spent leg) comes =
+      inr (only_spent (record { setting = setting; nodes = nodes; legs = legs; comes = comes }))
+
+-- a refusal before the legs is one of the track
+pub early-refuses : (question : Question) (e : RouteError) → (e ≡ NoMemory) ⊎ HasNoLegs question e →
+    (e ≡ NoMemory) ⊎ IsAnswer question (Err e)
+early-refuses question e (inl no_memory) = inl no_memory
+early-refuses question e (inr none) = inr (none-refuses question e none)
+
+-- so it is of a certificate
+pub early-certifies : (question : Question) (e : RouteError) → (e ≡ NoMemory) ⊎ HasNoLegs question e →
+    (e ≡ NoMemory) ⊎ IsRefusedAsTrack question e
+early-certifies question e (inl no_memory) = inl no_memory
+early-certifies question e (inr none) = inr (no_track (none-refuses question e none))
