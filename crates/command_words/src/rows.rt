@@ -3,9 +3,7 @@
 ghost use Rattle.std.specs.Prelude.{◌≡◌};
 ghost use Rattle.command_words.specs.Rows.{about_of, command_name, key_name, keys_of};
 
-use crate::keys::{
-    CHECK_KEYS, CODE_KEYS, GRID_KEYS, HILLS_KEYS, MAKE_KEYS, ROUTE_KEYS, SERVE_KEYS,
-};
+use crate::keys::{CODE_KEYS, GRID_KEYS, HILLS_KEYS, MAKE_KEYS, ROUTE_KEYS, SERVE_KEYS};
 
 /// The keys of the words after a command.
 #[derive(Clone, Copy)]
@@ -23,7 +21,6 @@ pub enum Key {
     Tile,
     Listen,
     Turns,
-    Certificate,
 }
 
 /// What the value of a key has to be.
@@ -61,8 +58,6 @@ pub enum CommandName {
     Make,
     Code,
     Route,
-    Certify,
-    Check,
     Hills,
     Serve,
 }
@@ -72,13 +67,11 @@ pub enum CommandName {
 pub const MOST_TURNS: u64 = 1 << 63;
 
 /// The commands that are built.
-pub const COMMANDS: [CommandName; 8] = [
+pub const COMMANDS: [CommandName; 6] = [
     CommandName::Grid,
     CommandName::Make,
     CommandName::Code,
     CommandName::Route,
-    CommandName::Certify,
-    CommandName::Check,
     CommandName::Hills,
     CommandName::Serve,
 ];
@@ -103,7 +96,6 @@ impl Key {
             Key::Tile => "tile",
             Key::Listen => "listen",
             Key::Turns => "turns",
-            Key::Certificate => "certificate",
         }
     }
 }
@@ -119,8 +111,6 @@ impl CommandName {
             CommandName::Make => "make",
             CommandName::Code => "code",
             CommandName::Route => "route",
-            CommandName::Certify => "certify",
-            CommandName::Check => "check",
             CommandName::Hills => "hills",
             CommandName::Serve => "serve",
         }
@@ -135,8 +125,7 @@ impl CommandName {
             CommandName::Grid => &GRID_KEYS,
             CommandName::Make => &MAKE_KEYS,
             CommandName::Code => &CODE_KEYS,
-            CommandName::Route | CommandName::Certify => &ROUTE_KEYS,
-            CommandName::Check => &CHECK_KEYS,
+            CommandName::Route => &ROUTE_KEYS,
             CommandName::Hills => &HILLS_KEYS,
             CommandName::Serve => &SERVE_KEYS,
         }
@@ -157,12 +146,6 @@ impl CommandName {
             CommandName::Code => "prints the flat code of a profile under a tag table",
             CommandName::Route =>
                 "answers a query over a map by a profile, with heights from tiles",
-            CommandName::Certify =>
-                "prints a certificate of the track that answers a query: its walks, and labels \
-                 that show them least",
-            CommandName::Check =>
-                "tests a certificate for a query without any search, and prints the cost of its \
-                 track",
             CommandName::Hills =>
                 "prints what the cheapest track costs from corner to corner of the hilly grid of \
                  w by h cells of a seed",

@@ -1,6 +1,5 @@
 pub mod CauseLemmas
 pub mod CommandLemmas
-pub mod CountLemmas
 pub mod EdgeLemmas
 pub mod GivenLemmas
 pub mod OfferLemmas

@@ -1,4 +1,3 @@
-pub mod CertificateLemmas
 pub mod MadeLemmas
 pub mod PlanLemmas
 pub mod RoutedLemmas

@@ -1,4 +1,3 @@
-mod CertificateLemmas
 pub mod EachLemmas
 mod MapReadingLemmas
 pub mod ProfileLemmas

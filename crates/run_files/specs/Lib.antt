@@ -1,4 +1,3 @@
-pub mod Certificate
 pub mod Chain
 pub mod Checked
 pub mod File
