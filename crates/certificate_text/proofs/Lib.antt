@@ -2,7 +2,9 @@ pub mod CallerLemmas
 pub mod ByteLemmas
 pub mod NumberLemmas
 pub mod PartLemmas
+pub mod WalkLemmas
 pub mod LineLemmas
 pub mod DraftLemmas
 pub mod ReadLemmas
+pub mod RereadLemmas
 pub mod WriteLemmas

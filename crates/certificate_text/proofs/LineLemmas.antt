@@ -9,7 +9,8 @@ use Rattle.certificate_text.specs.Lines.{Form, Head, Leg, Cost, Label, End, line
 use Rattle.certificate_text.specs.Parts.{HasNo, Reads}
 use Rattle.certificate_text.proofs.ByteLemmas.{some-none, no-append, cut-same}
 use Rattle.certificate_text.proofs.NumberLemmas.{decimal-no, decimal-own}
-use Rattle.certificate_text.proofs.PartLemmas.{walk-own, walk-no, entry-own, entry-no}
+use Rattle.certificate_text.proofs.PartLemmas.{entry-own, entry-no}
+use Rattle.certificate_text.proofs.WalkLemmas.{walk-own, walk-no}
 
 -- ---- The forms of lines
 

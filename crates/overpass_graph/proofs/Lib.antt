@@ -12,6 +12,7 @@ pub mod TextLemmas
 pub mod TurnLemmas
 pub mod WalkLemmas
 pub mod TagLemmas
+pub mod WeightLemmas
 pub mod NameLemmas
 pub mod MemberLemmas
 pub mod RestrictionLemmas

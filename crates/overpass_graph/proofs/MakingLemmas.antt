@@ -15,8 +15,9 @@ use Rattle.overpass_graph.specs.Pairs.{Net}
 use Rattle.overpass_graph.specs.RouteTags.{tag_members, tag_of_route, tag_with_id, with_route, with_routes}
 use Rattle.overpass_graph.specs.Turns.{TurnTable}
 use Rattle.overpass_graph.proofs.LawfulLemmas.{lawful}
-use Rattle.overpass_graph.proofs.NameLemmas.{ids-same, laid-in_order, routes-ids}
+use Rattle.overpass_graph.proofs.NameLemmas.{ids-same, routes-ids}
 use Rattle.overpass_graph.proofs.NodeLemmas.{picked-ascending, picked-same}
+use Rattle.overpass_graph.proofs.WeightLemmas.{laid-in_order}
 
 -- ---- Tags don't change how many ways there are
 

@@ -3,7 +3,8 @@ use Rattle.std.specs.Prelude.{codes}
 use Rattle.item_list.proofs.TestLemmas.{bytes_eq-refl, bytes_eq-same}
 use Rattle.certificate_text.specs.Texts.{ReadsText}
 use Rattle.certificate_text.proofs.NumberLemmas.{not-both}
-use Rattle.certificate_text.proofs.ReadLemmas.{headless, lineless, read-short, reread, reread-refused}
+use Rattle.certificate_text.proofs.ReadLemmas.{headless, lineless, read-short}
+use Rattle.certificate_text.proofs.RereadLemmas.{reread, reread-refused}
 use Rattle.certificate_text.proofs.reading.read.Goals as goal
 
 pub returns-in_default-clause-reread : goal.returns-in_default-clause-reread

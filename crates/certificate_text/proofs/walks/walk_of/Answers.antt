@@ -1,5 +1,5 @@
 use Rattle.item_list.proofs.ListLemmas.{some_from_test}
-use Rattle.certificate_text.proofs.PartLemmas.{space-first, walking-lost, walking-next, walking-other}
+use Rattle.certificate_text.proofs.WalkLemmas.{space-first, walking-lost, walking-next, walking-other}
 use Rattle.certificate_text.proofs.walks.walk_of.Goals as goal
 
 pub returns-then-rest-ne32 : goal.returns-then-rest-ne32

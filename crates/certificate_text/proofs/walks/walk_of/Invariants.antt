@@ -1,5 +1,5 @@
 use Rattle.std.proofs.Common.{length}
-use Rattle.certificate_text.proofs.PartLemmas.{IsWalking}
+use Rattle.certificate_text.proofs.WalkLemmas.{IsWalking}
 use Rattle.certificate_text.proofs.walks.walk_of.Given as goal
 
 abbrev pub invariant-links : goal.invariant-links

@@ -1,7 +1,7 @@
 use Rattle.std.proofs.Common.{◌≡◌, ◌<◌, ◌∙◌, length, get_or, sym, ap, arith}
 use Rattle.overpass_graph.specs.Links.{link_weight}
 use Rattle.overpass_graph.specs.Maps.{no_link}
-use Rattle.overpass_graph.proofs.NameLemmas.{weight-none}
+use Rattle.overpass_graph.proofs.WeightLemmas.{weight-none}
 use Rattle.overpass_graph.proofs.names.find.Goals.{else-place-len-via-then-place-len+else-link_weight-wanted, else-place-len-via-else-place-len}
 use Rattle.overpass_graph.proofs.names.find.Goals as goal
 

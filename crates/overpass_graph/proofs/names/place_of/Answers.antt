@@ -1,6 +1,6 @@
 use Rattle.std.proofs.Common.{◌+◌, ◌-◌, ◌/◌, ◌∙◌, refl, ap, arith}
 use Rattle.overpass_graph.specs.Links.{link_weight}
-use Rattle.overpass_graph.proofs.NameLemmas.{halving-less, halving-more}
+use Rattle.overpass_graph.proofs.WeightLemmas.{halving-less, halving-more}
 use Rattle.overpass_graph.proofs.names.place_of.Goals as goal
 
 pub halving-preserved-then-link_weight-wanted : goal.halving-preserved-then-link_weight-wanted

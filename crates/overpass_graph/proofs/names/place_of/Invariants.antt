@@ -1,5 +1,5 @@
 use Rattle.std.proofs.Common.{◌-◌}
-use Rattle.overpass_graph.proofs.NameLemmas.{IsHalving}
+use Rattle.overpass_graph.proofs.WeightLemmas.{IsHalving}
 use Rattle.overpass_graph.proofs.names.place_of.Given as goal
 
 abbrev pub invariant-halving : goal.invariant-halving
