@@ -15,9 +15,9 @@ seen_up_to radius number = Some (if nat_lt number radius then number else radius
 
 -- the sums that are kept
 abbrev pub kept_sums : Kept → List (Option ℕ)
-kept_sums (Narrow sums) = map (seen_below NARROW_FAR) sums.items
-kept_sums (Wide sums) = map (seen_below WIDE_FAR) sums.items
-kept_sums (Near sums radius) = map (seen_up_to radius) sums.items
+kept_sums (Narrow sums) = map (seen_below NARROW_FAR) sums
+kept_sums (Wide sums) = map (seen_below WIDE_FAR) sums
+kept_sums (Near sums radius) = map (seen_up_to radius) sums
 
 -- the radius up to which they were found; none where all were
 abbrev pub kept_radius : Kept → Option ℕ

@@ -27,7 +27,7 @@ entry_of number entry = (number entry.0.0, entry.0.1)
 -- what a board stands for
 abbrev pub state_of : {N : Type 0} → (N → ℕ) → Board N → State
 state_of number board = record {
-  sums = map number board.sums.items;
+  sums = map number board.sums;
   queue = map (entry_of number) (heap_items board.queue);
   cut = board.cut;
 }

@@ -4,6 +4,7 @@ ghost use Rattle.std.specs.Prelude.{◌≡◌, ◌<◌, ◌≤◌, IfOk, MatchOp
 ghost use Rattle.least_sums.specs.States.{Lowers, Pops, WaitNoLess, at, state_of};
 
 use crate::amount::Amount;
+use item_list::Paged;
 use std::alloc::{AllocError, Global};
 use std::cmp::Reverse;
 use std::collections::BinaryHeap;
@@ -11,8 +12,8 @@ use std::collections::BinaryHeap;
 /// The sums so far by node; the nodes that wait, each with the sum that it had, least sum first;
 /// and whether a sum was left out because it doesn't fit.
 #[derive(Drop)]
-pub(crate) struct Board<N: Ord> {
-    pub(crate) sums: Vec<N>,
+pub(crate) struct Board<N: Copy + Drop + Ord> {
+    pub(crate) sums: Paged<N>,
     queue: BinaryHeap<Reverse<(N, u32)>>,
     pub(crate) cut: bool,
 }
@@ -24,7 +25,7 @@ impl<N: Amount> Board<N> {
             record { sums = replicate nodes N.FAR; queue = []; cut = false }) }
     {
         Ok(Board {
-            sums: vec![in alloc; N::kept(N::FAR); nodes as usize]?,
+            sums: Paged::new(alloc, N::kept(N::FAR), nodes as usize)?,
             queue: BinaryHeap::new(alloc),
             cut: false,
         })
@@ -35,7 +36,7 @@ impl<N: Amount> Board<N> {
         requires in_range { node < length (state_of N.number self.now).sums }
         ensures value { result ≡ at (state_of N.number self.now) node }
     {
-        self.sums[node as usize].wide()
+        self.sums.get(node as usize).wide()
     }
 
     /// Takes the entry of the least sum from the queue.
@@ -58,7 +59,7 @@ impl<N: Amount> Board<N> {
             (Lowers (state_of N.number self.old) (state_of N.number self.new) node sum) }
     {
         let kept = N::kept(sum);
-        self.sums[node as usize] = kept;
+        self.sums.set(node as usize, kept)?;
         match self.queue.push(Reverse((kept, node))) {
             Ok(()) => Ok(()),
             Err(_) => Err(AllocError),

@@ -54,7 +54,7 @@ pub fn least_sums_near<P: LinkPrices>(
 
 /// How far the finding came.
 #[derive(Drop)]
-struct Ring<N: Ord> {
+struct Ring<N: Copy + Drop + Ord> {
     board: Board<N>,
     /// The radius at which it ended, none where nothing waits any more.
     radius: Option<N>,

@@ -4,15 +4,16 @@ ghost use Rattle.std.specs.Prelude.{◌≡◌, ◌<◌, IfSome, length};
 ghost use Rattle.least_sums.specs.Sums.{SUM_BOUND, sum_of};
 
 use crate::amount::{NARROW_FAR, WIDE_FAR};
+use item_list::Paged;
 use std::marker::Model;
 
 /// Sums by node, as narrow as they fit.
 #[derive(Drop)]
 pub(crate) enum Kept {
-    Narrow(Vec<u64>),
-    Wide(Vec<u128>),
+    Narrow(Paged<u64>),
+    Wide(Paged<u128>),
     /// Those below the radius, which stands for all others.
-    Near { sums: Vec<u64>, radius: u64 },
+    Near { sums: Paged<u64>, radius: u64 },
 }
 
 /// The least sum of each node of a map, or none; or up to a radius alone, which then stands for
@@ -43,7 +44,7 @@ impl Sums {
     {
         match &self.kept {
             Kept::Narrow(sums) => {
-                let sum = sums[node as usize];
+                let sum = sums.get(node as usize);
                 if sum < NARROW_FAR {
                     Some(sum as u128)
                 } else {
@@ -51,11 +52,11 @@ impl Sums {
                 }
             }
             Kept::Wide(sums) => {
-                let sum = sums[node as usize];
+                let sum = sums.get(node as usize);
                 if sum < WIDE_FAR { Some(sum) } else { None }
             }
             Kept::Near { sums, radius } => {
-                let sum = sums[node as usize];
+                let sum = sums.get(node as usize);
                 let radius = *radius;
                 if sum < radius {
                     Some(sum as u128)

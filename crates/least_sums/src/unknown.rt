@@ -6,6 +6,7 @@ ghost use Rattle.least_sums.specs.Sums.{AreBelow, AreLeastSumsUpTo};
 ghost use Rattle.overpass_graph.specs.Maps.{roads_of};
 
 use crate::sums::{Kept, Sums};
+use item_list::Paged;
 use overpass_graph::Map;
 use std::alloc::{AllocError, Global};
 
@@ -17,7 +18,7 @@ pub fn unknown_sums(alloc: Global, map: &Map) -> Result<Sums, AllocError>
     ensures small { IfOk result (λ found. AreBelow found.sums) }
     ensures radius { IfOk result (λ found. found.radius ≡ Some 0) }
 {
-    let sums = vec![in alloc; 0u64; map.nodes() as usize]?;
+    let sums = Paged::new(alloc, 0u64, map.nodes() as usize)?;
     Ok(Sums {
         kept: Kept::Near { sums, radius: 0 },
     })

@@ -141,13 +141,13 @@ module _ {S : Type 0} (rules : Rules S) (before after : Books S)
 
 -- where memory ran out before the label was settled, nothing that is read has changed
 pub leaves-failed :
-    {S : Type 0} (rules : Rules S) (kept : Books S) (settled older : List ℕ) → IsSearch rules kept →
+    {S : Type 0} (rules : Rules S) (kept : Books S) (settled newest older : List ℕ) → IsSearch rules kept →
     settled ≡ kept.settled →
     Leaves rules kept
-    (record { labels = kept.labels; queue = kept.queue; settled = settled; newest = kept.newest; older = older })
-leaves-failed rules kept settled older search is =
+    (record { labels = kept.labels; queue = kept.queue; settled = settled; newest = newest; older = older })
+leaves-failed rules kept settled newest older search is =
     let after : Books _ =
-    record { labels = kept.labels; queue = kept.queue; settled = settled; newest = kept.newest; older = older } in
+    record { labels = kept.labels; queue = kept.queue; settled = settled; newest = newest; older = older } in
     record {
       stands = stands-same rules kept after (λ n l h. h) search.stands is;
       keeps = keeps-same rules kept after (λ n l h. h) search.stands is;

@@ -40,7 +40,7 @@ books lists =
       labels = lists.labels.items;
       queue = heap_items lists.queue;
       settled = lists.settled.items;
-      newest = lists.newest.items;
+      newest = lists.newest;
       older = lists.older.items;
     }
 

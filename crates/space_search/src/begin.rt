@@ -20,7 +20,7 @@ pub(crate) fn begin<T: Copy + Drop, S: Space<State = T>>(
     ensures leaves { Leaves (S.rules space.now) (books lists.old) (books lists.new) }
     ensures settled { (books lists.new).settled ≡ (books lists.old).settled }
 {
-    lists.newest.resize(space.slots() as usize, 0)?;
+    lists.newest.renew(0, space.slots() as usize)?;
     'starts: for choice in 0..space.starts() {
         if let Some(found) = space.start(choice) {
             let (state, cost) = found;

@@ -3,6 +3,7 @@
 ghost use Rattle.space_search.specs.Books.{books, IsFresh};
 
 use crate::label::Label;
+use item_list::Paged;
 use std::alloc::Global;
 use std::cmp::Reverse;
 use std::collections::BinaryHeap;
@@ -14,7 +15,7 @@ pub struct Lists<T> {
     pub(crate) labels: Vec<Label<T>>,
     pub(crate) queue: BinaryHeap<Reverse<(u128, u32)>>,
     pub(crate) settled: Vec<u32>,
-    pub(crate) newest: Vec<u32>,
+    pub(crate) newest: Paged<u32>,
     pub(crate) older: Vec<u32>,
 }
 
@@ -39,7 +40,7 @@ impl<T> Lists<T> {
             labels: Vec::new(alloc),
             queue: BinaryHeap::new(alloc),
             settled: Vec::new(alloc),
-            newest: Vec::new(alloc),
+            newest: Paged::none(alloc, 0),
             older: Vec::new(alloc),
         }
     }

@@ -30,7 +30,7 @@ pub(crate) fn is_covered<T: Copy + Drop, S: Space<State = T>>(
         IsUncovered (S.rules space.now) (books lists.now) state.now cost }
 {
     let slot = space.slot(state);
-    let mut cursor = lists.newest[slot as usize];
+    let mut cursor = lists.newest.get(slot as usize);
     'chain: while cursor > 0 {
         let place = (cursor - 1) as usize;
         let label = lists.labels[lists.settled[place] as usize];

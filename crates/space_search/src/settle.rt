@@ -71,7 +71,8 @@ fn settle_last<T: Copy + Drop, S: Space<State = T>>(
     ensures most { length (books lists.new).settled ≤ length (books lists.old).settled + 1 }
 {
     let slot = space.slot(&label.state) as usize;
-    let before = lists.newest[slot];
+    let before = lists.newest.get(slot);
+    lists.newest.set(slot, lists.settled.len() as u32 + 1)?;
     match lists.older.push(before) {
         Ok(()) => {}
         Err(_) => return Err(AllocError),
@@ -80,7 +81,6 @@ fn settle_last<T: Copy + Drop, S: Space<State = T>>(
         Ok(()) => {}
         Err(_) => return Err(AllocError),
     }
-    lists.newest[slot] = lists.settled.len() as u32;
     let _taken = lists.queue.pop();
     Ok(())
 }

@@ -9,37 +9,37 @@ use Rattle.std.proofs.lemmas.Bool.{not-true}
 pub invariant_of-result : goal.invariant_of-result
 invariant_of-result g c =
     kept-below (roads_of c.args.map.now) (g.P.LinkPrices.priced c.args.prices.now).price c.args.target NARROW_FAR
-    c.in_ok-narrow.narrow.sums.items
+    c.in_ok-narrow.narrow.sums
     (state_of (λ n. n) c.in_ok-narrow.narrow) c.in_ok-narrow.ensures.ends refl
 
 pub returns-then-not-narrow : goal.returns-then-not-narrow
 returns-then-not-narrow g c =
     record {
       exact = kept-least (roads_of c.args.map.now) (g.P.LinkPrices.priced c.args.prices.now).price c.args.target
-          NARROW_FAR c.in_ok-narrow.narrow.sums.items
+          NARROW_FAR c.in_ok-narrow.narrow.sums
           (state_of (λ n. n) c.in_ok-narrow.narrow) c.in_ok-narrow.ensures.ends refl
           (not-true c.in_ok-narrow.narrow.cut c.if-not-narrow.true) (lit< tt);
       whole = refl;
       small = kept-below (roads_of c.args.map.now) (g.P.LinkPrices.priced c.args.prices.now).price c.args.target
-          NARROW_FAR c.in_ok-narrow.narrow.sums.items
+          NARROW_FAR c.in_ok-narrow.narrow.sums
           (state_of (λ n. n) c.in_ok-narrow.narrow) c.in_ok-narrow.ensures.ends refl;
     }
 
 pub invariant_of-result-2 : goal.invariant_of-result-2
 invariant_of-result-2 g c =
     kept-below (roads_of c.args.map.now) (g.P.LinkPrices.priced c.args.prices.now).price c.args.target WIDE_FAR
-    c.in_ok-wide.wide.sums.items
+    c.in_ok-wide.wide.sums
     (state_of (λ n. n) c.in_ok-wide.wide) c.in_ok-wide.ensures.ends refl
 
 pub returns : goal.returns
 returns g c =
     record {
       exact = kept-least (roads_of c.args.map.now) (g.P.LinkPrices.priced c.args.prices.now).price c.args.target
-          WIDE_FAR c.in_ok-wide.wide.sums.items
+          WIDE_FAR c.in_ok-wide.wide.sums
           (state_of (λ n. n) c.in_ok-wide.wide) c.in_ok-wide.ensures.ends refl
           (c.in_ok-wide.ensures.ends.is_state.uncut (lit≤ tt)) (lit< tt);
       whole = refl;
       small = kept-below (roads_of c.args.map.now) (g.P.LinkPrices.priced c.args.prices.now).price c.args.target
-          WIDE_FAR c.in_ok-wide.wide.sums.items
+          WIDE_FAR c.in_ok-wide.wide.sums
           (state_of (λ n. n) c.in_ok-wide.wide) c.in_ok-wide.ensures.ends refl;
     }

@@ -13,7 +13,7 @@ invariant_of-result g c =
     let ended =
     ended-some (roads_of c.args.map.now) prices c.args.target NARROW_FAR c.in-Some.radius found.radius
     (state_of (λ n. n) found.board) c.in-Some.is c.in_ok-found.ensures.ends in
-    near-below c.in-Some.radius found.board.sums.items (omega (arith, ended.fits))
+    near-below c.in-Some.radius found.board.sums (omega (arith, ended.fits))
 
 pub returns-in-Some : goal.returns-in-Some
 returns-in-Some g c =
@@ -24,8 +24,8 @@ returns-in-Some g c =
     (state_of (λ n. n) found.board) c.in-Some.is c.in_ok-found.ensures.ends in
     record {
       exact = kept-near (roads_of c.args.map.now) prices c.args.target NARROW_FAR c.in-Some.radius
-          found.board.sums.items (state_of (λ n. n) found.board) ended refl;
-      small = near-below c.in-Some.radius found.board.sums.items (omega (arith, ended.fits));
+          found.board.sums (state_of (λ n. n) found.board) ended refl;
+      small = near-below c.in-Some.radius found.board.sums (omega (arith, ended.fits));
     }
 
 pub invariant_of-result-in-None : goal.invariant_of-result-in-None
@@ -35,7 +35,7 @@ invariant_of-result-in-None g c =
     let final =
     ended-none (roads_of c.args.map.now) prices c.args.target NARROW_FAR found.radius (state_of (λ n. n) found.board)
     c.in-None.is c.in_ok-found.ensures.ends in
-    kept-below (roads_of c.args.map.now) prices c.args.target NARROW_FAR found.board.sums.items
+    kept-below (roads_of c.args.map.now) prices c.args.target NARROW_FAR found.board.sums
     (state_of (λ n. n) found.board) final refl
 
 pub returns : goal.returns
@@ -47,8 +47,8 @@ returns g c =
     c.in-None.is c.in_ok-found.ensures.ends in
     record {
       exact = up-to-all (roads_of c.args.map.now) prices c.args.target (record { sums = _; radius = None })
-          (kept-least (roads_of c.args.map.now) prices c.args.target NARROW_FAR found.board.sums.items
+          (kept-least (roads_of c.args.map.now) prices c.args.target NARROW_FAR found.board.sums
           (state_of (λ n. n) found.board) final refl c.if-cut.false (lit< tt)) refl;
-      small = kept-below (roads_of c.args.map.now) prices c.args.target NARROW_FAR found.board.sums.items
+      small = kept-below (roads_of c.args.map.now) prices c.args.target NARROW_FAR found.board.sums
           (state_of (λ n. n) found.board) final refl;
     }

@@ -6,15 +6,15 @@ use Rattle.least_sums.proofs.UnknownLemmas.{unknown-least}
 use Rattle.least_sums.proofs.unknown.unknown_sums.Goals as goal
 
 pub invariant_of-result : goal.invariant_of-result
-invariant_of-result c = near-below 0 c.in_ok-sums.sums.items (lit< tt)
+invariant_of-result c = near-below 0 c.in_ok-sums.sums (lit< tt)
 
 pub returns : goal.returns
 returns c =
     let sums = c.in_ok-sums.ensures.items_if_clones_equal (λ y same. same) in
     record {
       exact = λ prices target.
-          unknown-least (roads_of c.args.map.now) prices target c.in_ok-sums.sums.items
+          unknown-least (roads_of c.args.map.now) prices target c.in_ok-sums.sums
           (ap length sums ∙ length-replicate c.nodes.result 0 ∙ c.nodes.ensures.value);
-      small = near-below 0 c.in_ok-sums.sums.items (lit< tt);
+      small = near-below 0 c.in_ok-sums.sums (lit< tt);
       radius = refl;
     }

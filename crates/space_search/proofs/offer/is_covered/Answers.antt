@@ -5,7 +5,7 @@ use Rattle.space_search.proofs.offer.is_covered.Goals as goal
 pub chain-init : goal.chain-init
 chain-init g c =
     tested-first _ (g.met.S.Space.keeps_laws c.args.space.now) _ c.requires.kept c.args.state.now c.args.cost
-    c.requires.later c.slot-slot.result c.index-cursor.result.now c.slot-slot.ensures.value c.index-cursor.ensures
+    c.requires.later c.slot-slot.result c.get-cursor.result c.slot-slot.ensures.value c.get-cursor.ensures.value
 
 pub index-requires : goal.index-requires
 index-requires g c =
@@ -55,8 +55,8 @@ returns-then-covers-clause-covered g c h =
       covers = sym c.covers.ensures.value ∙ c.if-covers.true;
     }
 
-pub index-cursor-requires-in-chain : goal.index-cursor-requires-in-chain
-index-cursor-requires-in-chain g c =
+pub index-cursor-requires : goal.index-cursor-requires
+index-cursor-requires g c =
     omega (
       arith,
       within-older _ _ _ c.chain.cursor
@@ -69,7 +69,7 @@ chain-smaller g c =
     next-below _ _ _ c.chain.cursor
     (names-tested _ _ c.args.state.now c.args.cost c.chain.cursor c.requires.kept c.chain-test.true c.chain.invariant)
     c.index.result.now c.index.ensures
-    c.index-in-chain.result.now c.index-in-chain.ensures c.index-cursor-in-chain.result.now c.index-cursor-in-chain.ensures
+    c.index-in-chain.result.now c.index-in-chain.ensures c.index-cursor.result.now c.index-cursor.ensures
 
 pub chain-preserved : goal.chain-preserved
 chain-preserved g c =
@@ -80,9 +80,9 @@ chain-preserved g c =
     c.index-in-chain.ensures)
     (same-slot _ _ _ c.chain.cursor names c.index.result.now c.index.ensures c.index-in-chain.result.now
     c.index-in-chain.ensures)
-    c.index-cursor-in-chain.result.now
+    c.index-cursor.result.now
     (latest _ _ _ c.chain.cursor names c.index.result.now c.index.ensures c.index-in-chain.result.now
-    c.index-in-chain.ensures c.index-cursor-in-chain.result.now c.index-cursor-in-chain.ensures)
+    c.index-in-chain.ensures c.index-cursor.result.now c.index-cursor.ensures)
     (sym c.covers.ensures.value ∙ c.if-covers.false)
 
 pub returns-clause-uncovered : goal.returns-clause-uncovered
