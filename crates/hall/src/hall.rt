@@ -12,7 +12,7 @@ use crate::stepping::step;
 use crate::working::work;
 use edge_io::{Event, Hub};
 use route_ready::{Shelf, World};
-use session_answers::{KeptProfiles, Profiles};
+use session_answers::{KeptProfiles, Profiles, make_ready};
 use std::alloc::{AllocError, Global};
 use std::collections::VecDeque;
 use std::marker::Model;
@@ -60,7 +60,8 @@ impl Hall {
     ghost use Rattle.route_ready.specs.World.{world_of};
     ghost use Rattle.session_answers.specs.Stored.{AreGiven};
 
-    /// A hall without connections. No name in the shelf begins with `custom_`.
+    /// A hall without connections, in which the first profiles were made ready. No name in the
+    /// shelf begins with `custom_`.
     pub fn new(alloc: Global, world: World, shelf: Shelf) -> Result<Hall, AllocError>
         requires given { AreGiven (names_of (shelf_of shelf)) }
         ensures empty { IfOk result (λ hall. state_of hall ≡ empty_hall (shelf_of shelf)) }
@@ -68,11 +69,12 @@ impl Hall {
             IfOk result (λ hall. service_of hall ≡
             record { world = world_of world; given = given }) }
     {
-        let kept = KeptProfiles::new(alloc)?;
+        let mut kept = KeptProfiles::new(alloc)?;
         let seats = free_seats(alloc)?;
         let queue = VecDeque::with_capacity(alloc, MOST_SESSIONS)?;
         let ready = ReadyFrames::new(alloc)?;
         let profiles = Profiles::new(shelf);
+        make_ready(alloc, &world, &profiles, &mut kept);
         let desk = Desk {
             alloc,
             world,

@@ -19,7 +19,7 @@ use std::num::NonZeroUsize;
 use std::rc::Rc;
 
 /// How many profiles are kept at most.
-const MOST_KEPT: usize = 8;
+pub(crate) const MOST_KEPT: usize = 8;
 
 /// Profiles that were made ready for a world: the last eight that requests used.
 #[derive(Drop)]

@@ -14,6 +14,7 @@ mod routes;
 mod turning;
 mod uploading;
 mod verdict;
+mod warming;
 
 pub use beginning::{Begun, begin};
 pub use frames::{line_frame, refusal_frame};
@@ -24,3 +25,4 @@ pub use refusal::Refusal;
 pub use turning::turn;
 pub use uploading::upload;
 pub use verdict::Verdict;
+pub use warming::make_ready;

@@ -10,18 +10,22 @@ use Rattle.route_ready.specs.World.{world_of}
 use Rattle.session_answers.specs.Profiles.{stored_of}
 use Rattle.hall.proofs.hall.Hall.new.Goals as goal
 
+pub make_ready-requires : goal.make_ready-requires
+make_ready-requires c = record {
+  kept = c.in_ok-kept.ensures.kept (world_of c.args.world) (profiles_of (stored_of c.new-profiles.result));
+}
+
 pub invariant_of-result : goal.invariant_of-result
 invariant_of-result c =
     let desk : Desk = record {
       alloc = c.args.alloc;
       world = c.args.world;
       profiles = c.new-profiles.result;
-      kept = c.in_ok-kept.kept;
+      kept = c.make_ready.new.kept;
       queue = c.in_ok-queue.queue;
     } in
     let room : Room = record { seats = c.in_ok-seats.seats; desk = desk } in
-    held_empty room seat_count c.in_ok-seats.ensures.free refl c.in_ok-queue.ensures.items
-    (c.in_ok-kept.ensures.kept (world_of c.args.world) (profiles_of (stored_of c.new-profiles.result)))
+    held_empty room seat_count c.in_ok-seats.ensures.free refl c.in_ok-queue.ensures.items c.make_ready.ensures.kept
 
 pub returns-clause-empty : goal.returns-clause-empty
 unfolding state_of
@@ -30,7 +34,7 @@ returns-clause-empty c =
       alloc = c.args.alloc;
       world = c.args.world;
       profiles = c.new-profiles.result;
-      kept = c.in_ok-kept.kept;
+      kept = c.make_ready.new.kept;
       queue = c.in_ok-queue.queue;
     } in
     let room : Room = record { seats = c.in_ok-seats.seats; desk = desk } in
