@@ -10,7 +10,7 @@ invariant_of-result c = near-below 0 c.in_ok-sums.sums (lit< tt)
 
 pub returns : goal.returns
 returns c =
-    let sums = c.in_ok-sums.ensures.items_if_clones_equal (λ y same. same) in
+    let sums = c.in_ok-sums.ensures.value in
     record {
       exact = λ prices target.
           unknown-least (roads_of c.args.map.now) prices target c.in_ok-sums.sums
