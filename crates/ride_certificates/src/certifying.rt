@@ -1,6 +1,7 @@
 //! The certificate of a request.
 
 ghost use Rattle.std.specs.Prelude.{◌≡◌, ◌⊎◌, ◌<◌, ◌^◌, IfErr, IfOk, Ok, Result};
+ghost use Rattle.certificate_text.specs.Texts.{AreLegs, legs_of};
 ghost use Rattle.certificate_text.specs.declared.certificate.Certificate.{Certificate};
 ghost use Rattle.profile_text.specs.Expr.{sections_in};
 ghost use Rattle.ride_certificates.specs.Bases.{IsBasisOn, setting_on};
@@ -37,6 +38,10 @@ pub fn certify(
     ensures exact { let question =
         question_of (world_of world.now) (sections_in profile.now) (asked request) in
         Certifies question result }
+
+    // What is given may be written.
+    ensures fits { IfOk result (λ certificate.
+        AreLegs (world_of world.now).map (legs_of certificate)) }
 
     // Whatever a check of what is given answers, for the same question, is yes.
     ensures agrees { let question =
