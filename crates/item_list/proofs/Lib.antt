@@ -3,3 +3,4 @@ pub mod ListLemmas
 pub mod TestLemmas
 pub mod SaysLemmas
 pub mod PathLemmas
+pub mod PageLemmas

@@ -9,6 +9,7 @@ mod counts;
 mod items;
 mod names;
 mod numbers;
+mod paged;
 mod try_clone;
 mod turn;
 
@@ -17,5 +18,6 @@ pub use bytes::{base_name, is_digit, is_space, len_before};
 pub use counts::{narrow, next_number};
 pub use items::Items;
 pub use names::{Name, Tags};
+pub use paged::Paged;
 pub use try_clone::TryClone;
 pub use turn::Turn;
