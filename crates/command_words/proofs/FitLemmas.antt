@@ -7,7 +7,7 @@ use Rattle.command_words.specs.Given.{Given, Named}
 use Rattle.command_words.specs.Rows.{keys_of, most_turns}
 use Rattle.command_words.specs.Value.{number_in, place_in, product_in}
 use Rattle.command_words.specs.Reader.{entry_with, entries_after, entries_of}
-use Rattle.command_words.specs.Command.{lies_in, files_with, grid_by, grid_over, grid_with, hills_with, complete, command_with, code_with, make_with, file_in, files_in, route_with, serve_with, turns_in}
+use Rattle.command_words.specs.Command.{lies_in, files_with, grid_by, grid_over, grid_with, hills_with, complete, command_with, code_with, make_with, file_in, files_in, route_by, certify_by, check_by, ride_in, serve_with, turns_in}
 use Rattle.command_words.proofs.AddressLemmas.{address-spelled}
 use Rattle.command_words.proofs.EntryLemmas.{AllFit, split, err-not_ok, after-fit, whole-read, with-fit}
 use Rattle.command_words.proofs.ServeLemmas.{after-once, profiles-fit}
@@ -21,10 +21,11 @@ use Rattle.command_words.specs.declared.command.GridCommand.{GridCommand}
 use Rattle.command_words.specs.declared.command.HillsCommand.{HillsCommand}
 use Rattle.command_words.specs.declared.command.MakeCommand.{MakeCommand}
 use Rattle.command_words.specs.declared.command.RouteCommand.{RouteCommand}
+use Rattle.command_words.specs.declared.command.CheckCommand.{CheckCommand}
 use Rattle.command_words.specs.declared.command.ServeCommand.{ServeCommand}
 use Rattle.command_words.specs.declared.rows.CommandName.{CommandName}
 use Rattle.command_words.specs.declared.rows.CommandName.TheVariants as Name
-use Rattle.command_words.specs.declared.rows.Key.TheVariants.{Seed, Width, Height, From, To, What, Lookups, Profile, Map, Query, Tile, Listen, Turns}
+use Rattle.command_words.specs.declared.rows.Key.TheVariants.{Seed, Width, Height, From, To, What, Lookups, Profile, Map, Query, Tile, Listen, Turns, Certificate}
 use Rattle.command_words.specs.declared.value.Place.{Place}
 
 in_grid : (w h : ℕ) (place : Place) → lies_in w h place ≡ true → (place.x < w) × (place.y < h)
@@ -124,17 +125,26 @@ code_with-fit after (Some lookups) (Some profile) command e =
 code_with-fit after None profile command e = absurd (err-not_ok after command e)
 code_with-fit after (Some lookups) None command e = absurd (err-not_ok after command e)
 
-route_with-fit : (after : ℕ) (lookups profile roads query : Option Given) (tiles : List Named) (command : Command) →
-    route_with after lookups profile roads query tiles ≡ Ok command → IsFit command
-route_with-fit after (Some lookups) (Some profile) (Some roads) (Some query) tiles command e =
-    let made : RouteCommand =
-    record { lookups = file_in lookups; profile = file_in profile; map = file_in roads; query = file_in query; tiles = tiles } in
-    let same : Form.TheVariants.Route made ≡ command = cc in
+route_by-fit : (route : Result RouteCommand ℕ) (command : Command) → route_by route ≡ Ok command → IsFit command
+route_by-fit (Ok route) command e =
+    let same : Form.TheVariants.Route route ≡ command = cc in
     subst IsFit same tt
-route_with-fit after None profile roads query tiles command e = absurd (err-not_ok after command e)
-route_with-fit after (Some lookups) None roads query tiles command e = absurd (err-not_ok after command e)
-route_with-fit after (Some lookups) (Some profile) None query tiles command e = absurd (err-not_ok after command e)
-route_with-fit after (Some lookups) (Some profile) (Some roads) None tiles command e = absurd (err-not_ok after command e)
+route_by-fit (Err word) command e = absurd (err-not_ok word command e)
+
+certify_by-fit : (route : Result RouteCommand ℕ) (command : Command) → certify_by route ≡ Ok command → IsFit command
+certify_by-fit (Ok route) command e =
+    let same : Form.TheVariants.Certify route ≡ command = cc in
+    subst IsFit same tt
+certify_by-fit (Err word) command e = absurd (err-not_ok word command e)
+
+check_by-fit : (after : ℕ) (route : Result RouteCommand ℕ) (certificate : Option Given) (command : Command) →
+    check_by after route certificate ≡ Ok command → IsFit command
+check_by-fit after (Ok route) (Some certificate) command e =
+    let made : CheckCommand = record { route = route; certificate = file_in certificate } in
+    let same : Form.TheVariants.Check made ≡ command = cc in
+    subst IsFit same tt
+check_by-fit after (Ok route) None command e = absurd (err-not_ok after command e)
+check_by-fit after (Err word) certificate command e = absurd (err-not_ok word command e)
 
 -- a server takes a number of events within its limits
 turns-fit : (turns : Option Given) → ((e : Given) → turns ≡ Some e → (1 ≤ number_in e.value) × (number_in e.value ≤ most_turns)) →
@@ -214,9 +224,10 @@ complete-fit Name.Hills entries after command all once e =
     (λ x is. with-fit (keys_of Name.Hills) Height entries x all is) e
 complete-fit Name.Code entries after command all once e =
     code_with-fit after (entry_with Lookups entries) (entry_with Profile entries) command e
-complete-fit Name.Route entries after command all once e =
-    route_with-fit after (entry_with Lookups entries) (entry_with Profile entries) (entry_with Map entries) (entry_with Query entries)
-    (files_in Tile entries) command e
+complete-fit Name.Route entries after command all once e = route_by-fit (ride_in entries after) command e
+complete-fit Name.Certify entries after command all once e = certify_by-fit (ride_in entries after) command e
+complete-fit Name.Check entries after command all once e =
+    check_by-fit after (ride_in entries after) (entry_with Certificate entries) command e
 complete-fit Name.Serve entries after command all once e =
     serve_with-fit after (entry_with Lookups entries) (entry_with Map entries) (files_in Profile entries) (files_in Tile entries)
     (entry_with Listen entries) (entry_with Turns entries) command

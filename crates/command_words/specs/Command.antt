@@ -7,12 +7,13 @@ use Rattle.command_words.specs.Reader.{entries_of, entries_with, entry_with}
 use Rattle.command_words.specs.Rows.{command_name, commands, keys_of, most_turns}
 use Rattle.command_words.specs.Value.{number_in, place_in, product_in}
 use Rattle.command_words.specs.declared.rows.CommandName.{CommandName}
-use Rattle.command_words.specs.declared.rows.CommandName.TheVariants.{Grid, Make, Code, Route, Hills, Serve}
+use Rattle.command_words.specs.declared.rows.CommandName.TheVariants.{Grid, Make, Code, Route, Certify, Check, Hills, Serve}
 use Rattle.command_words.specs.declared.rows.Key.{Key}
-use Rattle.command_words.specs.declared.rows.Key.TheVariants.{Seed, Width, Height, From, To, What, Lookups, Profile, Map, Query, Tile, Listen, Turns}
+use Rattle.command_words.specs.declared.rows.Key.TheVariants.{Seed, Width, Height, From, To, What, Lookups, Profile, Map, Query, Tile, Listen, Turns, Certificate}
 use Rattle.command_words.specs.declared.command.Command.{Command}
 use Rattle.command_words.specs.declared.command.Command as Form
 use Rattle.command_words.specs.declared.command.CodeCommand.{CodeCommand}
+use Rattle.command_words.specs.declared.command.RouteCommand.{RouteCommand}
 use Rattle.command_words.specs.declared.value.Place.{Place}
 
 -- a place lies in a grid of these sizes
@@ -84,19 +85,41 @@ code_with after lookups profile = Err after
 abbrev pub files_in : Key → List Given → List Named
 files_in key entries = map file_in (entries_with key entries)
 
--- the command of a query and the files that it is answered over, or the place after the last word where one
--- is missing
-abbrev pub route_with : (after : ℕ) (lookups profile roads query : Option Given) (tiles : List Named)
-    → Result Command ℕ
-route_with after (Some lookups) (Some profile) (Some roads) (Some query) tiles =
-    Ok (Form.TheVariants.Route (record {
+-- a query and the files that it is answered over, or the place after the last word where one is missing
+abbrev pub ride_with : (after : ℕ) (lookups profile roads query : Option Given) (tiles : List Named)
+    → Result RouteCommand ℕ
+ride_with after (Some lookups) (Some profile) (Some roads) (Some query) tiles =
+    Ok (record {
       lookups = file_in lookups;
       profile = file_in profile;
       map = file_in roads;
       query = file_in query;
       tiles = tiles;
-    }))
-route_with after lookups profile roads query tiles = Err after
+    })
+ride_with after lookups profile roads query tiles = Err after
+
+-- the query of these entries and its files, before the word at this place
+abbrev pub ride_in : List Given → ℕ → Result RouteCommand ℕ
+ride_in entries after =
+    ride_with after (entry_with Lookups entries) (entry_with Profile entries) (entry_with Map entries)
+    (entry_with Query entries) (files_in Tile entries)
+
+-- the command that answers a query
+abbrev pub route_by : Result RouteCommand ℕ → Result Command ℕ
+route_by (Ok route) = Ok (Form.TheVariants.Route route)
+route_by (Err word) = Err word
+
+-- the command that certifies the answer of a query
+abbrev pub certify_by : Result RouteCommand ℕ → Result Command ℕ
+certify_by (Ok route) = Ok (Form.TheVariants.Certify route)
+certify_by (Err word) = Err word
+
+-- the command that checks a certificate for a query, or the place after the last word where it is missing
+abbrev pub check_by : ℕ → Result RouteCommand ℕ → Option Given → Result Command ℕ
+check_by after (Ok route) (Some certificate) =
+    Ok (Form.TheVariants.Check (record { route = route; certificate = file_in certificate }))
+check_by after (Ok route) None = Err after
+check_by after (Err word) certificate = Err word
 
 -- the command of a hilly grid, or the place after the last word where an entry is missing
 abbrev pub hills_with : ℕ → Option Given → Option Given → Option Given → Result Command ℕ
@@ -139,9 +162,9 @@ complete Make entries after =
     make_with after (entry_with Seed entries) (entry_with Width entries) (entry_with Height entries)
     (entry_with What entries)
 complete Code entries after = code_with after (entry_with Lookups entries) (entry_with Profile entries)
-complete Route entries after =
-    route_with after (entry_with Lookups entries) (entry_with Profile entries) (entry_with Map entries)
-    (entry_with Query entries) (files_in Tile entries)
+complete Route entries after = route_by (ride_in entries after)
+complete Certify entries after = certify_by (ride_in entries after)
+complete Check entries after = check_by after (ride_in entries after) (entry_with Certificate entries)
 complete Hills entries after =
     hills_with after (entry_with Seed entries) (entry_with Width entries) (entry_with Height entries)
 complete Serve entries after =

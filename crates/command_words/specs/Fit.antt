@@ -60,5 +60,7 @@ IsFit (Form.TheVariants.Grid command) = IsGridFit command
 IsFit (Form.TheVariants.Make command) = IsSized command.seed command.w command.h
 IsFit (Form.TheVariants.Code command) = Unit {0}
 IsFit (Form.TheVariants.Route command) = Unit {0}
+IsFit (Form.TheVariants.Certify command) = Unit {0}
+IsFit (Form.TheVariants.Check command) = Unit {0}
 IsFit (Form.TheVariants.Hills command) = IsSized command.seed command.w command.h
 IsFit (Form.TheVariants.Serve command) = IsServeFit command

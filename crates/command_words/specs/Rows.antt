@@ -1,12 +1,12 @@
 -- The commands as rows. This project's own rule.
-use Rattle.std.specs.Prelude.{ℕ, ◌^◌, List, [], ◌∷◌, codes}
+use Rattle.std.specs.Prelude.{ℕ, ◌^◌, List, [], ◌∷◌, ◌++◌, codes}
 use Rattle.command_words.specs.declared.rows.Key.{Key}
-use Rattle.command_words.specs.declared.rows.Key.TheVariants.{Seed, Width, Height, From, To, What, Lookups, Profile, Map, Query, Tile, Listen, Turns}
+use Rattle.command_words.specs.declared.rows.Key.TheVariants.{Seed, Width, Height, From, To, What, Lookups, Profile, Map, Query, Tile, Listen, Turns, Certificate}
 use Rattle.command_words.specs.declared.rows.Form.{Form}
 use Rattle.command_words.specs.declared.rows.Form.TheVariants as form
 use Rattle.command_words.specs.declared.rows.KeyRow.{KeyRow}
 use Rattle.command_words.specs.declared.rows.CommandName.{CommandName}
-use Rattle.command_words.specs.declared.rows.CommandName.TheVariants.{Grid, Make, Code, Route, Hills, Serve}
+use Rattle.command_words.specs.declared.rows.CommandName.TheVariants.{Grid, Make, Code, Route, Certify, Check, Hills, Serve}
 
 -- what stands before the equals sign
 unfoldable pub key_name : Key → List ℕ
@@ -23,6 +23,7 @@ key_name Query = codes "query"
 key_name Tile = codes "tile"
 key_name Listen = codes "listen"
 key_name Turns = codes "turns"
+key_name Certificate = codes "certificate"
 
 -- the first word of a command
 unfoldable pub command_name : CommandName → List ℕ
@@ -30,6 +31,8 @@ command_name Grid = codes "grid"
 command_name Make = codes "make"
 command_name Code = codes "code"
 command_name Route = codes "route"
+command_name Certify = codes "certify"
+command_name Check = codes "check"
 command_name Hills = codes "hills"
 command_name Serve = codes "serve"
 
@@ -45,6 +48,12 @@ up_to most key wanted = record { form = wanted; least = 0; most = most; key = ke
 abbrev pub most_turns : ℕ
 most_turns = 2 ^ 63
 
+-- the keys of a command that answers a query over files
+abbrev pub ride_keys : List KeyRow
+ride_keys =
+    once Lookups form.File ∷ once Profile form.ProfileFile ∷ once Map form.File ∷ once Query
+    form.Query ∷ up_to 64 Tile form.File ∷ []
+
 -- the keys of a command
 unfoldable pub keys_of : CommandName → List KeyRow
 keys_of Grid =
@@ -55,9 +64,9 @@ keys_of Make =
     once Seed (form.Number 0 65535) ∷ once Width (form.Number 1 1000) ∷ once Height
     (form.Number 1 1000) ∷ once What form.Product ∷ []
 keys_of Code = once Lookups form.File ∷ once Profile form.ProfileFile ∷ []
-keys_of Route =
-    once Lookups form.File ∷ once Profile form.ProfileFile ∷ once Map form.File ∷ once Query
-    form.Query ∷ up_to 64 Tile form.File ∷ []
+keys_of Route = ride_keys
+keys_of Certify = ride_keys
+keys_of Check = ride_keys ++ once Certificate form.File ∷ []
 keys_of Hills = once Seed (form.Number 0 65535) ∷ once Width (form.Number 1 1000) ∷ once Height
     (form.Number 1 1000) ∷ []
 keys_of Serve =
@@ -72,6 +81,11 @@ about_of Make =
     codes "writes the map of the grid of w by h cells of a seed, or the tile of heights of the seed"
 about_of Code = codes "prints the flat code of a profile under a tag table"
 about_of Route = codes "answers a query over a map by a profile, with heights from tiles"
+about_of Certify =
+    codes
+    "prints a certificate of the track that answers a query: its walks, and labels that show them least"
+about_of Check =
+    codes "tests a certificate for a query without any search, and prints the cost of its track"
 about_of Hills =
     codes
     "prints what the cheapest track costs from corner to corner of the hilly grid of w by h cells of a seed"
@@ -79,4 +93,4 @@ about_of Serve = codes "answers routes over HTTP, and takes profiles"
 
 -- the commands that are built
 abbrev pub commands : List CommandName
-commands = Grid ∷ Make ∷ Code ∷ Route ∷ Hills ∷ Serve ∷ []
+commands = Grid ∷ Make ∷ Code ∷ Route ∷ Certify ∷ Check ∷ Hills ∷ Serve ∷ []

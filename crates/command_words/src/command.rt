@@ -42,7 +42,7 @@ pub struct CodeCommand<'a> {
     pub profile: FileWord<'a>,
 }
 
-/// The command `route`: the files of the tag table, of the profile, of the map and of the tiles,
+/// The commands `route` and `certify`: the files of the tag table, of the profile, of the map and of the tiles,
 /// and a query.
 #[derive(Drop)]
 pub struct RouteCommand<'a> {
@@ -51,6 +51,13 @@ pub struct RouteCommand<'a> {
     pub map: FileWord<'a>,
     pub query: FileWord<'a>,
     pub tiles: Items<FileWord<'a>>,
+}
+
+/// The command `check`: what the command `route` is given, and the file of a certificate.
+#[derive(Drop)]
+pub struct CheckCommand<'a> {
+    pub route: RouteCommand<'a>,
+    pub certificate: FileWord<'a>,
 }
 
 /// The command `hills`: the hilly grid of a seed with `w` cells in a row and `h` rows.
@@ -108,6 +115,8 @@ pub enum Command<'a> {
     Make(MakeCommand),
     Code(CodeCommand<'a>),
     Route(RouteCommand<'a>),
+    Certify(RouteCommand<'a>),
+    Check(CheckCommand<'a>),
     Hills(HillsCommand),
     Serve(ServeCommand<'a>),
 }

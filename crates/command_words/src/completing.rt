@@ -1,13 +1,14 @@
 //! The command of a name and of what the words after it give.
 
 ghost use Rattle.std.specs.Prelude.{◌≡◌, option_map};
-ghost use Rattle.command_words.specs.Command.{complete, file_in, files_in, files_with, grid_by, lies_in, turns_in};
+ghost use Rattle.command_words.specs.Command.{complete, file_in, files_in, files_with, grid_by, lies_in, ride_in, turns_in};
 ghost use Rattle.command_words.specs.Refusals.{now_of};
 ghost use Rattle.command_words.specs.declared.rows.CommandName.{CommandName};
 ghost use Rattle.command_words.specs.declared.rows.Key.{Key};
 
 use crate::command::{
-    CodeCommand, Command, GridCommand, HillsCommand, MakeCommand, RouteCommand, ServeCommand,
+    CheckCommand, CodeCommand, Command, GridCommand, HillsCommand, MakeCommand, RouteCommand,
+    ServeCommand,
 };
 use crate::entry::{Entry, FileWord};
 use crate::reader::entry_with;
@@ -34,6 +35,8 @@ pub fn complete<'a>(
         CommandName::Make => complete_make(entries, after),
         CommandName::Code => complete_code(entries, after),
         CommandName::Route => complete_route(entries, tiles, after),
+        CommandName::Certify => complete_certify(entries, tiles, after),
+        CommandName::Check => complete_check(entries, tiles, after),
         CommandName::Hills => complete_hills(entries, after),
         CommandName::Serve => complete_serve(entries, profiles, tiles, after),
     }
@@ -139,6 +142,29 @@ fn complete_code<'a>(entries: &[Entry<'a>], after: u64) -> Result<Command<'a>, u
     }))
 }
 
+/// The query of these entries, which name these tiles, and the files that it is answered over,
+/// before the word at the place `after`.
+fn ride_in<'a>(
+    entries: &[Entry<'a>],
+    tiles: Items<FileWord<'a>>,
+    after: u64,
+) -> Result<RouteCommand<'a>, u64>
+    requires tiles { tiles ≡ files_in Key.Tile entries.now }
+    ensures exact { result ≡ ride_in entries.now after }
+{
+    let lookups = entry_with(entries, Key::Lookups).ok_or(after)?;
+    let profile = entry_with(entries, Key::Profile).ok_or(after)?;
+    let map = entry_with(entries, Key::Map).ok_or(after)?;
+    let query = entry_with(entries, Key::Query).ok_or(after)?;
+    Ok(RouteCommand {
+        lookups: lookups.file(),
+        profile: profile.file(),
+        map: map.file(),
+        query: query.file(),
+        tiles,
+    })
+}
+
 /// The command `route` of these entries, which name these tiles, before the word at the place
 /// `after`.
 #[tactic(auto, unfolding(crate::specs::Command::complete))]
@@ -150,16 +176,41 @@ fn complete_route<'a>(
     requires tiles { tiles ≡ files_in Key.Tile entries.now }
     ensures exact { result ≡ complete CommandName.Route entries.now after }
 {
-    let lookups = entry_with(entries, Key::Lookups).ok_or(after)?;
-    let profile = entry_with(entries, Key::Profile).ok_or(after)?;
-    let map = entry_with(entries, Key::Map).ok_or(after)?;
-    let query = entry_with(entries, Key::Query).ok_or(after)?;
-    Ok(Command::Route(RouteCommand {
-        lookups: lookups.file(),
-        profile: profile.file(),
-        map: map.file(),
-        query: query.file(),
-        tiles,
+    let route = ride_in(entries, tiles, after)?;
+    Ok(Command::Route(route))
+}
+
+/// The command `certify` of these entries, which name these tiles, before the word at the place
+/// `after`.
+#[tactic(auto, unfolding(crate::specs::Command::complete))]
+fn complete_certify<'a>(
+    entries: &[Entry<'a>],
+    tiles: Items<FileWord<'a>>,
+    after: u64,
+) -> Result<Command<'a>, u64>
+    requires tiles { tiles ≡ files_in Key.Tile entries.now }
+    ensures exact { result ≡ complete CommandName.Certify entries.now after }
+{
+    let route = ride_in(entries, tiles, after)?;
+    Ok(Command::Certify(route))
+}
+
+/// The command `check` of these entries, which name these tiles, before the word at the place
+/// `after`.
+#[tactic(auto, unfolding(crate::specs::Command::complete))]
+fn complete_check<'a>(
+    entries: &[Entry<'a>],
+    tiles: Items<FileWord<'a>>,
+    after: u64,
+) -> Result<Command<'a>, u64>
+    requires tiles { tiles ≡ files_in Key.Tile entries.now }
+    ensures exact { result ≡ complete CommandName.Check entries.now after }
+{
+    let route = ride_in(entries, tiles, after)?;
+    let certificate = entry_with(entries, Key::Certificate).ok_or(after)?;
+    Ok(Command::Check(CheckCommand {
+        route,
+        certificate: certificate.file(),
     }))
 }
 

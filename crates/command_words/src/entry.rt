@@ -131,7 +131,7 @@ impl<'a> Entry<'a> {
 }
 
 /// All keys.
-const ALL_KEYS: [Key; 13] = [
+const ALL_KEYS: [Key; 14] = [
     Key::Seed,
     Key::Width,
     Key::Height,
@@ -145,6 +145,7 @@ const ALL_KEYS: [Key; 13] = [
     Key::Tile,
     Key::Listen,
     Key::Turns,
+    Key::Certificate,
 ];
 
 /// The key that a text names.

@@ -14,8 +14,8 @@ mod rows;
 mod value;
 
 pub use command::{
-    CodeCommand, Command, GridCommand, HillsCommand, MakeCommand, RouteCommand, ServeCommand,
-    command_of,
+    CheckCommand, CodeCommand, Command, GridCommand, HillsCommand, MakeCommand, RouteCommand,
+    ServeCommand, command_of,
 };
 pub use entry::FileWord;
 pub use file_names::{is_profile_file, profile_name};

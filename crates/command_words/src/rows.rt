@@ -3,7 +3,9 @@
 ghost use Rattle.std.specs.Prelude.{◌≡◌};
 ghost use Rattle.command_words.specs.Rows.{about_of, command_name, key_name, keys_of};
 
-use crate::keys::{CODE_KEYS, GRID_KEYS, HILLS_KEYS, MAKE_KEYS, ROUTE_KEYS, SERVE_KEYS};
+use crate::keys::{
+    CHECK_KEYS, CODE_KEYS, GRID_KEYS, HILLS_KEYS, MAKE_KEYS, ROUTE_KEYS, SERVE_KEYS,
+};
 
 /// The keys of the words after a command.
 #[derive(Clone, Copy)]
@@ -21,6 +23,7 @@ pub enum Key {
     Tile,
     Listen,
     Turns,
+    Certificate,
 }
 
 /// What the value of a key has to be.
@@ -58,6 +61,8 @@ pub enum CommandName {
     Make,
     Code,
     Route,
+    Certify,
+    Check,
     Hills,
     Serve,
 }
@@ -67,11 +72,13 @@ pub enum CommandName {
 pub const MOST_TURNS: u64 = 1 << 63;
 
 /// The commands that are built.
-pub const COMMANDS: [CommandName; 6] = [
+pub const COMMANDS: [CommandName; 8] = [
     CommandName::Grid,
     CommandName::Make,
     CommandName::Code,
     CommandName::Route,
+    CommandName::Certify,
+    CommandName::Check,
     CommandName::Hills,
     CommandName::Serve,
 ];
@@ -96,6 +103,7 @@ impl Key {
             Key::Tile => "tile",
             Key::Listen => "listen",
             Key::Turns => "turns",
+            Key::Certificate => "certificate",
         }
     }
 }
@@ -111,6 +119,8 @@ impl CommandName {
             CommandName::Make => "make",
             CommandName::Code => "code",
             CommandName::Route => "route",
+            CommandName::Certify => "certify",
+            CommandName::Check => "check",
             CommandName::Hills => "hills",
             CommandName::Serve => "serve",
         }
@@ -125,7 +135,8 @@ impl CommandName {
             CommandName::Grid => &GRID_KEYS,
             CommandName::Make => &MAKE_KEYS,
             CommandName::Code => &CODE_KEYS,
-            CommandName::Route => &ROUTE_KEYS,
+            CommandName::Route | CommandName::Certify => &ROUTE_KEYS,
+            CommandName::Check => &CHECK_KEYS,
             CommandName::Hills => &HILLS_KEYS,
             CommandName::Serve => &SERVE_KEYS,
         }
@@ -146,6 +157,12 @@ impl CommandName {
             CommandName::Code => "prints the flat code of a profile under a tag table",
             CommandName::Route =>
                 "answers a query over a map by a profile, with heights from tiles",
+            CommandName::Certify =>
+                "prints a certificate of the track that answers a query: its walks, and labels \
+                 that show them least",
+            CommandName::Check =>
+                "tests a certificate for a query without any search, and prints the cost of its \
+                 track",
             CommandName::Hills =>
                 "prints what the cheapest track costs from corner to corner of the hilly grid of \
                  w by h cells of a seed",

@@ -1,11 +1,14 @@
 -- A check of what certifying gives says yes, and so does any other check of it for the same question.
 use Rattle.std.proofs.Common.{◌≡◌, ◌⊎◌, inl, inr, ℕ, List, length, Result, Ok, Err, IfOk, refl, sym, ap, ◌∙◌, subst}
+use Rattle.certificate_text.specs.Texts.{AreLegs, legs_of}
 use Rattle.certificate_text.specs.declared.certificate.Certificate.{Certificate}
 use Rattle.cost_model.specs.Rides.{Setting}
+use Rattle.overpass_graph.specs.Maps.{MapValue}
 use Rattle.ride_certificates.specs.Certificates.{AsksFor, Certifies, CertifiesTo, IsCertificateAnswer, refused as uncertified, shown, spent, told_of, trackless}
-use Rattle.ride_certificates.specs.Checks.{ChecksTo, IsCheckAnswer, checked, refused}
+use Rattle.ride_certificates.specs.Checks.{AreAgreed, ChecksTo, IsCheckAnswer, checked, refused}
 use Rattle.ride_certificates.specs.Grounds.{HasLegs, HasNoLegs}
 use Rattle.route_certificate.proofs.VerdictLemmas.{accepted-alone}
+use Rattle.route_certificate.specs.Certified.{AreWritable}
 use Rattle.route_certificate.specs.Legs.{ShowsLeast}
 use Rattle.route_certificate.specs.Verdicts.{IsAccepted, total_cost}
 use Rattle.route_certificate.specs.declared.ask.TrackAsk.{TrackAsk}
@@ -18,6 +21,7 @@ use Rattle.route_ready.specs.declared.error.RouteError.{RouteError}
 use Rattle.route_ready.specs.declared.error.RouteError.TheVariants.{NoMemory}
 use Rattle.ride_certificates.proofs.GroundLemmas.{legs-same, never-none}
 use Rattle.ride_certificates.proofs.LegLemmas.{leg-asked}
+use Rattle.ride_certificates.proofs.SameLemmas.{accepted-same}
 use Rattle.ride_certificates.proofs.ShownLemmas.{shown-accepted}
 
 -- what is accepted where the legs are asked for in one way is so in another
@@ -33,37 +37,29 @@ accepted-asked setting nodes a b certificate sum one other is = record {
   cost = is.cost;
 }
 
--- a check of what is shown says yes over the same legs
+-- a check of what is accepted says yes over the same legs
 verdict-yes :
-    (setting : Setting) (nodes : List ℕ) (limit : ℕ) (certificate : Certificate) (verdict : Verdict) →
-    CertifiesTo setting nodes limit (Shown certificate) → ChecksTo setting nodes certificate verdict →
+    (setting : Setting) (nodes : List ℕ) (ask : TrackAsk) (certificate : Certificate) (sum : ℕ) (verdict : Verdict) →
+    AsksFor setting nodes ask → IsAccepted setting.terrain ask certificate sum → ChecksTo setting nodes certificate verdict →
     verdict ≡ Yes (total_cost certificate)
-verdict-yes setting nodes limit certificate verdict made checks =
-    accepted-alone setting.terrain checks.ask certificate (total_cost certificate)
-    (accepted-asked setting nodes made.ask checks.ask certificate (total_cost certificate) made.asks checks.asks
-    (shown-accepted setting.terrain made.ask limit (Shown certificate) certificate made.is refl))
-    verdict checks.is
+verdict-yes setting nodes ask certificate sum verdict asks is checks =
+    accepted-alone setting.terrain checks.ask certificate sum
+    (accepted-asked setting nodes ask checks.ask certificate sum asks checks.asks is) verdict checks.is
 
 -- every answer to a check of it for the same question is that
 pub answer-yes :
-    (question : Question) (setting : Setting) (nodes : List ℕ) (limit : ℕ) (certificate : Certificate) →
-    HasLegs question setting nodes → CertifiesTo setting nodes limit (Shown certificate) →
+    (question : Question) (setting : Setting) (nodes : List ℕ) (ask : TrackAsk) (certificate : Certificate) (sum : ℕ) →
+    HasLegs question setting nodes → AsksFor setting nodes ask → IsAccepted setting.terrain ask certificate sum →
     (answer : Result Verdict RouteError) → IsCheckAnswer question certificate answer →
     answer ≡ Ok (Yes (total_cost certificate))
-answer-yes question setting nodes limit certificate legs made answer (refused {e = e} none) =
+answer-yes question setting nodes ask certificate sum legs asks is answer (refused {e = e} none) =
     absurd (never-none question setting nodes legs e none)
-answer-yes question setting nodes limit certificate legs made answer
+answer-yes question setting nodes ask certificate sum legs asks is answer
     (checked {setting = over} {nodes = between} {verdict = verdict} others checks) =
     let same = legs-same question over between others setting nodes legs in
-    ap Ok (verdict-yes setting nodes limit certificate verdict made
+    ap Ok (verdict-yes setting nodes ask certificate sum verdict asks is
     (subst (λ (s : Setting). ChecksTo s nodes certificate verdict) same.0
     (subst (λ (ns : List ℕ). ChecksTo over ns certificate verdict) same.1 checks)))
-
--- every answer to a check is yes
-abbrev pub IsYesAlone : Question → Certificate → Type 0
-IsYesAlone question certificate =
-    (answer : Result Verdict RouteError) → IsCheckAnswer question certificate answer →
-    answer ≡ Ok (Yes (total_cost certificate))
 
 module _ (question : Question) (setting : Setting) (nodes : List ℕ) (legs : HasLegs question setting nodes) where
   -- what certifying the legs of a question comes to is told as its answer
@@ -76,12 +72,22 @@ module _ (question : Question) (setting : Setting) (nodes : List ℕ) (legs : Ha
   told-answers (Spent leg) comes =
       inr (spent (record { setting = setting; nodes = nodes; legs = legs; comes = comes }))
 
-  -- and a certificate that is told gets yes alone
+  -- and each certificate of the legs that are told gets yes alone
   pub told-agrees : (found : Certified) → CertifiesTo setting nodes question.asked.labels found →
-      IfOk (told_of found) (IsYesAlone question)
-  told-agrees (Shown certificate) comes = answer-yes question setting nodes question.asked.labels certificate legs comes
+      IfOk (told_of found) (λ certificate. AreAgreed question (legs_of certificate))
+  told-agrees (Shown certificate) comes = λ other answer same is.
+      let made = shown-accepted setting.terrain comes.ask question.asked.labels (Shown certificate) certificate comes.is refl in
+      answer-yes question setting nodes comes.ask other (total_cost other) legs comes.asks
+      (accepted-same setting.terrain comes.ask certificate other (total_cost certificate) same made) answer is
   told-agrees (NoWalk leg) comes = _
   told-agrees (Spent leg) comes = _
+
+-- a certificate that is told may be written
+pub told-writable : (roads : MapValue) (found : Certified) → AreWritable roads found →
+    IfOk (told_of found) (λ certificate. AreLegs roads (legs_of certificate))
+told-writable roads (Shown certificate) are = are
+told-writable roads (NoWalk leg) are = _
+told-writable roads (Spent leg) are = _
 
 -- why a question has no legs is the answer to a request for a certificate
 pub none-answers : (question : Question) (e : RouteError) → (e ≡ NoMemory) ⊎ HasNoLegs question e →

@@ -5,4 +5,5 @@ pub mod CallerLemmas
 pub mod GroundLemmas
 pub mod LegLemmas
 pub mod RefusalLemmas
+pub mod SameLemmas
 pub mod ShownLemmas

@@ -1,6 +1,7 @@
 -- The answer to a check of a certificate of a request (this project's own rule).
 use Rattle.std.specs.Prelude.{◌≡◌, ◌⊎◌, ℕ, ◌+◌, List, length, Result, Ok, Err, MatchResult}
 use Rattle.bike_space.specs.LegWalks.{IsLeastWalk, leg_cost}
+use Rattle.certificate_text.specs.Texts.{LegValue, legs_of}
 use Rattle.certificate_text.specs.declared.certificate.Certificate.{Certificate}
 use Rattle.certificate_text.specs.declared.certificate.Proof.{Proof}
 use Rattle.cost_model.specs.Rides.{Setting}
@@ -9,6 +10,7 @@ use Rattle.ride_certificates.specs.Grounds.{HasLegs, HasNoLegs, leg_of}
 use Rattle.route_certificate.specs.Verdicts.{IsLegAt, IsVerdict, total_cost}
 use Rattle.route_certificate.specs.declared.ask.TrackAsk.{TrackAsk}
 use Rattle.route_certificate.specs.declared.verdict.Verdict.{Verdict}
+use Rattle.route_certificate.specs.declared.verdict.Verdict.TheVariants.{Yes}
 use Rattle.route_engine.specs.Settings.{Question}
 use Rattle.route_ready.specs.declared.error.RouteError.{RouteError}
 use Rattle.route_ready.specs.declared.error.RouteError.TheVariants.{NoMemory}
@@ -32,6 +34,12 @@ abbrev pub Checks : Question → Certificate → Result Verdict RouteError → T
 Checks question certificate result =
     MatchResult result (λ verdict. IsCheckAnswer question certificate (Ok verdict)) (λ e. (e ≡ NoMemory) ⊎
     IsCheckAnswer question certificate (Err e))
+
+-- whatever a check answers of a certificate of these legs, it is yes, with what they cost together
+abbrev pub AreAgreed : Question → List LegValue → Type 0
+AreAgreed question legs =
+    (certificate : Certificate) (answer : Result Verdict RouteError) → legs_of certificate ≡ legs →
+    IsCheckAnswer question certificate answer → answer ≡ Ok (Yes (total_cost certificate))
 
 -- each walk of a certificate is one of its leg between these nodes over a setting, and no walk of the leg
 -- costs less

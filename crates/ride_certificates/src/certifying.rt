@@ -1,19 +1,16 @@
 //! The certificate of a request.
 
-ghost use Rattle.std.specs.Prelude.{◌≡◌, ◌⊎◌, ◌<◌, ◌^◌, IfErr, IfOk, Ok, Result};
-ghost use Rattle.certificate_text.specs.declared.certificate.Certificate.{Certificate};
+ghost use Rattle.std.specs.Prelude.{◌≡◌, ◌⊎◌, ◌<◌, ◌^◌, IfErr, IfOk};
+ghost use Rattle.certificate_text.specs.Texts.{AreLegs, legs_of};
 ghost use Rattle.profile_text.specs.Expr.{sections_in};
 ghost use Rattle.ride_certificates.specs.Bases.{IsBasisOn, setting_on};
 ghost use Rattle.ride_certificates.specs.Certificates.{Certifies, CertifiesTo, IsRefusedAsTrack, told_of};
-ghost use Rattle.ride_certificates.specs.Checks.{IsCheckAnswer};
-ghost use Rattle.route_certificate.specs.Verdicts.{total_cost};
-ghost use Rattle.route_certificate.specs.declared.verdict.Verdict.{Verdict};
-ghost use Rattle.route_certificate.specs.declared.verdict.Verdict.TheVariants.{Yes};
+ghost use Rattle.ride_certificates.specs.Checks.{AreAgreed};
+ghost use Rattle.route_certificate.specs.Certified.{AreWritable};
 ghost use Rattle.route_engine.specs.Jobs.{IsWithin};
 ghost use Rattle.route_engine.specs.Replies.{question_of};
 ghost use Rattle.route_http.specs.Seen.{asked};
 ghost use Rattle.route_ready.specs.World.{world_of};
-ghost use Rattle.route_ready.specs.declared.error.RouteError.{RouteError};
 ghost use Rattle.route_ready.specs.declared.error.RouteError.TheVariants.{NoMemory};
 
 use crate::basis::{Basis, basis_of, terrain};
@@ -38,11 +35,15 @@ pub fn certify(
         question_of (world_of world.now) (sections_in profile.now) (asked request) in
         Certifies question result }
 
-    // Whatever a check of what is given answers, for the same question, is yes.
+    // What is given may be written.
+    ensures fits { IfOk result (λ certificate.
+        AreLegs (world_of world.now).map (legs_of certificate)) }
+
+    // Whatever a check answers of it, or of any other certificate of its legs, for the same
+    // question, is yes.
     ensures agrees { let question =
         question_of (world_of world.now) (sections_in profile.now) (asked request) in
-        IfOk result (λ certificate. (answer : Result Verdict RouteError) →
-        IsCheckAnswer question certificate answer → answer ≡ Ok (Yes (total_cost certificate))) }
+        IfOk result (λ certificate. AreAgreed question (legs_of certificate)) }
 
     // Whatever refuses it refuses the track too, but for a spent limit.
     ensures refused { let question =
@@ -69,6 +70,7 @@ fn certify_on(
     requires small { limit < 2 ^ 32 }
     ensures exact { IfOk result
         (CertifiesTo (setting_on (world_of world.now) basis.now) basis.now.nodes.items limit) }
+    ensures fits { IfOk result (AreWritable (world_of world.now).map) }
 {
     let ask = TrackAsk {
         nodes: basis.nodes.as_slice(),

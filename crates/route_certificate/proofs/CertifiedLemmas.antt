@@ -1,7 +1,8 @@
 -- A certificate as it is made leg after leg.
-use Rattle.std.proofs.Common.{◌≡◌, ℕ, ◌+◌, ◌<◌, inl, inr, List, [], ◌∷◌, ◌++◌, length, Some, refl, sym, ap, ◌∙◌, subst, arith, length-append}
+use Rattle.std.proofs.Common.{◌≡◌, ℕ, ◌+◌, ◌<◌, inl, inr, List, [], ◌∷◌, ◌++◌, length, map, Some, refl, sym, ap, ◌∙◌, subst, arith, length-append}
 use Rattle.std.specs.List.{slice_get}
 use Rattle.std.proofs.lemmas.Option.{slice_get_within}
+use Rattle.certificate_text.specs.Texts.{AreLegs, IsLeg, leg_of}
 use Rattle.certificate_text.specs.declared.certificate.Certificate.{Certificate}
 use Rattle.certificate_text.specs.declared.certificate.Proof.{Proof}
 use Rattle.cost_model.specs.Rides.{Terrain}
@@ -14,11 +15,13 @@ use Rattle.route_certificate.specs.declared.making.Certified.TheVariants.{Shown}
 use Rattle.route_certificate.specs.declared.verdict.Verdict.{Verdict}
 use Rattle.route_certificate.specs.declared.verdict.Verdict.TheVariants.{Yes}
 use Rattle.route_certificate.proofs.VerdictLemmas.{accepted-alone}
+use Rattle.route_certificate.proofs.WritableLemmas.{legs-more}
 
--- so many legs are shown
+-- so many legs are shown, and may be written
 pub record AreShownTo (terrain : Terrain) (ask : TrackAsk) (count : ℕ) (legs : List Proof) : Type 0 where
   pub counted : length legs ≡ count
   pub each : (number : ℕ) (proof : Proof) → slice_get legs number ≡ Some proof → IsProof (leg_in terrain ask number) proof
+  pub written : AreLegs terrain.map (map leg_of legs)
 
 module _ (terrain : Terrain) (ask : TrackAsk) where
   -- before the first leg
@@ -28,12 +31,14 @@ module _ (terrain : Terrain) (ask : TrackAsk) where
     each = λ number proof there.
         let within = slice_get_within legs number proof there in
         absurd (omega (arith, within, ap length same));
+    written = subst (λ (l : List Proof). AreLegs terrain.map (map leg_of l)) (sym same) tt;
   }
 
   -- one leg more
   pub shown-more : (count : ℕ) (legs after : List Proof) (proof : Proof) → AreShownTo terrain ask count legs →
-      IsProof (leg_in terrain ask count) proof → after ≡ legs ++ proof ∷ [] → AreShownTo terrain ask (count + 1) after
-  shown-more count legs after proof are is grown = record {
+      IsProof (leg_in terrain ask count) proof → IsLeg terrain.map (leg_of proof) → after ≡ legs ++ proof ∷ [] →
+      AreShownTo terrain ask (count + 1) after
+  shown-more count legs after proof are is fits grown = record {
     counted = omega (arith, ap length grown, length-append legs (proof ∷ []), are.counted);
     each = λ number other there.
         elim (slice_get-push_cases legs proof number other (ap (λ (l : List Proof). slice_get l number) (sym grown) ∙ there)) [
@@ -42,6 +47,8 @@ module _ (terrain : Terrain) (ask : TrackAsk) where
               let at : count ≡ number = sym are.counted ∙ sym last.0 in
               subst (λ n. IsProof (leg_in terrain ask n) other) at (subst (IsProof (leg_in terrain ask count)) last.1 is)
         ];
+    written = subst (λ (l : List Proof). AreLegs terrain.map (map leg_of l)) (sym grown)
+        (legs-more terrain.map legs proof are.written fits);
   }
 
   -- each leg before the next one has a least walk

@@ -4,4 +4,5 @@ pub mod LegLemmas
 pub mod VerdictLemmas
 pub mod SettledLemmas
 pub mod FoundLemmas
+pub mod WritableLemmas
 pub mod CertifiedLemmas

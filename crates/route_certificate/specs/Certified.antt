@@ -1,10 +1,12 @@
 -- What certifying comes to (this project's own rule).
 use Rattle.std.specs.Prelude.{ℕ, ◌+◌, ◌<◌, ◌≤◌, ◌^◌, false, List, length}
+use Rattle.certificate_text.specs.Texts.{AreLegs, IsLeg, leg_of, legs_of}
 use Rattle.certificate_text.specs.declared.certificate.Certificate.{Certificate}
 use Rattle.certificate_text.specs.declared.certificate.Proof.{Proof}
 use Rattle.cost_model.specs.Rides.{Leg, Terrain}
 use Rattle.bike_space.specs.LegWalks.{HasNoWalk, IsLeastWalk}
 use Rattle.bike_space.specs.Spent.{IsSpentStrong}
+use Rattle.overpass_graph.specs.Maps.{MapValue}
 use Rattle.space_search.specs.Ends.{Ends}
 use Rattle.space_search.specs.declared.outcome.Outcome.{Outcome}
 use Rattle.route_certificate.specs.Asks.{leg_in}
@@ -30,6 +32,10 @@ HasSpent leg limit = (walks : List (List ℕ)) × IsSpentStrong leg (λ link. fa
 abbrev pub IsShown : (leg : Leg) (limit : ℕ) → Outcome Proof → Type 0
 IsShown leg limit = Ends (IsProof leg) (HasNoWalk leg) (HasSpent leg limit)
 
+-- a leg that is shown a least walk may be written, with its labels
+abbrev pub IsWritable : MapValue → Outcome Proof → Type 0
+IsWritable map = Ends (λ proof. IsLeg map (leg_of proof)) (Unit {0}) (Unit {0})
+
 -- ---- A track
 
 -- this is a leg of what is asked, and each leg before it has a least walk
@@ -49,3 +55,9 @@ pub data IsCertified (terrain : Terrain) (ask : TrackAsk) (limit : ℕ) : Certif
   spent :
       {leg : ℕ} → IsFirst terrain ask leg → HasSpent (leg_in terrain ask leg) limit →
       IsCertified terrain ask limit (Spent leg)
+
+-- a certificate that is shown may be written
+abbrev pub AreWritable : MapValue → Certified → Type 0
+AreWritable map (Shown certificate) = AreLegs map (legs_of certificate)
+AreWritable map (NoWalk leg) = Unit {0}
+AreWritable map (Spent leg) = Unit {0}

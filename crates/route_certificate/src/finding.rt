@@ -8,7 +8,7 @@ ghost use Rattle.space_search.specs.Searches.{IsSearchOf};
 ghost use Rattle.space_search.specs.Turns.{EndsFound, EndsSearch};
 ghost use Rattle.space_search.specs.View.{view};
 ghost use Rattle.route_certificate.specs.Asks.{IsAsk, leg_in};
-ghost use Rattle.route_certificate.specs.Certified.{IsProof, IsShown};
+ghost use Rattle.route_certificate.specs.Certified.{IsProof, IsShown, IsWritable};
 
 use crate::ask::TrackAsk;
 use crate::settled::settled_entries;
@@ -36,6 +36,7 @@ pub(crate) fn certify_leg<G: TerrainOf>(
     requires small { limit < 2 ^ 32 }
     ensures exact { IfOk result
         (IsShown (leg_in (G.terrain terrain) ask.now place) limit) }
+    ensures fits { IfOk result (IsWritable (G.terrain terrain).map) }
 {
     let (start, target) = (ask.nodes[place], ask.nodes[place + 1]);
     if start == target {

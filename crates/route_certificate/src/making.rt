@@ -2,7 +2,7 @@
 
 ghost use Rattle.std.specs.Prelude.{◌≡◌, ◌<◌, ◌≤◌, ◌^◌, ℕ, IfOk, length};
 ghost use Rattle.route_certificate.specs.Asks.{IsAsk};
-ghost use Rattle.route_certificate.specs.Certified.{IsCertified};
+ghost use Rattle.route_certificate.specs.Certified.{AreWritable, IsCertified};
 ghost use Rattle.route_certificate.specs.Verdicts.{IsVerdict, total_cost};
 ghost use Rattle.route_certificate.specs.declared.making.Certified.TheVariants as certified;
 ghost use Rattle.route_certificate.specs.declared.verdict.Verdict.{Verdict};
@@ -39,6 +39,9 @@ pub fn certify<G: TerrainOf>(
     requires some { 1 ≤ length ask.now.nodes.now }
     requires small { limit < 2 ^ 32 }
     ensures exact { IfOk result (IsCertified (G.terrain terrain) ask.now limit) }
+
+    // What is shown may be written.
+    ensures fits { IfOk result (AreWritable (G.terrain terrain).map) }
 
     // A check says yes of what is given, and nothing else.
     ensures agrees { IfOk result (λ answer. (certificate : Certificate) (verdict : Verdict) →

@@ -1,6 +1,8 @@
 -- How often the files of each command are opened, and the cause of each of its statuses.
-use Rattle.std.proofs.Common.{ℕ, inl, inr, List, [], ◌∷◌, ◌++◌, length, Option, Some, None, Result, Ok, Err, ◌≡◌, sym, subst}
+use Rattle.std.proofs.Common.{ℕ, inl, inr, Bool, true, false, cond, ◌==◌, List, [], ◌∷◌, ◌++◌, length, Option, Some, None, Result, Ok, Err, ◌≡◌, refl, ap, ◌∙◌, sym, subst}
+use Rattle.certificate_text.specs.declared.certificate.Certificate.{Certificate}
 use Rattle.command_words.specs.Given.{Named}
+use Rattle.command_words.specs.declared.command.CheckCommand.{CheckCommand}
 use Rattle.command_words.specs.declared.command.CodeCommand.{CodeCommand}
 use Rattle.command_words.specs.declared.command.Command.{Command}
 use Rattle.command_words.specs.declared.command.Command as Form
@@ -12,24 +14,31 @@ use Rattle.edge_io.specs.Files.{FilesSeen}
 use Rattle.hgt_tiles.specs.File.{relief_of_file}
 use Rattle.hgt_tiles.specs.Relief.{Relief}
 use Rattle.hgt_tiles.specs.declared.tile_set.Tiles.{Tiles}
-use Rattle.item_list.specs.Answer.{answer_map}
+use Rattle.item_list.specs.Answer.{and_then, answer_map}
 use Rattle.lookup_table.specs.First.{TagTable}
 use Rattle.lookup_table.specs.Table.{table_of}
+use Rattle.overpass_graph.specs.Maps.{MapValue}
 use Rattle.profile_text.specs.Read.{profile_of}
 use Rattle.profile_text.specs.Tree.{Sections}
+use Rattle.route_certificate.specs.declared.verdict.Verdict.{Verdict}
+use Rattle.route_certificate.specs.declared.verdict.Verdict.TheVariants.{Yes, No}
 use Rattle.route_http.specs.Asked.{Asked}
 use Rattle.route_http.specs.Request.{request_of}
 use Rattle.route_ready.specs.Worlds.{WorldValue}
 use Rattle.route_ready.specs.declared.error.RouteError.{RouteError}
 use Rattle.route_run.proofs.CauseLemmas.{Cause, IsInner, each-cause, file-cause, last-cause, leaves-cause, map-cause, settles-cause, then-cause}
 use Rattle.route_run.specs.Offer.{Offer, Offers, offer_over, serve_files}
-use Rattle.route_run.specs.Outcome.{IsCommandAnswer, file_words, profile_words, words_in, world_words}
+use Rattle.route_run.specs.Outcome.{IsCommandAnswer, IsQueryWord, check_words, file_words, profile_words, words_in, world_words}
+use Rattle.run_answers.specs.Certify.{IsCertifiedBy, IsCertifiedOver, IsCertifyAnswer}
+use Rattle.run_answers.specs.Check.{IsCheckedAnswer, IsCheckedBy, IsCheckedOver, TellsVerdict}
 use Rattle.run_answers.specs.Code.{IsCodeAnswer, listing_in, listing_under}
+use Rattle.run_answers.specs.First.{first_in, first_of}
 use Rattle.run_answers.specs.Grid.{IsGridAnswerBy, IsPricedAnswer, IsShortestAnswer, question_by}
 use Rattle.run_answers.specs.Hills.{IsHillsAnswer}
 use Rattle.run_answers.specs.Make.{made_by}
 use Rattle.run_answers.specs.Refused.{IsRefusal}
 use Rattle.run_answers.specs.Route.{IsRouteAnswer, IsRouted, IsRoutedBy, route_files}
+use Rattle.run_files.specs.Certificate.{IsCertificateIn, TakesCertificate}
 use Rattle.run_files.specs.Chain.{seen_as}
 use Rattle.run_files.specs.Checked.{TakesChecked, checked_by, checked_in}
 use Rattle.run_files.specs.Profile.{TakesProfile, profile_in}
@@ -39,143 +48,236 @@ use Rattle.run_files.specs.TagTable.{TakesTable, table_in}
 use Rattle.run_files.specs.Tiles.{TakesTile, TakesTiles, tile_in}
 use Rattle.run_files.specs.World.{OfferedValue, TakesWorld, WorldFiles}
 use Rattle.run_files.specs.declared.status.Status.{Status}
-use Rattle.run_files.specs.declared.status.Status.TheVariants.{Query, Lookup, Text, Check, Tile}
+use Rattle.run_files.specs.declared.status.Status.TheVariants as told
+use Rattle.run_files.specs.declared.status.Status.TheVariants.{Usage, Query, Lookup, Text, Check, Tile, Refuted}
 
--- ---- What refuses without a file
+-- the words that may be told at fault are these
+module _ (Faulty : ℕ → Type 0)
+  where
+    -- ---- What refuses without a file
 
--- a reader's refusal is of the kind of its word
-mapped-inner : {A E : Type 0} (told : E → Status) (r : Result A E) → ((e : E) → IsInner (told e)) → (status : Status) →
-    answer_map (λ (a : A). a) told r ≡ Err status → IsInner status
-mapped-inner told (Ok a) inner status is = cc
-mapped-inner told (Err e) inner status is = let same : told e ≡ status = cc in subst IsInner same (inner e)
+    -- a reader's refusal is of the kind of its word
+    mapped-inner : {A E : Type 0} (told : E → Status) (r : Result A E) → ((e : E) → IsInner Faulty (told e)) → (status : Status) →
+        answer_map (λ (a : A). a) told r ≡ Err status → IsInner Faulty status
+    mapped-inner told (Ok a) inner status is = cc
+    mapped-inner told (Err e) inner status is = let same : told e ≡ status = cc in subst (IsInner Faulty) same (inner e)
 
--- so is that of the check
-checked-inner : (word : ℕ) (table : TagTable) (sections : Sections) (status : Status) → checked_in word table sections ≡ Err status →
-    IsInner status
-checked-inner word table sections status is =
-    elim (refusal_of table sections []) as (λ r. checked_by word sections r ≡ Err status → IsInner status) [
-      | Some error ↦ λ e. let same : Check word error ≡ status = cc in subst IsInner same tt
-      | None ↦ λ e. cc
-    ] is
+    -- so is that of the check
+    checked-inner : (word : ℕ) (table : TagTable) (sections : Sections) (status : Status) → checked_in word table sections ≡ Err status →
+        IsInner Faulty status
+    checked-inner word table sections status is =
+        elim (refusal_of table sections []) as (λ r. checked_by word sections r ≡ Err status → IsInner Faulty status) [
+          | Some error ↦ λ e. let same : Check word error ≡ status = cc in subst (IsInner Faulty) same tt
+          | None ↦ λ e. cc
+        ] is
 
--- and that of the listing
-listing-inner : (word : ℕ) (table : TagTable) (sections : Sections) (status : Status) → listing_in word table sections ≡ Err status →
-    IsInner status
-listing-inner word table sections status is =
-    elim (refusal_of table sections []) as (λ r. seen_as (listing_under table) (checked_by word sections r) ≡ Err status → IsInner status) [
-      | Some error ↦ λ e. let same : Check word error ≡ status = cc in subst IsInner same tt
-      | None ↦ λ e. cc
-    ] is
+    -- and that of the listing
+    listing-inner : (word : ℕ) (table : TagTable) (sections : Sections) (status : Status) → listing_in word table sections ≡ Err status →
+        IsInner Faulty status
+    listing-inner word table sections status is =
+        elim (refusal_of table sections []) as (λ r. seen_as (listing_under table) (checked_by word sections r) ≡ Err status → IsInner Faulty status) [
+          | Some error ↦ λ e. let same : Check word error ≡ status = cc in subst (IsInner Faulty) same tt
+          | None ↦ λ e. cc
+        ] is
 
--- the refusal of a request
-refusal-inner : (Refuses : RouteError → Type 0) (profile : Option Sections) (status : Status) → IsRefusal Refuses profile status →
-    IsInner status
-refusal-inner Refuses profile status (inl none) = subst IsInner (sym none) tt
-refusal-inner Refuses profile status (inr tells) = subst IsInner (sym tells.is) tt
+    -- the refusal of a request
+    refusal-inner : (Refuses : RouteError → Type 0) (profile : Option Sections) (status : Status) → IsRefusal Refuses profile status →
+        IsInner Faulty status
+    refusal-inner Refuses profile status (inl none) = subst (IsInner Faulty) (sym none) tt
+    refusal-inner Refuses profile status (inr tells) = subst (IsInner Faulty) (sym tells.is) tt
 
--- the refusal of a request by a profile, where there is one
-routed-inner : (profile : Option Sections) (world : WorldValue) (asked : Asked) (status : Status) →
-    IsRoutedBy profile world asked (Err status) →
-    IsInner status
-routed-inner (Some sections) world asked status is = refusal-inner _ _ status is
-routed-inner None world asked status is = refusal-inner _ _ status is
+    -- the refusal of a request by a profile, where there is one
+    routed-inner : (profile : Option Sections) (world : WorldValue) (asked : Asked) (status : Status) →
+        IsRoutedBy profile world asked (Err status) →
+        IsInner Faulty status
+    routed-inner (Some sections) world asked status is = refusal-inner _ _ status is
+    routed-inner None world asked status is = refusal-inner _ _ status is
 
--- ---- The stages of files
+    -- a query that asks for no first track, where its word may be told at fault
+    first-inner : (query : Named) → Faulty query.word → (status : Status) → first_in query ≡ Err status → IsInner Faulty status
+    first-inner query may status is = go (query_in query.name) refl is
+      where
+        asked-inner : (asked : Asked) → first_of query.word asked ≡ Err status → IsInner Faulty status
+        asked-inner asked e = two (asked.alternative == 0) e
+          where
+            two : (b : Bool) → cond b (Ok asked) (Err (Usage query.word)) ≡ Err status → IsInner Faulty status
+            two true e = cc
+            two false e = let same : Usage query.word ≡ status = cc in subst (IsInner Faulty) same may
 
--- the stage of the tag table
-table-cause : (file : Named) (old new : FilesSeen) (r : Result TagTable Status) → TakesTable file old new r →
-    Cause (file.word ∷ []) old new r
-table-cause file =
-    last-cause _ _ (file.word ∷ []) (file-cause file _)
-    (λ text. settles-cause (table_in file.word text) (mapped-inner (Lookup file.word) (table_of text) (λ e. tt)))
+        go : (r : Result Asked Status) → query_in query.name ≡ r → and_then r (first_of query.word) ≡ Err status → IsInner Faulty status
+        go (Ok asked) read e = asked-inner asked e
+        go (Err refusal) read e =
+            let same : refusal ≡ status = cc in
+            mapped-inner Query (request_of query.name) (λ e. tt) status (read ∙ ap Err same)
 
--- the stage of the profile
-profile-cause : (file : Named) (old new : FilesSeen) (r : Result Sections Status) → TakesProfile file old new r →
-    Cause (file.word ∷ []) old new r
-profile-cause file =
-    last-cause _ _ (file.word ∷ []) (file-cause file _)
-    (λ text. settles-cause (profile_in file.word text) (mapped-inner (Text file.word) (profile_of text) (λ e. tt)))
+    -- the refusal of a request for a certificate by a profile, where there is one
+    certified-inner : (profile : Option Sections) (world : WorldValue) (asked : Asked) (status : Status) →
+        IsCertifiedBy profile world asked (Err status) → IsInner Faulty status
+    certified-inner (Some sections) world asked status is = refusal-inner _ _ status is
+    certified-inner None world asked status is = refusal-inner _ _ status is
 
--- the stage of the profile with its check
-checked-cause : (table : TagTable) (file : Named) (old new : FilesSeen) (r : Result Sections Status) → TakesChecked table file old new r →
-    Cause (file.word ∷ []) old new r
-checked-cause table file =
-    last-cause _ _ (file.word ∷ []) (profile-cause file)
-    (λ sections. settles-cause (checked_in file.word table sections) (checked-inner file.word table sections))
+    -- the verdict on a certificate, where it is told as a refusal
+    verdict-inner : (verdict : Verdict) (status : Status) → TellsVerdict verdict (Err status) → IsInner Faulty status
+    verdict-inner verdict status (inl none) = subst (IsInner Faulty) (sym none) tt
+    verdict-inner (Yes cost) status (inr is) = cc
+    verdict-inner (No leg why) status (inr is) = let same : Refuted leg why ≡ status = cc in subst (IsInner Faulty) same tt
 
--- the stage of a profile under its name
-named-cause : (table : TagTable) (file : Named) (old new : FilesSeen) (r : Result NamedProfile Status) → TakesNamed table file old new r →
-    Cause (file.word ∷ []) old new r
-named-cause table file =
-    last-cause _ _ (file.word ∷ []) (checked-cause table file)
-    (λ sections. settles-cause (Ok (named_by file sections)) (λ status none. cc))
+    -- the refusal of a certificate by a profile, where there is one
+    checked-by-inner : (profile : Option Sections) (world : WorldValue) (asked : Asked) (certificate : Certificate) (status : Status) →
+        IsCheckedBy profile world asked certificate (Err status) → IsInner Faulty status
+    checked-by-inner (Some sections) world asked certificate status (inl judged) = verdict-inner judged.verdict status judged.tells
+    checked-by-inner (Some sections) world asked certificate status (inr refused) = refusal-inner _ _ status refused
+    checked-by-inner None world asked certificate status is = refusal-inner _ _ status is
 
--- the stage of a tile
-tile-cause : (file : Named) (old new : FilesSeen) (r : Result Relief Status) → TakesTile file old new r → Cause (file.word ∷ []) old new r
-tile-cause file =
-    last-cause _ _ (file.word ∷ []) (file-cause file _)
-    (λ bytes. settles-cause (tile_in file.word file.name bytes)
-    (mapped-inner (Tile file.word) (relief_of_file file.name bytes) (λ e. tt)))
+    -- the refusal of a certificate's text
+    certificate-inner : (map : MapValue) (word : ℕ) (text : List ℕ) (status : Status) → IsCertificateIn map word text (Err status) →
+        IsInner Faulty status
+    certificate-inner map word text (told.Certificate at error) is = tt
+    certificate-inner map word text told.NoMemory is = tt
+    certificate-inner map word text told.Done is = absurd is
+    certificate-inner map word text (told.Usage at) is = absurd is
+    certificate-inner map word text (told.Query error) is = absurd is
+    certificate-inner map word text (told.TooLong at) is = absurd is
+    certificate-inner map word text (told.Lookup at error) is = absurd is
+    certificate-inner map word text (told.Text at error) is = absurd is
+    certificate-inner map word text (told.Check at error) is = absurd is
+    certificate-inner map word text (told.Map at error) is = absurd is
+    certificate-inner map word text (told.Tile at error) is = absurd is
+    certificate-inner map word text (told.Route error line) is = absurd is
+    certificate-inner map word text (told.Refuted leg why) is = absurd is
+    certificate-inner map word text (told.NotFound at) is = absurd is
+    certificate-inner map word text (told.ReadFault at) is = absurd is
+    certificate-inner map word text told.WriteFault is = absurd is
+    certificate-inner map word text told.TurnsSpent is = absurd is
+    certificate-inner map word text told.HubFault is = absurd is
 
--- the stage of tiles
-tiles-cause : (files : List Named) (old new : FilesSeen) (r : Result Tiles Status) → TakesTiles files old new r →
-    Cause (words_in files) old new r
-tiles-cause files old new (Ok tiles) is = each-cause TakesTile tile-cause [] files old new (Ok is.reliefs) is.taken
-tiles-cause files old new (Err status) is = each-cause TakesTile tile-cause [] files old new (Err status) is
+    -- ---- The stages of files
 
--- the stage of a world
-world-cause : (files : WorldFiles) (old new : FilesSeen) (r : Result OfferedValue Status) → TakesWorld files old new r →
-    Cause (world_words files) old new r
-world-cause files =
-    then-cause _ _ (files.lookups.word ∷ []) (words_in files.profiles ++ (files.map.word ∷ words_in files.tiles))
-    (table-cause files.lookups)
-    (λ table. then-cause _ _ (words_in files.profiles) (files.map.word ∷ words_in files.tiles)
-    (each-cause (TakesNamed table) (named-cause table) [] files.profiles)
-    (λ profiles. then-cause _ _ (files.map.word ∷ []) (words_in files.tiles) (map-cause files.map)
-    (λ map. last-cause _ _ (words_in files.tiles) (tiles-cause files.tiles) (λ tiles. settles-cause _ (λ status none. cc)))))
+    -- the stage of a certificate
+    certificate-cause : (map : MapValue) (file : Named) (old new : FilesSeen) (r : Result Certificate Status) →
+        TakesCertificate map file old new r → Cause Faulty (file.word ∷ []) old new r
+    certificate-cause map file =
+        last-cause Faulty _ _ (file.word ∷ []) (file-cause Faulty file _)
+        (λ text. leaves-cause Faulty (IsCertificateIn map file.word text) (certificate-inner map file.word text))
 
--- ---- The commands
+    -- the stage of the tag table
+    table-cause : (file : Named) (old new : FilesSeen) (r : Result TagTable Status) → TakesTable file old new r →
+        Cause Faulty (file.word ∷ []) old new r
+    table-cause file =
+        last-cause Faulty _ _ (file.word ∷ []) (file-cause Faulty file _)
+        (λ text. settles-cause Faulty (table_in file.word text) (mapped-inner (Lookup file.word) (table_of text) (λ e. tt)))
 
--- the command `code`
-code-cause : (command : CodeCommand) (old new : FilesSeen) (r : Result (List ℕ) Status) → IsCodeAnswer command old new r →
-    Cause (profile_words (Some command)) old new r
-code-cause command =
-    then-cause _ _ (command.lookups.word ∷ []) (command.profile.word ∷ []) (table-cause command.lookups)
-    (λ table. last-cause _ _ (command.profile.word ∷ []) (profile-cause command.profile)
-    (λ sections. settles-cause (listing_in command.profile.word table sections) (listing-inner command.profile.word table sections)))
+    -- the stage of the profile
+    profile-cause : (file : Named) (old new : FilesSeen) (r : Result Sections Status) → TakesProfile file old new r →
+        Cause Faulty (file.word ∷ []) old new r
+    profile-cause file =
+        last-cause Faulty _ _ (file.word ∷ []) (file-cause Faulty file _)
+        (λ text. settles-cause Faulty (profile_in file.word text) (mapped-inner (Text file.word) (profile_of text) (λ e. tt)))
 
--- the command `route`
-route-cause : (command : RouteCommand) (old new : FilesSeen) (r : Result (List ℕ) Status) → IsRouteAnswer command old new r →
-    Cause (world_words (route_files command)) old new r
-route-cause command =
-    then-cause _ _ [] (world_words (route_files command))
-    (settles-cause (query_in command.query.name) (mapped-inner Query (request_of command.query.name) (λ e. tt)))
-    (λ asked. last-cause _ _ (world_words (route_files command)) (world-cause (route_files command))
-    (λ offered. leaves-cause (IsRouted offered asked) (routed-inner (profile_named offered.profiles asked.profile) offered.world asked)))
+    -- the stage of the profile with its check
+    checked-cause : (table : TagTable) (file : Named) (old new : FilesSeen) (r : Result Sections Status) → TakesChecked table file old new r →
+        Cause Faulty (file.word ∷ []) old new r
+    checked-cause table file =
+        last-cause Faulty _ _ (file.word ∷ []) (profile-cause file)
+        (λ sections. settles-cause Faulty (checked_in file.word table sections) (checked-inner file.word table sections))
 
--- the command `grid`
-grid-cause : (files : Option CodeCommand) (command : GridCommand) (old new : FilesSeen) (r : Result (List ℕ) Status) →
-    IsGridAnswerBy files command old new r →
-    Cause (profile_words files) old new r
-grid-cause None command = leaves-cause (IsShortestAnswer command) (refusal-inner _ _)
-grid-cause (Some words) command =
-    then-cause _ _ (words.lookups.word ∷ []) (words.profile.word ∷ []) (table-cause words.lookups)
-    (λ table. last-cause _ _ (words.profile.word ∷ []) (checked-cause table words.profile)
-    (λ sections. leaves-cause (IsPricedAnswer (question_by command table sections)) (refusal-inner _ _)))
+    -- the stage of a profile under its name
+    named-cause : (table : TagTable) (file : Named) (old new : FilesSeen) (r : Result NamedProfile Status) → TakesNamed table file old new r →
+        Cause Faulty (file.word ∷ []) old new r
+    named-cause table file =
+        last-cause Faulty _ _ (file.word ∷ []) (checked-cause table file)
+        (λ sections. settles-cause Faulty (Ok (named_by file sections)) (λ status none. cc))
 
--- each command that has something to write
-pub command-cause : (command : Command) (old new : FilesSeen) (r : Result (List ℕ) Status) → IsCommandAnswer command old new r →
-    Cause (file_words (Ok command)) old new r
-command-cause (Form.TheVariants.Grid command) old new r is = grid-cause command.files command old new r is
-command-cause (Form.TheVariants.Make command) old new r is = settles-cause (Ok (made_by command)) (λ status none. cc) old new r is
-command-cause (Form.TheVariants.Code command) old new r is = code-cause command old new r is
-command-cause (Form.TheVariants.Route command) old new r is = route-cause command old new r is
-command-cause (Form.TheVariants.Hills command) old new r is = leaves-cause (IsHillsAnswer command) (refusal-inner _ _) old new r is
-command-cause (Form.TheVariants.Serve command) old new r is = absurd is
+    -- the stage of a tile
+    tile-cause : (file : Named) (old new : FilesSeen) (r : Result Relief Status) → TakesTile file old new r → Cause Faulty (file.word ∷ []) old new r
+    tile-cause file =
+        last-cause Faulty _ _ (file.word ∷ []) (file-cause Faulty file _)
+        (λ bytes. settles-cause Faulty (tile_in file.word file.name bytes)
+        (mapped-inner (Tile file.word) (relief_of_file file.name bytes) (λ e. tt)))
 
--- what the command `serve` offers
-pub offers-cause : (command : ServeCommand) (old new : FilesSeen) (r : Result Offer Status) → Offers command old new r →
-    Cause (file_words (Ok (Form.TheVariants.Serve command))) old new r
-offers-cause command =
-    last-cause _ _ (world_words (serve_files command)) (world-cause (serve_files command))
-    (λ offered. settles-cause (Ok (offer_over offered)) (λ status none. cc))
+    -- the stage of tiles
+    tiles-cause : (files : List Named) (old new : FilesSeen) (r : Result Tiles Status) → TakesTiles files old new r →
+        Cause Faulty (words_in files) old new r
+    tiles-cause files old new (Ok tiles) is = each-cause Faulty TakesTile tile-cause [] files old new (Ok is.reliefs) is.taken
+    tiles-cause files old new (Err status) is = each-cause Faulty TakesTile tile-cause [] files old new (Err status) is
+
+    -- the stage of a world
+    world-cause : (files : WorldFiles) (old new : FilesSeen) (r : Result OfferedValue Status) → TakesWorld files old new r →
+        Cause Faulty (world_words files) old new r
+    world-cause files =
+        then-cause Faulty _ _ (files.lookups.word ∷ []) (words_in files.profiles ++ (files.map.word ∷ words_in files.tiles))
+        (table-cause files.lookups)
+        (λ table. then-cause Faulty _ _ (words_in files.profiles) (files.map.word ∷ words_in files.tiles)
+        (each-cause Faulty (TakesNamed table) (named-cause table) [] files.profiles)
+        (λ profiles. then-cause Faulty _ _ (files.map.word ∷ []) (words_in files.tiles) (map-cause Faulty files.map)
+        (λ map. last-cause Faulty _ _ (words_in files.tiles) (tiles-cause files.tiles) (λ tiles. settles-cause Faulty _ (λ status none. cc)))))
+
+    -- ---- The commands
+
+    -- the command `code`
+    code-cause : (command : CodeCommand) (old new : FilesSeen) (r : Result (List ℕ) Status) → IsCodeAnswer command old new r →
+        Cause Faulty (profile_words (Some command)) old new r
+    code-cause command =
+        then-cause Faulty _ _ (command.lookups.word ∷ []) (command.profile.word ∷ []) (table-cause command.lookups)
+        (λ table. last-cause Faulty _ _ (command.profile.word ∷ []) (profile-cause command.profile)
+        (λ sections. settles-cause Faulty (listing_in command.profile.word table sections) (listing-inner command.profile.word table sections)))
+
+    -- the command `route`
+    route-cause : (command : RouteCommand) (old new : FilesSeen) (r : Result (List ℕ) Status) → IsRouteAnswer command old new r →
+        Cause Faulty (world_words (route_files command)) old new r
+    route-cause command =
+        then-cause Faulty _ _ [] (world_words (route_files command))
+        (settles-cause Faulty (query_in command.query.name) (mapped-inner Query (request_of command.query.name) (λ e. tt)))
+        (λ asked. last-cause Faulty _ _ (world_words (route_files command)) (world-cause (route_files command))
+        (λ offered. leaves-cause Faulty (IsRouted offered asked) (routed-inner (profile_named offered.profiles asked.profile) offered.world asked)))
+
+    -- the command `certify`
+    certify-cause : (command : RouteCommand) → Faulty command.query.word → (old new : FilesSeen) (r : Result (List ℕ) Status) →
+        IsCertifyAnswer command old new r → Cause Faulty (world_words (route_files command)) old new r
+    certify-cause command may =
+        then-cause Faulty _ _ [] (world_words (route_files command))
+        (settles-cause Faulty (first_in command.query) (first-inner command.query may))
+        (λ asked. last-cause Faulty _ _ (world_words (route_files command)) (world-cause (route_files command))
+        (λ offered. leaves-cause Faulty (IsCertifiedOver offered asked)
+        (certified-inner (profile_named offered.profiles asked.profile) offered.world asked)))
+
+    -- the command `check`
+    check-cause : (command : CheckCommand) → Faulty command.route.query.word → (old new : FilesSeen) (r : Result (List ℕ) Status) →
+        IsCheckedAnswer command old new r → Cause Faulty (check_words command) old new r
+    check-cause command may =
+        then-cause Faulty _ _ [] (check_words command)
+        (settles-cause Faulty (first_in command.route.query) (first-inner command.route.query may))
+        (λ asked. then-cause Faulty _ _ (world_words (route_files command.route)) (command.certificate.word ∷ [])
+        (world-cause (route_files command.route))
+        (λ offered. last-cause Faulty _ _ (command.certificate.word ∷ []) (certificate-cause offered.world.map command.certificate)
+        (λ certificate. leaves-cause Faulty (IsCheckedOver offered asked certificate)
+        (checked-by-inner (profile_named offered.profiles asked.profile) offered.world asked certificate))))
+
+    -- the command `grid`
+    grid-cause : (files : Option CodeCommand) (command : GridCommand) (old new : FilesSeen) (r : Result (List ℕ) Status) →
+        IsGridAnswerBy files command old new r →
+        Cause Faulty (profile_words files) old new r
+    grid-cause None command = leaves-cause Faulty (IsShortestAnswer command) (refusal-inner _ _)
+    grid-cause (Some words) command =
+        then-cause Faulty _ _ (words.lookups.word ∷ []) (words.profile.word ∷ []) (table-cause words.lookups)
+        (λ table. last-cause Faulty _ _ (words.profile.word ∷ []) (checked-cause table words.profile)
+        (λ sections. leaves-cause Faulty (IsPricedAnswer (question_by command table sections)) (refusal-inner _ _)))
+
+    -- each command that has something to write
+    pub command-cause : (command : Command) → ((word : ℕ) → IsQueryWord command word → Faulty word) → (old new : FilesSeen) (r : Result (List ℕ) Status) → IsCommandAnswer command old new r →
+        Cause Faulty (file_words (Ok command)) old new r
+    command-cause (Form.TheVariants.Grid command) may old new r is = grid-cause command.files command old new r is
+    command-cause (Form.TheVariants.Make command) may old new r is = settles-cause Faulty (Ok (made_by command)) (λ status none. cc) old new r is
+    command-cause (Form.TheVariants.Code command) may old new r is = code-cause command old new r is
+    command-cause (Form.TheVariants.Route command) may old new r is = route-cause command old new r is
+    command-cause (Form.TheVariants.Certify command) may old new r is = certify-cause command (may command.query.word refl) old new r is
+    command-cause (Form.TheVariants.Check command) may old new r is = check-cause command (may command.route.query.word refl) old new r is
+    command-cause (Form.TheVariants.Hills command) may old new r is = leaves-cause Faulty (IsHillsAnswer command) (refusal-inner _ _) old new r is
+    command-cause (Form.TheVariants.Serve command) may old new r is = absurd is
+
+    -- what the command `serve` offers
+    pub offers-cause : (command : ServeCommand) (old new : FilesSeen) (r : Result Offer Status) → Offers command old new r →
+        Cause Faulty (file_words (Ok (Form.TheVariants.Serve command))) old new r
+    offers-cause command =
+        last-cause Faulty _ _ (world_words (serve_files command)) (world-cause (serve_files command))
+        (λ offered. settles-cause Faulty (Ok (offer_over offered)) (λ status none. cc))

@@ -1,5 +1,6 @@
 pub mod CauseLemmas
 pub mod CommandLemmas
+pub mod CountLemmas
 pub mod EdgeLemmas
 pub mod GivenLemmas
 pub mod OfferLemmas

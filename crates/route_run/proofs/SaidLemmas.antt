@@ -14,15 +14,19 @@ use Rattle.route_run.proofs.CommandLemmas.{command-cause, offers-cause}
 use Rattle.route_run.specs.Ends.{Ends}
 use Rattle.route_run.specs.Offer.{Offer}
 use Rattle.route_run.specs.Outcome.{IsDone as done}
-use Rattle.route_run.specs.Outcome.{HasWriteCause, HasHubCause, HasOpenedAll, HasReadCause, IsAnswer, IsComplete, IsDone, IsOutcome, Reach, command_in, file_words}
+use Rattle.route_run.specs.Outcome.{HasWriteCause, HasHubCause, HasOpenedAll, HasReadCause, IsAnswer, IsCompleteOf, IsDone, IsOutcome, IsQueryWord, Reach, command_in, file_words}
 use Rattle.route_run.specs.Serving.{IsServeOutcome as outcome}
 use Rattle.route_run.specs.Serving.{IsServedAt as serves}
 use Rattle.route_run.specs.Serving.{IsServeOutcome, IsServedAt, status_of_end}
 use Rattle.run_files.specs.declared.status.Status.{Status}
-use Rattle.run_files.specs.declared.status.Status.TheVariants.{Done, Usage, Query, TooLong, Lookup, Text, Check, Map, Tile, Route, NotFound, ReadFault, WriteFault, TurnsSpent, HubFault, NoMemory}
+use Rattle.run_files.specs.declared.status.Status.TheVariants.{Done, Usage, Query, TooLong, Lookup, Text, Check, Map, Tile, Certificate, Route, Refuted, NotFound, ReadFault, WriteFault, TurnsSpent, HubFault, NoMemory}
 use Rattle.hall.specs.Served.{EndsBy}
 use Rattle.hall.specs.declared.serve_end.ServeEnd.{ServeEnd}
 use Rattle.hall.specs.declared.serve_end.ServeEnd.TheVariants as end
+
+-- the words of a command that may be told at fault
+abbrev pub Faulty : Result Command ℕ → ℕ → Type 0
+Faulty named word = (command : Command) → named ≡ Ok command → IsQueryWord command word
 
 -- all that is said of the status of words that are this command, or are at fault here
 pub record Said (named : Result Command ℕ) (old new : Reach) (status : Status) : Type 0 where
@@ -32,16 +36,17 @@ pub record Said (named : Result Command ℕ) (old new : Reach) (status : Status)
   pub complete :
       (command : Command) → named ≡ Ok command → (CountRose old.out.faults new.out.faults → ⊥) →
       (CountRose old.files.faults new.files.faults → ⊥) →
-      (CountRose old.hub.faults new.hub.faults → ⊥) → IsComplete status
+      (CountRose old.hub.faults new.hub.faults → ⊥) → IsCompleteOf command status
 
 module _ (named : Result Command ℕ) (old new : Reach)
   where
     -- of a refusal with its cause, where the output and the hub have the faults that they had
-    refusal-said : (status : Status) → RefusalCause (file_words named) old.files new.files status → new.out.faults ≡ old.out.faults →
+    refusal-said : (status : Status) → RefusalCause (Faulty named) (file_words named) old.files new.files status → new.out.faults ≡ old.out.faults →
         new.hub.faults ≡ old.hub.faults → Said named old new status
     refusal-said (ReadFault word) c out hub =
         record { read = c; written = out; hub = hub; complete = λ command is still calm quiet. absurd (calm c.rose) }
-    refusal-said (Usage word) c out hub = absurd c
+    refusal-said (Usage word) c out hub =
+        record { read = c.1; written = out; hub = hub; complete = λ command is still calm quiet. c.0 command is }
     refusal-said Done c out hub = absurd c
     refusal-said WriteFault c out hub = absurd c
     refusal-said TurnsSpent c out hub = absurd c
@@ -52,13 +57,15 @@ module _ (named : Result Command ℕ) (old new : Reach)
     refusal-said (Text word error) c out hub = record { read = c; written = out; hub = hub; complete = λ command is still calm quiet. tt }
     refusal-said (Check word error) c out hub = record { read = c; written = out; hub = hub; complete = λ command is still calm quiet. tt }
     refusal-said (Map word error) c out hub = record { read = c; written = out; hub = hub; complete = λ command is still calm quiet. tt }
+    refusal-said (Certificate word error) c out hub = record { read = c; written = out; hub = hub; complete = λ command is still calm quiet. tt }
+    refusal-said (Refuted leg why) c out hub = record { read = c; written = out; hub = hub; complete = λ command is still calm quiet. tt }
     refusal-said (Tile word error) c out hub = record { read = c; written = out; hub = hub; complete = λ command is still calm quiet. tt }
     refusal-said (Route error line) c out hub = record { read = c; written = out; hub = hub; complete = λ command is still calm quiet. tt }
     refusal-said (NotFound word) c out hub = record { read = c; written = out; hub = hub; complete = λ command is still calm quiet. tt }
     refusal-said NoMemory c out hub = record { read = c; written = out; hub = hub; complete = λ command is still calm quiet. tt }
 
     -- of an answer that ends over the output, where the hub has the faults that it had
-    answer-said : (answer : Result (List ℕ) Status) (status : Status) → Cause (file_words named) old.files new.files answer →
+    answer-said : (answer : Result (List ℕ) Status) (status : Status) → Cause (Faulty named) (file_words named) old.files new.files answer →
         Ends answer status old.out new.out → new.hub.faults ≡ old.hub.faults → Said named old new status
     answer-said (Err refusal) status cause ends hub =
         subst (Said named old new) (sym ends.0) (refusal-said refusal cause (ap (λ (s : SinkSeen). s.faults) ends.1) hub)
@@ -75,6 +82,8 @@ module _ (named : Result Command ℕ) (old new : Reach)
     answer-said (Ok bytes) (Text word error) all ends hub = absurd ends
     answer-said (Ok bytes) (Check word error) all ends hub = absurd ends
     answer-said (Ok bytes) (Map word error) all ends hub = absurd ends
+    answer-said (Ok bytes) (Certificate word error) all ends hub = absurd ends
+    answer-said (Ok bytes) (Refuted leg why) all ends hub = absurd ends
     answer-said (Ok bytes) (Tile word error) all ends hub = absurd ends
     answer-said (Ok bytes) (Route error line) all ends hub = absurd ends
     answer-said (Ok bytes) (NotFound word) all ends hub = absurd ends
@@ -106,11 +115,11 @@ serve-said : (command : ServeCommand) (old new : Reach) (status : Status) →
     IsServeOutcome command old.files new.files old.hub new.hub status →
     new.out.faults ≡ old.out.faults → Said (Ok (Form.TheVariants.Serve command)) old new status
 serve-said command old new status (outcome.refused offers same) out =
-    refusal-said (Ok (Form.TheVariants.Serve command)) old new status (offers-cause command old.files new.files (Err status) offers) out
+    refusal-said (Ok (Form.TheVariants.Serve command)) old new status (offers-cause (Faulty (Ok (Form.TheVariants.Serve command))) command old.files new.files (Err status) offers) out
     (ap (λ (s : HubSeen). s.faults) same)
 serve-said command old new status (outcome.served {offer = offer} offers to) out =
     served-said (Ok (Form.TheVariants.Serve command)) old new (address_of command.listen) command.turns offer status
-    (offers-cause command old.files new.files (Ok offer) offers) to out
+    (offers-cause (Faulty (Ok (Form.TheVariants.Serve command))) command old.files new.files (Ok offer) offers) to out
 
 -- of words that are at fault, where nothing is done
 words-said : (named : Result Command ℕ) (old new : Reach) (status : Status) → answer_map (λ (c : Command). c) Usage named ≡ Err status →
@@ -144,9 +153,11 @@ written-said words old new answer status (inl stops) ends hub =
     ])
 written-said words old new answer status (inr goes) ends hub =
     let named : command_of words ≡ Ok goes.value = mapped-ok Usage (command_of words) goes.value goes.given.gives in
-    let cause : Cause (file_words (Ok goes.value)) old.files new.files answer =
-    subst (λ (s : FilesSeen). Cause (file_words (Ok goes.value)) s new.files answer) goes.given.same
-    (command-cause goes.value goes.between new.files answer goes.rest) in
+    let may : (word : ℕ) → IsQueryWord goes.value word → Faulty (Ok goes.value) word =
+    λ word is command same. (let one : goes.value ≡ command = cc in subst (λ (c : Command). IsQueryWord c word) one is) in
+    let cause : Cause (Faulty (Ok goes.value)) (file_words (Ok goes.value)) old.files new.files answer =
+    subst (λ (s : FilesSeen). Cause (Faulty (Ok goes.value)) (file_words (Ok goes.value)) s new.files answer) goes.given.same
+    (command-cause (Faulty (Ok goes.value)) goes.value may goes.between new.files answer goes.rest) in
     subst (λ (c : Result Command ℕ). Said c old new status) (sym named) (answer-said (Ok goes.value) old new answer status cause ends hub)
 
 -- of all words

@@ -4,6 +4,8 @@ use Rattle.edge_io.specs.Faults.{CountRose, count_after}
 use Rattle.edge_io.specs.Files.{FilesSeen}
 use Rattle.edge_io.specs.Hub.{HubSeen}
 use Rattle.edge_io.specs.Sink.{SinkSeen}
+use Rattle.run_answers.specs.Certify.{IsCertifyAnswer}
+use Rattle.run_answers.specs.Check.{IsCheckedAnswer}
 use Rattle.run_answers.specs.Code.{IsCodeAnswer}
 use Rattle.run_answers.specs.Grid.{IsGridAnswer}
 use Rattle.run_answers.specs.Hills.{IsHillsAnswer}
@@ -17,6 +19,7 @@ use Rattle.run_files.specs.Chain.{Leaves, Settles, Stage, Then}
 use Rattle.run_files.specs.World.{WorldFiles}
 use Rattle.command_words.specs.Command.{command_of}
 use Rattle.command_words.specs.Given.{Named}
+use Rattle.command_words.specs.declared.command.CheckCommand.{CheckCommand}
 use Rattle.command_words.specs.declared.command.CodeCommand.{CodeCommand}
 use Rattle.command_words.specs.declared.command.Command.{Command}
 use Rattle.command_words.specs.declared.command.Command as Form
@@ -34,6 +37,8 @@ IsCommandAnswer (Form.TheVariants.Grid command) old new answer = IsGridAnswer co
 IsCommandAnswer (Form.TheVariants.Make command) old new answer = Settles (Ok (made_by command)) old new answer
 IsCommandAnswer (Form.TheVariants.Code command) old new answer = IsCodeAnswer command old new answer
 IsCommandAnswer (Form.TheVariants.Route command) old new answer = IsRouteAnswer command old new answer
+IsCommandAnswer (Form.TheVariants.Certify command) old new answer = IsCertifyAnswer command old new answer
+IsCommandAnswer (Form.TheVariants.Check command) old new answer = IsCheckedAnswer command old new answer
 IsCommandAnswer (Form.TheVariants.Hills command) old new answer =
     Leaves (IsHillsAnswer command) old new answer
 IsCommandAnswer (Form.TheVariants.Serve command) old new answer = ⊥
@@ -104,12 +109,18 @@ profile_words (Some files) = files.lookups.word ∷ files.profile.word ∷ []
 abbrev pub world_words : WorldFiles → List ℕ
 world_words files = files.lookups.word ∷ (words_in files.profiles ++ (files.map.word ∷ words_in files.tiles))
 
+-- the words of the files of a world and of a certificate
+abbrev pub check_words : CheckCommand → List ℕ
+check_words command = world_words (route_files command.route) ++ command.certificate.word ∷ []
+
 -- the words of a command's files, in the order in which they are opened
 abbrev pub file_words : Result Command ℕ → List ℕ
 file_words (Ok (Form.TheVariants.Grid command)) = profile_words command.files
 file_words (Ok (Form.TheVariants.Make command)) = []
 file_words (Ok (Form.TheVariants.Code command)) = profile_words (Some command)
 file_words (Ok (Form.TheVariants.Route command)) = world_words (route_files command)
+file_words (Ok (Form.TheVariants.Certify command)) = world_words (route_files command)
+file_words (Ok (Form.TheVariants.Check command)) = check_words command
 file_words (Ok (Form.TheVariants.Hills command)) = []
 file_words (Ok (Form.TheVariants.Serve command)) = world_words (serve_files command)
 file_words (Err fault) = []
@@ -151,3 +162,14 @@ IsComplete (ReadFault word) = ⊥
 IsComplete WriteFault = ⊥
 IsComplete HubFault = ⊥
 IsComplete status = Unit {0}
+
+-- the word of the query of a command that certifies or checks, which has to ask for a first track
+abbrev pub IsQueryWord : Command → ℕ → Type 0
+IsQueryWord (Form.TheVariants.Certify command) word = word ≡ command.query.word
+IsQueryWord (Form.TheVariants.Check command) word = word ≡ command.route.query.word
+IsQueryWord command word = ⊥
+
+-- so it is of a command, but that the word of a query which asks for no first track may be at fault
+abbrev pub IsCompleteOf : Command → Status → Type 0
+IsCompleteOf command (Usage word) = IsQueryWord command word
+IsCompleteOf command status = IsComplete status

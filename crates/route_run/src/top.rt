@@ -7,13 +7,15 @@ ghost use Rattle.command_words.specs.Refusals.{texts_of};
 ghost use Rattle.command_words.specs.declared.command.Command.{Command as TheCommand};
 ghost use Rattle.edge_io.specs.Faults.{CountRose};
 ghost use Rattle.item_list.specs.Answer.{Answers};
-ghost use Rattle.route_run.specs.Outcome.{HasWriteCause, HasHubCause, HasReadCause, IsComplete, IsDone, IsOutcome, command_in, file_words, reach};
+ghost use Rattle.route_run.specs.Outcome.{HasWriteCause, HasHubCause, HasReadCause, IsCompleteOf, IsDone, IsOutcome, command_in, file_words, reach};
 
 use crate::sending::{send, send_output};
 use crate::server::serve_answer;
 use command_words::{Command, Refusal, command_of};
 use edge_io::{Files, Hub, Sink};
-use run_answers::{code_answer, grid_answer, hills_answer, make_answer, route_answer};
+use run_answers::{
+    certify_answer, check_answer, code_answer, grid_answer, hills_answer, make_answer, route_answer,
+};
 use run_files::Status;
 use std::alloc::Global;
 
@@ -35,7 +37,8 @@ pub fn run<F: Files, O: Sink, H: Hub>(
     ensures complete { (command : TheCommand) → command_of (texts_of words.now) ≡ Ok command →
         (CountRose (O.seen out.old).faults (O.seen out.new).faults → ⊥) →
         (CountRose (F.seen files.old).faults (F.seen files.new).faults → ⊥) →
-        (CountRose (H.seen hub.old).faults (H.seen hub.new).faults → ⊥) → IsComplete result }
+        (CountRose (H.seen hub.old).faults (H.seen hub.new).faults → ⊥) →
+        IsCompleteOf command result }
 {
     match command_in(alloc, words) {
         Ok(command) => command_run(alloc, &command, files, out, hub),
@@ -73,6 +76,8 @@ fn command_run<F: Files, O: Sink, H: Hub>(
         Command::Make(command) => send_output(out, make_answer(alloc, command)),
         Command::Code(command) => send(out, code_answer(alloc, command, files)),
         Command::Route(command) => send(out, route_answer(alloc, command, files)),
+        Command::Certify(command) => send(out, certify_answer(alloc, command, files)),
+        Command::Check(command) => send(out, check_answer(alloc, command, files)),
         Command::Hills(command) => send(out, hills_answer(alloc, command)),
         Command::Serve(command) => serve_answer(alloc, command, files, hub),
     }

@@ -1,3 +1,4 @@
+pub mod CertificateLemmas
 pub mod MadeLemmas
 pub mod PlanLemmas
 pub mod RoutedLemmas

@@ -1,4 +1,7 @@
+pub mod Certify
+pub mod Check
 pub mod Code
+pub mod First
 pub mod Grid
 pub mod Hills
 pub mod Lines

@@ -1,7 +1,10 @@
 //! What each command answers over its files: what it writes, or the status of its refusal.
 #![tactic(auto)]
 
+mod certify;
+mod check;
 mod code;
+mod first;
 mod grid;
 mod hills;
 mod lines;
@@ -10,6 +13,8 @@ mod output;
 mod refused;
 mod route;
 
+pub use certify::certify_answer;
+pub use check::check_answer;
 pub use code::code_answer;
 pub use grid::grid_answer;
 pub use hills::hills_answer;

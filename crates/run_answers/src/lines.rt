@@ -1,7 +1,7 @@
-//! What the commands `grid` and `hills` print.
+//! What the commands `grid`, `hills` and `check` print.
 
 ghost use Rattle.std.specs.Prelude.{◌≡◌, ◌++◌, ◌<◌, IfOk, OnOk};
-ghost use Rattle.run_answers.specs.Lines.{cells_text, cost_text, grid_lines, hills_lines, priced_lines};
+ghost use Rattle.run_answers.specs.Lines.{cells_text, cost_text, grid_lines, hills_lines, priced_lines, yes_lines};
 
 use fixed_num::SixDecimals;
 use geo_int::mm3;
@@ -57,6 +57,17 @@ pub fn hills_lines(alloc: Global, found: &Hills) -> Result<Vec<u8>, AllocError>
     append_named(&mut text, b"\nsegments ", found.segments as u64)?;
     text.extend_from_slice(b"\ncost ")?;
     append_cost(&mut text, found.cost)?;
+    text.extend_from_slice(b"\n")?;
+    Ok(text)
+}
+
+/// The two lines of a certificate that shows its track least, at this cost.
+#[tactic(auto, unfolding(crate::specs::Lines::yes_lines))]
+pub fn yes_lines(alloc: Global, cost: u128) -> Result<Vec<u8>, AllocError>
+    ensures value { IfOk result (λ text. text.items ≡ yes_lines cost) }
+{
+    let mut text = bytes_of(alloc, b"yes\ncost ")?;
+    append_cost(&mut text, cost)?;
     text.extend_from_slice(b"\n")?;
     Ok(text)
 }

@@ -1,3 +1,4 @@
+mod CertificateLemmas
 pub mod EachLemmas
 mod MapReadingLemmas
 pub mod ProfileLemmas

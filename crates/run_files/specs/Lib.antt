@@ -1,3 +1,4 @@
+pub mod Certificate
 pub mod Chain
 pub mod Checked
 pub mod File

@@ -13,6 +13,10 @@ most_profile = 262144
 abbrev pub most_map : ℕ
 most_map = 8589934592
 
+-- the most bytes of a certificate's file
+abbrev pub most_certificate : ℕ
+most_certificate = 1073741824
+
 -- the most bytes of a tile's file
 abbrev pub most_tile : ℕ
 most_tile = 25934402

@@ -1,7 +1,9 @@
--- The lines that are printed of refused maps and tiles. This project's own rule.
+-- The lines that are printed of refused maps, tiles and certificates. This project's own rule.
 use Rattle.std.specs.Prelude.{ℕ, List, ◌++◌}
 use Rattle.std.specs.Fmt.{decimal, signed_decimal}
 use lib.Chars.{codes}
+use Rattle.certificate_text.specs.declared.error.CertError.{CertError}
+use Rattle.certificate_text.specs.declared.error.CertError.TheVariants as certificate
 use Rattle.hgt_tiles.specs.declared.tile_file.TileError.{TileError}
 use Rattle.hgt_tiles.specs.declared.tile_file.TileError.TheVariants as tile
 use Rattle.map_tables.specs.declared.error.ElementKind.{ElementKind}
@@ -10,6 +12,8 @@ use Rattle.map_tables.specs.declared.error.MapCount.{MapCount}
 use Rattle.map_tables.specs.declared.error.MapCount.TheVariants.{Nodes, Ways, Segments, Members}
 use Rattle.map_tables.specs.declared.error.MapError.{MapError}
 use Rattle.map_tables.specs.declared.error.MapError.TheVariants.{NotJson, Shape, BadCoordinate, DoubleId, TooLarge, MissingNode, NoMemory}
+use Rattle.route_certificate.specs.declared.verdict.Why.{Why}
+use Rattle.route_certificate.specs.declared.verdict.Why.TheVariants as why
 
 -- what an element is called
 abbrev pub kind_name : ElementKind → List ℕ
@@ -35,6 +39,24 @@ map_line (TooLarge what) = codes "map: too many " ++ count_name what
 map_line (MissingNode way node) = codes "map: way " ++
     (signed_decimal way ++ (codes " lacks node " ++ signed_decimal node))
 map_line NoMemory = codes "out of memory"
+
+-- the line of a text that is no certificate, without an end of line
+abbrev pub certificate_line : CertError → List ℕ
+certificate_line (certificate.Line line) = codes "certificate line " ++ decimal line
+certificate_line certificate.NoMemory = codes "out of memory"
+
+-- what a condition on a certificate is called
+abbrev pub why_name : Why → List ℕ
+why_name why.Legs = codes "legs"
+why_name why.Walk = codes "walk"
+why_name why.Bounds = codes "bounds"
+why_name why.Start = codes "start"
+why_name why.Step = codes "step"
+why_name why.Goal = codes "goal"
+
+-- the line of a certificate of which a condition fails of a leg, without an end of line
+abbrev pub refuted_line : ℕ → Why → List ℕ
+refuted_line leg why = codes "certificate refused: leg " ++ (decimal leg ++ (codes ", " ++ why_name why))
 
 -- the line of a file that is no tile, without an end of line
 abbrev pub tile_line : TileError → List ℕ

@@ -2,6 +2,7 @@
 //! ends.
 #![tactic(auto)]
 
+mod certificate;
 mod checked;
 mod file;
 mod lines;
@@ -16,8 +17,9 @@ mod tag_table;
 mod tiles;
 mod world;
 
+pub use certificate::take_certificate;
 pub use checked::take_checked;
-pub use lines::{map_line, tile_line};
+pub use lines::{certificate_line, map_line, refuted_line, tile_line};
 pub use map::take_map;
 pub use map_error::MapFileError;
 pub use map_reading::read_map;

@@ -1,11 +1,13 @@
-//! What is printed of refused maps and tiles.
+//! What is printed of refused maps, tiles and certificates.
 
 ghost use Rattle.std.specs.Prelude.{◌≡◌, IfOk};
 ghost use Rattle.std.specs.String.{string_bytes};
-ghost use Rattle.run_files.specs.Lines.{count_name, kind_name, map_line, tile_line};
+ghost use Rattle.run_files.specs.Lines.{certificate_line, count_name, kind_name, map_line, refuted_line, tile_line, why_name};
 
+use certificate_text::CertError;
 use hgt_tiles::TileError;
 use overpass_graph::{ElementKind, MapCount, MapError};
+use route_certificate::Why;
 use std::alloc::{AllocError, Global};
 
 /// The line that is printed of a text that is no map, without an end of line.
@@ -41,6 +43,39 @@ pub fn tile_line(error: &TileError) -> &'static str
         TileError::Name => "tile name",
         TileError::Size => "tile size",
         TileError::NoMemory => "out of memory",
+    }
+}
+
+/// The line that is printed of a text that is no certificate, without an end of line.
+pub fn certificate_line(alloc: Global, error: &CertError) -> Result<String, AllocError>
+    ensures exact { IfOk result (λ s. string_bytes s ≡ certificate_line error.now) }
+{
+    match error {
+        CertError::Line { line } => format!(in alloc; "certificate line {line}"),
+        CertError::NoMemory => String::from_str(alloc, "out of memory"),
+    }
+}
+
+/// The line that is printed of a certificate of which a condition fails of a leg, without an end of
+/// line.
+pub fn refuted_line(alloc: Global, leg: u32, why: Why) -> Result<String, AllocError>
+    ensures exact { IfOk result (λ s. string_bytes s ≡ refuted_line leg why) }
+{
+    let name = why_name(why);
+    format!(in alloc; "certificate refused: leg {leg}, {name}")
+}
+
+/// What a condition is called.
+fn why_name(why: Why) -> &'static str
+    ensures exact { result.now ≡ why_name why }
+{
+    match why {
+        Why::Legs => "legs",
+        Why::Walk => "walk",
+        Why::Bounds => "bounds",
+        Why::Start => "start",
+        Why::Step => "step",
+        Why::Goal => "goal",
     }
 }
 

@@ -3,13 +3,15 @@
 ghost use Rattle.std.specs.Prelude.{◌≡◌, ◌++◌, IfOk};
 ghost use Rattle.run_files.specs.Status.{number_of_route, number_of_status, line_of, word_front};
 
-use crate::lines::{map_line, tile_line};
+use crate::lines::{certificate_line, map_line, refuted_line, tile_line};
+use certificate_text::CertError;
 use context_check::CheckError;
 use hgt_tiles::TileError;
 use item_list::{Name, append_number, bytes_of};
 use lookup_table::LookupError;
 use overpass_graph::MapError;
 use profile_text::TextError;
+use route_certificate::Why;
 use route_http::RequestError;
 use route_ready::RouteError;
 use std::alloc::{AllocError, Global};
@@ -36,8 +38,12 @@ pub enum Status {
     Map { word: u64, error: MapError },
     /// The file is no tile.
     Tile { word: u64, error: TileError },
+    /// The file is no certificate of links of the map.
+    Certificate { word: u64, error: CertError },
     /// There is no track, with the line that says why.
     Route { error: RouteError, line: Name },
+    /// The certificate doesn't show the track least: this condition fails of this leg.
+    Refuted { leg: u32, why: Why },
     /// No file has the name.
     NotFound { word: u64 },
     /// The file could not be opened or read.
@@ -65,7 +71,8 @@ impl Status {
             | Status::Text { .. }
             | Status::Check { .. }
             | Status::Map { .. }
-            | Status::Tile { .. } => 2,
+            | Status::Tile { .. }
+            | Status::Certificate { .. } => 2,
             Status::Route { error, .. } => number_of_route(error),
             Status::NotFound { .. } => 7,
             Status::ReadFault { .. } => 8,
@@ -73,6 +80,7 @@ impl Status {
             Status::NoMemory => 10,
             Status::TurnsSpent => 11,
             Status::HubFault => 12,
+            Status::Refuted { .. } => 13,
         }
     }
 
@@ -106,7 +114,15 @@ impl Status {
                 file_line(alloc, *word, line.as_bytes())
             }
             Status::Tile { word, error } => file_line(alloc, *word, tile_line(error).as_bytes()),
+            Status::Certificate { word, error } => {
+                let line = certificate_line(alloc, error)?;
+                file_line(alloc, *word, line.as_bytes())
+            }
             Status::Route { line, .. } => bytes_of(alloc, line.as_slice()),
+            Status::Refuted { leg, why } => {
+                let line = refuted_line(alloc, *leg, *why)?;
+                bytes_of(alloc, line.as_bytes())
+            }
             Status::NotFound { word } => file_line(alloc, *word, b"not found"),
             Status::ReadFault { word } => file_line(alloc, *word, b"read fault"),
             Status::WriteFault => bytes_of(alloc, b"write fault"),

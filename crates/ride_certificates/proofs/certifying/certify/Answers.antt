@@ -1,10 +1,12 @@
 use Rattle.std.proofs.Common.{◌≡◌, ◌⊎◌, IfErr, IfOk, sym, subst}
+use Rattle.certificate_text.specs.Texts.{AreLegs, legs_of}
 use Rattle.profile_text.specs.Expr.{sections_in}
 use Rattle.ride_certificates.specs.Certificates.{Certifies, IsRefusedAsTrack}
+use Rattle.ride_certificates.specs.Checks.{AreAgreed}
 use Rattle.route_engine.specs.Replies.{question_of}
 use Rattle.route_http.specs.Seen.{asked}
 use Rattle.route_ready.specs.World.{world_of}
-use Rattle.ride_certificates.proofs.AgreeLemmas.{IsYesAlone, none-answers, told-agrees, told-answers}
+use Rattle.ride_certificates.proofs.AgreeLemmas.{none-answers, told-agrees, told-answers, told-writable}
 use Rattle.ride_certificates.proofs.AskLemmas.{basis-legs, certifies-moved}
 use Rattle.ride_certificates.proofs.RefusalLemmas.{early-certifies, told-refuses}
 use Rattle.route_ready.specs.declared.error.RouteError.TheVariants.{NoMemory}
@@ -22,6 +24,12 @@ returns-in-Ok-clause-exact c =
     subst (Certifies question) (sym c.told.ensures.exact)
     (told-answers question is.setting basis.nodes.items (basis-legs world question basis is) found comes)
 
+pub returns-in-Ok-clause-fits : goal.returns-in-Ok-clause-fits
+returns-in-Ok-clause-fits c =
+    let roads = (world_of c.args.world.now).map in
+    subst (λ r. IfOk r (λ certificate. AreLegs roads (legs_of certificate))) (sym c.told.ensures.exact)
+    (told-writable roads c.in_ok-found-in-Ok.found c.in_ok-found-in-Ok.ensures.fits)
+
 pub returns-in-Ok-clause-agrees : goal.returns-in-Ok-clause-agrees
 returns-in-Ok-clause-agrees c =
     let world = world_of c.args.world.now in
@@ -31,7 +39,7 @@ returns-in-Ok-clause-agrees c =
     let found = c.in_ok-found-in-Ok.found in
     let comes = certifies-moved world is.setting question.asked.waypoints basis is.is question.asked.labels found
     c.in_ok-found-in-Ok.ensures.exact in
-    subst (λ r. IfOk r (IsYesAlone question)) (sym c.told.ensures.exact)
+    subst (λ r. IfOk r (λ certificate. AreAgreed question (legs_of certificate))) (sym c.told.ensures.exact)
     (told-agrees question is.setting basis.nodes.items (basis-legs world question basis is) found comes)
 
 pub returns-clause-exact : goal.returns-clause-exact

@@ -6,12 +6,16 @@ use Rattle.space_search.specs.Laws.{IsBlind}
 use Rattle.route_certificate.specs.Asks.{leg_in}
 use Rattle.route_certificate.specs.Certified.{IsShown}
 use Rattle.route_certificate.proofs.FoundLemmas.{home-proof}
+use Rattle.route_certificate.proofs.WritableLemmas.{home-written, shown-written}
 use Rattle.route_certificate.proofs.finding.certify_leg.Goals as goal
 
 pub returns-then-start-target : goal.returns-then-start-target
 returns-then-start-target g c =
     let leg = leg_in (g.G.TerrainOf.terrain c.args.terrain) c.args.ask.now c.args.place in
-    record { exact = home-proof leg _ c.if-start-target.true c.new-entries.ensures.items refl c.new-walk.ensures.items }
+    record {
+      exact = home-proof leg _ c.if-start-target.true c.new-entries.ensures.items refl c.new-walk.ensures.items;
+      fits = home-written _ _ _ _ c.new-walk.ensures.items refl c.new-entries.ensures.items;
+    }
 
 pub plain-requires : goal.plain-requires
 plain-requires g c = record {
@@ -35,9 +39,11 @@ certify_space-requires g c =
 pub returns : goal.returns
 returns g c =
     let kept = c.in_ok-space.space.kept in
-    let same = ap (λ (t : Terrain). (task_of t kept).leg) (ap g.G.TerrainOf.terrain c.in_ok-space.ensures.terrain)
-    ∙ c.in_ok-space.ensures.leg in
+    let terrain = g.G.TerrainOf.terrain c.args.terrain in
+    let shown = subst (λ (t : Terrain). IfOk c.certify_space.result (IsShown (task_of t kept).leg c.args.limit))
+    (ap g.G.TerrainOf.terrain c.in_ok-space.ensures.terrain) c.certify_space.ensures.exact in
     record {
-      exact = subst (λ (leg : Leg). IfOk c.certify_space.result (IsShown leg c.args.limit)) same
-          c.certify_space.ensures.exact;
+      exact = subst (λ (leg : Leg). IfOk c.certify_space.result (IsShown leg c.args.limit)) c.in_ok-space.ensures.leg shown;
+      fits = shown-written terrain kept c.in_ok-space.ensures.wakes.lawful c.in_ok-space.ensures.unused c.args.limit
+          c.certify_space.result shown;
     }

@@ -1,7 +1,7 @@
 use Rattle.std.proofs.Common.{◌≡◌, subst, arith}
 use Rattle.certificate_text.specs.declared.certificate.Certificate.{Certificate}
 use Rattle.route_certificate.specs.Asks.{leg_in}
-use Rattle.route_certificate.specs.Certified.{IsShown, no_walk, spent}
+use Rattle.route_certificate.specs.Certified.{IsShown, IsWritable, no_walk, spent}
 use Rattle.route_certificate.proofs.CertifiedLemmas.{shown-all, shown-alone, shown-before, shown-first, shown-more}
 use Rattle.route_certificate.proofs.making.certify.Goals as goal
 
@@ -30,6 +30,7 @@ legs-preserved g c =
     let terrain = g.G.TerrainOf.terrain c.args.terrain in
     shown-more terrain c.args.ask.now c.legs.place c.legs.legs.items _ c.in-Found.proof c.legs.invariant
     (subst (IsShown (leg_in terrain c.args.ask.now c.legs.place) c.args.limit) c.in-Found.is c.in_ok-found.ensures.exact)
+    (subst (IsWritable terrain.map) c.in-Found.is c.in_ok-found.ensures.fits)
     c.in_ok-push-in-Found.ensures.items
 
 pub returns-clause-exact : goal.returns-clause-exact
@@ -37,6 +38,9 @@ returns-clause-exact g c =
     shown-all (g.G.TerrainOf.terrain c.args.terrain) c.args.ask.now c.legs.place c.args.limit
     (record { legs = c.legs.legs }) c.legs.invariant
     (omega (arith, c.legs-test.false, c.legs.auto.place-end, c.requires.some))
+
+pub returns-clause-fits : goal.returns-clause-fits
+returns-clause-fits g c = c.legs.invariant.written
 
 pub returns-clause-agrees : goal.returns-clause-agrees
 returns-clause-agrees g c certificate verdict same is =

@@ -38,6 +38,19 @@ returns-in-Route g c = record {
       written _ _ _ _ (bytes_in c.route_answer.result) _ c.in-Route.is c.route_answer.ensures.exact c.send-in-Route.ensures.ends refl;
 }
 
+pub returns-in-Certify : goal.returns-in-Certify
+returns-in-Certify g c = record {
+  exact =
+      written _ _ _ _ (bytes_in c.certify_answer.result) _ c.in-Certify.is c.certify_answer.ensures.exact c.send-in-Certify.ensures.ends
+      refl;
+}
+
+pub returns-in-Check : goal.returns-in-Check
+returns-in-Check g c = record {
+  exact =
+      written _ _ _ _ (bytes_in c.check_answer.result) _ c.in-Check.is c.check_answer.ensures.exact c.send-in-Check.ensures.ends refl;
+}
+
 pub returns-in-Hills : goal.returns-in-Hills
 returns-in-Hills g c = record {
   exact = written _ _ _ _ (bytes_in c.hills_answer.result) _ c.in-Hills.is (c.hills_answer.ensures.exact, refl) c.send-in-Hills.ensures.ends
