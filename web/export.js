@@ -17,6 +17,12 @@ export function commandOf(ride, start, file) {
   return `${start} profile=${file} \\\n  'query=${textOf(queryOf(ride, ride.profile))}'`;
 }
 
+// The command that writes a certificate of a ride's best track, and the one that checks it.
+export function certificateOf(ride, start, file) {
+  const line = (name) => commandOf({ ...ride, alternative: 0 }, start.replace(/ route(?= |$)/, ` ${name}`), file);
+  return `${line('certify')} > ride.certificate\n${line('check')} \\\n  certificate=ride.certificate`;
+}
+
 export function save(name, type, text) {
   const link = document.createElement('a');
   link.href = URL.createObjectURL(new Blob([text], { type }));

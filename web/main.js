@@ -9,7 +9,7 @@ import { Heights } from './heights.js';
 import { drawLegend, Rows } from './rows.js';
 import { Editor } from './editor.js';
 import { variablesOf } from './profile.js';
-import { commandOf, gpxOf, save } from './export.js';
+import { certificateOf, commandOf, gpxOf, save } from './export.js';
 
 const by = (id) => document.getElementById(id);
 const state = { ride: null, tracks: [], faults: [], texts: new Map() };
@@ -150,6 +150,7 @@ function drawAnswer() {
   heights.draw(shown.geometry.coordinates, distancesOf(told));
   rows.draw(told);
   by('command').value = commandOf(state.ride, settings.command, `${state.ride.profile}.brf`);
+  by('certificate').value = certificateOf(state.ride, settings.command, `${state.ride.profile}.brf`);
 }
 
 function answered(tracks, refused) {

@@ -1,6 +1,6 @@
 -- What the command `certify` answers: the text of a certificate, or why there is none. This project's own rule.
 use Rattle.std.specs.Prelude.{◌≡◌, ℕ, List, Option, Some, None, Result, Ok, Err}
-use Rattle.certificate_text.specs.Texts.{certificate_text, legs_of}
+use Rattle.certificate_text.specs.Texts.{IsTextOf, certificate_text, legs_of}
 use Rattle.certificate_text.specs.declared.certificate.Certificate.{Certificate}
 use Rattle.command_words.specs.declared.command.RouteCommand.{RouteCommand}
 use Rattle.profile_text.specs.Tree.{Sections}
@@ -10,6 +10,7 @@ use Rattle.route_engine.specs.Settings.{Question}
 use Rattle.route_http.specs.Asked.{Asked}
 use Rattle.route_ready.specs.Worlds.{WorldValue}
 use Rattle.route_ready.specs.declared.error.RouteError.TheVariants.{UnknownProfile}
+use Rattle.run_answers.specs.Check.{IsTested, TellsYes}
 use Rattle.run_answers.specs.First.{first_in}
 use Rattle.run_answers.specs.Refused.{IsRefusal}
 use Rattle.run_answers.specs.Route.{route_files}
@@ -18,11 +19,15 @@ use Rattle.run_files.specs.Profiles.{profile_named}
 use Rattle.run_files.specs.World.{OfferedValue, TakesWorld}
 use Rattle.run_files.specs.declared.status.Status.{Status}
 
--- these bytes are the text of a certificate that answers a question
+-- these bytes are the text of a certificate that answers a question. Of whatever is read of them, a check for
+-- the same question tells yes, and nothing else but want of memory
 pub record TellsCertificate (question : Question) (bytes : List ℕ) : Type 0 where
   pub certificate : Certificate
   pub answers : IsCertificateAnswer question (Ok certificate)
   pub are : bytes ≡ certificate_text question.binding.map (legs_of certificate)
+  pub agrees :
+      (read : Certificate) (result : Result (List ℕ) Status) →
+      IsTextOf question.binding.map bytes (legs_of read) → IsTested question read result → TellsYes read result
 
 -- what is answered to a question: the text of a certificate; or the refusal, with its line
 abbrev pub IsWritten : Question → Result (List ℕ) Status → Type 0

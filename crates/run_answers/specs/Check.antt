@@ -5,6 +5,7 @@ use Rattle.command_words.specs.declared.command.CheckCommand.{CheckCommand}
 use Rattle.item_list.specs.Answer.{Answers}
 use Rattle.profile_text.specs.Tree.{Sections}
 use Rattle.ride_certificates.specs.Checks.{AreLeastFor, IsCheckAnswer}
+use Rattle.route_certificate.specs.Verdicts.{total_cost}
 use Rattle.route_certificate.specs.declared.verdict.Verdict.{Verdict}
 use Rattle.route_certificate.specs.declared.verdict.Verdict.TheVariants.{Yes, No}
 use Rattle.route_engine.specs.Replies.{question_of}
@@ -32,13 +33,17 @@ verdict_text (No leg why) = Err (Refuted leg why)
 abbrev pub TellsVerdict : Verdict → Result (List ℕ) Status → Type 0
 TellsVerdict verdict result = Answers (λ (b : List ℕ). b) (verdict_text verdict) NoMemory result
 
+-- yes is told of a certificate, with what its legs cost together; or memory ran out
+abbrev pub TellsYes : Certificate → Result (List ℕ) Status → Type 0
+TellsYes certificate result = TellsVerdict (Yes (total_cost certificate)) result
+
 -- a verdict on the certificate of a question is told, or memory ran out. With yes the walk of each leg is one
--- between the waypoints' nodes, and none costs less
+-- between the waypoints' nodes, none costs less, and together they cost this
 pub record IsJudged (question : Question) (certificate : Certificate) (result : Result (List ℕ) Status)
     : Type 0 where
   pub verdict : Verdict
   pub answers : IsCheckAnswer question certificate (Ok verdict)
-  pub least : (cost : ℕ) → verdict ≡ Yes cost → AreLeastFor question certificate
+  pub least : (cost : ℕ) → verdict ≡ Yes cost → AreLeastFor question certificate cost
   pub tells : TellsVerdict verdict result
 
 -- what is answered to a question with a certificate: the verdict; or the refusal of the question, with its line

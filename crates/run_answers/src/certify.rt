@@ -66,7 +66,11 @@ fn written(
         (bytes_in result) }
 {
     match certify(alloc, world, profile, request) {
-        Ok(certificate) => text_of(alloc, &certificate, world.map()),
+        Ok(certificate) => {
+            let map = world.map();
+            let _count = map.links();
+            text_of(alloc, &certificate, map)
+        }
         Err(error) => Err(refused(alloc, error, Some(profile))),
     }
 }

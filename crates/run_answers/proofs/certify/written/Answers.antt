@@ -12,13 +12,15 @@ use Rattle.run_answers.proofs.certify.written.Goals as goal
 
 pub text_of-requires : goal.text_of-requires
 text_of-requires c = record {
-  legs = subst (λ (m : MapValue). AreLegs m (legs_of c.in-Ok.certificate)) (sym c.map.ensures.value) c.in-Ok.ensures.fits;
+  legs = subst (λ (m : MapValue). AreLegs m (legs_of c.in-Ok.certificate)) (sym c.map-map.ensures.value) c.in-Ok.ensures.fits;
 }
 
 pub returns-in-Ok : goal.returns-in-Ok
 returns-in-Ok c = record {
-  exact = text-written (question_of (world_of c.args.world.now) (sections_in c.args.profile.now) (asked c.args.request)) c.map.result.now
-      c.in-Ok.certificate (bytes_in c.text_of.result) c.map.ensures.value c.in-Ok.ensures.exact c.text_of.ensures.exact;
+  exact = text-written (question_of (world_of c.args.world.now) (sections_in c.args.profile.now) (asked c.args.request)) c.map-map.result.now
+      c.in-Ok.certificate (bytes_in c.text_of.result) c.map-map.ensures.value c.links-count.ensures.lawful c.in-Ok.ensures.exact
+      (subst (λ (m : MapValue). AreLegs m (legs_of c.in-Ok.certificate)) (sym c.map-map.ensures.value) c.in-Ok.ensures.fits)
+      c.in-Ok.ensures.agrees c.text_of.ensures.exact;
 }
 
 pub returns-in-Err : goal.returns-in-Err
