@@ -88,7 +88,8 @@ module _ (Faulty : ℕ → Type 0)
       }
 
       -- the answer of a file that was read has its cause
-      file-read : (result : Result (List ℕ) Status) → IsFileAnswer file limit bytes opened new result → Cause Faulty (file.word ∷ []) old new result
+      file-read : (result : Result (List ℕ) Status) → IsFileAnswer file limit bytes opened new result →
+          Cause Faulty (file.word ∷ []) old new result
       file-read (Ok whole_text) is = whole is.3
       file-read (Err (TooLong at)) is = still is.2
       file-read (Err (ReadFault at)) is = broke at is.0 is.1
@@ -135,7 +136,8 @@ module _ (Faulty : ℕ → Type 0)
     asks-cause : {A : Type 0} (file : Named) (limit : ℕ) (Is : List ℕ → Stage A)
         → ((old opened new : FilesSeen) (bytes : List ℕ) → Opens old opened file.name true → ReadsBytes limit opened new bytes →
         (result : Result A Status) → Is bytes opened new result → Cause Faulty (file.word ∷ []) old new result)
-        → (old new : FilesSeen) (result : Result A Status) → Asks file limit Is old new result → Cause Faulty (file.word ∷ []) old new result
+        → (old new : FilesSeen) (result : Result A Status) → Asks file limit Is old new result →
+        Cause Faulty (file.word ∷ []) old new result
     asks-cause file limit Is by_read old new _ (asks.failed fails) =
         record { rose = fails.rose; before = 0; opened = fails.opens; named = refl }
     asks-cause file limit Is by_read old new _ (asks.missing opens) = opened-one old new opens.faults opens.opens
@@ -143,8 +145,8 @@ module _ (Faulty : ℕ → Type 0)
         by_read old opened new bytes opens reads result is
 
     -- so has the stage of a file that is taken whole
-    pub file-cause : (file : Named) (limit : ℕ) (old new : FilesSeen) (result : Result (List ℕ) Status) → TakesFile file limit old new result →
-        Cause Faulty (file.word ∷ []) old new result
+    pub file-cause : (file : Named) (limit : ℕ) (old new : FilesSeen) (result : Result (List ℕ) Status) →
+        TakesFile file limit old new result → Cause Faulty (file.word ∷ []) old new result
     file-cause file limit = asks-cause file limit (IsFileAnswer file limit) (file-read file limit)
 
     -- and that of a map's file
@@ -265,7 +267,8 @@ module _ (Faulty : ℕ → Type 0)
         let after = two goes.value goes.between new (Ok b) goes.rest in
         record {
           faults = after.faults ∙ before.faults;
-          opened = after.opened ∙ ap (count_after (length more)) before.opened ∙ count_after-count_after (length words) (length more) old.opens
+          opened = after.opened ∙ ap (count_after (length more)) before.opened
+              ∙ count_after-count_after (length words) (length more) old.opens
               ∙ ap (λ n. count_after n old.opens) (sym (length-append words more));
         }
     then-cause first second words more one two old new (Err status) (inr goes) =

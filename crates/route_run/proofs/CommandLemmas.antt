@@ -75,7 +75,8 @@ module _ (Faulty : ℕ → Type 0)
     listing-inner : (word : ℕ) (table : TagTable) (sections : Sections) (status : Status) → listing_in word table sections ≡ Err status →
         IsInner Faulty status
     listing-inner word table sections status is =
-        elim (refusal_of table sections []) as (λ r. seen_as (listing_under table) (checked_by word sections r) ≡ Err status → IsInner Faulty status) [
+        elim (refusal_of table sections []) as (λ r. seen_as (listing_under table) (checked_by word sections r) ≡ Err status →
+        IsInner Faulty status) [
           | Some error ↦ λ e. let same : Check word error ≡ status = cc in subst (IsInner Faulty) same tt
           | None ↦ λ e. cc
         ] is
@@ -175,21 +176,22 @@ module _ (Faulty : ℕ → Type 0)
         (λ text. settles-cause Faulty (profile_in file.word text) (mapped-inner (Text file.word) (profile_of text) (λ e. tt)))
 
     -- the stage of the profile with its check
-    checked-cause : (table : TagTable) (file : Named) (old new : FilesSeen) (r : Result Sections Status) → TakesChecked table file old new r →
-        Cause Faulty (file.word ∷ []) old new r
+    checked-cause : (table : TagTable) (file : Named) (old new : FilesSeen) (r : Result Sections Status) →
+        TakesChecked table file old new r → Cause Faulty (file.word ∷ []) old new r
     checked-cause table file =
         last-cause Faulty _ _ (file.word ∷ []) (profile-cause file)
         (λ sections. settles-cause Faulty (checked_in file.word table sections) (checked-inner file.word table sections))
 
     -- the stage of a profile under its name
-    named-cause : (table : TagTable) (file : Named) (old new : FilesSeen) (r : Result NamedProfile Status) → TakesNamed table file old new r →
-        Cause Faulty (file.word ∷ []) old new r
+    named-cause : (table : TagTable) (file : Named) (old new : FilesSeen) (r : Result NamedProfile Status) →
+        TakesNamed table file old new r → Cause Faulty (file.word ∷ []) old new r
     named-cause table file =
         last-cause Faulty _ _ (file.word ∷ []) (checked-cause table file)
         (λ sections. settles-cause Faulty (Ok (named_by file sections)) (λ status none. cc))
 
     -- the stage of a tile
-    tile-cause : (file : Named) (old new : FilesSeen) (r : Result Relief Status) → TakesTile file old new r → Cause Faulty (file.word ∷ []) old new r
+    tile-cause : (file : Named) (old new : FilesSeen) (r : Result Relief Status) → TakesTile file old new r →
+        Cause Faulty (file.word ∷ []) old new r
     tile-cause file =
         last-cause Faulty _ _ (file.word ∷ []) (file-cause Faulty file _)
         (λ bytes. settles-cause Faulty (tile_in file.word file.name bytes)
@@ -210,7 +212,8 @@ module _ (Faulty : ℕ → Type 0)
         (λ table. then-cause Faulty _ _ (words_in files.profiles) (files.map.word ∷ words_in files.tiles)
         (each-cause Faulty (TakesNamed table) (named-cause table) [] files.profiles)
         (λ profiles. then-cause Faulty _ _ (files.map.word ∷ []) (words_in files.tiles) (map-cause Faulty files.map)
-        (λ map. last-cause Faulty _ _ (words_in files.tiles) (tiles-cause files.tiles) (λ tiles. settles-cause Faulty _ (λ status none. cc)))))
+        (λ map. last-cause Faulty _ _ (words_in files.tiles) (tiles-cause files.tiles)
+        (λ tiles. settles-cause Faulty _ (λ status none. cc)))))
 
     -- ---- The commands
 
@@ -220,7 +223,8 @@ module _ (Faulty : ℕ → Type 0)
     code-cause command =
         then-cause Faulty _ _ (command.lookups.word ∷ []) (command.profile.word ∷ []) (table-cause command.lookups)
         (λ table. last-cause Faulty _ _ (command.profile.word ∷ []) (profile-cause command.profile)
-        (λ sections. settles-cause Faulty (listing_in command.profile.word table sections) (listing-inner command.profile.word table sections)))
+        (λ sections. settles-cause Faulty (listing_in command.profile.word table sections)
+        (listing-inner command.profile.word table sections)))
 
     -- the command `route`
     route-cause : (command : RouteCommand) (old new : FilesSeen) (r : Result (List ℕ) Status) → IsRouteAnswer command old new r →
@@ -229,7 +233,8 @@ module _ (Faulty : ℕ → Type 0)
         then-cause Faulty _ _ [] (world_words (route_files command))
         (settles-cause Faulty (query_in command.query.name) (mapped-inner Query (request_of command.query.name) (λ e. tt)))
         (λ asked. last-cause Faulty _ _ (world_words (route_files command)) (world-cause (route_files command))
-        (λ offered. leaves-cause Faulty (IsRouted offered asked) (routed-inner (profile_named offered.profiles asked.profile) offered.world asked)))
+        (λ offered. leaves-cause Faulty (IsRouted offered asked)
+        (routed-inner (profile_named offered.profiles asked.profile) offered.world asked)))
 
     -- the command `certify`
     certify-cause : (command : RouteCommand) → Faulty command.query.word → (old new : FilesSeen) (r : Result (List ℕ) Status) →
@@ -264,15 +269,18 @@ module _ (Faulty : ℕ → Type 0)
         (λ sections. leaves-cause Faulty (IsPricedAnswer (question_by command table sections)) (refusal-inner _ _)))
 
     -- each command that has something to write
-    pub command-cause : (command : Command) → ((word : ℕ) → IsQueryWord command word → Faulty word) → (old new : FilesSeen) (r : Result (List ℕ) Status) → IsCommandAnswer command old new r →
+    pub command-cause : (command : Command) → ((word : ℕ) → IsQueryWord command word → Faulty word) →
+        (old new : FilesSeen) (r : Result (List ℕ) Status) → IsCommandAnswer command old new r →
         Cause Faulty (file_words (Ok command)) old new r
     command-cause (Form.TheVariants.Grid command) may old new r is = grid-cause command.files command old new r is
-    command-cause (Form.TheVariants.Make command) may old new r is = settles-cause Faulty (Ok (made_by command)) (λ status none. cc) old new r is
+    command-cause (Form.TheVariants.Make command) may old new r is =
+        settles-cause Faulty (Ok (made_by command)) (λ status none. cc) old new r is
     command-cause (Form.TheVariants.Code command) may old new r is = code-cause command old new r is
     command-cause (Form.TheVariants.Route command) may old new r is = route-cause command old new r is
     command-cause (Form.TheVariants.Certify command) may old new r is = certify-cause command (may command.query.word refl) old new r is
     command-cause (Form.TheVariants.Check command) may old new r is = check-cause command (may command.route.query.word refl) old new r is
-    command-cause (Form.TheVariants.Hills command) may old new r is = leaves-cause Faulty (IsHillsAnswer command) (refusal-inner _ _) old new r is
+    command-cause (Form.TheVariants.Hills command) may old new r is =
+        leaves-cause Faulty (IsHillsAnswer command) (refusal-inner _ _) old new r is
     command-cause (Form.TheVariants.Serve command) may old new r is = absurd is
 
     -- what the command `serve` offers

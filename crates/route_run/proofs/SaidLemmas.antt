@@ -41,8 +41,8 @@ pub record Said (named : Result Command ℕ) (old new : Reach) (status : Status)
 module _ (named : Result Command ℕ) (old new : Reach)
   where
     -- of a refusal with its cause, where the output and the hub have the faults that they had
-    refusal-said : (status : Status) → RefusalCause (Faulty named) (file_words named) old.files new.files status → new.out.faults ≡ old.out.faults →
-        new.hub.faults ≡ old.hub.faults → Said named old new status
+    refusal-said : (status : Status) → RefusalCause (Faulty named) (file_words named) old.files new.files status →
+        new.out.faults ≡ old.out.faults → new.hub.faults ≡ old.hub.faults → Said named old new status
     refusal-said (ReadFault word) c out hub =
         record { read = c; written = out; hub = hub; complete = λ command is still calm quiet. absurd (calm c.rose) }
     refusal-said (Usage word) c out hub =
@@ -57,7 +57,8 @@ module _ (named : Result Command ℕ) (old new : Reach)
     refusal-said (Text word error) c out hub = record { read = c; written = out; hub = hub; complete = λ command is still calm quiet. tt }
     refusal-said (Check word error) c out hub = record { read = c; written = out; hub = hub; complete = λ command is still calm quiet. tt }
     refusal-said (Map word error) c out hub = record { read = c; written = out; hub = hub; complete = λ command is still calm quiet. tt }
-    refusal-said (Certificate word error) c out hub = record { read = c; written = out; hub = hub; complete = λ command is still calm quiet. tt }
+    refusal-said (Certificate word error) c out hub =
+        record { read = c; written = out; hub = hub; complete = λ command is still calm quiet. tt }
     refusal-said (Refuted leg why) c out hub = record { read = c; written = out; hub = hub; complete = λ command is still calm quiet. tt }
     refusal-said (Tile word error) c out hub = record { read = c; written = out; hub = hub; complete = λ command is still calm quiet. tt }
     refusal-said (Route error line) c out hub = record { read = c; written = out; hub = hub; complete = λ command is still calm quiet. tt }
@@ -91,7 +92,8 @@ module _ (named : Result Command ℕ) (old new : Reach)
     answer-said (Ok bytes) NoMemory all ends hub = absurd ends
 
     -- of the end of a server, where the output has the faults that it had
-    served-said : (address : List ℕ) (turns : ℕ) (offer : Offer) (status : Status) → HasOpenedAll (length (file_words named)) old.files new.files →
+    served-said : (address : List ℕ) (turns : ℕ) (offer : Offer) (status : Status) →
+        HasOpenedAll (length (file_words named)) old.files new.files →
         IsServedAt address turns offer old.hub new.hub status → new.out.faults ≡ old.out.faults → Said named old new status
     served-said address turns offer _ all (serves.shut fails) out =
         record { read = all; written = out; hub = fails.rose; complete = λ command is still calm quiet. absurd (quiet fails.rose) }
@@ -115,7 +117,8 @@ serve-said : (command : ServeCommand) (old new : Reach) (status : Status) →
     IsServeOutcome command old.files new.files old.hub new.hub status →
     new.out.faults ≡ old.out.faults → Said (Ok (Form.TheVariants.Serve command)) old new status
 serve-said command old new status (outcome.refused offers same) out =
-    refusal-said (Ok (Form.TheVariants.Serve command)) old new status (offers-cause (Faulty (Ok (Form.TheVariants.Serve command))) command old.files new.files (Err status) offers) out
+    refusal-said (Ok (Form.TheVariants.Serve command)) old new status
+    (offers-cause (Faulty (Ok (Form.TheVariants.Serve command))) command old.files new.files (Err status) offers) out
     (ap (λ (s : HubSeen). s.faults) same)
 serve-said command old new status (outcome.served {offer = offer} offers to) out =
     served-said (Ok (Form.TheVariants.Serve command)) old new (address_of command.listen) command.turns offer status
