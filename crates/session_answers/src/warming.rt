@@ -12,12 +12,7 @@ use std::alloc::Global;
 
 /// Makes the first stored profiles ready, as many as are kept, without overrides: so no first
 /// request pays for it. Of one that is refused nothing is kept; each request that names it is told.
-pub fn make_ready(
-    alloc: Global,
-    world: &World,
-    profiles: &Profiles,
-    kept: &mut KeptProfiles,
-)
+pub fn make_ready(alloc: Global, world: &World, profiles: &Profiles, kept: &mut KeptProfiles)
     requires kept { AreKept (world_of world.now) (stored_of profiles.now) kept.old }
     ensures kept { AreKept (world_of world.now) (stored_of profiles.now) kept.new }
 {
