@@ -1,0 +1,11 @@
+use Rattle.cost_table.proofs.EndlessLemmas.{endless-supersedes}
+use Rattle.cost_table.proofs.endless.EndlessSpace.supersedes.Goals as goal
+
+pub returns-then-are_one : goal.returns-then-are_one
+returns-then-are_one g c =
+    let self = c.args.self.now in
+    record {
+      sound = λ h.
+          endless-supersedes (g.S.Space.rules self.space.now) self.even c.args.a.now c.args.ca c.args.b.now c.args.cb
+          c.requires.valid_b (c.are_one.ensures.sound c.if-are_one.true) (c.supersedes.ensures.sound h);
+    }
