@@ -85,7 +85,7 @@ named-costs quest nodes found sound nowhere node there =
     ] refl
 
 -- the test of a place among numbers
-same-number : (a b : ℕ) → nat_eq a b ≡ true → a ≡ b
+pub same-number : (a b : ℕ) → nat_eq a b ≡ true → a ≡ b
 same-number a b h = grind (arith, nat_tests)
 
 module _ (nodes : List ℕ) (source : ℕ) (waiting : ℕ → Bool) (await : AreAwaited nodes source waiting) where

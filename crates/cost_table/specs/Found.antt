@@ -1,7 +1,7 @@
 -- For the parts of a turn alone: the costs that are found, and the nodes that wait for theirs (this project's own
 -- rule).
 use Rattle.std.specs.Prelude.{ℕ, ◌≡◌, ◌≢◌, ◌≤◌, ◌<◌, Bool, true, false, not, ◌&&◌, nat_eq, List, Option, Some, None}
-use Rattle.std.specs.List.{Contains, IsSome, list_any, slice_get}
+use Rattle.std.specs.List.{list_any}
 use Rattle.std.specs.HashSet.{contains}
 use Rattle.indexmap.specs.IndexMap.{get}
 use Rattle.cost_table.specs.declared.found.Found.{Found}

@@ -1,7 +1,9 @@
 //! The costs that are found, and the nodes that still wait for theirs.
 
 ghost use Rattle.std.specs.HashSet.{contains};
-ghost use Rattle.std.specs.Prelude.{ℕ, ◌≡◌, IfOk, OnOk, false, nat_eq};
+ghost use Rattle.std.specs.List.{Contains, IsDistinct};
+ghost use Rattle.std.specs.Option.{IsSome};
+ghost use Rattle.std.specs.Prelude.{ℕ, ◌≡◌, ◌↔◌, IfOk, OnOk, false, nat_eq};
 ghost use Rattle.indexmap.specs.IndexMap.{get};
 ghost use Rattle.cost_table.specs.Found.{AreAwaited, Begins, IsNew, NotesBy, PutsDown, cost_at};
 
@@ -80,6 +82,14 @@ impl Found {
                 Ok(false)
             }
         }
+    }
+
+    /// The nodes for which a cost is found, in the order in which they were.
+    pub(crate) fn nodes(&self) -> &[u32]
+        ensures exact { (node : ℕ) → Contains result.now node ↔ IsSome (cost_at self.now node) }
+        ensures distinct { IsDistinct nat_eq result.now }
+    {
+        self.costs.keys().as_slice()
     }
 
     /// The cost that is found for a node.

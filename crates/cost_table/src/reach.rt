@@ -1,6 +1,8 @@
 //! A search from a node that finds what it costs to come to others.
 
-ghost use Rattle.std.specs.Prelude.{ℕ, ◌≡◌, ◌≤◌, ◌<◌, ◌^◌, IfOk, OnErr, Ok, Err, alloc_error, false};
+ghost use Rattle.std.specs.List.{Contains, IsDistinct};
+ghost use Rattle.std.specs.Option.{IsSome};
+ghost use Rattle.std.specs.Prelude.{ℕ, ◌≡◌, ◌↔◌, ◌≤◌, ◌<◌, ◌^◌, IfOk, OnErr, Ok, Err, alloc_error, false, nat_eq};
 ghost use Rattle.bike_space.specs.Kept.{task_of};
 ghost use Rattle.bike_space.specs.Tasks.{Task};
 ghost use Rattle.cost_table.specs.Costs.{IsAsked, TellsCost, leg_to};
@@ -94,6 +96,15 @@ impl Reach {
             IsAsked quest.want node → TellsCost quest.want (leg_to quest node) result }
     {
         self.found.cost_of(node)
+    }
+
+    /// The nodes of which a cost is told, in the order in which they were found: the node that is
+    /// left and, once the reach is done, those that are asked for and reached. It takes no memory.
+    pub fn nodes(&self) -> &[u32]
+        ensures exact { (node : ℕ) → Contains result.now node ↔ IsSome (cost_in self.now node) }
+        ensures distinct { IsDistinct nat_eq result.now }
+    {
+        self.found.nodes()
     }
 
     /// Settles at most `quota` labels, over a space that answers every call as that of the first
