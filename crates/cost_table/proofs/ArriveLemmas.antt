@@ -7,6 +7,7 @@ use Rattle.space_search.specs.Turns.{IsClosedAndOrdered, IsDone, IsPassed, cover
 use Rattle.space_search.specs.View.{KeepsPlaces, Reached}
 use Rattle.space_search.proofs.CallerLemmas.{run-done, run-valid}
 use Rattle.item_list.proofs.ListLemmas.{slice_get-there}
+use Rattle.std.proofs.lemmas.Bool.{cases_eq}
 use Rattle.std.proofs.lemmas.Option.{slice_get_within}
 use Rattle.bike_space.specs.Alternatives.{is_used}
 use Rattle.bike_space.specs.Lawful.{IsTask}
@@ -58,7 +59,8 @@ grown-by before after last kept longer there = record {
 }
   where
     below-or-at : (place count : ℕ) → place < count + 1 → (place < count) ⊎ (place ≡ count)
-    below-or-at place count h = omega arith
+    below-or-at place count h =
+        elim (cases_eq place count) [ inl same ↦ inr same | inr differ ↦ inl (omega (arith, differ)) ]
 
 module _ (task : Task) (lawful : IsTask task) (unused : (link : ℕ) → task.used link ≡ false) where
   -- ---- Labels and walks
@@ -122,11 +124,9 @@ module _ (task : Task) (lawful : IsTask task) (unused : (link : ℕ) → task.us
               );
             })
         | hopeless none ↦ absurd (cc)
-        | ranks bound high is ranked up ↦ inr (record {
-          bound = bound;
-          is = is;
-          below = omega (arith, up, ranked.sum, paid);
-        })
+        | ranks bound high at_floor ranked up ↦
+            let none : 0 ≡ ranked.low = let low_is = ranked.is in cc in
+            inr (record { bound = bound; is = at_floor; below = omega (arith, up, ranked.sum, none, paid) })
       ]
 
   module _ (want : Want) (limit : ℕ) where

@@ -1,5 +1,5 @@
 -- What is found as a reach begins.
-use Rattle.std.proofs.Common.{◌≡◌, ◌≢◌, ℕ, ◌+◌, ◌<◌, ◌≤◌, inl, inr, Bool, true, false, List, [], Option, Some, None, refl, sym, ap, ◌∙◌, subst, arith}
+use Rattle.std.proofs.Common.{◌≡◌, ◌≢◌, ℕ, ◌+◌, ◌<◌, ◌≤◌, inl, inr, Bool, true, false, List, [], Option, Some, None, refl, sym, ap, ◌∙◌, subst, arith, Vec, Global}
 use Rattle.std.specs.List.{Contains, slice_get}
 use Rattle.std.proofs.lemmas.Bool.{cases_eq}
 use Rattle.cost_model.specs.declared.parts.Carry.{Carry}
@@ -51,7 +51,7 @@ module _ (task : Task) (lawful : IsTask task) (unused : (link : ℕ) → task.us
   module _ (settled : List (Reached Carry)) (none : settled ≡ []) where
     -- where nodes are named
     begun-named :
-        (nodes : _) (done : Bool) → AreAwaited nodes.items task.leg.start (waits after) → NoneWaits (waits after) done →
+        (nodes : Vec ℕ Global) (done : Bool) → AreAwaited nodes.items task.leg.start (waits after) → NoneWaits (waits after) done →
         IsKnown task (quest_on task lawful unused (Nodes nodes) limit) after settled done
     begun-named nodes true await wait =
         named-costs (quest_on task lawful unused (Nodes nodes) limit) nodes.items after (begun-sound (Nodes nodes))

@@ -7,3 +7,4 @@ pub mod NoWayLemmas
 pub mod SpentLemmas
 pub mod BeginLemmas
 pub mod StepLemmas
+pub mod TurnLemmas

@@ -1,5 +1,5 @@
 -- The end of a search that finds no way: all that is asked is known.
-use Rattle.std.proofs.Common.{◌≡◌, ◌≢◌, ℕ, ◌+◌, ◌<◌, ◌≤◌, inl, inr, true, false, List, length, Option, Some, None, subst, arith, sym, ap, ◌∙◌, refl}
+use Rattle.std.proofs.Common.{◌≡◌, ◌≢◌, ℕ, ◌+◌, ◌<◌, ◌≤◌, inl, inr, true, false, List, length, Option, Some, None, subst, arith, sym, ap, ◌∙◌, refl, Vec, Global}
 use Rattle.std.specs.List.{Contains, slice_get}
 use Rattle.std.proofs.lemmas.Option.{slice_get_within}
 use Rattle.cost_model.specs.declared.parts.Carry.{Carry}
@@ -32,7 +32,7 @@ module _ (task : Task) (lawful : IsTask task) (unused : (link : ℕ) → task.us
 
     -- where nodes are named, those without a cost are reached by no walk
     no-way-named :
-        (nodes : _) → IsFoundAfter task (quest_on task lawful unused (Nodes nodes) limit) found before →
+        (nodes : Vec ℕ Global) → IsFoundAfter task (quest_on task lawful unused (Nodes nodes) limit) found before →
         AreCosts (quest_on task lawful unused (Nodes nodes) limit) (cost_at found)
     no-way-named nodes is =
         let quest : Quest = quest_on task lawful unused (Nodes nodes) limit in

@@ -1,5 +1,5 @@
 -- What is found stays right with each label that is settled.
-use Rattle.std.proofs.Common.{◌≡◌, ◌≢◌, ℕ, ◌+◌, ◌<◌, ◌≤◌, ◌⊎◌, inl, inr, Bool, true, false, List, [], ◌∷◌, length, Option, Some, None, refl, sym, ap, ◌∙◌, subst, arith}
+use Rattle.std.proofs.Common.{◌≡◌, ◌≢◌, ℕ, ◌+◌, ◌<◌, ◌≤◌, ◌⊎◌, inl, inr, Bool, true, false, List, [], ◌∷◌, length, Option, Some, None, refl, sym, ap, ◌∙◌, subst, arith, Vec, Global}
 use Rattle.std.specs.List.{Contains, slice_get}
 use Rattle.std.proofs.lemmas.Bool.{cases_eq}
 use Rattle.std.proofs.lemmas.Option.{slice_get_within}
@@ -48,7 +48,7 @@ module _ (task : Task) (lawful : IsTask task) (unused : (link : ℕ) → task.us
       -- a label whose node doesn't wait changes nothing
       passed-named :
           waits before (arrival task last) ≡ false → AreSame before after → AreNamed task nodes after settled
-      passed-named no same = record {
+      passed-named idle same = record {
         named = λ node is. are.named node (sym (same.waiting node) ∙ is);
         rest = λ node there none. same.waiting node ∙ are.rest node there (sym (same.costs node) ∙ none);
         away = same.waiting task.leg.start ∙ are.away;
@@ -58,7 +58,7 @@ module _ (task : Task) (lawful : IsTask task) (unused : (link : ℕ) → task.us
               | inl was ↦ same.waiting (arrival task label) ∙ are.unseen place label was
               | inr is ↦
                   same.waiting (arrival task label)
-                  ∙ subst (λ (l : Reached Carry). waits before (arrival task l) ≡ false) (sym is) no
+                  ∙ subst (λ (l : Reached Carry). waits before (arrival task l) ≡ false) (sym is) idle
             ];
       }
 
@@ -250,13 +250,13 @@ module _ (task : Task) (lawful : IsTask task) (unused : (link : ℕ) → task.us
 
     -- what is known after a label is noted where nodes are named
     known-named :
-        (nodes : _) (done : Bool) → IsFoundAfter task (quest_on task lawful unused (Nodes nodes) limit) before earlier →
+        (nodes : Vec ℕ Global) (done : Bool) → IsFoundAfter task (quest_on task lawful unused (Nodes nodes) limit) before earlier →
         NotesNamed (arrival task last) last.cost before after done →
         IsKnown task (quest_on task lawful unused (Nodes nodes) limit) after settled done
-    known-named nodes done is (passed no same) = record {
+    known-named nodes done is (passed idle same) = record {
       sound = same-sound (quest_on task lawful unused (Nodes nodes) limit) before after same is.sound;
       home = same.costs task.leg.start ∙ is.home;
-      by_want = passed-named nodes.items (Nodes nodes) is.sound is.home is.by_want no same;
+      by_want = passed-named nodes.items (Nodes nodes) is.sound is.home is.by_want idle same;
     }
     known-named nodes true is (found waiting no_longer puts none) =
         found-all nodes.items (Nodes nodes) is.sound is.home is.by_want waiting no_longer puts none

@@ -1,8 +1,9 @@
 -- The end of a search whose limit is spent: its evidence, in walks.
-use Rattle.std.proofs.Common.{◌≡◌, ◌≢◌, ℕ, zero, suc, pos, ◌+◌, ◌<◌, ◌≤◌, inl, inr, true, false, List, [], ◌∷◌, ◌++◌, length, map, Option, Some, None, IsTrue, refl, sym, ap, ◌∙◌, subst, arith, length-append}
+use Rattle.std.proofs.Common.{◌≡◌, ◌≢◌, ℕ, zero, suc, pos, ◌+◌, ◌<◌, ◌≤◌, inl, inr, true, false, List, [], ◌∷◌, ◌++◌, length, map, Option, Some, None, IsTrue, refl, sym, ap, ◌∙◌, subst, arith, length-append, Vec, Global}
 use Rattle.std.proofs.lemmas.List.{length-map}
 use Rattle.std.specs.List.{Contains, slice_get}
 use Rattle.cost_model.specs.Labels.{label_of}
+use Rattle.cost_model.specs.Rides.{Leg}
 use Rattle.cost_model.specs.Walks.{pair_of}
 use Rattle.cost_model.specs.declared.parts.Carry.{Carry}
 use Rattle.elev_buffer.specs.Covers.{CoversLabel, label}
@@ -101,8 +102,12 @@ module _ (task : Task) (lawful : IsTask task) (unused : (link : ℕ) → task.us
       let never : ⊥ = cc in
       never
 
+  -- the leg from the node that is left to itself
+  abbrev home : Leg
+  home = record { ride = task.leg.ride; start = task.leg.start; target = task.leg.start }
+
   -- the walks are such as are reached
-  spent-reached : AreReached task.leg (shown.limit + 1) spent_walks
+  spent-reached : AreReached home (shown.limit + 1) spent_walks
   spent-reached = record {
     counted = length-map labels (walk_of task) ∙ spent.spent.count;
     each = λ k below.
@@ -133,7 +138,7 @@ module _ (task : Task) (lawful : IsTask task) (unused : (link : ℕ) → task.us
   module _ (found : Found) where
     -- where nodes are named one that waits is reached at no less
     spent-missed :
-        (nodes : _) → IsFoundAfter task (quest_on task lawful unused (Nodes nodes) shown.limit) found shown.settled →
+        (nodes : Vec ℕ Global) → IsFoundAfter task (quest_on task lawful unused (Nodes nodes) shown.limit) found shown.settled →
         IsMissed (quest_on task lawful unused (Nodes nodes) shown.limit) nodes.items spent_walks
     spent-missed nodes is =
         let quest : Quest = quest_on task lawful unused (Nodes nodes) shown.limit in

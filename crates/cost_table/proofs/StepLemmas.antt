@@ -3,15 +3,16 @@ use Rattle.std.proofs.Common.{◌≡◌, ◌≢◌, ℕ, suc, ◌+◌, ◌-◌, 
 use Rattle.std.specs.List.{slice_get}
 use Rattle.std.proofs.lemmas.Option.{slice_get_within}
 use Rattle.cost_model.specs.declared.parts.Carry.{Carry}
-use Rattle.item_list.proofs.ListLemmas.{slice_get-there}
+use Rattle.item_list.proofs.ListLemmas.{slice_get-append, slice_get-there}
 use Rattle.space_search.specs.Searches.{IsSearchOf}
 use Rattle.space_search.specs.Turns.{EndsSearch, GoesOn, IsClosedSoFar}
-use Rattle.space_search.specs.View.{KeepsPlaces, Reached, view}
+use Rattle.space_search.specs.View.{IsShown, KeepsPlaces, Reached, listed, view}
 use Rattle.space_search.specs.declared.outcome.Outcome.{Outcome}
 use Rattle.space_search.specs.declared.outcome.Outcome.TheVariants as search_
 use Rattle.space_search.specs.declared.search.Search.{Search}
 use Rattle.bike_space.specs.Lawful.{IsTask}
 use Rattle.bike_space.specs.Tasks.{Task, rules_of}
+use Rattle.bike_space.proofs.CarryLemmas.{carried-is}
 use Rattle.cost_table.specs.Costs.{AreCosts, IsSpentOn, Quest}
 use Rattle.cost_table.specs.Endless.{endless}
 use Rattle.cost_table.specs.Found.{NotesBy, cost_at}
@@ -156,18 +157,36 @@ abbrev pub turn_of : Bool → ReachTurn
 turn_of false = More
 turn_of true = Done
 
+-- the last label is the one of this number
+pub last-shown :
+    (task : Task) (reach : Reach) (more : IsOneMore task reach) (label : ℕ) → label ≡ length more.before →
+    IsShown (view reach.search) label more.last
+last-shown task reach more label at =
+    subst (λ (n : ℕ). IsShown (view reach.search) n more.last) (sym at)
+    (slice_get-append (view reach.search).settled (listed (view reach.search).goal) (length more.before) more.last more.there)
+
+-- and its link is one of the map
+pub last-within :
+    (task : Task) (reach : Reach) (more : IsOneMore task reach) → more.last.state.link < task.leg.ride.roads.links
+last-within task reach more =
+    (carried-is task.leg more.last.state (more.closed.ordered.each (length more.before) more.last more.there).valid).0
+
 -- what a label that is noted comes to
 pub noted-steps :
     (task : Task) → IsTask task → ((link : ℕ) → task.used link ≡ false) → (reach : Reach) (more : IsOneMore task reach)
-    (found : Found) → found.want ≡ reach.found.want → (done : Bool) →
-    NotesBy reach.found.want (arrival task more.last) more.last.cost reach.found found done →
+    (found : Found) → found.want ≡ reach.found.want → (node cost : ℕ) → node ≡ arrival task more.last →
+    cost ≡ more.last.cost → (told done : Bool) → told ≡ done → NotesBy reach.found.want node cost reach.found found told →
     StepsTo task (quest_of task reach) (record reach { found = found }) (turn_of done)
-noted-steps task lawful unused reach more found want done notes =
+noted-steps task lawful unused reach more found want node cost at paid told done is notes =
     let settled = (view reach.search).settled in
     let grown = grown-by more.before settled more.last more.kept more.grown more.there in
-    let known = note-known task lawful unused (view reach.search).limit more.before settled more.last grown more.closed
-    reach.found found reach.found.want done more.found notes in
-    known-steps done known
+    let its : NotesBy reach.found.want (arrival task more.last) more.last.cost reach.found found done =
+    subst (λ (d : Bool). NotesBy reach.found.want (arrival task more.last) more.last.cost reach.found found d) is
+    (subst (λ (c : ℕ). NotesBy reach.found.want (arrival task more.last) c reach.found found told) paid
+    (subst (λ (n : ℕ). NotesBy reach.found.want n cost reach.found found told) at notes)) in
+    known-steps done
+    (note-known task lawful unused (view reach.search).limit more.before settled more.last grown more.closed reach.found
+    found reach.found.want done more.found its)
   where
     known-steps :
         (done : Bool) → IsKnown task (quest_of task reach) found (view reach.search).settled done →

@@ -8,7 +8,6 @@ use Rattle.space_search.specs.Turns.{IsClosedAndOrdered}
 use Rattle.space_search.specs.View.{KeepsPlaces, Reached, view}
 use Rattle.space_search.specs.declared.outcome.Outcome.{Outcome}
 use Rattle.space_search.specs.declared.outcome.Outcome.TheVariants as search
-use Rattle.space_search.specs.declared.outcome.Outcome.TheVariants.{Found, NoWay}
 use Rattle.cost_table.specs.Costs.{AreCosts, IsLeastCost, IsSpentOn, Quest, leg_to}
 use Rattle.cost_table.specs.Endless.{endless}
 use Rattle.cost_table.specs.Found.{IsNew, cost_at, waits}
@@ -91,7 +90,8 @@ IsStage task reach stage.New = IsNew reach.found × ((view reach.search).settled
 IsStage task reach stage.Running =
     IsFoundAfter task (quest_of task reach) reach.found (view reach.search).settled
 IsStage task reach stage.Done = AreCosts (quest_of task reach) (cost_in reach)
-IsStage task reach stage.Spent = (walks : List (List ℕ)) × IsSpentOn (quest_of task reach) walks
+IsStage task reach stage.Spent =
+    (reach.settled ≡ (view reach.search).limit) × ((walks : List (List ℕ)) × IsSpentOn (quest_of task reach) walks)
 IsStage task reach stage.Failed = Unit {0}
 
 -- it is a reach over the space of a task, which leaves the node that the reach leaves
@@ -124,6 +124,14 @@ HasEnded reach Done = reach.stage ≡ stage.Done
 HasEnded reach Budget = reach.stage ≡ stage.Spent
 
 -- ---- For the parts of a turn
+
+-- what a turn leaves, also one that met want of memory: a reach on what was asked, with no fewer labels settled,
+-- and within the limit
+pub record TurnsReach (task : Task) (before after : Reach) : Type 0 where
+  pub on : IsReachOn task after
+  pub same : (other : Task) → quest_of other after ≡ quest_of other before
+  pub grows : before.settled ≤ after.settled
+  pub within : after.settled ≤ (view before.search).limit
 
 -- it is under way: what is found is what its settled labels come to
 pub record IsUnderWay (task : Task) (reach : Reach) : Type 0 where
@@ -170,8 +178,8 @@ stage_after Budget = stage.Spent
 
 -- how a reach ends by the end of its search
 abbrev pub ended_by : Outcome ℕ → ReachTurn
-ended_by (Found label) = Done
-ended_by NoWay = Done
+ended_by (search.Found label) = Done
+ended_by search.NoWay = Done
 ended_by search.Budget = Budget
 
 -- a label is noted: nothing else changes

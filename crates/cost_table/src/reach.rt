@@ -6,7 +6,7 @@ ghost use Rattle.std.specs.Prelude.{ℕ, ◌≡◌, ◌↔◌, ◌≤◌, ◌<�
 ghost use Rattle.bike_space.specs.Kept.{task_of};
 ghost use Rattle.bike_space.specs.Tasks.{Task};
 ghost use Rattle.cost_table.specs.Costs.{IsAsked, TellsCost, leg_to};
-ghost use Rattle.cost_table.specs.Reaches.{AnswersReach, CountsReach, HasEnded, IsDone, IsFailed, IsFresh, IsReachOn, cost_in, quest_of, settled_of, stage_after};
+ghost use Rattle.cost_table.specs.Reaches.{AnswersReach, CountsReach, HasEnded, IsDone, IsFailed, IsFresh, IsReachOn, cost_in, quest_of, settled_of};
 
 use crate::found::Found;
 use crate::turn::ReachTurn;
@@ -143,31 +143,11 @@ impl Reach {
     {
         let stage = self.stage;
         match stage {
-            Stage::Done => return Ok(ReachTurn::Done),
-            Stage::Spent => return Ok(ReachTurn::Budget),
-            Stage::Failed => return Err(AllocError),
-            Stage::New => {
-                self.stage = Stage::Failed;
-                if self.found.begin(self.source)? {
-                    self.stage = Stage::Done;
-                    return Ok(ReachTurn::Done);
-                }
-            }
-            Stage::Running => self.stage = Stage::Failed,
+            Stage::New => self.first_turn(space, map, quota),
+            Stage::Running => self.go_on(space, map, quota),
+            Stage::Done => Ok(ReachTurn::Done),
+            Stage::Spent => Ok(ReachTurn::Budget),
+            Stage::Failed => Err(AllocError),
         }
-        let turn = self.settle_many(space, map, quota)?;
-        self.stage = after_turn(turn);
-        Ok(turn)
-    }
-}
-
-/// How far a reach is after this turn.
-fn after_turn(turn: ReachTurn) -> Stage
-    ensures value { result ≡ stage_after turn }
-{
-    match turn {
-        ReachTurn::More => Stage::Running,
-        ReachTurn::Done => Stage::Done,
-        ReachTurn::Budget => Stage::Spent,
     }
 }

@@ -1,11 +1,11 @@
 //! The labels that a turn of a reach settles.
 
-ghost use Rattle.std.specs.Prelude.{ℕ, ◌≡◌, ◌≤◌, IfOk, false};
+ghost use Rattle.std.specs.Prelude.{ℕ, ◌≡◌, IfOk, OnErr, false};
 ghost use Rattle.bike_space.specs.Kept.{task_of};
-ghost use Rattle.cost_table.specs.Reaches.{CountsReach, IsGoing, IsNoted, IsOneMore, IsUnderWay, StaysReach, StepsTo, ended_by, quest_of, settled_of};
+ghost use Rattle.cost_table.specs.Reaches.{AnswersReach, CountsReach, IsFailed, IsFresh, IsGoing, IsNoted, IsOneMore, IsReachOn, IsUnderWay, StaysReach, StepsTo, TurnsReach, ended_by, quest_of, settled_of, stage_after};
 
 use crate::endless::Endless;
-use crate::reach::Reach;
+use crate::reach::{Reach, Stage};
 use crate::turn::ReachTurn;
 use bike_space::BikeSpace;
 use cost_model::TerrainOf;
@@ -15,8 +15,63 @@ use space_search::Outcome;
 use std::alloc::AllocError;
 
 impl Reach {
+    /// The first turn: the node that is left is found, and where that is all, no label is settled.
+    pub(crate) fn first_turn<G: TerrainOf>(
+        &mut self,
+        space: &BikeSpace<G>,
+        map: &Map,
+        quota: u32,
+    ) -> Result<ReachTurn, AllocError>
+        requires on { IsReachOn (task_of (G.terrain space.now.terrain) space.now.kept) self.old }
+        requires fresh { IsFresh self.old }
+        requires unused { (link : ℕ) →
+            (task_of (G.terrain space.now.terrain) space.now.kept).used link ≡ false }
+        requires map { map.now ≡ (G.terrain space.now.terrain).map }
+        ensures turns { TurnsReach (task_of (G.terrain space.now.terrain) space.now.kept)
+            self.old self.new }
+        ensures exact { IfOk result (AnswersReach (quest_of
+            (task_of (G.terrain space.now.terrain) space.now.kept) self.old) self.new) }
+        ensures counts { IfOk result (CountsReach quota (quest_of
+            (task_of (G.terrain space.now.terrain) space.now.kept) self.old).limit
+            (settled_of self.old) (settled_of self.new)) }
+        ensures failed { OnErr result (IsFailed self.new) }
+    {
+        self.stage = Stage::Failed;
+        if self.found.begin(self.source)? {
+            self.stage = Stage::Done;
+            return Ok(ReachTurn::Done);
+        }
+        self.go_on(space, map, quota)
+    }
+
+    /// A turn of a reach that is under way.
+    pub(crate) fn go_on<G: TerrainOf>(
+        &mut self,
+        space: &BikeSpace<G>,
+        map: &Map,
+        quota: u32,
+    ) -> Result<ReachTurn, AllocError>
+        requires way { IsUnderWay (task_of (G.terrain space.now.terrain) space.now.kept) self.old }
+        requires unused { (link : ℕ) →
+            (task_of (G.terrain space.now.terrain) space.now.kept).used link ≡ false }
+        requires map { map.now ≡ (G.terrain space.now.terrain).map }
+        ensures turns { TurnsReach (task_of (G.terrain space.now.terrain) space.now.kept)
+            self.old self.new }
+        ensures exact { IfOk result (AnswersReach (quest_of
+            (task_of (G.terrain space.now.terrain) space.now.kept) self.old) self.new) }
+        ensures counts { IfOk result (CountsReach quota (quest_of
+            (task_of (G.terrain space.now.terrain) space.now.kept) self.old).limit
+            (settled_of self.old) (settled_of self.new)) }
+        ensures failed { OnErr result (IsFailed self.new) }
+    {
+        self.stage = Stage::Failed;
+        let turn = self.settle_many(space, map, quota)?;
+        self.stage = after_turn(turn);
+        Ok(turn)
+    }
+
     /// Settles labels until as many are settled as the quota says, or the reach is at its end.
-    pub(crate) fn settle_many<G: TerrainOf>(
+    fn settle_many<G: TerrainOf>(
         &mut self,
         space: &BikeSpace<G>,
         map: &Map,
@@ -105,5 +160,16 @@ fn ended(end: Outcome<u32>) -> ReachTurn
     match end {
         Outcome::Budget => ReachTurn::Budget,
         _ => ReachTurn::Done,
+    }
+}
+
+/// How far a reach is after this turn.
+fn after_turn(turn: ReachTurn) -> Stage
+    ensures value { result ≡ stage_after turn }
+{
+    match turn {
+        ReachTurn::More => Stage::Running,
+        ReachTurn::Done => Stage::Done,
+        ReachTurn::Budget => Stage::Spent,
     }
 }

@@ -27,7 +27,7 @@ const ON_TEXTS: [&str; 7] = [
 ];
 
 /// The calls on a map, whose text is the first word behind them.
-const ON_MAPS: [&str; 16] = [
+const ON_MAPS: [&str; 18] = [
     "map_cut",
     "map_counts",
     "near",
@@ -44,6 +44,8 @@ const ON_MAPS: [&str; 16] = [
     "check",
     "costs",
     "within",
+    "costs_counted",
+    "within_counted",
 ];
 
 /// The answer to a case.
@@ -81,7 +83,7 @@ fn by_call(alloc: Global, case: &Case, map: &Map, call: usize) -> Result<String,
         4 => near_sums(alloc, case, map),
         5..=7 => track::answer(alloc, case, map),
         8..=11 => space::answer(alloc, case, map),
-        14..=15 => reaches::answer(alloc, case, map),
+        14..=17 => reaches::answer(alloc, case, map),
         _ => certificates::answer(alloc, case, map),
     }
 }

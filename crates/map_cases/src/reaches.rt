@@ -16,8 +16,9 @@ use cost_table::{Reach, ReachTurn, Want};
 use overpass_graph::Map;
 use std::alloc::{AllocError, Global};
 
-/// The two calls.
-const CALLS: [&str; 2] = ["costs", "within"];
+/// The calls: costs of nodes that are named, or of all within a cost; and the same with how many labels
+/// were settled, and in how many turns.
+const CALLS: [&str; 4] = ["costs", "within", "costs_counted", "within_counted"];
 
 /// The node that is left, the limit of labels, and how many a turn settles.
 #[derive(Clone, Copy)]
@@ -27,8 +28,7 @@ struct From {
     quota: u32,
 }
 
-/// What it costs to come from a node to those that are named, or to all within a cost, with how many
-/// labels were settled, and in how many turns.
+/// What it costs to come from a node to those that are named, or to all within a cost.
 pub(crate) fn answer(alloc: Global, case: &Case, map: &Map) -> Result<String, AllocError> {
     let Some(rates) = rates_of_case(case) else {
         return String::from_str(alloc, OUTSIDE);
@@ -45,18 +45,34 @@ pub(crate) fn answer(alloc: Global, case: &Case, map: &Map) -> Result<String, Al
     let turns = case.count(4) == 1;
     // Whichever target the space has, it has no effect: it is the first node, also where that is left.
     let space = BikeSpace::plain(alloc, terrain, cut.as_slice(), turns, from.source, 0)?;
-    let nodes = numbers(alloc, case.text(13))?.into_vec();
-    let mut line = String::new(alloc);
-    if place_of(&CALLS, case.word(0)) == 0 {
+    reached(alloc, case, &space, map, from)
+}
+
+/// The same over a space that leaves the node.
+fn reached<G: TerrainOf>(
+    alloc: Global,
+    case: &Case,
+    space: &BikeSpace<G>,
+    map: &Map,
+    from: From,
+) -> Result<String, AllocError>
+    requires start { space.now.kept.start ≡ from.source }
+    requires unused { (link : ℕ) →
+        (task_of (G.terrain space.now.terrain) space.now.kept).used link ≡ false }
+    requires map { map.now ≡ (G.terrain space.now.terrain).map }
+    requires small { from.limit < 2 ^ 32 }
+    requires some { 1 ≤ from.quota }
+{
+    let call = place_of(&CALLS, case.word(0));
+    let (nodes, want) = if call == 0 || call == 2 {
+        let nodes = numbers(alloc, case.text(13))?.into_vec();
         let named = Vec::from_slice(alloc, nodes.as_slice())?;
-        let reach = Reach::new(alloc, from.source, Want::Nodes(named), from.limit);
-        tell_turns(&mut line, reach, &space, map, from.quota, nodes.as_slice())?;
+        (nodes, Want::Nodes(named))
     } else {
-        let all = all_nodes(alloc, map)?;
-        let reach = Reach::new(alloc, from.source, Want::Within(case.size(13)), from.limit);
-        tell_turns(&mut line, reach, &space, map, from.quota, all.as_slice())?;
-    }
-    Ok(line)
+        (all_nodes(alloc, map)?, Want::Within(case.size(13)))
+    };
+    let reach = Reach::new(alloc, from.source, want, from.limit);
+    told_by(alloc, reach, space, map, from.quota, nodes.as_slice(), call >= 2)
 }
 
 /// The node, the limit and the quota that words 12, 14 and 16 are.
@@ -85,16 +101,17 @@ fn all_nodes(alloc: Global, map: &Map) -> Result<Vec<u32>, AllocError> {
     Ok(nodes)
 }
 
-/// Writes the costs of these nodes as the turns of a reach find them, the labels that it settled and
-/// its turns.
-fn tell_turns<G: TerrainOf>(
-    line: &mut String,
+/// The costs of these nodes as the turns of a reach find them, and where they are counted the labels
+/// that it settled and its turns.
+fn told_by<G: TerrainOf>(
+    alloc: Global,
     reach: Reach,
     space: &BikeSpace<G>,
     map: &Map,
     quota: u32,
     nodes: &[u32],
-) -> Result<(), AllocError>
+    counted: bool,
+) -> Result<String, AllocError>
     requires on { IsReachOn (task_of (G.terrain space.now.terrain) space.now.kept) reach }
     requires unused { (link : ℕ) →
         (task_of (G.terrain space.now.terrain) space.now.kept).used link ≡ false }
@@ -103,31 +120,48 @@ fn tell_turns<G: TerrainOf>(
 {
     let mut reach = reach;
     let mut turns = 0u64;
+    let mut last = ReachTurn::More;
     'turns: loop {
         turns = turns.saturating_add(1);
-        match reach.turn(space, map, quota)? {
+        last = reach.turn(space, map, quota)?;
+        match last {
             ReachTurn::More => {}
-            ReachTurn::Budget => {
-                write!(line, "spent")?;
-                break;
-            }
-            ReachTurn::Done => {
-                tell_costs(line, &reach, nodes)?;
-                break;
-            }
+            ReachTurn::Budget => break,
+            ReachTurn::Done => break,
         }
     }
-    let settled = reach.settled();
-    write!(line, "; {settled} in {turns}")?;
-    Ok(())
+    let mut line = String::new(alloc);
+    tell_costs(&mut line, &reach, last, nodes)?;
+    if counted {
+        let settled = reach.settled();
+        write!(line, "; {settled} in {turns}")?;
+    }
+    Ok(line)
 }
 
-/// Writes the nodes of these that have a cost, each with its own.
-fn tell_costs(line: &mut String, reach: &Reach, nodes: &[u32]) -> Result<(), AllocError> {
+/// Writes the nodes of these that have a cost, each with its own, or that the limit is spent.
+fn tell_costs(
+    line: &mut String,
+    reach: &Reach,
+    last: ReachTurn,
+    nodes: &[u32],
+) -> Result<(), AllocError> {
+    if is_spent(last) {
+        write!(line, "spent ")?;
+        return Ok(());
+    }
     'nodes: for node in nodes {
         if let Some(cost) = reach.cost_to(*node) {
             write!(line, "{node}={cost} ")?;
         }
     }
     Ok(())
+}
+
+/// Whether a reach ended with a spent limit.
+fn is_spent(last: ReachTurn) -> bool {
+    match last {
+        ReachTurn::Budget => true,
+        _ => false,
+    }
 }
