@@ -1,9 +1,9 @@
 -- Where settled labels arrive: each walk arrives where a label does that costs no more, or costs at least their floor.
-use Rattle.std.proofs.Common.{◌≡◌, ◌≢◌, ℕ, ◌+◌, ◌<◌, ◌≤◌, ◌⊎◌, inl, inr, false, List, [], ◌∷◌, length, Option, Some, None, refl, sym, ap, ◌∙◌, subst, arith}
+use Rattle.std.proofs.Common.{◌≡◌, ◌≢◌, ℕ, ◌+◌, ◌<◌, ◌≤◌, ◌⊎◌, inl, inr, false, List, [], length, Option, Some, refl, sym, ap, ◌∙◌, subst, arith}
 use Rattle.std.specs.List.{slice_get}
 use Rattle.cost_model.specs.declared.parts.Carry.{Carry}
 use Rattle.overpass_graph.specs.Walks.{link_at}
-use Rattle.space_search.specs.Turns.{IsClosedAndOrdered, IsDone, IsPassed, covered, hopeless, ranks}
+use Rattle.space_search.specs.Turns.{IsClosedAndOrdered, IsPassed, covered, hopeless, ranks}
 use Rattle.space_search.specs.View.{KeepsPlaces, Reached}
 use Rattle.space_search.proofs.CallerLemmas.{run-done, run-valid}
 use Rattle.item_list.proofs.ListLemmas.{slice_get-there}

@@ -1,14 +1,13 @@
 -- What is found as a reach begins.
-use Rattle.std.proofs.Common.{◌≡◌, ◌≢◌, ℕ, ◌+◌, ◌<◌, ◌≤◌, inl, inr, Bool, true, false, List, [], Option, Some, None, refl, sym, ap, ◌∙◌, subst, arith, Vec, Global}
-use Rattle.std.specs.List.{Contains, slice_get}
-use Rattle.std.proofs.lemmas.Bool.{cases_eq}
+use Rattle.std.proofs.Common.{◌≡◌, ◌≢◌, ℕ, inl, inr, Bool, true, false, List, [], Some, None, sym, ap, ◌∙◌, subst, arith, Vec, Global}
+use Rattle.std.specs.List.{slice_get}
 use Rattle.cost_model.specs.declared.parts.Carry.{Carry}
 use Rattle.space_search.specs.View.{Reached}
 use Rattle.bike_space.specs.Lawful.{IsTask}
 use Rattle.bike_space.specs.Tasks.{Task}
-use Rattle.cost_table.specs.Costs.{AreCosts, IsLeastCost, Quest, leg_to}
-use Rattle.cost_table.specs.Found.{AreAwaited, Begins, BeginsBy, IsNew, NoneWaits, PutsDown, cost_at, waits}
-use Rattle.cost_table.specs.Reaches.{AreNamed, AreNear, IsFoundAfter, arrival}
+use Rattle.cost_table.specs.Costs.{IsLeastCost, Quest, leg_to}
+use Rattle.cost_table.specs.Found.{AreAwaited, BeginsBy, IsNew, NoneWaits, PutsDown, cost_at, waits}
+use Rattle.cost_table.specs.Reaches.{IsFoundAfter}
 use Rattle.cost_table.specs.declared.found.Found.{Found}
 use Rattle.cost_table.specs.declared.want.Want.{Want}
 use Rattle.cost_table.specs.declared.want.Want.TheVariants.{Nodes, Within}

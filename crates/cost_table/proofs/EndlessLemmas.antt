@@ -1,5 +1,5 @@
 -- A space without goals keeps the laws, and has the runs of the space that it is made of.
-use Rattle.std.proofs.Common.{◌≡◌, ℕ, ◌+◌, ◌≤◌, List, Some, IsTrue, refl, sym, ◌∙◌, arith}
+use Rattle.std.proofs.Common.{◌≡◌, ℕ, ◌+◌, List, IsTrue, refl, sym, ◌∙◌, arith}
 use Rattle.space_search.specs.Laws.{HasEvenBound, IsBlind, IsSpace, Supersedes}
 use Rattle.space_search.specs.Rules.{Rules}
 use Rattle.space_search.specs.Runs.{IsRun, Walks, rests, starts, steps}

@@ -1,18 +1,13 @@
 -- The costs that are found as labels are settled, one after the other.
-use Rattle.std.proofs.Common.{◌≡◌, ◌≢◌, ℕ, ◌+◌, ◌<◌, ◌≤◌, ◌⊎◌, inl, inr, Bool, true, false, not, ◌&&◌, nat_eq, List, [], ◌∷◌, length, Option, Some, None, refl, sym, ap, ◌∙◌, subst, arith}
+use Rattle.std.proofs.Common.{◌≡◌, ◌≢◌, ℕ, ◌⊎◌, inl, inr, Bool, true, false, not, ◌&&◌, nat_eq, List, Option, Some, None, refl, sym, ap, ◌∙◌, subst, arith}
 use Rattle.std.specs.Cmp.{nat_eq_equiv}
-use Rattle.std.specs.List.{Contains, list_any, slice_get}
+use Rattle.std.specs.List.{Contains, list_any}
 use Rattle.std.proofs.lemmas.Bool.{cases_eq}
 use Rattle.std.proofs.lemmas.Bool.Decides.{nat_tests}
 use Rattle.std.proofs.lemmas.Map.Views.{Contains-from_any, list_any-from_Contains}
-use Rattle.cost_model.specs.declared.parts.Carry.{Carry}
-use Rattle.space_search.specs.View.{Reached}
-use Rattle.bike_space.specs.Tasks.{Task}
-use Rattle.cost_table.specs.Costs.{AreCosts, IsCostOf, IsLeastCost, Quest, leg_to}
-use Rattle.cost_table.specs.Found.{AreAwaited, AreSame, IsNew, NoneWaits, PutsDown, WaitsNoLonger, cost_at, waits}
-use Rattle.cost_table.specs.Reaches.{AreNamed, AreNear, arrival}
+use Rattle.cost_table.specs.Costs.{IsCostOf, IsLeastCost, Quest, leg_to}
+use Rattle.cost_table.specs.Found.{AreAwaited, PutsDown, WaitsNoLonger, cost_at}
 use Rattle.cost_table.specs.declared.found.Found.{Found}
-use Rattle.cost_table.proofs.ArriveLemmas.{IsGrown}
 
 -- ---- Costs that are put down
 

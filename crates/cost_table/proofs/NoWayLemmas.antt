@@ -1,6 +1,6 @@
 -- The end of a search that finds no way: all that is asked is known.
-use Rattle.std.proofs.Common.{◌≡◌, ◌≢◌, ℕ, ◌+◌, ◌<◌, ◌≤◌, inl, inr, true, false, List, length, Option, Some, None, subst, arith, sym, ap, ◌∙◌, refl, Vec, Global}
-use Rattle.std.specs.List.{Contains, slice_get}
+use Rattle.std.proofs.Common.{◌≡◌, ℕ, ◌≤◌, inl, inr, false, List, length, Some, None, subst, arith, sym, refl, Vec, Global}
+use Rattle.std.specs.List.{slice_get}
 use Rattle.std.proofs.lemmas.Option.{slice_get_within}
 use Rattle.cost_model.specs.declared.parts.Carry.{Carry}
 use Rattle.space_search.specs.Turns.{IsClosedAndOrdered}
@@ -8,10 +8,10 @@ use Rattle.space_search.specs.View.{KeepsPlaces, Reached}
 use Rattle.bike_space.specs.Lawful.{IsTask}
 use Rattle.bike_space.specs.Tasks.{Task, rules_of}
 use Rattle.bike_space.proofs.CallerLemmas.{walk-some}
-use Rattle.cost_table.specs.Costs.{AreCosts, IsCostOf, IsCostWithin, IsLeastCost, Quest, leg_to}
+use Rattle.cost_table.specs.Costs.{AreCosts, IsCostWithin, Quest, leg_to}
 use Rattle.cost_table.specs.Endless.{endless}
 use Rattle.cost_table.specs.Found.{cost_at, waits}
-use Rattle.cost_table.specs.Reaches.{AreNamed, AreNear, IsFoundAfter, arrival}
+use Rattle.cost_table.specs.Reaches.{AreNamed, AreNear, IsFoundAfter}
 use Rattle.cost_table.specs.declared.found.Found.{Found}
 use Rattle.cost_table.specs.declared.want.Want.{Want}
 use Rattle.cost_table.specs.declared.want.Want.TheVariants.{Nodes, Within}

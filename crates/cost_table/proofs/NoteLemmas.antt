@@ -1,24 +1,22 @@
 -- What is found stays right with each label that is settled.
-use Rattle.std.proofs.Common.{◌≡◌, ◌≢◌, ℕ, ◌+◌, ◌<◌, ◌≤◌, ◌⊎◌, inl, inr, Bool, true, false, List, [], ◌∷◌, length, Option, Some, None, refl, sym, ap, ◌∙◌, subst, arith, Vec, Global}
-use Rattle.std.specs.List.{Contains, slice_get}
+use Rattle.std.proofs.Common.{◌≡◌, ℕ, ◌<◌, ◌≤◌, inl, inr, Bool, true, false, List, length, Some, None, refl, sym, ap, ◌∙◌, subst, arith, Vec, Global}
+use Rattle.std.specs.List.{Contains}
 use Rattle.std.proofs.lemmas.Bool.{cases_eq}
-use Rattle.std.proofs.lemmas.Option.{slice_get_within}
 use Rattle.cost_model.specs.declared.parts.Carry.{Carry}
 use Rattle.space_search.specs.Turns.{IsClosedAndOrdered}
 use Rattle.space_search.specs.View.{Reached}
 use Rattle.bike_space.specs.Lawful.{IsTask}
-use Rattle.bike_space.specs.LegWalks.{IsLegWalk, leg_cost}
 use Rattle.bike_space.specs.Tasks.{Task, rules_of}
 use Rattle.bike_space.proofs.CallerLemmas.{walk-some}
 use Rattle.cost_table.specs.Costs.{AreCosts, IsCostOf, IsCostWithin, IsLeastCost, Quest, leg_to}
 use Rattle.cost_table.specs.Endless.{endless}
-use Rattle.cost_table.specs.Found.{AreSame, Begins, IsNew, NoneWaits, NotesBy, NotesNamed, NotesWithin, PutsDown, WaitsNoLonger, beyond, cost_at, found, passed, waits, within}
-use Rattle.cost_table.specs.Reaches.{AreNamed, AreNear, IsFoundAfter, IsFoundBy, arrival}
+use Rattle.cost_table.specs.Found.{AreSame, NoneWaits, NotesBy, NotesNamed, NotesWithin, PutsDown, WaitsNoLonger, beyond, cost_at, found, passed, waits, within}
+use Rattle.cost_table.specs.Reaches.{AreNamed, AreNear, IsFoundAfter, arrival}
 use Rattle.cost_table.specs.declared.found.Found.{Found}
 use Rattle.cost_table.specs.declared.want.Want.{Want}
 use Rattle.cost_table.specs.declared.want.Want.TheVariants.{Nodes, Within}
-use Rattle.cost_table.proofs.ArriveLemmas.{IsArrived, IsBeyond, IsGrown, home-least, last-least, quest_on, walk-arrives}
-use Rattle.cost_table.proofs.FoundLemmas.{awaited-named, named-awaits, named-costs, puts-either, puts-keeps, puts-some, puts-sound, source-away, waits-not, waits-still}
+use Rattle.cost_table.proofs.ArriveLemmas.{IsGrown, last-least, quest_on, walk-arrives}
+use Rattle.cost_table.proofs.FoundLemmas.{named-costs, puts-either, puts-keeps, puts-some, puts-sound, waits-not, waits-still}
 
 -- what is known after a label is noted, with whether all is found
 abbrev pub IsKnown : (task : Task) (quest : Quest) (after : Found) (settled : List (Reached Carry)) → Bool → Type 0

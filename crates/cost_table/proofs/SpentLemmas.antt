@@ -1,7 +1,7 @@
 -- The end of a search whose limit is spent: its evidence, in walks.
-use Rattle.std.proofs.Common.{◌≡◌, ◌≢◌, ℕ, zero, suc, pos, ◌+◌, ◌<◌, ◌≤◌, inl, inr, true, false, List, [], ◌∷◌, ◌++◌, length, map, Option, Some, None, IsTrue, refl, sym, ap, ◌∙◌, subst, arith, length-append, Vec, Global}
+use Rattle.std.proofs.Common.{◌≡◌, ℕ, pos, ◌+◌, ◌<◌, ◌≤◌, inl, inr, false, List, [], ◌∷◌, ◌++◌, length, map, Some, IsTrue, refl, sym, ap, ◌∙◌, subst, arith, length-append, Vec, Global}
 use Rattle.std.proofs.lemmas.List.{length-map}
-use Rattle.std.specs.List.{Contains, slice_get}
+use Rattle.std.specs.List.{slice_get}
 use Rattle.cost_model.specs.Labels.{label_of}
 use Rattle.cost_model.specs.Rides.{Leg}
 use Rattle.cost_model.specs.Walks.{pair_of}
@@ -19,10 +19,10 @@ use Rattle.bike_space.specs.Spent.{nth_walk, terms_of, walk_buffers}
 use Rattle.bike_space.specs.Tasks.{Task, covers_carry, rules_of}
 use Rattle.bike_space.proofs.CallerLemmas.{nth-at, parts-cover, walk-some, walk_of}
 use Rattle.bike_space.proofs.LeastLemmas.{end-carried}
-use Rattle.cost_table.specs.Costs.{AreReached, AreWithin, CostNoMore, FallsShort, IsMissed, IsSpentOn, Quest, cost_label, leg_to}
+use Rattle.cost_table.specs.Costs.{AreReached, AreWithin, FallsShort, IsMissed, IsSpentOn, Quest, cost_label, leg_to}
 use Rattle.cost_table.specs.Endless.{endless}
 use Rattle.cost_table.specs.Found.{waits}
-use Rattle.cost_table.specs.Reaches.{AreNamed, AreNear, IsFoundAfter, arrival}
+use Rattle.cost_table.specs.Reaches.{AreNamed, AreNear, IsFoundAfter}
 use Rattle.cost_table.specs.declared.found.Found.{Found}
 use Rattle.cost_table.specs.declared.want.Want.{Want}
 use Rattle.cost_table.specs.declared.want.Want.TheVariants.{Nodes, Within}

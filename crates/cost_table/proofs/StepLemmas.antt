@@ -1,5 +1,5 @@
 -- One label is settled and noted, or the search is at its end.
-use Rattle.std.proofs.Common.{◌≡◌, ◌≢◌, ℕ, suc, ◌+◌, ◌-◌, ◌<◌, ◌≤◌, Bool, true, false, List, [], ◌∷◌, length, Option, Some, None, IsTrue, refl, sym, ap, ◌∙◌, subst, arith}
+use Rattle.std.proofs.Common.{◌≡◌, ℕ, ◌+◌, ◌<◌, ◌≤◌, Bool, true, false, List, [], ◌∷◌, length, Some, IsTrue, refl, sym, ap, ◌∙◌, subst, arith}
 use Rattle.std.specs.List.{slice_get}
 use Rattle.std.proofs.lemmas.Option.{slice_get_within}
 use Rattle.cost_model.specs.declared.parts.Carry.{Carry}
@@ -13,10 +13,10 @@ use Rattle.space_search.specs.declared.search.Search.{Search}
 use Rattle.bike_space.specs.Lawful.{IsTask}
 use Rattle.bike_space.specs.Tasks.{Task, rules_of}
 use Rattle.bike_space.proofs.CarryLemmas.{carried-is}
-use Rattle.cost_table.specs.Costs.{AreCosts, IsSpentOn, Quest}
+use Rattle.cost_table.specs.Costs.{IsSpentOn, Quest}
 use Rattle.cost_table.specs.Endless.{endless}
-use Rattle.cost_table.specs.Found.{NotesBy, cost_at}
-use Rattle.cost_table.specs.Reaches.{CountsReach, IsFoundAfter, IsFoundBy, IsGoing, IsNoted, IsOneMore, IsUnderWay, StaysReach, StepsTo, arrival, cost_in, ended_by, quest_of}
+use Rattle.cost_table.specs.Found.{NotesBy}
+use Rattle.cost_table.specs.Reaches.{CountsReach, IsFoundAfter, IsFoundBy, IsGoing, IsNoted, IsOneMore, IsUnderWay, StaysReach, StepsTo, arrival, ended_by, quest_of}
 use Rattle.cost_table.specs.declared.found.Found.{Found}
 use Rattle.cost_table.specs.declared.reach.Reach.{Reach}
 use Rattle.cost_table.specs.declared.turn.ReachTurn.{ReachTurn}

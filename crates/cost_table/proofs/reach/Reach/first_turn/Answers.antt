@@ -1,4 +1,4 @@
-use Rattle.std.proofs.Common.{true, false, refl}
+use Rattle.std.proofs.Common.{true, refl}
 use Rattle.bike_space.specs.Kept.{task_of}
 use Rattle.cost_table.specs.declared.reach.Reach.{Reach}
 use Rattle.cost_table.specs.declared.reach.Stage.TheVariants as stage

@@ -1,4 +1,4 @@
-use Rattle.std.proofs.Common.{◌≡◌, ◌-◌, ℕ, length, true, false, ap, sym, ◌∙◌, arith}
+use Rattle.std.proofs.Common.{◌≡◌, ◌-◌, length, true, false, ap, ◌∙◌, arith}
 use Rattle.cost_model.specs.declared.parts.Carry.{Carry}
 use Rattle.overpass_graph.specs.Maps.{MapValue, link_of}
 use Rattle.overpass_graph.specs.declared.link.Link.{Link}

@@ -1,4 +1,4 @@
-use Rattle.std.proofs.Common.{ℕ, ◌+◌, length, sym, subst}
+use Rattle.std.proofs.Common.{◌+◌, length, sym, subst}
 use Rattle.bike_space.specs.Kept.{task_of}
 use Rattle.bike_space.specs.Tasks.{rules_of}
 use Rattle.bike_space.proofs.CallerLemmas.{even-bound}
