@@ -37,7 +37,7 @@ module _ (task : Task) (lawful : IsTask task) (unused : (link : ℕ) → task.us
 
     module _ (nodes : List ℕ) (want : Want)
         (sound : (node cost : ℕ) → cost_at before node ≡ Some cost →
-            IsLeastCost (leg_to (quest_on task lawful unused want limit) node) cost)
+        IsLeastCost (leg_to (quest_on task lawful unused want limit) node) cost)
         (home : cost_at before task.leg.start ≡ Some 0) (are : AreNamed task nodes before earlier) where
       -- what is asked
       abbrev quest : Quest
@@ -141,7 +141,7 @@ module _ (task : Task) (lawful : IsTask task) (unused : (link : ℕ) → task.us
 
     module _ (most : ℕ) (want : Want)
         (sound : (node cost : ℕ) → cost_at before node ≡ Some cost →
-            IsLeastCost (leg_to (quest_on task lawful unused want limit) node) cost)
+        IsLeastCost (leg_to (quest_on task lawful unused want limit) node) cost)
         (home : cost_at before task.leg.start ≡ Some 0) (are : AreNear task most before earlier) where
       -- what is asked
       abbrev asked : Quest
@@ -228,8 +228,7 @@ module _ (task : Task) (lawful : IsTask task) (unused : (link : ℕ) → task.us
           seen = λ place label at.
               elim (grown.each place label at) [
                 | inl was ↦
-                    let seen = are.seen place label was in
-                    (
+                    let seen = are.seen place label was in (
                       seen.0,
                       puts-keeps (arrival task last) last.cost (cost_at before) (cost_at after) puts
                           (arrival task label) seen.0 seen.1,

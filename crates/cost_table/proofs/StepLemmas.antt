@@ -133,8 +133,7 @@ module _ (task : Task) (lawful : IsTask task) (unused : (link : ℕ) → task.us
       let sub = λ (place : ℕ) (one : Reached Carry) (at : slice_get (view search).settled place ≡ Some one).
       (let within = slice_get_within (view search).settled place one at in
       place-before (view reach.search).settled (view search).settled kept.kept place one (omega (arith, within, few)) at) in
-      subst P kept.limit
-      (
+      subst P kept.limit (
         spent_walks task lawful unused (view search) ends,
         spent-known task lawful unused (view search) ends reach.found reach.found.want
             (fewer-found task _ reach.found (view reach.search).settled (view search).settled sub found),

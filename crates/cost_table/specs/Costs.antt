@@ -1,5 +1,5 @@
--- What it costs to come from a node to others at least, and what shows that a limit is spent before all of it is
--- known. It is said of walks that a rider may take, without a word of a search (this project's own rule).
+-- What it costs to come from a node to others at least, and what shows that a limit is spent before all of it
+-- is known. It is said of walks that a rider may take, without a word of a search (this project's own rule).
 use Rattle.std.specs.Prelude.{ℕ, pos, ◌≡◌, ◌+◌, ◌≤◌, ◌<◌, List, length, Option, Some, None}
 use Rattle.std.specs.List.{Contains}
 use Rattle.elev_buffer.specs.Covers.{CoversLabel, Label, label}
@@ -45,7 +45,8 @@ pub record IsLeastWithin (leg : Leg) (most cost : ℕ) : Type 0 where
   pub least : IsLeastCost leg cost
   pub within : cost ≤ most
 
--- what a walk of the leg costs at least, where that is at most so much; none where each of its walks costs more
+-- what a walk of the leg costs at least, where that is at most so much; none where each of its walks costs
+-- more
 abbrev pub IsCostWithin : (leg : Leg) (most : ℕ) → Option ℕ → Type 0
 IsCostWithin leg most None = (walk : List ℕ) → IsLegWalk leg walk → most < leg_cost leg walk
 IsCostWithin leg most (Some cost) = IsLeastWithin leg most cost
@@ -66,8 +67,8 @@ AreCosts quest costs =
 abbrev pub cost_label : Leg → List ℕ → Label
 cost_label leg walk = label (walk_buffers leg walk) (pos (leg_cost leg walk))
 
--- so many walks of at least one link from the start of the leg. Of two that end in one link the later costs no
--- less, and the earlier doesn't make it needless
+-- so many walks of at least one link from the start of the leg. Of two that end in one link the later costs
+-- no less, and the earlier doesn't make it needless
 pub record AreReached (leg : Leg) (count : ℕ) (walks : List (List ℕ)) : Type 0 where
   pub counted : length walks ≡ count
   pub each : (k : ℕ) → k < length walks → IsWalkOn leg (nth_walk walks k)

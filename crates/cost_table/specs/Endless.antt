@@ -1,5 +1,5 @@
--- A space without goals whose lower bound says nothing, so that a search over it settles whatever is reached, the
--- cheaper first (this project's own rule).
+-- A space without goals whose lower bound says nothing, so that a search over it settles whatever is reached,
+-- the cheaper first (this project's own rule).
 use Rattle.std.specs.Prelude.{◌≡◌, ℕ, false, Option, Some}
 use Rattle.space_search.specs.Rules.{Rules}
 

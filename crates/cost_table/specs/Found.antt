@@ -1,5 +1,5 @@
--- For the parts of a turn alone: the costs that are found, and the nodes that wait for theirs (this project's own
--- rule).
+-- For the parts of a turn alone: the costs that are found, and the nodes that wait for theirs (this project's
+-- own rule).
 use Rattle.std.specs.Prelude.{ℕ, ◌≡◌, ◌≢◌, ◌≤◌, ◌<◌, Bool, true, false, not, ◌&&◌, nat_eq, List, Option, Some, None}
 use Rattle.std.specs.List.{list_any}
 use Rattle.std.specs.HashSet.{contains}
@@ -49,7 +49,8 @@ NoneWaits waiting false = (node : ℕ) × (waiting node ≡ true)
 
 -- what begins by what is asked, with whether all is found
 abbrev pub BeginsBy : Want → (source : ℕ) (after : Found) → Bool → Type 0
-BeginsBy (Nodes nodes) source after done = AreAwaited nodes.items source (waits after) × NoneWaits (waits after) done
+BeginsBy (Nodes nodes) source after done =
+    AreAwaited nodes.items source (waits after) × NoneWaits (waits after) done
 BeginsBy (Within most) source after done = done ≡ false
 
 -- the node that is left is found, and the others that are named wait

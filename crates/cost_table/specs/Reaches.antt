@@ -58,7 +58,8 @@ abbrev pub arrival : Task → Reached Carry → ℕ
 arrival task label = task.leg.ride.roads.to label.state.link
 
 -- of the nodes that are named those without a cost wait, and no settled label arrives at one that waits
-pub record AreNamed (task : Task) (nodes : List ℕ) (found : Found) (settled : List (Reached Carry)) : Type 0 where
+pub record AreNamed (task : Task) (nodes : List ℕ) (found : Found) (settled : List (Reached Carry))
+    : Type 0 where
   pub named : (node : ℕ) → waits found node ≡ true → Contains nodes node
   pub rest : (node : ℕ) → Contains nodes node → cost_at found node ≡ None → waits found node ≡ true
   pub away : waits found task.leg.start ≡ false
@@ -79,7 +80,8 @@ IsFoundBy (Nodes nodes) task found settled = AreNamed task nodes.items found set
 IsFoundBy (Within most) task found settled = AreNear task most found settled
 
 -- what is found after these labels are settled: costs are least ones, and the node that is left has cost 0
-pub record IsFoundAfter (task : Task) (quest : Quest) (found : Found) (settled : List (Reached Carry)) : Type 0 where
+pub record IsFoundAfter (task : Task) (quest : Quest) (found : Found) (settled : List (Reached Carry))
+    : Type 0 where
   pub sound : (node cost : ℕ) → cost_at found node ≡ Some cost → IsLeastCost (leg_to quest node) cost
   pub home : cost_at found task.leg.start ≡ Some 0
   pub by_want : IsFoundBy quest.want task found settled
@@ -91,7 +93,8 @@ IsStage task reach stage.Running =
     IsFoundAfter task (quest_of task reach) reach.found (view reach.search).settled
 IsStage task reach stage.Done = AreCosts (quest_of task reach) (cost_in reach)
 IsStage task reach stage.Spent =
-    (reach.settled ≡ (view reach.search).limit) × ((walks : List (List ℕ)) × IsSpentOn (quest_of task reach) walks)
+    (reach.settled ≡ (view reach.search).limit) ×
+    ((walks : List (List ℕ)) × IsSpentOn (quest_of task reach) walks)
 IsStage task reach stage.Failed = Unit {0}
 
 -- it is a reach over the space of a task, which leaves the node that the reach leaves
@@ -103,15 +106,15 @@ pub record IsReachOn (task : Task) (reach : Reach) : Type 0 where
 
 -- ---- What a turn answers
 
--- that the reach goes on; or that it is done, with the costs of all that is asked; or that the limit is spent, with
--- its evidence
+-- that the reach goes on; or that it is done, with the costs of all that is asked; or that the limit is
+-- spent, with its evidence
 abbrev pub AnswersReach : (quest : Quest) (after : Reach) → ReachTurn → Type 0
 AnswersReach quest after More = after.stage ≡ stage.Running
 AnswersReach quest after Done = IsDone after × AreCosts quest (cost_in after)
 AnswersReach quest after Budget = (walks : List (List ℕ)) × IsSpentOn quest walks
 
--- the labels that a turn settled: the whole quota where the reach goes on, else no more; and where the limit is
--- spent, less than the quota, and as many as the limit allows in all
+-- the labels that a turn settled: the whole quota where the reach goes on, else no more; and where the limit
+-- is spent, less than the quota, and as many as the limit allows in all
 abbrev pub CountsReach : (quota limit before after : ℕ) → ReachTurn → Type 0
 CountsReach quota limit before after More = after ≡ before + quota
 CountsReach quota limit before after Done = after ≤ before + quota
@@ -125,8 +128,8 @@ HasEnded reach Budget = reach.stage ≡ stage.Spent
 
 -- ---- For the parts of a turn
 
--- what a turn leaves, also one that met want of memory: a reach on what was asked, with no fewer labels settled,
--- and within the limit
+-- what a turn leaves, also one that met want of memory: a reach on what was asked, with no fewer labels
+-- settled, and within the limit
 pub record TurnsReach (task : Task) (before after : Reach) : Type 0 where
   pub on : IsReachOn task after
   pub same : (other : Task) → quest_of other after ≡ quest_of other before

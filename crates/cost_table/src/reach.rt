@@ -32,8 +32,8 @@ pub(crate) enum Stage {
     Failed,
 }
 
-/// A search for what it costs to come from a node to others. It borrows no space: each turn is given
-/// the space again.
+/// A search for what it costs to come from a node to others. It borrows no space: each turn is
+/// given the space again.
 pub struct Reach {
     pub(crate) search: Search<Carry>,
     pub(crate) found: Found,

@@ -132,7 +132,8 @@ impl Reach {
         _space: &BikeSpace<G>,
         map: &Map,
     ) -> Result<ReachTurn, AllocError>
-        requires more { IsOneMore (task_of (G.terrain _space.now.terrain) _space.now.kept) self.old }
+        requires more { IsOneMore
+            (task_of (G.terrain _space.now.terrain) _space.now.kept) self.old }
         requires unused { (link : ℕ) →
             (task_of (G.terrain _space.now.terrain) _space.now.kept).used link ≡ false }
         requires map { map.now ≡ (G.terrain _space.now.terrain).map }

@@ -16,8 +16,8 @@ use cost_table::{Reach, ReachTurn, Want};
 use overpass_graph::Map;
 use std::alloc::{AllocError, Global};
 
-/// The calls: costs of nodes that are named, or of all within a cost; and the same with how many labels
-/// were settled, and in how many turns.
+/// The calls: costs of nodes that are named, or of all within a cost; and the same with how many
+/// labels were settled, and in how many turns.
 const CALLS: [&str; 4] = ["costs", "within", "costs_counted", "within_counted"];
 
 /// The node that is left, the limit of labels, and how many a turn settles.
@@ -43,7 +43,8 @@ pub(crate) fn answer(alloc: Global, case: &Case, map: &Map) -> Result<String, Al
     let cut = marks(alloc, case.word(15))?;
     let terrain = PricedMap::new(map, &given, &rates, modes(&given));
     let turns = case.count(4) == 1;
-    // Whichever target the space has, it has no effect: it is the first node, also where that is left.
+    // Whichever target the space has, it has no effect: it is the first node, also where that is
+    // left.
     let space = BikeSpace::plain(alloc, terrain, cut.as_slice(), turns, from.source, 0)?;
     reached(alloc, case, &space, map, from)
 }
@@ -72,7 +73,15 @@ fn reached<G: TerrainOf>(
         (all_nodes(alloc, map)?, Want::Within(case.size(13)))
     };
     let reach = Reach::new(alloc, from.source, want, from.limit);
-    told_by(alloc, reach, space, map, from.quota, nodes.as_slice(), call >= 2)
+    told_by(
+        alloc,
+        reach,
+        space,
+        map,
+        from.quota,
+        nodes.as_slice(),
+        call >= 2,
+    )
 }
 
 /// The node, the limit and the quota that words 12, 14 and 16 are.
@@ -101,8 +110,8 @@ fn all_nodes(alloc: Global, map: &Map) -> Result<Vec<u32>, AllocError> {
     Ok(nodes)
 }
 
-/// The costs of these nodes as the turns of a reach find them, and where they are counted the labels
-/// that it settled and its turns.
+/// The costs of these nodes as the turns of a reach find them, and where they are counted the
+/// labels that it settled and its turns.
 fn told_by<G: TerrainOf>(
     alloc: Global,
     reach: Reach,

@@ -10,10 +10,10 @@ returns-clause-exact c =
     let entries = c.args.self.now.costs.entries in
     let same = c.as_slice.ensures ∙ c.keys.ensures.rest in
     λ node. (
-        λ there. IsSome-lookup_from_Contains nat_eq_equiv node entries
-            (subst (λ (keys : List ℕ). Contains keys node) same there),
-        λ some. subst (λ (keys : List ℕ). Contains keys node) (sym same)
-            (Contains-keys_from_lookup same-number node entries some),
+      λ there. IsSome-lookup_from_Contains nat_eq_equiv node entries
+          (subst (λ (keys : List ℕ). Contains keys node) same there),
+      λ some. subst (λ (keys : List ℕ). Contains keys node) (sym same)
+          (Contains-keys_from_lookup same-number node entries some),
     )
 
 pub returns-clause-distinct : goal.returns-clause-distinct

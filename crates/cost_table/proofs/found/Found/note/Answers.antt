@@ -21,7 +21,7 @@ pub returns-then-cost-most-clause-notes : goal.returns-then-cost-most-clause-not
 returns-then-cost-most-clause-notes c =
     let self : Found = c.args.self.now in
     subst (λ (w : Want). NotesBy w c.args.node c.args.cost self self true) (sym c.in-Within.is)
-    (beyond c.if-cost-most.true (record { costs = λ node. refl; waiting = λ node. refl; }))
+    (beyond c.if-cost-most.true (record { costs = λ node. refl; waiting = λ node. refl }))
 
 pub returns-in_ok-put_down-in-Nodes-clause-notes : goal.returns-in_ok-put_down-in-Nodes-clause-notes
 returns-in_ok-put_down-in-Nodes-clause-notes c =

@@ -15,8 +15,7 @@ returns-then-branch-clause-turns g c =
 pub returns-then-branch-clause-exact : goal.returns-then-branch-clause-exact
 returns-then-branch-clause-exact g c =
     let space = c.args.space.now in
-    let task = task_of (g.G.TerrainOf.terrain space.terrain) space.kept in
-    (
+    let task = task_of (g.G.TerrainOf.terrain space.terrain) space.kept in (
       refl,
       begun-on task space.wakes.lawful c.requires.unused c.args.self.now c.requires.on c.requires.fresh c.begin.new.self
           c.begin.ensures.want _ true c.if-branch.true c.in_ok-begin.ensures.begins,
