@@ -40,8 +40,22 @@ pub(crate) fn answer(alloc: Global, case: &Case, map: &Map) -> Result<String, Al
     if given.count() != map.links() {
         return String::from_str(alloc, OUTSIDE);
     }
-    let cut = marks(alloc, case.word(15))?;
     let terrain = PricedMap::new(map, &given, &rates, modes(&given));
+    over(alloc, case, terrain, map, from)
+}
+
+/// The same over a terrain.
+fn over<G: TerrainOf>(
+    alloc: Global,
+    case: &Case,
+    terrain: G,
+    map: &Map,
+    from: From,
+) -> Result<String, AllocError>
+    requires from { IsFrom (length map.now.nodes) from.source from.limit from.quota }
+    requires map { map.now ≡ (G.terrain terrain).map }
+{
+    let cut = marks(alloc, case.word(15))?;
     let turns = case.count(4) == 1;
     // Whichever target the space has, it has no effect: it is the first node, also where that is
     // left.
