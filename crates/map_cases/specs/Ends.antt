@@ -13,3 +13,9 @@ pub record AreNodes (count : ℕ) (nodes : List ℕ) : Type 0 where
   pub some : 1 ≤ length nodes
   pub few : length nodes ≤ 100
   pub each : (k : ℕ) → k < length nodes → get_or nodes k 0 < count
+
+-- a node of a map of so many, a limit of labels that a search takes, and a quota of a turn
+pub record IsFrom (nodes source limit quota : ℕ) : Type 0 where
+  pub start : source < nodes
+  pub small : limit < 2 ^ 32
+  pub some : 1 ≤ quota

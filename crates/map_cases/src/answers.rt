@@ -6,7 +6,7 @@ use crate::map::pieces::{by_sizes, cuts, fronts, told_by_piece};
 use crate::map::shown::counts_of;
 use crate::near::nearest;
 use crate::sums::{all_sums, near_sums};
-use crate::{certificates, class, space, track};
+use crate::{certificates, class, reaches, space, track};
 use case_inputs::map_of;
 use case_rows::{Case, place_of};
 use overpass_graph::Map;
@@ -27,7 +27,7 @@ const ON_TEXTS: [&str; 7] = [
 ];
 
 /// The calls on a map, whose text is the first word behind them.
-const ON_MAPS: [&str; 14] = [
+const ON_MAPS: [&str; 18] = [
     "map_cut",
     "map_counts",
     "near",
@@ -42,6 +42,10 @@ const ON_MAPS: [&str; 14] = [
     "ring",
     "certify",
     "check",
+    "costs",
+    "within",
+    "costs_counted",
+    "within_counted",
 ];
 
 /// The answer to a case.
@@ -79,6 +83,7 @@ fn by_call(alloc: Global, case: &Case, map: &Map, call: usize) -> Result<String,
         4 => near_sums(alloc, case, map),
         5..=7 => track::answer(alloc, case, map),
         8..=11 => space::answer(alloc, case, map),
+        14..=17 => reaches::answer(alloc, case, map),
         _ => certificates::answer(alloc, case, map),
     }
 }

@@ -1,5 +1,6 @@
 //! Runs tables of cases on maps: texts of maps and what comes of them, the nearest nodes of
-//! waypoints, least sums, tracks, walks of least rank, profiles bound to maps, and certificates.
+//! waypoints, least sums, tracks, walks of least rank, profiles bound to maps, certificates, and
+//! costs between nodes.
 #![tactic(auto)]
 
 mod answers;
@@ -8,6 +9,7 @@ mod class;
 mod given;
 mod map;
 mod near;
+mod reaches;
 mod space;
 mod sums;
 mod track;

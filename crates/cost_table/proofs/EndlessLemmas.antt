@@ -1,0 +1,95 @@
+-- A space without goals keeps the laws, and has the runs of the space that it is made of.
+use Rattle.std.proofs.Common.{◌≡◌, ℕ, ◌+◌, List, IsTrue, refl, sym, ◌∙◌, arith}
+use Rattle.space_search.specs.Laws.{HasEvenBound, IsBlind, IsSpace, Supersedes}
+use Rattle.space_search.specs.Rules.{Rules}
+use Rattle.space_search.specs.Runs.{IsRun, Walks, rests, starts, steps}
+use Rattle.cost_table.specs.Endless.{AreOne, endless}
+
+-- its lower bound says nothing
+pub endless-blind : {S : Type 0} (rules : Rules S) → IsBlind (endless rules)
+endless-blind rules state valid = refl
+
+-- so it is even
+pub endless-even : {S : Type 0} (rules : Rules S) → HasEvenBound (endless rules)
+endless-even rules = record {
+  alike = λ a b ca cb va vb covers. refl;
+  stays = λ from number state cost valid within is none. absurd (cc);
+}
+
+-- it keeps the laws of a space
+pub endless-laws : {S : Type 0} (rules : Rules S) → IsSpace rules → IsSpace (endless rules)
+endless-laws rules laws = record {
+  moves = record {
+    starts = λ number state cost within is.
+        let move = laws.moves.starts number state cost within is in record { valid = move.valid; cheap = move.cheap };
+    steps = λ from number state cost valid within is.
+        let move = laws.moves.steps from number state cost valid within is in
+        record { valid = move.valid; cheap = move.cheap };
+    cell = laws.moves.cell;
+    slot = laws.moves.slot;
+  };
+  covering = record {
+    one_slot = laws.covering.one_slot;
+    itself = laws.covering.itself;
+    through = laws.covering.through;
+    cheaper = laws.covering.cheaper;
+  };
+  kept = laws.kept;
+  alike = record {
+    steps = laws.alike.steps;
+    permitted = laws.alike.permitted;
+    goal = λ a b ca cb va vb covers. refl;
+  };
+  bound = record {
+    small = λ state low valid is. let same : 0 ≡ low = cc in omega (arith, same);
+    goal = λ state valid goal. refl;
+    hopeless = λ state end cost total numbers valid none walk goal. absurd (cc);
+    step = λ from number state cost before after valid within is first second.
+        let same : 0 ≡ before = cc in omega (arith, same);
+  };
+}
+
+-- where both states have one bound, what one supersedes in the space itself it supersedes there too
+pub endless-supersedes :
+    {S : Type 0} (rules : Rules S) → HasEvenBound rules → (a : S) (ca : ℕ) (b : S) (cb : ℕ) →
+    IsTrue (rules.is_valid b) → AreOne (rules.low a) (rules.low b) → Supersedes rules a ca b cb →
+    Supersedes (endless rules) a ca b cb
+endless-supersedes rules even a ca b cb vb one is state cost low high valid first second up covers =
+    let low_first : 0 ≡ first.low = cc in
+    let low_second : 0 ≡ second.low = cc in
+    let alike : rules.low b ≡ rules.low state = even.alike b state cb cost vb valid covers in
+    is state cost (ca + one.number) (cost + one.number) valid (record { low = one.number; is = one.first; sum = refl })
+    (record { low = one.number; is = sym alike ∙ one.second; sum = refl })
+    (omega (arith, up, first.sum, second.sum, low_first, low_second)) covers
+
+-- ---- Runs
+
+-- its walks are those of the space
+pub endless-walks :
+    {S : Type 0} (rules : Rules S) {state end : S} {cost total : ℕ} {numbers : List ℕ} →
+    Walks rules state cost numbers end total → Walks (endless rules) state cost numbers end total
+endless-walks rules rests = rests
+endless-walks rules (steps {numbers = numbers} within is rest) =
+    steps {numbers = numbers} within is (endless-walks rules rest)
+
+-- and the other way round
+pub walks-endless :
+    {S : Type 0} (rules : Rules S) {state end : S} {cost total : ℕ} {numbers : List ℕ} →
+    Walks (endless rules) state cost numbers end total → Walks rules state cost numbers end total
+walks-endless rules rests = rests
+walks-endless rules (steps {numbers = numbers} within is rest) =
+    steps {numbers = numbers} within is (walks-endless rules rest)
+
+-- so are its runs
+pub endless-run :
+    {S : Type 0} (rules : Rules S) {end : S} {cost : ℕ} {choices : List ℕ} → IsRun rules choices end cost →
+    IsRun (endless rules) choices end cost
+endless-run rules (starts {numbers = numbers} within is rest) =
+    starts {numbers = numbers} within is (endless-walks rules rest)
+
+-- and the other way round
+pub run-endless :
+    {S : Type 0} (rules : Rules S) {end : S} {cost : ℕ} {choices : List ℕ} → IsRun (endless rules) choices end cost →
+    IsRun rules choices end cost
+run-endless rules (starts {numbers = numbers} within is rest) =
+    starts {numbers = numbers} within is (walks-endless rules rest)

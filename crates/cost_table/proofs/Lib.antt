@@ -1,0 +1,10 @@
+pub mod EndlessLemmas
+pub mod WaitLemmas
+pub mod ArriveLemmas
+pub mod FoundLemmas
+pub mod NoteLemmas
+pub mod NoWayLemmas
+pub mod SpentLemmas
+pub mod BeginLemmas
+pub mod StepLemmas
+pub mod TurnLemmas

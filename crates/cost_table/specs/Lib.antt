@@ -1,0 +1,4 @@
+pub mod Endless
+pub mod Costs
+pub mod Found
+pub mod Reaches

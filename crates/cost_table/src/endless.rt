@@ -1,0 +1,88 @@
+//! A space without goals, whose lower bound says nothing.
+
+ghost use Rattle.std.specs.Prelude.{◌≡◌, IsTrue};
+ghost use Rattle.space_search.specs.Laws.{HasEvenBound, IsSpace};
+ghost use Rattle.cost_table.specs.Endless.{AreOne, endless};
+
+use space_search::Space;
+
+/// A space as one without goals, in which ranks are costs: a search over it settles whatever is
+/// reached, the cheaper first. Whichever target the space was made with, it has no effect. It takes
+/// no memory.
+#[derive(Drop)]
+pub(crate) struct Endless<'a, S: Space> {
+    pub(crate) space: &'a S,
+    ghost even: { HasEvenBound (S.rules space.now) },
+    ghost keeps: { IsSpace (endless (S.rules space.now)) },
+}
+
+impl<'a, S: Space> Endless<'a, S> {
+    /// The space without goals of one in which states that cover one another have one bound.
+    pub(crate) fn new(space: &'a S) -> Endless<'a, S>
+        requires even { HasEvenBound (S.rules space.now) }
+        ensures space { result.space.now ≡ space.now }
+    {
+        Endless { space }
+    }
+}
+
+/// Whether these are one number.
+fn are_one(a: Option<u128>, b: Option<u128>) -> bool
+    ensures sound { IsTrue result → AreOne a b }
+{
+    match (a, b) {
+        (Some(a), Some(b)) => a == b,
+        _ => false,
+    }
+}
+
+impl<'a, S: Space> Space for Endless<'a, S> {
+    ghost use Rattle.cost_table.specs.Endless.{endless};
+
+    type State = S::State;
+
+    ghost rules = { λ it. endless (S.rules it.space.now) };
+
+    ghost keeps_laws = { λ it. it.keeps };
+
+    fn slots(&self) -> u32 {
+        self.space.slots()
+    }
+
+    fn slot(&self, state: &S::State) -> u32 {
+        self.space.slot(state)
+    }
+
+    fn starts(&self) -> u32 {
+        self.space.starts()
+    }
+
+    fn start(&self, number: u32) -> Option<(S::State, u128)> {
+        self.space.start(number)
+    }
+
+    fn steps(&self, state: &S::State) -> u32 {
+        self.space.steps(state)
+    }
+
+    fn step(&self, state: &S::State, number: u32) -> Option<(S::State, u128)> {
+        self.space.step(state, number)
+    }
+
+    fn goal(&self, _state: &S::State) -> bool {
+        false
+    }
+
+    fn covers(&self, a: &S::State, ca: u128, b: &S::State, cb: u128) -> bool {
+        self.space.covers(a, ca, b, cb)
+    }
+
+    // Where both have one bound, ranks are compared by costs in the space itself too.
+    fn supersedes(&self, a: &S::State, ca: u128, b: &S::State, cb: u128) -> bool {
+        are_one(self.space.low(a), self.space.low(b)) && self.space.supersedes(a, ca, b, cb)
+    }
+
+    fn low(&self, _state: &S::State) -> Option<u128> {
+        Some(0)
+    }
+}
