@@ -3,6 +3,7 @@ pub mod CommandLemmas
 pub mod CountLemmas
 pub mod EdgeLemmas
 pub mod GivenLemmas
+pub mod NameLemmas
 pub mod OfferLemmas
 pub mod SaidLemmas
 pub mod SendLemmas

@@ -1,7 +1,7 @@
 //! The program over the system that runs it.
 
 ghost use Rattle.std.specs.IoError.{error_kind};
-ghost use Rattle.std.specs.Prelude.{◌≡◌};
+ghost use Rattle.std.specs.Prelude.{◌≡◌, drop};
 ghost use Rattle.route_run.specs.Program.{fault_of};
 
 use crate::reply::edge;
@@ -15,7 +15,7 @@ use std::{env, io};
 /// exit status.
 pub fn program(rt: &HostRuntime) -> ExitCode {
     let args = match words_of(rt) {
-        Ok(words) => Ok(words),
+        Ok(words) => Ok(behind_name(words)),
         Err(error) => Err(fault_of(&error)),
     };
     let told = rt.stderr();
@@ -26,13 +26,24 @@ pub fn program(rt: &HostRuntime) -> ExitCode {
     ExitCode::from(edge(rt.alloc(), args, &mut files, &mut out, &mut hub, &mut err))
 }
 
-/// The words after the program's name.
+/// All words of the command line, the program's name before the others.
 fn words_of(rt: &HostRuntime) -> io::Result<Vec<String>> {
     let mut words = Vec::new(rt.alloc());
-    for word in env::args(rt)?.skip(1) {
+    for word in env::args(rt)? {
         words.push(word)?;
     }
     Ok(words)
+}
+
+/// The words behind the first one, which is the program's name.
+fn behind_name(words: Vec<String>) -> Vec<String>
+    ensures exact { result.items ≡ drop 1 words.items }
+{
+    let mut words = words;
+    if words.len() > 0 {
+        let _name = words.remove(0);
+    }
+    words
 }
 
 /// The status of a command line that the system could not give: want of memory, or words that are
