@@ -1,5 +1,5 @@
 -- What a job of a table stands for, and what its turns answer and settle (this project's own rule).
-use Rattle.std.specs.Prelude.{ℕ, ◌≡◌, ◌⊎◌, suc, ◌+◌, ◌-◌, ◌*◌, ◌<◌, ◌≤◌, List, length, Option, Some, None, Result, Ok, Err, MatchResult, Vec}
+use Rattle.std.specs.Prelude.{ℕ, ◌≡◌, ◌⊎◌, suc, ◌+◌, ◌-◌, ◌*◌, ◌<◌, ◌≤◌, List, length, Option, Some, None, Result, Ok, Err, MatchResult}
 use Rattle.cost_table.specs.Reaches.{AnswersReach, settled_of}
 use Rattle.cost_table.specs.declared.turn.ReachTurn.{ReachTurn}
 use Rattle.cost_table.specs.declared.turn.ReachTurn.TheVariants as reach
@@ -12,7 +12,7 @@ use Rattle.route_ready.specs.declared.error.RouteError.TheVariants.{NoMemory}
 use Rattle.route_engine.specs.Jobs.{IsPlanOn, plan_of}
 use Rattle.route_engine.specs.Plans.{Plan}
 use Rattle.route_engine.specs.Sources.{IsSourceOn, quest_in}
-use Rattle.route_engine.specs.Tables.{AreFirstRows, AsksNodes, IsFromWaypoint, IsTable, IsTableRefusal, most_for_table}
+use Rattle.route_engine.specs.Tables.{AreFirstRows, AsksNodes, IsFromWaypoint, IsTable, IsTableRefusal, most_for_table, rows_in}
 use Rattle.route_engine.specs.declared.sources.Source.{Source}
 use Rattle.route_engine.specs.declared.table.TableJob.{TableJob}
 use Rattle.route_engine.specs.declared.table_stage.CostRows.{CostRows}
@@ -53,7 +53,7 @@ table_end job = end_at job.stage
 -- ---- What a job stands for
 
 -- these are the rows of the first waypoints, and this is the search for the row of the next one
-pub record IsNextSource (plan : Plan) (rows : List (Vec (Option ℕ))) (source : Source) : Type 0 where
+pub record IsNextSource (plan : Plan) (rows : List (List (Option ℕ))) (source : Source) : Type 0 where
   pub rows : AreFirstRows plan (length rows) rows
   pub there : length rows < length plan.nodes
   pub on : IsSourceOn plan.setting.terrain source
@@ -63,7 +63,7 @@ pub record IsNextSource (plan : Plan) (rows : List (Vec (Option ℕ))) (source :
 
 -- what holds of a job by how far it is
 abbrev pub IsTableStage : Plan → TableStage → Type 0
-IsTableStage plan (stages.Searching rows source) = IsNextSource plan rows.items source
+IsTableStage plan (stages.Searching rows source) = IsNextSource plan (rows_in rows.items) source
 IsTableStage plan (stages.Found table) = IsTable plan table
 IsTableStage plan (stages.Refused e) = (e ≡ NoMemory) ⊎ IsTableRefusal plan e
 

@@ -1,6 +1,7 @@
 -- The table of a request: what it costs to come from each waypoint to each; and when the limit is spent on it
 -- (this project's own rule).
-use Rattle.std.specs.Prelude.{ℕ, ◌≡◌, ◌<◌, ◌*◌, List, length, get_or, slice_get, Option, Some, None, Vec}
+use Rattle.std.specs.Prelude.{ℕ, ◌≡◌, ◌<◌, ◌*◌, List, length, get_or, [], map, Option, Some, None, Vec}
+use Rattle.std.specs.declared.alloc.Global.{Global}
 use Rattle.cost_model.specs.Rides.{Leg, leg_between, ride_of}
 use Rattle.cost_table.specs.Costs.{IsCostOf, IsSpentOn, Quest}
 use Rattle.cost_table.specs.declared.want.Want.{Want}
@@ -27,13 +28,17 @@ pub record IsRow (plan : Plan) (from : ℕ) (row : List (Option ℕ)) : Type 0 w
   pub each : (to : ℕ) → to < length plan.nodes → IsCostOf (leg_across plan from to) (get_or row to None)
 
 -- these are the rows of so many first waypoints, in their order
-pub record AreFirstRows (plan : Plan) (n : ℕ) (rows : List (Vec (Option ℕ))) : Type 0 where
+pub record AreFirstRows (plan : Plan) (n : ℕ) (rows : List (List (Option ℕ))) : Type 0 where
   pub count : length rows ≡ n
-  pub each : (from : ℕ) (row : Vec (Option ℕ)) → slice_get rows from ≡ Some row → IsRow plan from row.items
+  pub each : (from : ℕ) → from < n → IsRow plan from (get_or rows from [])
+
+-- rows, as lists
+abbrev pub rows_in : List (Vec (Option ℕ) Global) → List (List (Option ℕ))
+rows_in rows = map (λ (row : Vec (Option ℕ) Global). row.items) rows
 
 -- it is the table: it has a row for each waypoint
 abbrev pub IsTable : Plan → CostRows → Type 0
-IsTable plan table = AreFirstRows plan (length plan.nodes) table.rows.items
+IsTable plan table = AreFirstRows plan (length plan.nodes) (rows_in table.rows.items)
 
 -- ---- A spent limit
 

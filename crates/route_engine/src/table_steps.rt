@@ -5,7 +5,7 @@ ghost use Rattle.cost_table.specs.Reaches.{AnswersReach, cost_in};
 ghost use Rattle.route_engine.specs.Jobs.{IsPlanOn, plan_of};
 ghost use Rattle.route_engine.specs.Sources.{quest_in};
 ghost use Rattle.route_engine.specs.TableJobs.{ComesAfter, IsNextSource, IsTableStage, StartsTable, StepsTable};
-ghost use Rattle.route_engine.specs.Tables.{AreFirstRows};
+ghost use Rattle.route_engine.specs.Tables.{AreFirstRows, rows_in};
 ghost use Rattle.route_engine.specs.declared.table_stage.TableStage.TheVariants as stages;
 ghost use Rattle.route_ready.specs.World.{world_of};
 ghost use Rattle.route_ready.specs.declared.error.RouteError.TheVariants.{Budget};
@@ -37,7 +37,8 @@ pub(crate) fn step(
     quota: u32,
 ) -> TableStep
     requires on { IsPlanOn (world_of world.now) plan.now }
-    requires next { IsNextSource (plan_of (world_of world.now) plan.now) rows.items source }
+    requires next { IsNextSource (plan_of (world_of world.now) plan.now) (rows_in rows.items)
+        source }
     requires some { 1 ≤ quota }
     ensures steps { StepsTable (plan_of (world_of world.now) plan.now)
         (stages.Searching rows source) quota result }
@@ -61,7 +62,8 @@ fn try_step(
     quota: u32,
 ) -> Result<TableStep, AllocError>
     requires on { IsPlanOn (world_of world.now) plan.now }
-    requires next { IsNextSource (plan_of (world_of world.now) plan.now) rows.items source }
+    requires next { IsNextSource (plan_of (world_of world.now) plan.now) (rows_in rows.items)
+        source }
     requires some { 1 ≤ quota }
     ensures steps { IfOk result (StepsTable (plan_of (world_of world.now) plan.now)
         (stages.Searching rows source) quota) }
@@ -88,7 +90,8 @@ fn stage_after(
     turn: ReachTurn,
 ) -> Result<TableStage, AllocError>
     requires on { IsPlanOn (world_of world.now) plan.now }
-    requires next { IsNextSource (plan_of (world_of world.now) plan.now) rows.items source }
+    requires next { IsNextSource (plan_of (world_of world.now) plan.now) (rows_in rows.items)
+        source }
     requires answers { let plan = plan_of (world_of world.now) plan.now in
         AnswersReach (quest_in plan.setting.terrain source) source.reach turn }
     ensures stage { IfOk result (IsTableStage (plan_of (world_of world.now) plan.now)) }
@@ -138,7 +141,7 @@ pub(crate) fn next_source(
 ) -> Result<TableStage, AllocError>
     requires on { IsPlanOn (world_of world.now) plan.now }
     requires rows { AreFirstRows (plan_of (world_of world.now) plan.now) (length rows.items)
-        rows.items }
+        (rows_in rows.items) }
     requires fit { length rows.items ≤ length plan.now.nodes }
     ensures stage { IfOk result (IsTableStage (plan_of (world_of world.now) plan.now)) }
     ensures starts { IfOk result (StartsTable (plan_of (world_of world.now) plan.now)
