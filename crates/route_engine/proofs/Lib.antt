@@ -12,6 +12,7 @@ pub mod SourceLemmas
 pub mod StageLemmas
 pub mod SumLemmas
 pub mod TableLemmas
+pub mod TableStepLemmas
 pub mod TrackLemmas
 pub mod WalkedLemmas
 pub mod WaypointLemmas

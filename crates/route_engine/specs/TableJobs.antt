@@ -54,7 +54,7 @@ table_end job = end_at job.stage
 
 -- these are the rows of the first waypoints, and this is the search for the row of the next one
 pub record IsNextSource (plan : Plan) (rows : List (List (Option ℕ))) (source : Source) : Type 0 where
-  pub rows : AreFirstRows plan (length rows) rows
+  pub first : AreFirstRows plan (length rows) rows
   pub there : length rows < length plan.nodes
   pub on : IsSourceOn plan.setting.terrain source
   pub from : IsFromWaypoint plan (length rows) (quest_in plan.setting.terrain source)
