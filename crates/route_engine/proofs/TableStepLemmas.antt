@@ -1,5 +1,5 @@
 -- A job of a table goes on by a turn of the search for its next row.
-use Rattle.std.proofs.Common.{◌≡◌, ◌×◌, inl, ℕ, suc, ◌+◌, ◌-◌, ◌*◌, ◌<◌, ◌≤◌, List, [], ◌∷◌, ◌++◌, length, map, Option, Vec, refl, ap, sym, subst, ◌∙◌, arith}
+use Rattle.std.proofs.Common.{◌≡◌, inl, ℕ, suc, ◌+◌, ◌-◌, ◌*◌, ◌<◌, ◌≤◌, List, [], ◌∷◌, ◌++◌, length, map, Option, Some, Vec, refl, ap, sym, subst, ◌∙◌, arith}
 use Rattle.std.proofs.lemmas.List.{length-map, map-append}
 use Rattle.std.proofs.Math.Nat.{mul-le-mul_right, suc-mul}
 use Rattle.std.specs.declared.alloc.Global.{Global}
@@ -12,9 +12,10 @@ use Rattle.route_ready.specs.declared.error.RouteError.TheVariants.{Budget, NoMe
 use Rattle.route_engine.specs.Plans.{Plan}
 use Rattle.route_engine.specs.Sources.{TurnsSource, quest_in}
 use Rattle.route_engine.specs.TableJobs.{ComesAfter, IsNextSource, IsTableStage, LeavesRows, StartsTable, StepsTable, allowed_for, rows_left}
-use Rattle.route_engine.specs.Tables.{AreFirstRows, AsksNodes, IsFromWaypoint, IsTableRefusal, most_for_table, rows_in, spent}
+use Rattle.route_engine.specs.Tables.{AreFirstRows, AsksNodes, IsFromWaypoint, IsTable, IsTableRefusal, most_for_table, rows_in, spent}
 use Rattle.route_engine.specs.declared.sources.Source.{Source}
 use Rattle.route_engine.specs.declared.sources.SourceTurn.{SourceTurn}
+use Rattle.route_engine.specs.declared.table_stage.CostRows.{CostRows}
 use Rattle.route_engine.specs.declared.table_stage.TableStage.{TableStage}
 use Rattle.route_engine.specs.declared.table_stage.TableStage.TheVariants.{Searching, Found, Refused}
 use Rattle.route_engine.specs.declared.table_steps.TableStep.{TableStep}
@@ -54,15 +55,16 @@ rows-more plan rows after source row next are same pushed =
     subst (λ n. AreFirstRows plan n (rows_in after)) (rows-count after) all
 
 -- what comes after a row more
-pub after-row : (plan : Plan) (before : List (Vec (Option ℕ) Global)) (count : ℕ) (source : Source)
-    (stage : TableStage) (left : ℕ) → IsNextSource plan (rows_in before) source → count ≡ length before + 1 →
-    StartsTable plan count stage → left ≡ suc (length plan.nodes - length before) →
-    (rows_left plan stage < left) × (length before * plan.limit + settled_of source.reach ≤ allowed_for plan stage)
-after-row plan before count source stage left next one starts is =
+pub done-after : (plan : Plan) (rows : Vec (Vec (Option ℕ) Global) Global) (source : Source) (count : ℕ) (stage : TableStage) →
+    IsNextSource plan (rows_in rows.items) source → count ≡ length rows.items + 1 → StartsTable plan count stage →
+    ComesAfter plan (Searching rows source) reach.Done stage
+done-after plan rows source count stage next one starts =
+    let counted = rows-count rows.items in
     let there = next.there in
-    let counted = rows-count before in
-    let allowed = row-allowed (length before) count plan.limit (settled_of source.reach) (omega (arith, one)) next.within in
-    (omega (arith, starts.left, is, one, there, counted), omega (arith, allowed, starts.allowed))
+    let allowed = row-allowed (length rows.items) count plan.limit (settled_of source.reach) (omega (arith, one)) next.within in
+    let left = starts.left in
+    let most = starts.allowed in
+    record { left = omega (arith, left, one, there, counted); allowed = omega (arith, allowed, most) }
 
 -- a search that goes on or is at its end settled no more than the quota
 fits-quota : (turn : ReachTurn) (quota limit before after settled : ℕ) → CountsReach quota limit before after turn → after ≡ before + settled →
@@ -131,3 +133,8 @@ allowed-most plan (Searching rows source) is =
     row-allowed (length rows.items) (length plan.nodes) plan.limit (settled_of source.reach) (omega (arith, there, counted)) is.within
 allowed-most plan (Found table) is = omega arith
 allowed-most plan (Refused e) is = omega arith
+
+-- the table of a stage at which it is found
+pub found-table : (plan : Plan) (stage : TableStage) (table : CostRows) → stage ≡ Found table → IsTableStage plan stage →
+    (x : CostRows) × (◌≡◌ {A = Option CostRows} (Some table) (Some x)) × IsTable plan x
+found-table plan stage table same is = (table, refl, subst (IsTableStage plan) same is)
