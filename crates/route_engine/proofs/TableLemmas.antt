@@ -6,8 +6,7 @@ use Rattle.std.proofs.lemmas.List.{get_or-map, get_or_append_left, get_or_push, 
 use Rattle.std.proofs.lemmas.List.Elements.{Contains-get_or}
 use Rattle.std.proofs.Math.Nat.{mul-le-mul_right, suc-mul}
 use Rattle.cost_model.specs.Rides.{Leg, Ride, ride_of}
-use Rattle.cost_table.specs.Costs.{AreCosts, IsAsked, IsCostOf, IsSpentOn, Quest, TellsCost, leg_to}
-use Rattle.cost_table.specs.Reaches.{settled_of}
+use Rattle.cost_table.specs.Costs.{AreCosts, IsAsked, IsCostOf, Quest, TellsCost, leg_to}
 use Rattle.cost_table.specs.declared.want.Want.{Want}
 use Rattle.cost_table.specs.declared.want.Want.TheVariants.{Nodes, Within}
 use Rattle.route_engine.specs.Plans.{Plan}

@@ -1,13 +1,11 @@
 -- A job of a table goes on by a turn of the search for its next row.
-use Rattle.std.proofs.Common.{◌≡◌, inl, ℕ, suc, ◌+◌, ◌-◌, ◌*◌, ◌<◌, ◌≤◌, List, [], ◌∷◌, ◌++◌, length, map, Option, Some, Vec, refl, ap, sym, subst, ◌∙◌, arith}
+use Rattle.std.proofs.Common.{◌≡◌, inl, ℕ, ◌+◌, ◌-◌, ◌<◌, ◌≤◌, List, [], ◌∷◌, ◌++◌, length, map, Option, Some, Vec, refl, ap, sym, subst, ◌∙◌, arith}
 use Rattle.std.proofs.lemmas.List.{length-map, map-append}
-use Rattle.std.proofs.Math.Nat.{mul-le-mul_right, suc-mul}
 use Rattle.std.specs.declared.alloc.Global.{Global}
 use Rattle.cost_table.specs.Costs.{AreCosts, IsSpentOn, Quest}
 use Rattle.cost_table.specs.Reaches.{CountsReach, cost_in, settled_of}
 use Rattle.cost_table.specs.declared.turn.ReachTurn.{ReachTurn}
 use Rattle.cost_table.specs.declared.turn.ReachTurn.TheVariants as reach
-use Rattle.cost_table.specs.declared.want.Want.{Want}
 use Rattle.route_ready.specs.declared.error.RouteError.TheVariants.{Budget, NoMemory}
 use Rattle.route_engine.specs.Plans.{Plan}
 use Rattle.route_engine.specs.Sources.{TurnsSource, quest_in}
@@ -18,7 +16,6 @@ use Rattle.route_engine.specs.declared.sources.SourceTurn.{SourceTurn}
 use Rattle.route_engine.specs.declared.table_stage.CostRows.{CostRows}
 use Rattle.route_engine.specs.declared.table_stage.TableStage.{TableStage}
 use Rattle.route_engine.specs.declared.table_stage.TableStage.TheVariants.{Searching, Found, Refused}
-use Rattle.route_engine.specs.declared.table_steps.TableStep.{TableStep}
 use Rattle.route_engine.proofs.TableLemmas.{row-allowed, row-told, rows-pushed}
 
 -- there are as many rows as lists of rows
@@ -47,10 +44,10 @@ pub rows-more : (plan : Plan) (rows after : List (Vec (Option ℕ) Global)) (sou
     AreFirstRows plan (length after) (rows_in after)
 rows-more plan rows after source row next are same pushed =
     let told = row-told plan (length (rows_in rows)) (quest_in plan.setting.terrain source) (cost_in source.reach) row.items next.from
-        next.asks are same in
+    next.asks are same in
     let more = rows-pushed plan (rows_in rows) row.items next.first told in
     let lists : rows_in after ≡ rows_in rows ++ row.items ∷ [] =
-        ap rows_in pushed ∙ map-append (λ (r : Vec (Option ℕ) Global). r.items) rows (row ∷ []) in
+    ap rows_in pushed ∙ map-append (λ (r : Vec (Option ℕ) Global). r.items) rows (row ∷ []) in
     let all = subst (λ xs. AreFirstRows plan (length xs) xs) (sym lists) more in
     subst (λ n. AreFirstRows plan n (rows_in after)) (rows-count after) all
 
@@ -67,8 +64,8 @@ done-after plan rows source count stage next one starts =
     record { left = omega (arith, left, one, there, counted); allowed = omega (arith, allowed, most) }
 
 -- a search that goes on or is at its end settled no more than the quota
-fits-quota : (turn : ReachTurn) (quota limit before after settled : ℕ) → CountsReach quota limit before after turn → after ≡ before + settled →
-    settled ≤ quota
+fits-quota : (turn : ReachTurn) (quota limit before after settled : ℕ) → CountsReach quota limit before after turn →
+    after ≡ before + settled → settled ≤ quota
 fits-quota reach.More quota limit before after settled counts same = omega (arith, counts, same)
 fits-quota reach.Done quota limit before after settled counts same = omega (arith, counts, same)
 fits-quota reach.Budget quota limit before after settled counts same = omega (arith, counts.0, same)
@@ -95,8 +92,8 @@ next-kept plan rows before quota turn next turns =
     }
 
 -- the job goes on by a turn of its search
-pub steps : (plan : Plan) (rows : Vec (Vec (Option ℕ) Global) Global) (before : Source) (quota : ℕ) (turn : SourceTurn) (stage : TableStage) →
-    1 ≤ quota → TurnsSource plan.setting.terrain before quota turn → IsTableStage plan stage →
+pub steps : (plan : Plan) (rows : Vec (Vec (Option ℕ) Global) Global) (before : Source) (quota : ℕ) (turn : SourceTurn)
+    (stage : TableStage) → 1 ≤ quota → TurnsSource plan.setting.terrain before quota turn → IsTableStage plan stage →
     ComesAfter plan (Searching rows turn.source) turn.turn stage →
     StepsTable plan (Searching rows before) quota (record { settled = turn.settled; stage = stage })
 steps plan rows before quota turn stage some turns is comes =
@@ -112,12 +109,13 @@ steps plan rows before quota turn stage some turns is comes =
     }
 
 -- want of memory ends it
-pub failed : (plan : Plan) (rows : Vec (Vec (Option ℕ) Global) Global) (source : Source) (quota : ℕ) → IsNextSource plan (rows_in rows.items) source →
-    StepsTable plan (Searching rows source) quota (record { settled = 0; stage = Refused NoMemory })
+pub failed : (plan : Plan) (rows : Vec (Vec (Option ℕ) Global) Global) (source : Source) (quota : ℕ) →
+    IsNextSource plan (rows_in rows.items) source → StepsTable plan (Searching rows source) quota (record { settled = 0; stage = Refused NoMemory })
 failed plan rows source quota next =
     let counted = rows-count rows.items in
     let there = next.there in
-    let allowed = row-allowed (length rows.items) (length plan.nodes) plan.limit (settled_of source.reach) (omega (arith, there, counted)) next.within in
+    let settled = settled_of source.reach in
+    let allowed = row-allowed (length rows.items) (length plan.nodes) plan.limit settled (omega (arith, there, counted)) next.within in
     record {
       stage = inl refl;
       fits = omega arith;

@@ -1,6 +1,6 @@
 -- What a job of a table stands for, and what its turns answer and settle (this project's own rule).
 use Rattle.std.specs.Prelude.{ℕ, ◌≡◌, ◌⊎◌, suc, ◌+◌, ◌-◌, ◌*◌, ◌<◌, ◌≤◌, List, length, Option, Some, None, Result, Ok, Err, MatchResult}
-use Rattle.cost_table.specs.Reaches.{AnswersReach, settled_of}
+use Rattle.cost_table.specs.Reaches.{settled_of}
 use Rattle.cost_table.specs.declared.turn.ReachTurn.{ReachTurn}
 use Rattle.cost_table.specs.declared.turn.ReachTurn.TheVariants as reach
 use Rattle.item_list.specs.Turns.{Says}

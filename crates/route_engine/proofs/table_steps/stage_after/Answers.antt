@@ -28,7 +28,8 @@ returns-in-Budget-clause-stage c =
     let answers = subst (AnswersReach quest c.args.source.reach) c.in-Budget.is c.requires.answers in
     let counted = c.args.rows.ok.0 in
     subst (λ e. (e ≡ NoMemory) ⊎ IsTableRefusal plan e) (sym c.spent.ensures.value)
-    (inr (spent-refuses plan c.args.rows.items c.args.source answers.0 c.len.result c.requires.next answers.1 (cc (counted, c.len.ensures))))
+    (inr (spent-refuses plan c.args.rows.items c.args.source answers.0 c.len.result c.requires.next answers.1
+    (cc (counted, c.len.ensures))))
 
 pub returns-in_ok-push-in-Done-clause-after : goal.returns-in_ok-push-in-Done-clause-after
 returns-in_ok-push-in-Done-clause-after c =
