@@ -5,7 +5,6 @@ use Rattle.cost_table.specs.declared.turn.ReachTurn.{ReachTurn}
 use Rattle.cost_table.specs.declared.turn.ReachTurn.TheVariants as reach
 use Rattle.item_list.specs.Turns.{Says}
 use Rattle.item_list.specs.declared.turn.Turn.{Turn}
-use Rattle.item_list.specs.declared.turn.Turn.TheVariants.{More, Done}
 use Rattle.route_ready.specs.Worlds.{WorldValue}
 use Rattle.route_ready.specs.declared.error.RouteError.{RouteError}
 use Rattle.route_ready.specs.declared.error.RouteError.TheVariants.{NoMemory}
