@@ -8,8 +8,11 @@ pub mod ReplyLemmas
 pub mod RouteLemmas
 pub mod SettingLemmas
 pub mod ShowLemmas
+pub mod SourceLemmas
 pub mod StageLemmas
 pub mod SumLemmas
+pub mod TableLemmas
+pub mod TableStepLemmas
 pub mod TrackLemmas
 pub mod WalkedLemmas
 pub mod WaypointLemmas

@@ -160,7 +160,7 @@ impl Job {
 }
 
 /// What a request is to find.
-fn plan_for(
+pub(crate) fn plan_for(
     alloc: Global,
     world: &World,
     ready: Rc<Ready>,
