@@ -8,11 +8,8 @@ pub mod ReplyLemmas
 pub mod RouteLemmas
 pub mod SettingLemmas
 pub mod ShowLemmas
-pub mod SourceLemmas
 pub mod StageLemmas
 pub mod SumLemmas
-pub mod TableLemmas
-pub mod TableStepLemmas
 pub mod TrackLemmas
 pub mod WalkedLemmas
 pub mod WaypointLemmas

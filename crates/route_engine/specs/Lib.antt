@@ -9,8 +9,5 @@ pub mod Refusals
 pub mod Replies
 pub mod Settings
 pub mod Sums
-pub mod Sources
-pub mod TableJobs
-pub mod Tables
 pub mod Told
 pub mod Waypoints

@@ -160,7 +160,7 @@ impl Job {
 }
 
 /// What a request is to find.
-pub(crate) fn plan_for(
+fn plan_for(
     alloc: Global,
     world: &World,
     ready: Rc<Ready>,
