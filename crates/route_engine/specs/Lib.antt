@@ -2,6 +2,7 @@ pub mod Answers
 pub mod Jobs
 pub mod Labels
 pub mod Marked
+pub mod Nearby
 pub mod Pending
 pub mod Plans
 pub mod Progress

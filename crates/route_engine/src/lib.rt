@@ -7,6 +7,7 @@ mod begin;
 mod circles;
 mod job;
 mod marks;
+mod nearby;
 mod pending;
 mod plan;
 mod replying;
@@ -21,6 +22,7 @@ mod walked;
 mod waypoints;
 
 pub use job::Job;
+pub use nearby::within;
 pub use pending::Pending;
 pub use replying::reply;
 pub use routing::{route, route_by};
