@@ -6,3 +6,4 @@ pub mod ArrayLemmas
 pub mod SumLemmas
 pub mod BelowLemmas
 pub mod CallerLemmas
+pub mod MillionthLemmas

@@ -5,10 +5,11 @@ ghost use Rattle.std.specs.List.{join_by};
 ghost use Rattle.track_legs.specs.Rows.{AreBelow};
 ghost use Rattle.track_reply.specs.Earlier.{walks_of};
 ghost use Rattle.track_reply.specs.GeoJson.{alternative_array, direction_end, earlier_text, legs_text, step_array, walk_array};
-ghost use Rattle.track_reply.specs.Joined.{comma, comma_before};
+ghost use Rattle.track_reply.specs.Joined.{comma};
 ghost use Rattle.track_reply.specs.Showable.{AreAlternativesBelow, AreLegsBelow};
 
 use crate::earlier::{alternatives, walk_at};
+use crate::numbers::append_comma;
 use crate::steps::append_way_id;
 use item_list::{Items, append_number};
 use overpass_graph::{Link, Map};
@@ -125,18 +126,4 @@ fn direction_end(link: &Link) -> &'static [u8]
     ensures exact { result.now ≡ direction_end link.now.back }
 {
     if link.back { b",1]" } else { b",0]" }
-}
-
-/// Appends a comma, unless an item is the first.
-fn append_comma(out: &mut Vec<u8>, place: usize) -> Result<(), AllocError>
-    ensures exact { OnOk result (out.new.items ≡ out.old.items ++ comma_before place) }
-{
-    out.extend_from_slice(comma_before(place))
-}
-
-/// A comma, or nothing before the first item.
-fn comma_before(place: usize) -> &'static [u8]
-    ensures exact { result.now ≡ comma_before place }
-{
-    if place == 0 { b"" } else { b"," }
 }

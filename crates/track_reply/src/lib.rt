@@ -17,4 +17,5 @@ mod tags;
 
 pub use collection::geojson;
 pub use lines::csv;
+pub use numbers::{append_comma, append_sum};
 pub use shown::Shown;
