@@ -1,5 +1,5 @@
 -- What a draft is of where one more line is taken.
-use Rattle.std.proofs.Common.{◌≡◌, ℕ, Bool, true, false, List, [], ◌∷◌, ◌++◌, map, Some, None, refl, sym, ap, ◌∙◌, subst, append_assoc, append-nil}
+use Rattle.std.proofs.Common.{◌≡◌, ℕ, true, false, List, [], ◌∷◌, ◌++◌, map, Some, None, refl, sym, ap, ◌∙◌, subst, append_assoc, append-nil}
 use Rattle.std.proofs.lemmas.List.{map-append}
 use Rattle.overpass_graph.specs.Maps.{MapValue, IsMap}
 use Rattle.certificate_text.specs.declared.certificate.Entry.{Entry}
@@ -8,9 +8,10 @@ use Rattle.certificate_text.specs.declared.draft.Place.{Place}
 use Rattle.certificate_text.specs.declared.draft.Place.TheVariants as place_
 use Rattle.certificate_text.specs.Drafts.{stage_at, forms_at, IsTaken, Takes, ReadsOn}
 use Rattle.certificate_text.specs.Lines.{Form, Head, Leg, Cost, Label, End, Stands, IsForm, line_of, stage_after}
-use Rattle.certificate_text.specs.Parts.{Reads}
+use Rattle.certificate_text.specs.Parts.{ReadsTo}
 use Rattle.certificate_text.specs.Texts.{LegValue, leg_of, leg_forms, legs_forms, labels_of}
-use Rattle.certificate_text.proofs.LineLemmas.{line-own}
+use Rattle.certificate_text.proofs.LineLemmas.{line-no, line-own}
+use Rattle.certificate_text.proofs.ByteLemmas.{cut-same}
 
 -- ---- The lines of legs
 
@@ -92,15 +93,20 @@ head-not place_.Ended stands = stands
 
 -- ---- Texts of lines
 
--- a line that was read is taken, or can't stand there
-pub read-taken : (map : MapValue) (old new : Draft) (line : List ℕ) (form : Form) (b : Bool) → IsMap map →
-    Reads (line_of map) (IsForm map) line (Some form) → Takes old new form b → ReadsOn map old new line b
-read-taken map old new line form true is says taken = record { form = form; fits = says.0; line_is = says.1; taken = taken }
-read-taken map old new line form false is says not_there = λ other stands fits same.
-    let one : other ≡ form = line-own map other form is fits says.0 (sym same ∙ says.1) in
-    not_there (subst (Stands (stage_at old.place)) one stands)
+-- a line that was read is taken
+pub read-taken : (map : MapValue) (old new : Draft) (text rest : List ℕ) (form : Form) →
+    ReadsTo 10 (line_of map) (IsForm map) text (Some (form, rest)) → Takes old new form true → ReadsOn map old new text (Some rest)
+read-taken map old new text rest form says taken = record { form = form; fits = says.0; text_is = says.1; taken = taken }
 
--- a line of no form can't stand anywhere
-pub read-none : (map : MapValue) (old new : Draft) (line : List ℕ) → Reads (line_of map) (IsForm map) line None →
-    ReadsOn map old new line false
-read-none map old new line none form stands fits same = none form fits same
+-- or no line can stand there that begins the text
+pub read-left : (map : MapValue) (old new : Draft) (text rest : List ℕ) (form : Form) → IsMap map →
+    ReadsTo 10 (line_of map) (IsForm map) text (Some (form, rest)) → Takes old new form false → ReadsOn map old new text None
+read-left map old new text rest form is says not_there other more stands fits same =
+    let lines = cut-same 10 (line_of map other) (line_of map form) more rest (line-no map other is fits) (line-no map form is says.0)
+    (sym same ∙ says.1) in
+    not_there (subst (Stands (stage_at old.place)) (line-own map other form is fits says.0 lines.0) stands)
+
+-- a text that begins with no line has none that can stand anywhere
+pub read-none : (map : MapValue) (old new : Draft) (text : List ℕ) → ReadsTo 10 (line_of map) (IsForm map) text None →
+    ReadsOn map old new text None
+read-none map old new text none form rest stands fits same = none form rest fits same

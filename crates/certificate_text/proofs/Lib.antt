@@ -1,5 +1,6 @@
 pub mod CallerLemmas
 pub mod ByteLemmas
+pub mod DigitLemmas
 pub mod NumberLemmas
 pub mod PartLemmas
 pub mod WalkLemmas

@@ -1,73 +1,51 @@
 -- What lines are of.
-use Rattle.std.proofs.Common.{◌≡◌, ℕ, Bool, true, false, not, ◌&&◌, ◌==◌, List, [], ◌∷◌, ◌++◌, get_or, Option, Some, None, option_map, refl, sym, ap, ◌∙◌, arith, eq-eqb, append_assoc}
+use Rattle.std.proofs.Common.{◌≡◌, ℕ, Bool, true, false, not, ◌&&◌, ◌==◌, List, [], ◌∷◌, ◌++◌, get_or, None, refl, sym, ap, ◌∙◌, subst, arith, eq-eqb, append_assoc}
 use Rattle.std.specs.Prelude.{codes, decimal}
 use Rattle.std.specs.List.{AllByRecursion}
 use Rattle.std.proofs.lemmas.List.{append_cancel_left}
 use Rattle.overpass_graph.specs.Maps.{MapValue, IsMap}
-use Rattle.certificate_text.specs.declared.certificate.Entry.{Entry}
-use Rattle.certificate_text.specs.Lines.{Form, Head, Leg, Cost, Label, End, line_of, lines_of, walk_text, entry_text, IsForm, IsCost, IsEntry, AreLinks, Stage, Stands, AreStanding, stage_after, stage_from}
-use Rattle.certificate_text.specs.Parts.{HasNo, Reads}
-use Rattle.certificate_text.proofs.ByteLemmas.{some-none, no-append, cut-same}
+use Rattle.certificate_text.specs.Lines.{Form, Head, Leg, Cost, Label, End, line_of, lines_of, walk_text, entry_text, IsForm, AreLinks, Stage, Stands, AreStanding, stage_after, stage_from}
+use Rattle.certificate_text.specs.Parts.{HasNo, Reads, ReadsTo}
+use Rattle.certificate_text.proofs.ByteLemmas.{some-none, no-append, no-within, cut-same}
 use Rattle.certificate_text.proofs.NumberLemmas.{decimal-no, decimal-own}
 use Rattle.certificate_text.proofs.PartLemmas.{entry-own, entry-no}
 use Rattle.certificate_text.proofs.WalkLemmas.{walk-own, walk-no}
 
 -- ---- The forms of lines
 
--- a line that begins as a label and says nothing
-label-none : (map : MapValue) (text : List ℕ) → Reads (entry_text map) (IsEntry map) text None → (form : Form) → IsForm map form →
-    codes "label " ++ text ≡ line_of map form → ⊥
-label-none map text none Head fits same = let h : 108 ≡ 99 = ap (λ (t : List ℕ). get_or t 0 0) same in absurd (omega (arith, h))
-label-none map text none (Leg w) fits same = let h : 97 ≡ 101 = ap (λ (t : List ℕ). get_or t 1 0) same in absurd (omega (arith, h))
-label-none map text none (Cost n) fits same = let h : 108 ≡ 99 = ap (λ (t : List ℕ). get_or t 0 0) same in absurd (omega (arith, h))
-label-none map text none (Label e) fits same = none e fits (append_cancel_left (codes "label ") text _ same)
-label-none map text none End fits same = let h : 108 ≡ 101 = ap (λ (t : List ℕ). get_or t 0 0) same in absurd (omega (arith, h))
+-- what a line tells that begins as a leg
+pub leg-told : (map : MapValue) (text rest : List ℕ) (form : Form) → IsForm map form → codes "leg" ++ text ≡ line_of map form ++ (10 ∷ rest) →
+    (walk : List ℕ) × (AreLinks map walk × (text ≡ walk_text map walk ++ (10 ∷ rest)))
+leg-told map text rest Head fits same = let h : 108 ≡ 99 = ap (λ (t : List ℕ). get_or t 0 0) same in absurd (omega (arith, h))
+leg-told map text rest (Leg w) fits same = (w, (fits, append_cancel_left (codes "leg") text (walk_text map w ++ (10 ∷ rest)) same))
+leg-told map text rest (Cost n) fits same = let h : 108 ≡ 99 = ap (λ (t : List ℕ). get_or t 0 0) same in absurd (omega (arith, h))
+leg-told map text rest (Label e) fits same = let h : 101 ≡ 97 = ap (λ (t : List ℕ). get_or t 1 0) same in absurd (omega (arith, h))
+leg-told map text rest End fits same = let h : 108 ≡ 101 = ap (λ (t : List ℕ). get_or t 0 0) same in absurd (omega (arith, h))
 
--- a line that begins as a label says what follows
-pub label-line : (map : MapValue) (text : List ℕ) (o : Option (Entry)) → Reads (entry_text map) (IsEntry map) text o →
-    Reads (line_of map) (IsForm map) (codes "label " ++ text) (option_map Label o)
-label-line map text (Some x) says = (says.0, ap (λ t. codes "label " ++ t) says.1)
-label-line map text None none = label-none map text none
+-- a text that begins as a leg and has no line end begins with no line
+pub leg-uncut : (map : MapValue) (text : List ℕ) → HasNo 10 text → ReadsTo 10 (line_of map) (IsForm map) (codes "leg" ++ text) None
+leg-uncut map text free form rest fits same =
+    let told = leg-told map text rest form fits same in
+    no-within 10 (walk_text map told.0) rest (subst (HasNo 10) told.1.1 free)
 
--- a line that begins as a cost and says nothing
-cost-none : (map : MapValue) (text : List ℕ) → Reads decimal IsCost text None → (form : Form) → IsForm map form →
-    codes "cost " ++ text ≡ line_of map form → ⊥
-cost-none map text none Head fits same = let h : 111 ≡ 101 = ap (λ (t : List ℕ). get_or t 1 0) same in absurd (omega (arith, h))
-cost-none map text none (Leg w) fits same = let h : 99 ≡ 108 = ap (λ (t : List ℕ). get_or t 0 0) same in absurd (omega (arith, h))
-cost-none map text none (Cost n) fits same = none n fits (append_cancel_left (codes "cost ") text _ same)
-cost-none map text none (Label e) fits same = let h : 99 ≡ 108 = ap (λ (t : List ℕ). get_or t 0 0) same in absurd (omega (arith, h))
-cost-none map text none End fits same = let h : 99 ≡ 101 = ap (λ (t : List ℕ). get_or t 0 0) same in absurd (omega (arith, h))
+-- nor does one whose first line says no walk
+pub leg-none : (map : MapValue) (text line after : List ℕ) → IsMap map → HasNo 10 line × (text ≡ line ++ (10 ∷ after)) →
+    Reads (walk_text map) (AreLinks map) line None → ReadsTo 10 (line_of map) (IsForm map) (codes "leg" ++ text) None
+leg-none map text line after is cut none form rest fits same =
+    let told = leg-told map text rest form fits same in
+    none told.0 told.1.0
+    (cut-same 10 line (walk_text map told.0) after rest cut.0 (walk-no map told.0 is told.1.0) (sym cut.1 ∙ told.1.1)).0
 
--- a line that begins as a cost says what follows
-pub cost-line : (map : MapValue) (text : List ℕ) (o : Option (ℕ)) → Reads decimal IsCost text o →
-    Reads (line_of map) (IsForm map) (codes "cost " ++ text) (option_map Cost o)
-cost-line map text (Some x) says = (says.0, ap (λ t. codes "cost " ++ t) says.1)
-cost-line map text None none = cost-none map text none
-
--- a line that begins as a leg and says nothing
-leg-none : (map : MapValue) (text : List ℕ) → Reads (walk_text map) (AreLinks map) text None → (form : Form) → IsForm map form →
-    codes "leg" ++ text ≡ line_of map form → ⊥
-leg-none map text none Head fits same = let h : 108 ≡ 99 = ap (λ (t : List ℕ). get_or t 0 0) same in absurd (omega (arith, h))
-leg-none map text none (Leg w) fits same = none w fits (append_cancel_left (codes "leg") text _ same)
-leg-none map text none (Cost n) fits same = let h : 108 ≡ 99 = ap (λ (t : List ℕ). get_or t 0 0) same in absurd (omega (arith, h))
-leg-none map text none (Label e) fits same = let h : 101 ≡ 97 = ap (λ (t : List ℕ). get_or t 1 0) same in absurd (omega (arith, h))
-leg-none map text none End fits same = let h : 108 ≡ 101 = ap (λ (t : List ℕ). get_or t 0 0) same in absurd (omega (arith, h))
-
--- a line that begins as a leg says what follows
-pub leg-line : (map : MapValue) (text : List ℕ) (o : Option (List ℕ)) → Reads (walk_text map) (AreLinks map) text o →
-    Reads (line_of map) (IsForm map) (codes "leg" ++ text) (option_map Leg o)
-leg-line map text (Some x) says = (says.0, ap (λ t. codes "leg" ++ t) says.1)
-leg-line map text None none = leg-none map text none
-
--- a line of no form
-pub no-line : (map : MapValue) (line : List ℕ) → ((rest : List ℕ) → line ≡ codes "label " ++ rest → ⊥) →
-    ((rest : List ℕ) → line ≡ codes "cost " ++ rest → ⊥) → ((rest : List ℕ) → line ≡ codes "leg" ++ rest → ⊥) →
-    (line ≡ codes "end" → ⊥) → (line ≡ codes "certificate 1" → ⊥) → Reads (line_of map) (IsForm map) line None
-no-line map line no_label no_cost no_leg no_end no_head Head fits same = no_head same
-no-line map line no_label no_cost no_leg no_end no_head (Leg walk) fits same = no_leg (walk_text map walk) same
-no-line map line no_label no_cost no_leg no_end no_head (Cost cost) fits same = no_cost (decimal cost) same
-no-line map line no_label no_cost no_leg no_end no_head (Label entry) fits same = no_label (entry_text map entry) same
-no-line map line no_label no_cost no_leg no_end no_head End fits same = no_end same
+-- a text that begins as no line
+pub no-line : (map : MapValue) (text : List ℕ) → ((rest : List ℕ) → text ≡ codes "label " ++ rest → ⊥) →
+    ((rest : List ℕ) → text ≡ codes "cost " ++ rest → ⊥) → ((rest : List ℕ) → text ≡ codes "leg" ++ rest → ⊥) →
+    ((rest : List ℕ) → text ≡ codes "end\n" ++ rest → ⊥) → ((rest : List ℕ) → text ≡ codes "certificate 1\n" ++ rest → ⊥) →
+    ReadsTo 10 (line_of map) (IsForm map) text None
+no-line map text no_label no_cost no_leg no_end no_head Head rest fits same = no_head rest same
+no-line map text no_label no_cost no_leg no_end no_head (Leg walk) rest fits same = no_leg (walk_text map walk ++ (10 ∷ rest)) same
+no-line map text no_label no_cost no_leg no_end no_head (Cost cost) rest fits same = no_cost (decimal cost ++ (10 ∷ rest)) same
+no-line map text no_label no_cost no_leg no_end no_head (Label entry) rest fits same = no_label (entry_text map entry ++ (10 ∷ rest)) same
+no-line map text no_label no_cost no_leg no_end no_head End rest fits same = no_end rest same
 
 -- lines of one text are of one form
 pub line-own : (map : MapValue) (f g : Form) → IsMap map → IsForm map f → IsForm map g → line_of map f ≡ line_of map g → f ≡ g

@@ -1,16 +1,18 @@
 -- Numbers in digits.
-use Rattle.std.proofs.Common.{◌≡◌, ℕ, ℤ, Bool, true, false, pos, negsuc, suc, ◌^◌, ◌<◌, ◌≤ℤ◌, List, [], ◌∷◌, Result, Ok, Err, refl, sym, ap, ◌∙◌, subst, arith}
+use Rattle.std.proofs.Common.{◌≡◌, ℕ, ℤ, Bool, true, false, pos, negsuc, suc, ◌^◌, ◌<◌, ◌≤◌, List, [], ◌∷◌, ◌++◌, drop, get_or, Some, None, Result, Ok, Err, refl, sym, ap, ◌∙◌, subst, arith}
 use Rattle.std.specs.Prelude.{FitsSigned, decimal}
 use Rattle.std.specs.Fmt.{signed_decimal}
 use Rattle.std.specs.Str.{IsUtf8}
-use Rattle.std.specs.Str.Parse.{AllDigits, ParsesUnsigned, ParsesSigned, digits_value}
+use Rattle.std.specs.Str.Parse.{AllDigits, ParsesUnsigned, digits_value}
 use mir.Syntax.{w64}
 use lib.Signed.{mag}
-use Rattle.std.proofs.lemmas.Fmt.{decimal_is_IsNumeral_wide, parse-decimal_wide, parse-signed_decimal, IsAscii-decimal_wide, IsAscii-signed, signed_decimal_injective}
+use Rattle.std.proofs.lemmas.Fmt.{decimal_is_IsNumeral_wide, parse-decimal_wide, IsAscii-decimal_wide}
 use Rattle.std.proofs.lemmas.Str.{IsUtf8-from_ascii}
-use Rattle.std.proofs.lemmas.Str.Parse.{digit_from_value}
+use Rattle.std.proofs.lemmas.Str.Parse.{digit_from_value, digit_at}
+use Rattle.std.proofs.lemmas.List.{get_or_append_left}
 use Rattle.certificate_text.specs.Lines.{IsBuffer}
-use Rattle.certificate_text.specs.Parts.{HasNo}
+use Rattle.certificate_text.specs.Parts.{HasNo, IsShort, ReadsTo}
+use Rattle.certificate_text.proofs.ByteLemmas.{cut-same}
 
 -- ---- What digits don't have
 
@@ -45,11 +47,6 @@ small-id (negsuc n) fits = omega (arith, fits)
 pub decimal-text : (bytes : List ℕ) (n : ℕ) → n < 10 ^ 64 → bytes ≡ decimal n → IsUtf8 bytes
 decimal-text bytes n small same = subst IsUtf8 (sym same) (IsUtf8-from_ascii (decimal n) (IsAscii-decimal_wide n small))
 
--- so are digits with a sign
-pub signed-text : (bytes : List ℕ) (z : ℤ) → FitsSigned w64 z → bytes ≡ signed_decimal z → IsUtf8 bytes
-signed-text bytes z fits same =
-    subst IsUtf8 (sym same) (IsUtf8-from_ascii (signed_decimal z) (IsAscii-signed z (small-id z fits)))
-
 -- an answer is one
 ok-same : {A : Type 0} (x y : A) (r : Result A ℕ) → r ≡ Ok x → r ≡ Ok y → x ≡ y
 ok-same x y r first second = cc
@@ -75,21 +72,57 @@ pub parsed-wide : (bits : ℕ) (bytes : List ℕ) (m : ℕ) → ParsesUnsigned {
 parsed-wide bits bytes m parsed n fits small same =
     ok-same m n (Ok m) refl (parse-decimal_wide {E = ℕ} bits n bytes (Ok m) fits small same parsed)
 
--- the same with a sign
-pub refused-signed : (bytes : List ℕ) → ParsesSigned {E = ℕ} w64 10 bytes (Err 0) → (z : ℤ) → FitsSigned w64 z →
-    bytes ≡ signed_decimal z → ⊥
-refused-signed bytes parsed z fits same =
-    ok-err z (Err 0) refl (parse-signed_decimal {E = ℕ} w64 z bytes (Err 0) fits (small-id z fits) same parsed)
+-- ---- Numbers before a byte
 
-pub parsed-signed : (bytes : List ℕ) (y : ℤ) → ParsesSigned {E = ℕ} w64 10 bytes (Ok y) → (z : ℤ) →
-    FitsSigned w64 z → bytes ≡ signed_decimal z → y ≡ z
-parsed-signed bytes y parsed z fits same =
-    ok-same y z (Ok y) refl (parse-signed_decimal {E = ℕ} w64 z bytes (Ok y) fits (small-id z fits) same parsed)
+module _ (text : List ℕ) (byte number n : ℕ) (rest more : List ℕ) (low : byte < 48) where
+  -- texts of digits before a byte are of one number
+  pub before-own : number < 10 ^ 64 → n < 10 ^ 64 → text ≡ decimal number ++ (byte ∷ rest) → text ≡ decimal n ++ (byte ∷ more) → number ≡ n
+  before-own small small_n told same =
+      decimal-own number n small small_n
+      (cut-same byte (decimal number) (decimal n) rest more (decimal-no byte number low small) (decimal-no byte n low small_n)
+      (sym told ∙ same)).0
 
--- no buffer is printed as a number below zero
-pub buffer-below : (bytes : List ℕ) (y : ℤ) → FitsSigned w64 y × (bytes ≡ signed_decimal y) → (pos 0 ≤ℤ y → ⊥) → (z : ℤ) → IsBuffer z →
-    bytes ≡ signed_decimal z → ⊥
-buffer-below bytes y says below z fits same =
-    let one : z ≡ y =
-    signed_decimal_injective z y (small-id z fits.1) (small-id y says.0) (sym same ∙ says.1) in
-    below (subst (λ (x : ℤ). pos 0 ≤ℤ x) one fits.0)
+  -- so a number above others is none of them
+  pub before-high : (end : ℕ) → end < 10 ^ 64 → number < 10 ^ 64 → text ≡ decimal number ++ (byte ∷ rest) → end ≤ number → n < end →
+      text ≡ decimal n ++ (byte ∷ more) → ⊥
+  before-high end small_end small told above below same =
+      absurd (omega (arith, before-own small (omega (arith, below, small_end)) told same, above, below))
+
+-- the digits of a number begin with no sign
+pub decimal-first : (n : ℕ) (behind : List ℕ) → n < 10 ^ 64 → get_or (decimal n ++ behind) 0 0 ≡ 45 → ⊥
+decimal-first n behind small same =
+    let digits = (decimal_is_IsNumeral_wide n small).0 in
+    let digit = digit_at (decimal n) 0 digits.1 digits.0 in
+    absurd (omega (arith, digit.0, sym (get_or_append_left (decimal n) behind 0 0 digits.0) ∙ same))
+
+-- no buffer is printed as a number of 64 bits
+pub buffer-high : (text : List ℕ) (byte number : ℕ) (rest : List ℕ) → byte < 48 → ReadsTo byte decimal IsShort text (Some (number, rest)) →
+    2 ^ 63 ≤ number → (z : ℤ) (more : List ℕ) → IsBuffer z → text ≡ signed_decimal z ++ (byte ∷ more) → ⊥
+buffer-high text byte number rest low told above (pos n) more fits same =
+    before-high text byte number n rest more low (2 ^ 63) (omega arith) (omega (arith, told.0)) told.1 above (small-id (pos n) fits.1) same
+buffer-high text byte number rest low told above (negsuc n) more fits same =
+    decimal-first number (byte ∷ rest) (omega (arith, told.0)) (ap (λ (t : List ℕ). get_or t 0 0) (sym told.1 ∙ same))
+
+-- a text that begins with a sign says an id below zero
+module _ (text : List ℕ) (byte : ℕ) (signed : get_or text 0 0 ≡ 45) where
+  pub id-below : (digits : List ℕ) → digits ≡ drop 1 text → (z : ℤ) (more : List ℕ) → FitsSigned w64 z →
+      text ≡ signed_decimal z ++ (byte ∷ more) → (n : ℕ) × ((n < 2 ^ 63) × (digits ≡ decimal (suc n) ++ (byte ∷ more)))
+  id-below digits digits_are (pos n) more fits same =
+      absurd (decimal-first n (byte ∷ more) (omega (arith, small-id (pos n) fits)) (ap (λ (t : List ℕ). get_or t 0 0) (sym same) ∙ signed))
+  id-below digits digits_are (negsuc n) more fits same = (n, (small-id (negsuc n) fits, digits_are ∙ ap (drop 1) same))
+
+  -- so none says one where its digits are none of a number of at most 19 digits
+  pub id-none : (digits : List ℕ) → digits ≡ drop 1 text → ReadsTo byte decimal IsShort digits None → (z : ℤ) (more : List ℕ) →
+      FitsSigned w64 z → text ≡ signed_decimal z ++ (byte ∷ more) → ⊥
+  id-none digits digits_are none z more fits same =
+      let below = id-below digits digits_are z more fits same in
+      none (suc below.0) more (omega (arith, below.1.0)) below.1.1
+
+  -- nor where they are of zero, or of one above all that have a sign
+  pub id-other : byte < 48 → (digits : List ℕ) → digits ≡ drop 1 text → (number : ℕ) (rest : List ℕ) →
+      ReadsTo byte decimal IsShort digits (Some (number, rest)) → (0 < number → 2 ^ 63 < number) → (z : ℤ) (more : List ℕ) →
+      FitsSigned w64 z → text ≡ signed_decimal z ++ (byte ∷ more) → ⊥
+  id-other low digits digits_are number rest told far z more fits same =
+      let below = id-below digits digits_are z more fits same in
+      let one = before-own digits byte number (suc below.0) rest more low (omega (arith, told.0)) (omega (arith, below.1.0)) told.1 below.1.1 in
+      absurd (omega (arith, one, below.1.0, far (omega (arith, one))))

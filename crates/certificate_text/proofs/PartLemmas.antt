@@ -1,5 +1,5 @@
 -- What is read of the parts of a line.
-use Rattle.std.proofs.Common.{◌≡◌, ℕ, ℤ, ◌<◌, Bool, true, false, List, [], ◌∷◌, ◌++◌, Option, Some, None, refl, sym, ap, ◌∙◌, subst, arith}
+use Rattle.std.proofs.Common.{◌≡◌, ℕ, ℤ, ◌<◌, Bool, true, false, List, [], ◌∷◌, ◌++◌, Some, None, refl, sym, ap, ◌∙◌, arith, append_assoc}
 use Rattle.std.specs.Prelude.{FitsSigned, decimal}
 use Rattle.std.specs.Fmt.{signed_decimal}
 use mir.Syntax.{w64}
@@ -9,35 +9,31 @@ use Rattle.overpass_graph.specs.Names.{LinkName, name_of, letter_of, step_text, 
 use Rattle.overpass_graph.proofs.CallerLemmas.{name-own}
 use Rattle.certificate_text.specs.declared.certificate.Entry.{Entry}
 use Rattle.certificate_text.specs.Lines.{link_text, entry_text, buffers_text, weights_text, IsLink, IsCost, IsBuffer, IsEntry}
-use Rattle.certificate_text.specs.Parts.{HasNo, Reads, IsNumber, IsStep, print_step, AreWeights, print_weights}
-use Rattle.certificate_text.proofs.ByteLemmas.{first-same, no-append, no-within, cut-same}
+use Rattle.certificate_text.specs.Parts.{HasNo, ReadsAt, ReadsTo, IsNumber, IsStep, print_step, AreWeights, print_weights}
+use Rattle.certificate_text.proofs.ByteLemmas.{first-same, rest-same, no-append, cut-same}
 use Rattle.certificate_text.proofs.NumberLemmas.{decimal-no, signed-no, small-id, decimal-own}
 
 -- ---- Two parts, parted by a byte that the first doesn't have
 
 module _ {A B : Type 0} (c : ℕ) (P : A → List ℕ) (Q : B → List ℕ) (IsP : A → Type 0) (IsQ : B → Type 0)
     (no_c : (a : A) → IsP a → HasNo c (P a)) (text : List ℕ) where
-  -- a text without the byte is none of two parts
-  pub pair-uncut : HasNo c text → (p : A × B) → IsP p.0 × IsQ p.1 → text ≡ P p.0 ++ (c ∷ Q p.1) → ⊥
-  pair-uncut no_text p fits same = no-within c (P p.0) (Q p.1) (subst (HasNo c) same no_text)
+  -- a text whose first part says nothing is none of two parts, whatever follows them
+  pub pair-first : ReadsTo c P IsP text None → (p : A × B) (rest : List ℕ) → IsP p.0 × IsQ p.1 →
+      text ≡ (P p.0 ++ (c ∷ Q p.1)) ++ rest → ⊥
+  pair-first none p rest fits same = none p.0 (Q p.1 ++ rest) fits.0 (same ∙ append_assoc (P p.0) (c ∷ Q p.1) rest)
 
-  -- nor is one whose first part says nothing
-  pub pair-first : (front back : List ℕ) → HasNo c front × (text ≡ front ++ (c ∷ back)) → Reads P IsP front None →
-      (p : A × B) → IsP p.0 × IsQ p.1 → text ≡ P p.0 ++ (c ∷ Q p.1) → ⊥
-  pair-first front back cut none p fits same =
-      none p.0 fits.0 (cut-same c front (P p.0) back (Q p.1) cut.0 (no_c p.0 fits.0) (sym cut.1 ∙ same)).0
-
-  -- nor is one whose second part says nothing
-  pub pair-second : (front back : List ℕ) → HasNo c front × (text ≡ front ++ (c ∷ back)) → Reads Q IsQ back None →
-      (p : A × B) → IsP p.0 × IsQ p.1 → text ≡ P p.0 ++ (c ∷ Q p.1) → ⊥
-  pair-second front back cut none p fits same =
-      none p.1 fits.1 (cut-same c front (P p.0) back (Q p.1) cut.0 (no_c p.0 fits.0) (sym cut.1 ∙ same)).1
+  -- what follows the first part is of the second and of what follows that
+  pub pair-rest : (a : A) (back : List ℕ) → ReadsTo c P IsP text (Some (a, back)) → (p : A × B) (rest : List ℕ) → IsP p.0 →
+      text ≡ (P p.0 ++ (c ∷ Q p.1)) ++ rest → back ≡ Q p.1 ++ rest
+  pair-rest a back first p rest fits same =
+      (cut-same c (P a) (P p.0) back (Q p.1 ++ rest) (no_c a first.0) (no_c p.0 fits)
+      (sym first.1 ∙ same ∙ append_assoc (P p.0) (c ∷ Q p.1) rest)).1
 
   -- two parts that say something are what the text is of
-  pub pair-both : (front back : List ℕ) (a : A) (b : B) → HasNo c front × (text ≡ front ++ (c ∷ back)) → Reads P IsP front (Some a) →
-      Reads Q IsQ back (Some b) → (IsP a × IsQ b) × (text ≡ P a ++ (c ∷ Q b))
-  pair-both front back a b cut first second =
-      ((first.0, second.0), cut.1 ∙ ap (λ t. t ++ (c ∷ back)) first.1 ∙ ap (λ t. P a ++ (c ∷ t)) second.1)
+  pub pair-both : (a : A) (back : List ℕ) (b : B) (rest : List ℕ) → ReadsTo c P IsP text (Some (a, back)) → back ≡ Q b ++ rest →
+      text ≡ (P a ++ (c ∷ Q b)) ++ rest
+  pair-both a back b rest first second =
+      first.1 ∙ ap (λ t. P a ++ (c ∷ t)) second ∙ sym (append_assoc (P a) (c ∷ Q b) rest)
 
 -- ---- What the first parts don't have
 
@@ -55,12 +51,12 @@ cost-no n fits = decimal-no 32 n (omega arith) (omega (arith, fits))
 
 -- ---- Names
 
--- the letters of two directions
-letter-own : (b d : Bool) → letter_of b ≡ letter_of d → b ≡ d
-letter-own true true same = refl
-letter-own false false same = refl
-letter-own true false same = let h : 98 ≡ 102 = first-same 98 102 [] [] same in absurd (omega (arith, h))
-letter-own false true same = let h : 102 ≡ 98 = first-same 102 98 [] [] same in absurd (omega (arith, h))
+-- the letters of directions that two texts begin with
+letter-front : (b d : Bool) (xs ys : List ℕ) → letter_of b ++ xs ≡ letter_of d ++ ys → (b ≡ d) × (xs ≡ ys)
+letter-front true true xs ys same = (refl, rest-same 98 98 xs ys same)
+letter-front false false xs ys same = (refl, rest-same 102 102 xs ys same)
+letter-front true false xs ys same = let h : 98 ≡ 102 = first-same 98 102 xs ys same in absurd (omega (arith, h))
+letter-front false true xs ys same = let h : 102 ≡ 98 = first-same 102 98 xs ys same in absurd (omega (arith, h))
 
 -- a letter isn't a low byte
 letter-no : (c : ℕ) (b : Bool) → c < 45 → HasNo c (letter_of b)
@@ -86,24 +82,37 @@ names-same a b way segment back =
     ∙ ap (λ (s : ℕ). record { way = b.way; segment = s; back = a.back }) segment
     ∙ ap (λ (d : Bool). record { way = b.way; segment = b.segment; back = d }) back
 
--- names of one text are one
-text-own : (a b : LinkName) → FitsName a → FitsName b → name_text a ≡ name_text b → a ≡ b
+-- names that one text begins with are one, and so is what follows them
+names-front : (a b : LinkName) (xs ys : List ℕ) → FitsName a → FitsName b → name_text a ++ xs ≡ name_text b ++ ys →
+    (a ≡ b) × (xs ≡ ys)
 unfolding name_text
-text-own a b fits_a fits_b same =
-    let outer = cut-same 47 (signed_decimal a.way) (signed_decimal b.way) (step_text a.segment a.back) (step_text b.segment b.back)
-    (id-no a.way fits_a.way) (id-no b.way fits_b.way) same in
-    let inner = cut-same 47 (decimal a.segment) (decimal b.segment) (letter_of a.back) (letter_of b.back)
-    (number-no a.segment fits_a.segment) (number-no b.segment fits_b.segment) outer.1 in
-    names-same a b
-    (signed_decimal_injective a.way b.way (small-id a.way fits_a.way) (small-id b.way fits_b.way) outer.0)
-    (decimal-own a.segment b.segment (omega (arith, fits_a.segment)) (omega (arith, fits_b.segment)) inner.0)
-    (letter-own a.back b.back inner.1)
+names-front a b xs ys fits_a fits_b same =
+    let outer = cut-same 47 (signed_decimal a.way) (signed_decimal b.way) (step_text a.segment a.back ++ xs)
+    (step_text b.segment b.back ++ ys) (id-no a.way fits_a.way) (id-no b.way fits_b.way)
+    (sym (append_assoc (signed_decimal a.way) (47 ∷ step_text a.segment a.back) xs) ∙ same
+    ∙ append_assoc (signed_decimal b.way) (47 ∷ step_text b.segment b.back) ys) in
+    let inner = cut-same 47 (decimal a.segment) (decimal b.segment) (letter_of a.back ++ xs) (letter_of b.back ++ ys)
+    (number-no a.segment fits_a.segment) (number-no b.segment fits_b.segment)
+    (sym (append_assoc (decimal a.segment) (47 ∷ letter_of a.back) xs) ∙ outer.1
+    ∙ append_assoc (decimal b.segment) (47 ∷ letter_of b.back) ys) in
+    let letters = letter-front a.back b.back xs ys inner.1 in (
+      names-same a b
+          (signed_decimal_injective a.way b.way (small-id a.way fits_a.way) (small-id b.way fits_b.way) outer.0)
+          (decimal-own a.segment b.segment (omega (arith, fits_a.segment)) (omega (arith, fits_b.segment)) inner.0)
+          letters.0,
+      letters.1,
+    )
+
+-- links that one text begins with are one, and so is what follows them
+pub link-front : (map : MapValue) (a b : ℕ) (xs ys : List ℕ) → IsMap map → IsLink map a → IsLink map b →
+    link_text map a ++ xs ≡ link_text map b ++ ys → (a ≡ b) × (xs ≡ ys)
+link-front map a b xs ys is a_in b_in same =
+    let both = names-front (name_of map a) (name_of map b) xs ys (link-fits map a is a_in) (link-fits map b is b_in) same in
+    (name-own map a b is a_in b_in both.0, both.1)
 
 -- links of one text are one
 pub link-own : (map : MapValue) (a b : ℕ) → IsMap map → IsLink map a → IsLink map b → link_text map a ≡ link_text map b → a ≡ b
-link-own map a b is a_in b_in same =
-    name-own map a b is a_in b_in
-    (text-own (name_of map a) (name_of map b) (link-fits map a is a_in) (link-fits map b is b_in) same)
+link-own map a b is a_in b_in same = (link-front map a b [] [] is a_in b_in (ap (λ t. t ++ []) same)).0
 
 -- a link's text has no low byte
 pub link-no : (map : MapValue) (c link : ℕ) → c < 45 → IsMap map → IsLink map link → HasNo c (link_text map link)
@@ -119,43 +128,48 @@ link-no map c link low is below =
           ((λ same. absurd (omega (arith, low, same))), letter-no c name.back low),
     )
 
--- a text that says no id and step names no link
+-- a text that begins with no id and step names no link
 pub link-none : (map : MapValue) (text : List ℕ) → IsMap map →
-    ((p : ℤ × (ℕ × Bool)) → FitsSigned w64 p.0 × IsStep p.1 → text ≡ signed_decimal p.0 ++ (47 ∷ print_step p.1) → ⊥) →
-    Reads (link_text map) (IsLink map) text None
+    ((p : ℤ × (ℕ × Bool)) (rest : List ℕ) → FitsSigned w64 p.0 × IsStep p.1 → text ≡ (signed_decimal p.0 ++ (47 ∷ print_step p.1)) ++ rest → ⊥) →
+    ReadsAt (link_text map) (IsLink map) text None
 unfolding name_text
-link-none map text is none link below same =
+link-none map text is none link rest below same =
     let fits = link-fits map link is below in
     let name = name_of map link in
-    none (name.way, (name.segment, name.back)) (fits.way, (fits.segment, tt)) same
+    none (name.way, (name.segment, name.back)) rest (fits.way, (fits.segment, tt)) same
 
--- one that does names the link that is found
-pub link-found : (map : MapValue) (text : List ℕ) (way : ℤ) (segment : ℕ) (back : Bool) (found : Option ℕ) → IsMap map →
-    (FitsSigned w64 way × IsStep (segment, back)) × (text ≡ signed_decimal way ++ (47 ∷ print_step (segment, back))) →
-    FindsLink map (record { way = way; segment = segment; back = back }) found → Reads (link_text map) (IsLink map) text found
-unfolding name_text
-link-found map text way segment back None is said none = λ link below same.
-    none link below
-    (text-own (name_of map link) (record { way = way; segment = segment; back = back }) (link-fits map link is below)
-    (record { way = said.0.0; segment = said.0.1.0 }) (sym same ∙ said.1))
-link-found map text way segment back (Some link) is said found =
-    (found.0, said.1 ∙ ap name_text (sym found.1))
+-- one that does names the link that is found, and so it is with none
+module _ (map : MapValue) (text : List ℕ) (way : ℤ) (segment : ℕ) (back : Bool) (rest : List ℕ) (is : IsMap map)
+    (fits : FitsSigned w64 way × IsNumber segment) (said : text ≡ (signed_decimal way ++ (47 ∷ print_step (segment, back))) ++ rest) where
+  pub link-found : (link : ℕ) → FindsLink map (record { way = way; segment = segment; back = back }) (Some link) →
+      ReadsAt (link_text map) (IsLink map) text (Some (link, rest))
+  unfolding name_text
+  link-found link found = (found.0, said ∙ ap (λ n. name_text n ++ rest) (sym found.1))
+
+  pub link-lost : FindsLink map (record { way = way; segment = segment; back = back }) None →
+      ReadsAt (link_text map) (IsLink map) text None
+  unfolding name_text
+  link-lost none link more below same =
+      none link below
+      (names-front (name_of map link) (record { way = way; segment = segment; back = back }) more rest (link-fits map link is below)
+      (record { way = fits.0; segment = fits.1 }) (sym same ∙ said)).0
+
+-- a text that begins with a link is of none before a byte where another one follows
+pub link-unended : (map : MapValue) (text : List ℕ) (byte link : ℕ) (back : List ℕ) → IsMap map →
+    ReadsAt (link_text map) (IsLink map) text (Some (link, back)) → ((more : List ℕ) → back ≡ byte ∷ more → ⊥) →
+    ReadsTo byte (link_text map) (IsLink map) text None
+link-unended map text byte link back is told other found more below same =
+    other more (link-front map link found back (byte ∷ more) is told.0 below (sym told.1 ∙ same)).1
 
 -- ---- Labels
 
 -- a text that says no link and weights is no label
 pub entry-none : (map : MapValue) (text : List ℕ) →
-    ((p : ℕ × (ℕ × (ℤ × ℤ))) → IsLink map p.0 × AreWeights p.1 → text ≡ link_text map p.0 ++ (32 ∷ print_weights p.1) → ⊥) →
-    Reads (entry_text map) (IsEntry map) text None
-entry-none map text none entry fits same =
-    none (entry.link, (entry.cost, (entry.down, entry.up))) (fits.link, (fits.cost, (fits.down, fits.up))) same
-
--- one that does is
-pub entry-some : (map : MapValue) (text : List ℕ) (link cost : ℕ) (down up : ℤ) →
-    (IsLink map link × AreWeights (cost, (down, up))) × (text ≡ link_text map link ++ (32 ∷ print_weights (cost, (down, up)))) →
-    Reads (entry_text map) (IsEntry map) text (Some (record { cost = cost; down = down; up = up; link = link }))
-entry-some map text link cost down up said =
-    (record { link = said.0.0; cost = said.0.1.0; down = said.0.1.1.0; up = said.0.1.1.1 }, said.1)
+    ((p : ℕ × (ℕ × (ℤ × ℤ))) (rest : List ℕ) → IsLink map p.0 × AreWeights p.1 →
+    text ≡ (link_text map p.0 ++ (32 ∷ print_weights p.1)) ++ (10 ∷ rest) → ⊥) →
+    ReadsTo 10 (entry_text map) (IsEntry map) text None
+entry-none map text none entry rest fits same =
+    none (entry.link, (entry.cost, (entry.down, entry.up))) rest (fits.link, (fits.cost, (fits.down, fits.up))) same
 
 -- labels of one text are one
 pub entry-own : (map : MapValue) (a b : Entry) → IsMap map → IsEntry map a → IsEntry map b → entry_text map a ≡ entry_text map b → a ≡ b

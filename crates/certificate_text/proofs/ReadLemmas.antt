@@ -1,10 +1,10 @@
 -- Texts that are read line after line.
-use Rattle.std.proofs.Common.{◌≡◌, ℕ, suc, ◌+◌, ◌^◌, ◌<◌, ◌≤◌, true, false, List, [], ◌∷◌, ◌++◌, length, nat_eq, map, Result, Ok, Err, refl, sym, ap, ◌∙◌, subst, arith, append_assoc, append-nil}
+use Rattle.std.proofs.Common.{◌≡◌, ℕ, ◌+◌, ◌^◌, ◌<◌, ◌≤◌, true, List, [], ◌∷◌, ◌++◌, length, nat_eq, map, None, Result, Ok, Err, refl, sym, ap, ◌∙◌, subst, arith, append_assoc, append-nil}
 use Rattle.std.specs.Prelude.{IfOk, codes}
 use Rattle.std.specs.List.{AllByRecursion}
 use Rattle.std.proofs.lemmas.Bool.{ne_eqb}
 use Rattle.std.proofs.lemmas.List.{length-append}
-use Rattle.overpass_graph.specs.Maps.{MapValue, IsMap}
+use Rattle.overpass_graph.specs.Maps.{MapValue}
 use Rattle.certificate_text.specs.declared.certificate.Certificate.{Certificate}
 use Rattle.certificate_text.specs.declared.certificate.Entry.{Entry}
 use Rattle.certificate_text.specs.declared.error.CertError.{CertError}
@@ -12,12 +12,10 @@ use Rattle.certificate_text.specs.declared.draft.Draft.{Draft}
 use Rattle.certificate_text.specs.declared.draft.Place.{Place}
 use Rattle.certificate_text.specs.declared.draft.Place.TheVariants as place_
 use Rattle.certificate_text.specs.Drafts.{stage_at, forms_at, forms_now, is_ended, IsRead, ReadsOn, IsReading}
-use Rattle.certificate_text.specs.Lines.{Form, Head, Leg, Cost, Label, End, line_of, lines_of, link_text, walk_text, IsForm, IsEntry, Unbegun, Opened, Labelled, Ended, Stands, AreStanding, stage_from, IsFirstFault}
-use Rattle.certificate_text.specs.Parts.{HasNo}
+use Rattle.certificate_text.specs.Lines.{Form, Head, Leg, Cost, Label, End, line_of, lines_of, link_text, walk_text, IsForm, IsEntry, Unbegun, Opened, Ended, Stands, AreStanding, stage_from, IsFirstFault}
 use Rattle.certificate_text.specs.Texts.{LegValue, leg_of, leg_forms, legs_forms, labels_of, forms_of, certificate_text, legs_of, AreLegs, IsTextOf, AreShort, ReadsText}
-use Rattle.certificate_text.proofs.ByteLemmas.{no-within, cut-same}
 use Rattle.certificate_text.proofs.NumberLemmas.{not-both}
-use Rattle.certificate_text.proofs.LineLemmas.{line-no, lines-append, line-some, standing-push, stage-push, standing-fits}
+use Rattle.certificate_text.proofs.LineLemmas.{lines-append, line-some, standing-push, stage-push, standing-fits}
 
 -- ---- While lines are read
 
@@ -33,18 +31,21 @@ reading-first map text number draft forms place number_is few = record {
   few = omega (arith, few, number_is);
 }
 
--- a line was cut off
-module _ (map : MapValue) (text : List ℕ) (number : ℕ) (rest line after : List ℕ) (draft : Draft) (is : IsMap map)
-    (so : IsReading map text number rest draft) (cut : HasNo 10 line × (rest ≡ line ++ (10 ∷ after))) where
+-- the first line of what is left is read
+module _ (map : MapValue) (text : List ℕ) (number : ℕ) (rest : List ℕ) (draft new : Draft) (so : IsReading map text number rest draft) where
+  -- less is left
+  pub read-shorter : (after : List ℕ) → IsRead map draft new rest after → length after < length rest
+  read-shorter after read =
+      omega (arith, ap length read.text_is, length-append (line_of map read.form) (10 ∷ after))
+
   -- where it is taken, reading goes on behind it
-  pub reading-next : (new : Draft) (next : ℕ) → IsRead map draft new line → next ≡ number + 1 → IsReading map text next after new
-  reading-next new next read next_is =
+  pub reading-next : (after : List ℕ) (next : ℕ) → IsRead map draft new rest after → next ≡ number + 1 → IsReading map text next after new
+  reading-next after next read next_is =
       let forms : forms_now new ≡ forms_now draft ++ (read.form ∷ []) = read.taken.forms in
       let here : rest ≡ lines_of map (read.form ∷ []) ++ after =
-      cut.1 ∙ ap (λ t. t ++ (10 ∷ after)) read.line_is ∙ sym (append_assoc (line_of map read.form) (10 ∷ []) after) in
+      read.text_is ∙ sym (append_assoc (line_of map read.form) (10 ∷ []) after) in
       let stands : Stands (stage_from Unbegun (forms_now draft)) read.form =
       subst (λ s. Stands s read.form) (sym so.stage) read.taken.stands in
-      let size : length rest ≡ length line + suc (length after) = ap length cut.1 ∙ length-append line (10 ∷ after) in
       let count : length (forms_now new) ≡ length (forms_now draft) + 1 =
       ap length forms ∙ length-append (forms_now draft) (read.form ∷ []) in
       record {
@@ -55,21 +56,19 @@ module _ (map : MapValue) (text : List ℕ) (number : ℕ) (rest line after : Li
         standing = subst (AreStanding map Unbegun) (sym forms)
             (standing-push map Unbegun (forms_now draft) read.form so.standing stands read.fits);
         stage = ap (stage_from Unbegun) forms ∙ stage-push Unbegun (forms_now draft) read.form ∙ sym read.taken.place;
-        few = omega (arith, so.few, next_is, size);
+        few = omega (arith, so.few, next_is, read-shorter after read);
       }
 
-  -- where no line can stand there that has its text, it is the first at fault
-  pub reading-fault : (new : Draft) → ReadsOn map draft new line false → IsFirstFault map text number
-  reading-fault new none = record {
+  -- where no line that can stand there begins it, it is the first at fault
+  pub reading-fault : 0 < length rest → ReadsOn map draft new rest None → IsFirstFault map text number
+  reading-fault some none = record {
     before = forms_now draft;
     rest = rest;
     text_is = so.text_is;
     number = so.number_is;
     standing = so.standing;
-    fault = λ form more stands fits same.
-        none form (subst (λ s. Stands s form) so.stage stands) fits
-        (cut-same 10 line (line_of map form) after more cut.0 (line-no map form is fits) (sym cut.1 ∙ same)).0;
-    open_end = λ empty ended. line-some line after (sym cut.1 ∙ empty);
+    fault = λ form more stands fits same. none form more (subst (λ s. Stands s form) so.stage stands) fits same;
+    open_end = λ empty ended. absurd (omega (arith, some, ap length empty));
   }
 
 -- the last line was taken
@@ -86,17 +85,17 @@ is-ended place_.Walked test = absurd cc
 is-ended place_.Labelled test = absurd cc
 is-ended place_.Ended test = refl
 
--- where no line is left, but the text isn't at its end, the next line is at fault
+-- where nothing is left before the last line, the next line is at fault
 pub reading-short : (map : MapValue) (text : List ℕ) (number : ℕ) (rest : List ℕ) (draft : Draft) →
-    IsReading map text number rest draft → HasNo 10 rest → (rest ≡ [] → is_ended draft.place ≡ true → ⊥) → IsFirstFault map text number
-reading-short map text number rest draft so free other = record {
+    IsReading map text number rest draft → rest ≡ [] → (is_ended draft.place ≡ true → ⊥) → IsFirstFault map text number
+reading-short map text number rest draft so empty other = record {
   before = forms_now draft;
   rest = rest;
   text_is = so.text_is;
   number = so.number_is;
   standing = so.standing;
-  fault = λ form more stands fits same. no-within 10 (line_of map form) more (subst (HasNo 10) same free);
-  open_end = λ empty last. other empty (is-ended draft.place (sym so.stage ∙ last));
+  fault = λ form more stands fits same. line-some (line_of map form) more (sym same ∙ empty);
+  open_end = λ none last. other (is-ended draft.place (sym so.stage ∙ last));
 }
 
 -- ---- Legs that are told by lines
@@ -144,37 +143,24 @@ reading-whole map text number rest draft so empty last =
     }
 
 -- a text that doesn't begin with the first line
-pub headless : (map : MapValue) (text line after : List ℕ) → IsMap map → HasNo 10 line × (text ≡ line ++ (10 ∷ after)) →
-    (line ≡ codes "certificate 1" → ⊥) → IsFirstFault map text 1
-headless map text line after is cut other = record {
+pub headless : (map : MapValue) (text : List ℕ) → ((rest : List ℕ) → text ≡ codes "certificate 1\n" ++ rest → ⊥) →
+    IsFirstFault map text 1
+headless map text other = record {
   before = [];
   rest = text;
   text_is = refl;
   number = refl;
   standing = tt;
-  fault = λ form more stands fits same. by_form form more stands fits same;
-  open_end = λ empty ended. line-some line after (sym cut.1 ∙ empty);
+  fault = λ form more stands fits same. by_form form more stands same;
+  open_end = λ empty ended. absurd cc;
 }
   where
-    by_form : (form : Form) (more : List ℕ) → Stands Unbegun form → IsForm map form → text ≡ line_of map form ++ (10 ∷ more) → ⊥
-    by_form Head more stands fits same =
-        other (cut-same 10 line (line_of map Head) after more cut.0 (line-no map Head is tt) (sym cut.1 ∙ same)).0
-    by_form (Leg walk) more stands fits same = stands
-    by_form (Cost cost) more stands fits same = stands
-    by_form (Label entry) more stands fits same = stands
-    by_form End more stands fits same = stands
-
--- nor does one without a line
-pub lineless : (map : MapValue) (text : List ℕ) → HasNo 10 text → IsFirstFault map text 1
-lineless map text free = record {
-  before = [];
-  rest = text;
-  text_is = refl;
-  number = refl;
-  standing = tt;
-  fault = λ form more stands fits same. no-within 10 (line_of map form) more (subst (HasNo 10) same free);
-  open_end = λ empty last. absurd cc;
-}
+    by_form : (form : Form) (more : List ℕ) → Stands Unbegun form → text ≡ line_of map form ++ (10 ∷ more) → ⊥
+    by_form Head more stands same = other more same
+    by_form (Leg walk) more stands same = stands
+    by_form (Cost cost) more stands same = stands
+    by_form (Label entry) more stands same = stands
+    by_form End more stands same = stands
 
 -- a list that is told to be empty is
 pub none-told : (xs : List ℕ) → true ≡ nat_eq (length xs) 0 → xs ≡ []

@@ -1,12 +1,11 @@
 -- The text of a certificate is read as the same certificate.
-use Rattle.std.proofs.Common.{◌≡◌, ℕ, ◌+◌, List, [], ◌∷◌, ◌++◌, map, Result, Ok, Err, refl, sym, ap, ◌∙◌, subst, append_assoc, append-nil}
+use Rattle.std.proofs.Common.{◌≡◌, ℕ, List, [], ◌∷◌, ◌++◌, map, Result, Ok, Err, refl, sym, ap, ◌∙◌, subst, append_assoc, append-nil}
 use Rattle.std.specs.List.{AllByRecursion}
 use Rattle.overpass_graph.specs.Maps.{MapValue, IsMap}
 use Rattle.certificate_text.specs.declared.certificate.Certificate.{Certificate}
 use Rattle.certificate_text.specs.declared.certificate.Entry.{Entry}
 use Rattle.certificate_text.specs.declared.error.CertError.{CertError}
 use Rattle.certificate_text.specs.declared.error.CertError.TheVariants.{Line, NoMemory}
-use Rattle.certificate_text.specs.declared.draft.Place.TheVariants as place_
 use Rattle.certificate_text.specs.Lines.{Form, Head, Leg, Cost, Label, End, line_of, lines_of, IsEntry, Stage, Unbegun, Opened, Labelled, Ended, Stands, AreStanding, stage_from, IsFirstFault}
 use Rattle.certificate_text.specs.Texts.{LegValue, legs_forms, labels_of, forms_of, certificate_text, legs_of, AreLegs, IsTextOf, ReadsText, IsSame}
 use Rattle.certificate_text.proofs.LineLemmas.{line-some, lines-same, stage-push, standing-fits, standing-at}

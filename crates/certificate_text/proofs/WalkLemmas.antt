@@ -4,9 +4,9 @@ use Rattle.std.specs.List.{AllByRecursion}
 use Rattle.std.proofs.lemmas.List.{flat_map_more}
 use Rattle.overpass_graph.specs.Maps.{MapValue, IsMap}
 use Rattle.certificate_text.specs.Lines.{link_text, walk_text, IsLink, AreLinks}
-use Rattle.certificate_text.specs.Parts.{HasNo, Begins, Reads}
+use Rattle.certificate_text.specs.Parts.{HasNo, Begins, Reads, ReadsAt}
 use Rattle.certificate_text.proofs.ByteLemmas.{rest-same, some-none, no-append, word-same}
-use Rattle.certificate_text.proofs.PartLemmas.{link-own, link-no}
+use Rattle.certificate_text.proofs.PartLemmas.{link-front, link-own, link-no}
 
 -- ---- Walks
 
@@ -34,31 +34,27 @@ walking-first map text walk none =
     (record { so_far = refl; links = tt; whole = λ all are same. (all, (are, same)) })
 
 -- what is left begins with a link
-module _ (map : MapValue) (text walk rest name after : List ℕ) (is : IsMap map) (so : IsWalking map text walk rest)
-    (begins : rest ≡ 32 ∷ (name ++ after)) (free : HasNo 32 name) (at : Begins 32 after) where
-  -- the name is that of the next link, and what is behind it is of those after that
+module _ (map : MapValue) (text walk rest named : List ℕ) (is : IsMap map) (so : IsWalking map text walk rest) (begins : rest ≡ 32 ∷ named) where
+  -- the next link, and those after it
   next : (left : List ℕ) → AreLinks map left → rest ≡ walk_text map left →
-      (link : ℕ) × ((more : List ℕ) × ((IsLink map link × AreLinks map more) × ((name ≡ link_text map link) × (after ≡ walk_text map more))))
-  next [] are same = absurd (some-none 32 (name ++ after) (sym begins ∙ same))
+      (link : ℕ) × ((more : List ℕ) × ((IsLink map link × AreLinks map more) × (named ≡ link_text map link ++ walk_text map more)))
+  next [] are same = absurd (some-none 32 named (sym begins ∙ same))
   next (l ∷ left) are same =
-      let both = word-same 32 name (link_text map l) after (walk_text map left) free (link-no map 32 l (omega arith) is are.0) at
-      (walk-begins map left)
-      (rest-same 32 32 (name ++ after) (link_text map l ++ walk_text map left) (sym begins ∙ same)) in
-      (l, (left, ((are.0, are.1), (both.0, both.1))))
+      (l, (left, ((are.0, are.1), rest-same 32 32 named (link_text map l ++ walk_text map left) (sym begins ∙ same))))
 
-  -- where the name says no link, the text says no walk
-  pub walking-lost : Reads (link_text map) (IsLink map) name None → Reads (walk_text map) (AreLinks map) text None
+  -- where no link is named, the text says no walk
+  pub walking-lost : ReadsAt (link_text map) (IsLink map) named None → Reads (walk_text map) (AreLinks map) text None
   walking-lost none all are same =
       let left = so.whole all are same in
       let found = next left.0 left.1.0 left.1.1 in
-      none found.0 found.1.1.0.0 found.1.1.1.0
+      none found.0 (walk_text map found.1.0) found.1.1.0.0 found.1.1.1
 
-  -- where it says one, reading goes on behind it
-  pub walking-next : (link : ℕ) (longer : List ℕ) → Reads (link_text map) (IsLink map) name (Some link) →
+  -- where one is, reading goes on behind it
+  pub walking-next : (link : ℕ) (after longer : List ℕ) → ReadsAt (link_text map) (IsLink map) named (Some (link, after)) →
       longer ≡ walk ++ link ∷ [] → IsWalking map text longer after
-  walking-next link longer found longer_is =
+  walking-next link after longer found longer_is =
       let step : List ℕ = 32 ∷ link_text map link in
-      let here : rest ≡ step ++ after = begins ∙ ap (λ t. 32 ∷ (t ++ after)) found.1 in
+      let here : rest ≡ step ++ after = begins ∙ ap (λ t. 32 ∷ t) found.1 in
       let more : walk_text map walk ++ step ≡ walk_text map (walk ++ link ∷ []) =
       flat_map_more (λ (l : ℕ). 32 ∷ link_text map l) [] walk link in
       subst (λ w. IsWalking map text w after) (sym longer_is)
@@ -69,15 +65,14 @@ module _ (map : MapValue) (text walk rest name after : List ℕ) (is : IsMap map
         whole = λ all are same.
             let left = so.whole all are same in
             let last = next left.0 left.1.0 left.1.1 in
-            (last.1.0, (last.1.1.0.1, last.1.1.1.1));
+            let both = link-front map link last.0 after (walk_text map last.1.0) is found.0 last.1.1.0.0 (sym found.1 ∙ last.1.1.1) in
+            (last.1.0, (last.1.1.0.1, both.1));
       })
 
--- a text that begins with a space and a word
-pub space-first : (rest named name after : List ℕ) → 0 < length rest → get_or rest 0 0 ≡ 32 → named ≡ drop 1 rest →
-    named ≡ name ++ after → rest ≡ 32 ∷ (name ++ after)
-space-first [] named name after some first named_is whole = absurd (omega arith)
-space-first (c ∷ rest) named name after some first named_is whole =
-    ap (λ n. n ∷ rest) first ∙ ap (λ t. 32 ∷ t) (sym named_is ∙ whole)
+-- a text that begins with a space
+pub space-first : (rest named : List ℕ) → 0 < length rest → get_or rest 0 0 ≡ 32 → named ≡ drop 1 rest → rest ≡ 32 ∷ named
+space-first [] named some first named_is = absurd (omega arith)
+space-first (c ∷ rest) named some first named_is = ap (λ n. n ∷ rest) first ∙ ap (λ t. 32 ∷ t) (sym named_is)
 
 -- where something else is left, the text says no walk
 pub walking-other : (map : MapValue) (text walk rest : List ℕ) → IsWalking map text walk rest → 0 < length rest →

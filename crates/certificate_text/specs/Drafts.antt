@@ -1,5 +1,5 @@
 -- How the code takes one line after the other; no public clause cites this.
-use Rattle.std.specs.Prelude.{◌≡◌, ℕ, ◌+◌, ◌<◌, ◌^◌, Bool, true, false, List, [], ◌∷◌, ◌++◌, map, length}
+use Rattle.std.specs.Prelude.{◌≡◌, ℕ, ◌+◌, ◌<◌, ◌^◌, Bool, true, false, List, [], ◌∷◌, ◌++◌, map, length, Option, Some, None}
 use Rattle.overpass_graph.specs.Maps.{MapValue}
 use Rattle.certificate_text.specs.declared.draft.Draft.{Draft}
 use Rattle.certificate_text.specs.declared.draft.Place.{Place}
@@ -51,18 +51,18 @@ abbrev pub Takes : Draft → Draft → Form → Bool → Type 0
 Takes old new form true = IsTaken old new form
 Takes old new form false = Stands (stage_at old.place) form → ⊥
 
--- the text of a line is taken behind those of a draft
-pub record IsRead (map : MapValue) (old new : Draft) (line : List ℕ) : Type 0 where
+-- the first line of a text is taken behind those of a draft, and this follows it
+pub record IsRead (map : MapValue) (old new : Draft) (text rest : List ℕ) : Type 0 where
   pub form : Form
   pub fits : IsForm map form
-  pub line_is : line ≡ line_of map form
+  pub text_is : text ≡ line_of map form ++ (10 ∷ rest)
   pub taken : IsTaken old new form
 
--- the text of a line is taken, or no line that can stand there has it
-abbrev pub ReadsOn : MapValue → Draft → Draft → List ℕ → Bool → Type 0
-ReadsOn map old new line true = IsRead map old new line
-ReadsOn map old new line false =
-    (form : Form) → Stands (stage_at old.place) form → IsForm map form → line ≡ line_of map form → ⊥
+-- the first line of a text is taken, with what follows it, or no line that can stand there begins the text
+abbrev pub ReadsOn : MapValue → Draft → Draft → List ℕ → Option (List ℕ) → Type 0
+ReadsOn map old new text (Some rest) = IsRead map old new text rest
+ReadsOn map old new text None =
+    (form : Form) (rest : List ℕ) → Stands (stage_at old.place) form → IsForm map form → text ≡ line_of map form ++ (10 ∷ rest) → ⊥
 
 -- what is left of a text from a line of this number on, where a draft was read of all before it
 pub record IsReading (map : MapValue) (text : List ℕ) (number : ℕ) (rest : List ℕ) (draft : Draft) : Type 0 where

@@ -39,6 +39,18 @@ pub(crate) fn behind<'a>(text: &'a [u8], front: &[u8]) -> Option<&'a [u8]>
     if own == front { Some(rest) } else { None }
 }
 
+/// What follows the byte that a text begins with, where that is this one.
+pub(crate) fn behind_byte(text: &[u8], byte: u8) -> Option<&[u8]>
+    ensures exact { MatchOption result ((rest : List ℕ) → text.now ≡ byte ∷ rest → ⊥)
+        (λ rest. text.now ≡ byte ∷ rest.now) }
+{
+    if text.is_empty() {
+        return None;
+    }
+    let (_, rest) = text.split_at(1);
+    if text[0] == byte { Some(rest) } else { None }
+}
+
 /// How many bytes of a text are this one.
 pub(crate) fn count_of(text: &[u8], byte: u8) -> usize
     ensures fits { result ≤ length text.now }

@@ -1,6 +1,6 @@
 //! The legs that were read so far.
 
-ghost use Rattle.std.specs.Prelude.{◌≡◌, ◌∷◌, ◌++◌, [], IfOk, OnOk};
+ghost use Rattle.std.specs.Prelude.{◌≡◌, ◌∷◌, ◌++◌, [], IfOk, OnOk, option_map};
 ghost use Rattle.certificate_text.specs.Drafts.{ReadsOn, Takes, form_of, forms_now, is_ended, stage_at};
 ghost use Rattle.certificate_text.specs.Lines.{Cost, End, Head, Label, Leg, Opened};
 
@@ -50,33 +50,38 @@ fn no_leg(alloc: Global) -> Proof {
 }
 
 impl Draft {
-    /// No legs yet, and room for so many.
-    pub(crate) fn new(alloc: Global, room: usize) -> Result<Draft, AllocError>
-        ensures value { IfOk result (λ draft. forms_now draft ≡ Head ∷ []) }
-        ensures place { IfOk result (λ draft. stage_at draft.place ≡ Opened) }
+    /// No legs yet.
+    pub(crate) fn new(alloc: Global) -> Draft
+        ensures value { forms_now result ≡ Head ∷ [] }
+        ensures place { stage_at result.place ≡ Opened }
     {
-        Ok(Draft {
-            legs: Vec::with_capacity(alloc, room)?,
+        Draft {
+            legs: Vec::new(alloc),
             leg: no_leg(alloc),
             place: Place::Opened,
-        })
+        }
     }
 
-    /// Takes the text of one more line, with room for so many labels behind it; false where none
-    /// can stand there that has this text.
-    pub(crate) fn read(
+    /// Takes the first line of a text, and gives what follows it; nothing where none that can
+    /// stand there begins the text.
+    pub(crate) fn read<'a>(
         &mut self,
         alloc: Global,
         map: &Map,
-        line: &[u8],
-        after: &[u8],
-    ) -> Result<bool, AllocError>
-        ensures exact { IfOk result (ReadsOn map.now self.old self.new line.now) }
+        text: &'a [u8],
+    ) -> Result<Option<&'a [u8]>, AllocError>
+        ensures exact { IfOk result (λ left.
+            ReadsOn map.now self.old self.new text.now (option_map (λ rest. rest.now) left)) }
     {
         let _count = map.links();
-        match read_line(alloc, map, line)? {
-            Some(said) => self.take(alloc, said, after),
-            None => Ok(false),
+        let Some(found) = read_line(alloc, map, text)? else {
+            return Ok(None);
+        };
+        let (line, rest) = found;
+        if self.take(alloc, line, rest)? {
+            Ok(Some(rest))
+        } else {
+            Ok(None)
         }
     }
 

@@ -3,6 +3,7 @@
 
 mod certificate;
 mod cuts;
+mod digits;
 mod draft;
 mod error;
 mod labels;

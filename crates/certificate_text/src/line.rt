@@ -3,12 +3,12 @@
 ghost use Rattle.std.specs.Prelude.{◌≡◌, ◌++◌, IfOk, codes, option_map};
 ghost use Rattle.certificate_text.specs.Drafts.{form_of};
 ghost use Rattle.certificate_text.specs.Lines.{IsForm, line_of};
-ghost use Rattle.certificate_text.specs.Parts.{Reads};
+ghost use Rattle.certificate_text.specs.Parts.{ReadsTo};
 
 use crate::certificate::Entry;
-use crate::cuts::behind;
+use crate::cuts::{behind, cut};
 use crate::labels::entry_of;
-use crate::numbers::cost_of;
+use crate::numbers::cost_before;
 use crate::walks::walk_of;
 use overpass_graph::Map;
 use std::alloc::{AllocError, Global};
@@ -28,59 +28,74 @@ pub(crate) enum Line {
     End,
 }
 
-/// What a line says, if it is of one of the forms.
-pub(crate) fn read_line(alloc: Global, map: &Map, line: &[u8]) -> Result<Option<Line>, AllocError>
-    ensures exact { IfOk result (λ said.
-        Reads (line_of map.now) (IsForm map.now) line.now (option_map form_of said)) }
+/// What a text's first line says, if it is of one of the forms, and what follows it.
+pub(crate) fn read_line<'a>(
+    alloc: Global,
+    map: &Map,
+    text: &'a [u8],
+) -> Result<Option<(Line, &'a [u8])>, AllocError>
+    ensures exact { IfOk result (λ said. ReadsTo 10 (line_of map.now) (IsForm map.now) text.now
+        (option_map (λ p. (form_of p.0, p.1.now)) said)) }
 {
-    if let Some(text) = behind(line, b"label ") {
-        return Ok(label(map, text));
+    if let Some(rest) = behind(text, b"label ") {
+        return Ok(label(map, rest));
     }
-    if let Some(text) = behind(line, b"cost ") {
-        return Ok(cost(map, text));
+    if let Some(rest) = behind(text, b"cost ") {
+        return Ok(cost(map, rest));
     }
-    if let Some(text) = behind(line, b"leg") {
-        return leg(alloc, map, text);
+    if let Some(rest) = behind(text, b"leg") {
+        return leg(alloc, map, rest);
     }
-    if line == b"end".as_slice() {
-        Ok(Some(Line::End))
-    } else if line == b"certificate 1".as_slice() {
-        Ok(Some(Line::Head))
-    } else {
-        Ok(None)
+    if let Some(rest) = behind(text, b"end\n") {
+        return Ok(Some((Line::End, rest)));
+    }
+    match behind(text, b"certificate 1\n") {
+        Some(rest) => Ok(Some((Line::Head, rest))),
+        None => Ok(None),
     }
 }
 
 /// What a line says that begins as a label.
-fn label(map: &Map, text: &[u8]) -> Option<Line>
-    ensures exact { Reads (line_of map.now) (IsForm map.now) (codes "label " ++ text.now)
-        (option_map form_of result) }
+fn label<'a>(map: &Map, text: &'a [u8]) -> Option<(Line, &'a [u8])>
+    ensures exact { ReadsTo 10 (line_of map.now) (IsForm map.now) (codes "label " ++ text.now)
+        (option_map (λ p. (form_of p.0, p.1.now)) result) }
 {
     match entry_of(map, text) {
-        Some(entry) => Some(Line::Label { entry }),
+        Some(found) => {
+            let (entry, rest) = found;
+            Some((Line::Label { entry }, rest))
+        }
         None => None,
     }
 }
 
 /// What a line says that begins as a cost.
-fn cost(map: &Map, text: &[u8]) -> Option<Line>
-    ensures exact { Reads (line_of map.now) (IsForm map.now) (codes "cost " ++ text.now)
-        (option_map form_of result) }
+fn cost<'a>(map: &Map, text: &'a [u8]) -> Option<(Line, &'a [u8])>
+    ensures exact { ReadsTo 10 (line_of map.now) (IsForm map.now) (codes "cost " ++ text.now)
+        (option_map (λ p. (form_of p.0, p.1.now)) result) }
 {
     let _ = map;
-    match cost_of(text) {
-        Some(cost) => Some(Line::Cost { cost }),
+    match cost_before(text, b'\n') {
+        Some(found) => {
+            let (cost, rest) = found;
+            Some((Line::Cost { cost }, rest))
+        }
         None => None,
     }
 }
 
 /// What a line says that begins as a leg.
-fn leg(alloc: Global, map: &Map, text: &[u8]) -> Result<Option<Line>, AllocError>
-    ensures exact { IfOk result (λ said. Reads (line_of map.now) (IsForm map.now)
-        (codes "leg" ++ text.now) (option_map form_of said)) }
+fn leg<'a>(alloc: Global, map: &Map, text: &'a [u8]) -> Result<Option<(Line, &'a [u8])>, AllocError>
+    ensures exact { IfOk result (λ said. ReadsTo 10 (line_of map.now) (IsForm map.now)
+        (codes "leg" ++ text.now) (option_map (λ p. (form_of p.0, p.1.now)) said)) }
 {
-    match walk_of(alloc, map, text)? {
-        Some(walk) => Ok(Some(Line::Leg { walk })),
-        None => Ok(None),
-    }
+    let _count = map.links();
+    let Some(found) = cut(text, b'\n') else {
+        return Ok(None);
+    };
+    let (line, rest) = found;
+    let Some(walk) = walk_of(alloc, map, line)? else {
+        return Ok(None);
+    };
+    Ok(Some((Line::Leg { walk }, rest)))
 }

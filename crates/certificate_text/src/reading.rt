@@ -5,10 +5,9 @@ ghost use Rattle.certificate_text.specs.Lines.{Head, lines_of};
 ghost use Rattle.certificate_text.specs.Texts.{AreLegs, AreShort, IsSame, LegValue, ReadsText, certificate_text, legs_of};
 
 use crate::certificate::Certificate;
-use crate::cuts::cut;
+use crate::cuts::behind;
 use crate::draft::Draft;
 use crate::error::CertError;
-use crate::rooms::legs_in;
 use overpass_graph::Map;
 use std::alloc::Global;
 
@@ -22,14 +21,9 @@ pub fn read(alloc: Global, text: &[u8], map: &Map) -> Result<Certificate, CertEr
         text.now ≡ certificate_text map.now legs → IsSame legs result }
 {
     let _count = map.links();
-    let Some(found) = cut(text, b'\n') else {
-        return Err(CertError::Line { line: 1 });
-    };
-    let (head, rest) = found;
-    if head == b"certificate 1".as_slice() {
-        read_lines(alloc, rest, map)
-    } else {
-        Err(CertError::Line { line: 1 })
+    match behind(text, b"certificate 1\n") {
+        Some(rest) => read_lines(alloc, rest, map),
+        None => Err(CertError::Line { line: 1 }),
     }
 }
 
@@ -39,18 +33,17 @@ fn read_lines(alloc: Global, text: &[u8], map: &Map) -> Result<Certificate, Cert
     ensures exact { ReadsText map.now (lines_of map.now (Head ∷ []) ++ text.now) result }
 {
     let _count = map.links();
-    let mut draft = Draft::new(alloc, legs_in(text))?;
+    let mut draft = Draft::new(alloc);
     let mut rest = text;
     let mut number = 2u32;
-    'lines: while let Some(found) = cut(rest, b'\n') {
-        let (line, after) = found;
-        if !draft.read(alloc, map, line, after)? {
+    'lines: while !rest.is_empty() {
+        let Some(after) = draft.read(alloc, map, rest)? else {
             return Err(CertError::Line { line: number });
-        }
+        };
         rest = after;
         number += 1;
     }
-    if rest.is_empty() && draft.is_ended() {
+    if draft.is_ended() {
         Ok(draft.certificate())
     } else {
         Err(CertError::Line { line: number })

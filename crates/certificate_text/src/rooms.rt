@@ -1,36 +1,22 @@
-//! How much room the lines of a text take, counted before they are read.
+//! How much room the labels of a text take, counted before they are read.
 
 ghost use Rattle.std.specs.Prelude.{◌≤◌, length};
 
-/// How many labels follow each other at a text's front.
+use memchr::memchr;
+
+/// How many lines at a text's front begin as those of labels.
 pub(crate) fn labels_in(text: &[u8]) -> usize
     ensures fits { result ≤ length text.now }
 {
     let mut count = 0;
-    let mut is_first = true;
-    'bytes: for place in 0..text.len() {
-        if is_first && !text[place..].starts_with(b"la") {
+    let mut rest = text;
+    'lines: while rest.starts_with(b"la") {
+        let Some(end) = memchr(b'\n', rest) else {
             return count;
-        }
-        is_first = text[place] == b'\n';
-        if is_first {
-            count += 1;
-        }
-    }
-    count
-}
-
-/// How many lines of a text begin as those of legs.
-pub(crate) fn legs_in(text: &[u8]) -> usize
-    ensures fits { result ≤ length text.now }
-{
-    let mut count = 0;
-    let mut is_first = true;
-    'bytes: for place in 0..text.len() {
-        if is_first && text[place..].starts_with(b"le") {
-            count += 1;
-        }
-        is_first = text[place] == b'\n';
+        };
+        let (_, after) = rest.split_at(end + 1);
+        rest = after;
+        count += 1;
     }
     count
 }

@@ -4,8 +4,8 @@ ghost use Rattle.std.specs.Prelude.{◌≡◌, IfOk, option_map};
 ghost use Rattle.certificate_text.specs.Lines.{AreLinks, walk_text};
 ghost use Rattle.certificate_text.specs.Parts.{Reads};
 
-use crate::cuts::{count_of, word};
-use crate::names::link_of;
+use crate::cuts::count_of;
+use crate::names::link_at;
 use overpass_graph::Map;
 use std::alloc::{AllocError, Global};
 
@@ -22,10 +22,10 @@ pub(crate) fn walk_of(alloc: Global, map: &Map, text: &[u8]) -> Result<Option<Ve
             return Ok(None);
         }
         let (_, named) = rest.split_at(1);
-        let (name, after) = word(named, b' ');
-        let Some(link) = link_of(map, name) else {
+        let Some(found) = link_at(map, named) else {
             return Ok(None);
         };
+        let (link, after) = found;
         walk.push(link)?;
         rest = after;
     }

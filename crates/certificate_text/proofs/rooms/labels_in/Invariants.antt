@@ -1,5 +1,8 @@
-use Rattle.std.proofs.Common.{◌≤◌}
+use Rattle.std.proofs.Common.{◌+◌, ◌≤◌, length}
 use Rattle.certificate_text.proofs.rooms.labels_in.Given as goal
 
-abbrev pub invariant-bytes : goal.invariant-bytes
-invariant-bytes l = l.count ≤ l.place
+abbrev pub invariant-lines : goal.invariant-lines
+invariant-lines l = l.count + length l.rest ≤ length l.text
+
+abbrev pub decreases-lines : goal.decreases-lines
+decreases-lines l = length l.rest
