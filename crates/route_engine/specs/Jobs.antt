@@ -88,11 +88,12 @@ pub record IsJobOn (world : WorldValue) (job : Job) : Type 0 where
   pub stage : IsStage (plan_in world job) job.stage
   pub within : job.settled ≤ allowed (plan_in world job) job.stage
 
--- how many labels its searches have settled
+-- what is counted of a job: the labels that its searches have settled, and the beginnings of those that come
+-- behind others
 abbrev pub settled_by : Job → ℕ
 settled_by job = job.settled
 
--- the most that they may settle
+-- the most that may be counted of it
 abbrev pub most_settled : Plan → ℕ
 most_settled plan = most_between (length plan.nodes) plan.alternative plan.limit
 
@@ -129,8 +130,8 @@ EndsJob plan track end =
 abbrev pub AnswersJob : Plan → Option Track → Turn (Unit {0}) (Result (Unit {0}) RouteError) → Type 0
 AnswersJob plan track = Says (λ _. track ≡ None) (EndsJob plan track)
 
--- the labels that are settled after a turn, by those before it: the whole quota more where the job goes on,
--- and else fewer
+-- what is counted after a turn, by what was before it: the whole quota more where the job goes on, and else
+-- less
 pub record CountsJob {N E : Type 0} (quota before after : ℕ) (turn : Turn N E) : Type 0 where
   pub grows : before ≤ after
   pub settles : Settles (before + quota) after turn

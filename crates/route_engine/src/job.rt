@@ -27,11 +27,13 @@ use std::rc::Rc;
 use track_legs::Track;
 
 /// A request that is answered in turns: its legs are searched one after the other, and of each the
-/// alternatives up to the one that is asked for.
+/// alternatives up to the one that is asked for. Besides the labels that are settled, the beginning
+/// of each search behind another counts: as 2,000 labels, or as what is left of the turn if that is
+/// less.
 pub struct Job {
     pub(crate) alloc: Global,
     pub(crate) plan: JobPlan,
-    /// How many labels all searches have settled.
+    /// How many labels all searches have settled, and what beginnings count as.
     pub(crate) settled: u64,
     pub(crate) stage: Stage,
 }
@@ -80,8 +82,9 @@ impl Job {
         })
     }
 
-    /// Settles at most `quota` labels. It goes on where as many were settled, and is at its end
-    /// where the track is found or there is none. After its end a job gives that end again.
+    /// Settles at most `quota` labels, beginnings counted. It goes on where the whole quota was
+    /// counted, and is at its end where the track is found or there is none. After its end a job
+    /// gives that end again.
     pub fn turn(&mut self, world: &World, quota: u32) -> Turn<(), Result<(), RouteError>>
         requires on { IsJobOn (world_of world.now) self.old }
         requires some { 1 ≤ quota }
@@ -105,12 +108,13 @@ impl Job {
             match replace(&mut self.stage, Stage::Refused(RouteError::NoMemory)) {
                 Stage::Searching { walked, search } => {
                     let step = advance(self.alloc, world, &self.plan, walked, search, left);
-                    self.settled += step.settled;
+                    let counted = step.settled + step.beginning as u64;
+                    self.settled += counted;
                     self.stage = step.stage;
                     if step.more {
                         return Turn::More(());
                     }
-                    left -= step.settled as u32;
+                    left -= counted as u32;
                 }
                 Stage::Found(track) => {
                     self.stage = Stage::Found(track);
@@ -150,8 +154,8 @@ impl Job {
         }
     }
 
-    /// How many labels its searches have settled so far. Those of a search that ran out of memory
-    /// in this turn aren't counted.
+    /// How many labels its searches have settled so far, and what beginnings count as. Those of a
+    /// search that ran out of memory in this turn aren't counted.
     pub fn settled(&self) -> u64
         ensures value { result ≡ settled_by self.now }
     {
@@ -160,7 +164,7 @@ impl Job {
 }
 
 /// What a request is to find.
-fn plan_for(
+pub(crate) fn plan_for(
     alloc: Global,
     world: &World,
     ready: Rc<Ready>,

@@ -3,7 +3,7 @@ use Rattle.route_ready.specs.World.{world_of}
 use Rattle.route_engine.specs.Jobs.{ended_with, last_answer, plan_in}
 use Rattle.route_engine.specs.Progress.{IsStage, allowed, searches_left}
 use Rattle.route_engine.specs.declared.stage.Stage.TheVariants as stages
-use Rattle.route_engine.proofs.JobLemmas.{more-allowed, next-allowed, next-left, next-settled}
+use Rattle.route_engine.proofs.JobLemmas.{counted-allowed, next-counted, next-left}
 use Rattle.route_engine.proofs.StageLemmas.{allowed-most}
 use Rattle.route_engine.proofs.job.Job.turn.Goals as goal
 
@@ -17,8 +17,8 @@ returns-then-step-clause-bounded c =
     let on = c.advance-step.ensures.advances in
     omega (
       arith,
-      more-allowed plan c.in-Searching.walked c.in-Searching.search c.searches.left c.searches.self.settled c.advance-step.result is
-          within on c.if-step.true,
+      counted-allowed plan c.in-Searching.walked c.in-Searching.search c.searches.left c.searches.self.settled
+          c.advance-step.result is within on,
       allowed-most plan c.advance-step.result.stage on.stage,
     )
 
@@ -42,15 +42,15 @@ searches-preserved c =
     let within = subst (λ s. c.searches.self.settled ≤ allowed plan s) stage c.searches.invariant.on.within in
     let on = c.advance-step.ensures.advances in
     let fewer =
-    next-settled plan c.in-Searching.walked c.in-Searching.search c.searches.left c.searches.self.settled c.advance-step.result is
+    next-counted plan c.in-Searching.walked c.in-Searching.search c.searches.left c.searches.self.settled c.advance-step.result is
     within on c.if-step.false in
     record {
       on = record {
         plan = c.searches.invariant.on.plan;
         stage = on.stage;
         within =
-            next-allowed plan c.in-Searching.walked c.in-Searching.search c.searches.left c.searches.self.settled
-            c.advance-step.result is within on c.if-step.false;
+            counted-allowed plan c.in-Searching.walked c.in-Searching.search c.searches.left c.searches.self.settled
+            c.advance-step.result is within on;
       };
       plan = c.searches.invariant.plan;
       settled = omega (arith, c.searches.invariant.settled, fewer);
