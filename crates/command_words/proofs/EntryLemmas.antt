@@ -7,6 +7,8 @@ use Rattle.command_words.specs.FileNames.{is_profile_file}
 use Rattle.command_words.specs.Given.{Given}
 use Rattle.command_words.specs.Value.{number_of, within, number_value, file_value, value_of, cut_word, number_in}
 use Rattle.command_words.specs.Reader.{key_of, row_for, given_by, given_for, given_in, given_cut, entry_of, entry_with, same_key, may_follow, has_all, entries_after, whole_by}
+use Rattle.command_words.specs.Fit.{most_cost}
+use Rattle.command_words.proofs.CostLemmas.{cost-fit}
 use Rattle.command_words.proofs.KeyLemmas.{key-is}
 use Rattle.command_words.specs.declared.rows.Form.{Form as Wanted}
 use Rattle.command_words.specs.declared.rows.Form.TheVariants as Want
@@ -14,7 +16,8 @@ use Rattle.command_words.specs.declared.rows.KeyRow.{KeyRow}
 use Rattle.command_words.specs.declared.rows.Key.{Key}
 use Rattle.command_words.specs.declared.value.Value.{Value}
 
--- a number is within the limits of a form, and a text names a profile's file or spells an address where the form wants one
+-- a number is within the limits of a form, a cost within those of all, and a text names a profile's file or spells an address where
+-- the form wants one
 abbrev pub FitForm : Wanted → List ℕ → ℕ → Type 0
 FitForm (Want.Number low high) text x = (low ≤ x) × (x ≤ high)
 FitForm Want.Place text x = Unit {0}
@@ -23,6 +26,7 @@ FitForm Want.File text x = Unit {0}
 FitForm Want.ProfileFile text x = is_profile_file text ≡ true
 FitForm Want.Query text x = Unit {0}
 FitForm Want.Address text x = is_address text ≡ true
+FitForm Want.Cost text x = x ≤ most_cost
 
 -- the same of the form of a row, if there is one
 abbrev pub FitRow : Option KeyRow → List ℕ → ℕ → Type 0
@@ -67,6 +71,7 @@ value-fit Want.File text value e = tt
 value-fit Want.ProfileFile text value e = file-fit (is_profile_file text) value e
 value-fit Want.Query text value e = tt
 value-fit Want.Address text value e = file-fit (is_address text) value e
+value-fit Want.Cost text value e = cost-fit text value e
 
 -- an entry fits its key's row
 abbrev pub FitEntry : List KeyRow → Given → Type 0

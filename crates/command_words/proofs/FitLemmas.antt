@@ -7,11 +7,11 @@ use Rattle.command_words.specs.Given.{Given, Named}
 use Rattle.command_words.specs.Rows.{keys_of, most_turns}
 use Rattle.command_words.specs.Value.{number_in, place_in, product_in}
 use Rattle.command_words.specs.Reader.{entry_with, entries_after, entries_of}
-use Rattle.command_words.specs.Command.{lies_in, files_with, grid_by, grid_over, grid_with, hills_with, complete, command_with, code_with, make_with, file_in, files_in, route_by, certify_by, check_by, ride_in, serve_with, turns_in}
+use Rattle.command_words.specs.Command.{lies_in, files_with, grid_by, grid_over, grid_with, hills_with, complete, command_with, code_with, make_with, file_in, files_in, route_by, certify_by, check_by, table_by, within_by, ride_in, serve_with, turns_in}
 use Rattle.command_words.proofs.AddressLemmas.{address-spelled}
 use Rattle.command_words.proofs.EntryLemmas.{AllFit, split, err-not_ok, after-fit, whole-read, with-fit}
 use Rattle.command_words.proofs.ServeLemmas.{after-once, profiles-fit}
-use Rattle.command_words.specs.Fit.{IsFit, AreProfileFiles, AreOnceAfter}
+use Rattle.command_words.specs.Fit.{IsFit, AreProfileFiles, AreOnceAfter, most_cost}
 use Rattle.command_words.specs.Refusals.{OnUsage}
 use Rattle.command_words.specs.declared.reader.Refusal.{Refusal}
 use Rattle.command_words.specs.declared.command.Command.{Command}
@@ -23,9 +23,10 @@ use Rattle.command_words.specs.declared.command.MakeCommand.{MakeCommand}
 use Rattle.command_words.specs.declared.command.RouteCommand.{RouteCommand}
 use Rattle.command_words.specs.declared.command.CheckCommand.{CheckCommand}
 use Rattle.command_words.specs.declared.command.ServeCommand.{ServeCommand}
+use Rattle.command_words.specs.declared.command.WithinCommand.{WithinCommand}
 use Rattle.command_words.specs.declared.rows.CommandName.{CommandName}
 use Rattle.command_words.specs.declared.rows.CommandName.TheVariants as Name
-use Rattle.command_words.specs.declared.rows.Key.TheVariants.{Seed, Width, Height, From, To, What, Lookups, Profile, Map, Query, Tile, Listen, Turns, Certificate}
+use Rattle.command_words.specs.declared.rows.Key.TheVariants.{Seed, Width, Height, From, To, What, Lookups, Profile, Map, Tile, Listen, Turns, Certificate, Cost}
 use Rattle.command_words.specs.declared.value.Place.{Place}
 
 in_grid : (w h : ℕ) (place : Place) → lies_in w h place ≡ true → (place.x < w) × (place.y < h)
@@ -146,6 +147,22 @@ check_by-fit after (Ok route) (Some certificate) command e =
 check_by-fit after (Ok route) None command e = absurd (err-not_ok after command e)
 check_by-fit after (Err word) certificate command e = absurd (err-not_ok word command e)
 
+table_by-fit : (route : Result RouteCommand ℕ) (command : Command) → table_by route ≡ Ok command → IsFit command
+table_by-fit (Ok route) command e =
+    let same : Form.TheVariants.Table route ≡ command = cc in
+    subst IsFit same tt
+table_by-fit (Err word) command e = absurd (err-not_ok word command e)
+
+-- a cost that is told is within its limit
+within_by-fit : (after : ℕ) (route : Result RouteCommand ℕ) (cost : Option Given) (command : Command) →
+    ((e : Given) → cost ≡ Some e → number_in e.value ≤ most_cost) → within_by after route cost ≡ Ok command → IsFit command
+within_by-fit after (Ok route) (Some cost) command fit e =
+    let made : WithinCommand = record { route = route; cost = number_in cost.value } in
+    let same : Form.TheVariants.Within made ≡ command = cc in
+    subst IsFit same (fit cost refl)
+within_by-fit after (Ok route) None command fit e = absurd (err-not_ok after command e)
+within_by-fit after (Err word) cost command fit e = absurd (err-not_ok word command e)
+
 -- a server takes a number of events within its limits
 turns-fit : (turns : Option Given) → ((e : Given) → turns ≡ Some e → (1 ≤ number_in e.value) × (number_in e.value ≤ most_turns)) →
     (1 ≤ turns_in turns) × (turns_in turns ≤ most_turns)
@@ -228,6 +245,10 @@ complete-fit Name.Route entries after command all once e = route_by-fit (ride_in
 complete-fit Name.Certify entries after command all once e = certify_by-fit (ride_in entries after) command e
 complete-fit Name.Check entries after command all once e =
     check_by-fit after (ride_in entries after) (entry_with Certificate entries) command e
+complete-fit Name.Table entries after command all once e = table_by-fit (ride_in entries after) command e
+complete-fit Name.Within entries after command all once e =
+    within_by-fit after (ride_in entries after) (entry_with Cost entries) command
+    (λ x is. with-fit (keys_of Name.Within) Cost entries x all is) e
 complete-fit Name.Serve entries after command all once e =
     serve_with-fit after (entry_with Lookups entries) (entry_with Map entries) (files_in Profile entries) (files_in Tile entries)
     (entry_with Listen entries) (entry_with Turns entries) command

@@ -1,5 +1,6 @@
 pub mod AddressLemmas
 pub mod CallerLemmas
+pub mod CostLemmas
 pub mod EntryLemmas
 pub mod FitLemmas
 pub mod HelpLemmas

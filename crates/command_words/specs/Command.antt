@@ -7,9 +7,9 @@ use Rattle.command_words.specs.Reader.{entries_of, entries_with, entry_with}
 use Rattle.command_words.specs.Rows.{command_name, commands, keys_of, most_turns}
 use Rattle.command_words.specs.Value.{number_in, place_in, product_in}
 use Rattle.command_words.specs.declared.rows.CommandName.{CommandName}
-use Rattle.command_words.specs.declared.rows.CommandName.TheVariants.{Grid, Make, Code, Route, Certify, Check, Hills, Serve}
+use Rattle.command_words.specs.declared.rows.CommandName.TheVariants.{Grid, Make, Code, Route, Certify, Check, Table, Within, Hills, Serve}
 use Rattle.command_words.specs.declared.rows.Key.{Key}
-use Rattle.command_words.specs.declared.rows.Key.TheVariants.{Seed, Width, Height, From, To, What, Lookups, Profile, Map, Query, Tile, Listen, Turns, Certificate}
+use Rattle.command_words.specs.declared.rows.Key.TheVariants.{Seed, Width, Height, From, To, What, Lookups, Profile, Map, Query, Tile, Listen, Turns, Certificate, Cost}
 use Rattle.command_words.specs.declared.command.Command.{Command}
 use Rattle.command_words.specs.declared.command.Command as Form
 use Rattle.command_words.specs.declared.command.CodeCommand.{CodeCommand}
@@ -121,6 +121,19 @@ check_by after (Ok route) (Some certificate) =
 check_by after (Ok route) None = Err after
 check_by after (Err word) certificate = Err word
 
+-- the command that tells the costs between the waypoints of a query
+abbrev pub table_by : Result RouteCommand ℕ → Result Command ℕ
+table_by (Ok route) = Ok (Form.TheVariants.Table route)
+table_by (Err word) = Err word
+
+-- the command that tells what lies within a cost of the waypoints of a query, or the place after the last word
+-- where the cost is missing
+abbrev pub within_by : ℕ → Result RouteCommand ℕ → Option Given → Result Command ℕ
+within_by after (Ok route) (Some cost) =
+    Ok (Form.TheVariants.Within (record { route = route; cost = number_in cost.value }))
+within_by after (Ok route) None = Err after
+within_by after (Err word) cost = Err word
+
 -- the command of a hilly grid, or the place after the last word where an entry is missing
 abbrev pub hills_with : ℕ → Option Given → Option Given → Option Given → Result Command ℕ
 hills_with after (Some seed) (Some w) (Some h) =
@@ -165,6 +178,8 @@ complete Code entries after = code_with after (entry_with Lookups entries) (entr
 complete Route entries after = route_by (ride_in entries after)
 complete Certify entries after = certify_by (ride_in entries after)
 complete Check entries after = check_by after (ride_in entries after) (entry_with Certificate entries)
+complete Table entries after = table_by (ride_in entries after)
+complete Within entries after = within_by after (ride_in entries after) (entry_with Cost entries)
 complete Hills entries after =
     hills_with after (entry_with Seed entries) (entry_with Width entries) (entry_with Height entries)
 complete Serve entries after =

@@ -1,7 +1,7 @@
 -- The numbers of a command are within their limits, its places in its grid, its profiles have names of their
 -- own, and its address is one. This project's own rule.
 use Rattle.std.specs.List.{list_any}
-use Rattle.std.specs.Prelude.{◌≡◌, ℕ, ◌≤◌, ◌<◌, Bool, true, false, List, [], ◌∷◌, ◌++◌, Some}
+use Rattle.std.specs.Prelude.{◌≡◌, ℕ, ◌≤◌, ◌<◌, ◌^◌, Bool, true, false, List, [], ◌∷◌, ◌++◌, Some}
 use Rattle.std.specs.Str.{bytes_eq}
 use Rattle.command_words.specs.Addresses.{SpellsAddress}
 use Rattle.command_words.specs.FileNames.{is_profile_file, profile_name}
@@ -44,6 +44,10 @@ AreOnceAfter before (file ∷ files) =
     (is_among before (profile_name file.name) ≡ false) ×
     AreOnceAfter (before ++ profile_name file.name ∷ []) files
 
+-- the greatest cost that a word may tell, in millionths
+abbrev pub most_cost : ℕ
+most_cost = 10 ^ 15
+
 -- the events that a server takes are within their limits, its profiles have names, each its own, and where it
 -- listens is an IP address with a port
 pub record IsServeFit (command : ServeCommand) : Type 0 where
@@ -62,5 +66,7 @@ IsFit (Form.TheVariants.Code command) = Unit {0}
 IsFit (Form.TheVariants.Route command) = Unit {0}
 IsFit (Form.TheVariants.Certify command) = Unit {0}
 IsFit (Form.TheVariants.Check command) = Unit {0}
+IsFit (Form.TheVariants.Table command) = Unit {0}
+IsFit (Form.TheVariants.Within command) = command.cost ≤ most_cost
 IsFit (Form.TheVariants.Hills command) = IsSized command.seed command.w command.h
 IsFit (Form.TheVariants.Serve command) = IsServeFit command

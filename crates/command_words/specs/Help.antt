@@ -3,7 +3,7 @@ use Rattle.std.specs.Prelude.{ℕ, ◌==◌, cond, nat_eq, List, [], ◌∷◌, 
 use lib.Pointwise.{pointwise}
 use Rattle.command_words.specs.Rows.{key_name, command_name, keys_of, about_of, commands}
 use Rattle.command_words.specs.declared.rows.Form.{Form}
-use Rattle.command_words.specs.declared.rows.Form.TheVariants.{Number, Place, Product, File, ProfileFile, Query, Address}
+use Rattle.command_words.specs.declared.rows.Form.TheVariants.{Number, Place, Product, File, ProfileFile, Query, Address, Cost}
 use Rattle.command_words.specs.declared.rows.KeyRow.{KeyRow}
 use Rattle.command_words.specs.declared.rows.CommandName.{CommandName}
 
@@ -16,6 +16,7 @@ form_text File = codes "FILE"
 form_text ProfileFile = codes "FILE"
 form_text Query = codes "QUERY"
 form_text Address = codes "ADDRESS"
+form_text Cost = codes "COST"
 
 -- a key with the form of its value, in brackets where it isn't wanted
 abbrev pub key_text : KeyRow → List ℕ

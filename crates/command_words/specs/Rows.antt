@@ -1,12 +1,12 @@
 -- The commands as rows. This project's own rule.
 use Rattle.std.specs.Prelude.{ℕ, ◌^◌, List, [], ◌∷◌, ◌++◌, codes}
 use Rattle.command_words.specs.declared.rows.Key.{Key}
-use Rattle.command_words.specs.declared.rows.Key.TheVariants.{Seed, Width, Height, From, To, What, Lookups, Profile, Map, Query, Tile, Listen, Turns, Certificate}
+use Rattle.command_words.specs.declared.rows.Key.TheVariants.{Seed, Width, Height, From, To, What, Lookups, Profile, Map, Query, Tile, Listen, Turns, Certificate, Cost}
 use Rattle.command_words.specs.declared.rows.Form.{Form}
 use Rattle.command_words.specs.declared.rows.Form.TheVariants as form
 use Rattle.command_words.specs.declared.rows.KeyRow.{KeyRow}
 use Rattle.command_words.specs.declared.rows.CommandName.{CommandName}
-use Rattle.command_words.specs.declared.rows.CommandName.TheVariants.{Grid, Make, Code, Route, Certify, Check, Hills, Serve}
+use Rattle.command_words.specs.declared.rows.CommandName.TheVariants.{Grid, Make, Code, Route, Certify, Check, Table, Within, Hills, Serve}
 
 -- what stands before the equals sign
 unfoldable pub key_name : Key → List ℕ
@@ -24,6 +24,7 @@ key_name Tile = codes "tile"
 key_name Listen = codes "listen"
 key_name Turns = codes "turns"
 key_name Certificate = codes "certificate"
+key_name Cost = codes "cost"
 
 -- the first word of a command
 unfoldable pub command_name : CommandName → List ℕ
@@ -33,6 +34,8 @@ command_name Code = codes "code"
 command_name Route = codes "route"
 command_name Certify = codes "certify"
 command_name Check = codes "check"
+command_name Table = codes "table"
+command_name Within = codes "within"
 command_name Hills = codes "hills"
 command_name Serve = codes "serve"
 
@@ -67,6 +70,8 @@ keys_of Code = once Lookups form.File ∷ once Profile form.ProfileFile ∷ []
 keys_of Route = ride_keys
 keys_of Certify = ride_keys
 keys_of Check = ride_keys ++ once Certificate form.File ∷ []
+keys_of Table = ride_keys
+keys_of Within = ride_keys ++ once Cost form.Cost ∷ []
 keys_of Hills = once Seed (form.Number 0 65535) ∷ once Width (form.Number 1 1000) ∷ once Height
     (form.Number 1 1000) ∷ []
 keys_of Serve =
@@ -86,6 +91,10 @@ about_of Certify =
     "prints a certificate of the track that answers a query: its walks, and labels that show them least"
 about_of Check =
     codes "tests a certificate for a query without any search, and prints the cost of its track"
+about_of Table = codes "prints what it costs at least to come from each waypoint of a query to each"
+about_of Within =
+    codes
+    "prints each node to which it costs at most so much to come from a waypoint of a query, with what it costs at least"
 about_of Hills =
     codes
     "prints what the cheapest track costs from corner to corner of the hilly grid of w by h cells of a seed"
@@ -93,4 +102,4 @@ about_of Serve = codes "answers routes over HTTP, and takes profiles"
 
 -- the commands that are built
 abbrev pub commands : List CommandName
-commands = Grid ∷ Make ∷ Code ∷ Route ∷ Certify ∷ Check ∷ Hills ∷ Serve ∷ []
+commands = Grid ∷ Make ∷ Code ∷ Route ∷ Certify ∷ Check ∷ Table ∷ Within ∷ Hills ∷ Serve ∷ []

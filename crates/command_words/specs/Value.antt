@@ -1,8 +1,11 @@
--- The values of keys: numbers, places, what is made, names of files, queries and addresses. This project's
--- own rule.
+-- The values of keys: numbers, places, what is made, names of files, queries, addresses and costs. This
+-- project's own rule.
 use Rattle.std.specs.List.{before_first, after_first, position_or_len}
-use Rattle.std.specs.Prelude.{ℕ, ◌+◌, ◌-◌, ◌*◌, ◌==◌, Bool, true, false, cond, ◌&&◌, nat_lt, nat_le, Option, Some, None, List, [], ◌∷◌, length, take, drop, position, codes}
+use Rattle.std.specs.Prelude.{ℕ, ◌+◌, ◌-◌, ◌*◌, ◌==◌, ℤ, unsigned_abs, Bool, true, false, cond, ◌&&◌, nat_lt, nat_le, Option, Some, None, Result, Ok, Err, List, [], ◌∷◌, length, take, drop, position, codes}
+use Rattle.std.specs.Int.{is_negative}
 use Rattle.std.specs.Str.{bytes_eq}
+use Rattle.fixed_num.specs.Literal.{literal_of}
+use Rattle.fixed_num.specs.declared.literal.NumError.{NumError}
 use Rattle.item_list.specs.Bytes.{is_digit}
 use Rattle.command_words.specs.Addresses.{is_address}
 use Rattle.command_words.specs.FileNames.{is_file_name, is_profile_file}
@@ -79,6 +82,15 @@ abbrev pub file_value : Bool → Option Value
 file_value false = None
 file_value true = Some Named
 
+-- a number that isn't negative, as a value
+abbrev pub unsigned_value : ℤ → Option Value
+unsigned_value number = cond (is_negative number) None (Some (Number (unsigned_abs number)))
+
+-- a number that was read and isn't negative, as a value
+abbrev pub cost_value : Result ℤ NumError → Option Value
+cost_value (Ok number) = unsigned_value number
+cost_value (Err error) = None
+
 -- the value of a text that is to have this form
 unfoldable pub value_of : Form → List ℕ → Option Value
 value_of (Wanted.Number low high) text = number_value (within low high (number_of text))
@@ -88,6 +100,7 @@ value_of Wanted.File text = file_value (is_file_name text)
 value_of Wanted.ProfileFile text = file_value (is_profile_file text)
 value_of Wanted.Query text = file_value (is_file_name text)
 value_of Wanted.Address text = file_value (is_address text)
+value_of Wanted.Cost text = cost_value (literal_of text)
 
 -- a byte is an equals sign
 abbrev pub is_equals : ℕ → Bool

@@ -42,8 +42,8 @@ pub struct CodeCommand<'a> {
     pub profile: FileWord<'a>,
 }
 
-/// The commands `route` and `certify`: the files of the tag table, of the profile, of the map and of the tiles,
-/// and a query.
+/// The commands `route`, `certify` and `table`: the files of the tag table, of the profile, of the map and of
+/// the tiles, and a query.
 #[derive(Drop)]
 pub struct RouteCommand<'a> {
     pub lookups: FileWord<'a>,
@@ -58,6 +58,13 @@ pub struct RouteCommand<'a> {
 pub struct CheckCommand<'a> {
     pub route: RouteCommand<'a>,
     pub certificate: FileWord<'a>,
+}
+
+/// The command `within`: what the command `route` is given, and a cost in millionths.
+#[derive(Drop)]
+pub struct WithinCommand<'a> {
+    pub route: RouteCommand<'a>,
+    pub cost: u64,
 }
 
 /// The command `hills`: the hilly grid of a seed with `w` cells in a row and `h` rows.
@@ -117,6 +124,8 @@ pub enum Command<'a> {
     Route(RouteCommand<'a>),
     Certify(RouteCommand<'a>),
     Check(CheckCommand<'a>),
+    Table(RouteCommand<'a>),
+    Within(WithinCommand<'a>),
     Hills(HillsCommand),
     Serve(ServeCommand<'a>),
 }

@@ -8,7 +8,7 @@ ghost use Rattle.command_words.specs.declared.rows.Key.{Key};
 
 use crate::command::{
     CheckCommand, CodeCommand, Command, GridCommand, HillsCommand, MakeCommand, RouteCommand,
-    ServeCommand,
+    ServeCommand, WithinCommand,
 };
 use crate::entry::{Entry, FileWord};
 use crate::reader::entry_with;
@@ -37,6 +37,8 @@ pub fn complete<'a>(
         CommandName::Route => complete_route(entries, tiles, after),
         CommandName::Certify => complete_certify(entries, tiles, after),
         CommandName::Check => complete_check(entries, tiles, after),
+        CommandName::Table => complete_table(entries, tiles, after),
+        CommandName::Within => complete_within(entries, tiles, after),
         CommandName::Hills => complete_hills(entries, after),
         CommandName::Serve => complete_serve(entries, profiles, tiles, after),
     }
@@ -211,6 +213,40 @@ fn complete_check<'a>(
     Ok(Command::Check(CheckCommand {
         route,
         certificate: certificate.file(),
+    }))
+}
+
+/// The command `table` of these entries, which name these tiles, before the word at the place
+/// `after`.
+#[tactic(auto, unfolding(crate::specs::Command::complete))]
+fn complete_table<'a>(
+    entries: &[Entry<'a>],
+    tiles: Items<FileWord<'a>>,
+    after: u64,
+) -> Result<Command<'a>, u64>
+    requires tiles { tiles ≡ files_in Key.Tile entries.now }
+    ensures exact { result ≡ complete CommandName.Table entries.now after }
+{
+    let route = ride_in(entries, tiles, after)?;
+    Ok(Command::Table(route))
+}
+
+/// The command `within` of these entries, which name these tiles, before the word at the place
+/// `after`.
+#[tactic(auto, unfolding(crate::specs::Command::complete))]
+fn complete_within<'a>(
+    entries: &[Entry<'a>],
+    tiles: Items<FileWord<'a>>,
+    after: u64,
+) -> Result<Command<'a>, u64>
+    requires tiles { tiles ≡ files_in Key.Tile entries.now }
+    ensures exact { result ≡ complete CommandName.Within entries.now after }
+{
+    let route = ride_in(entries, tiles, after)?;
+    let cost = entry_with(entries, Key::Cost).ok_or(after)?;
+    Ok(Command::Within(WithinCommand {
+        route,
+        cost: cost.number(),
     }))
 }
 

@@ -131,7 +131,7 @@ impl<'a> Entry<'a> {
 }
 
 /// All keys.
-const ALL_KEYS: [Key; 14] = [
+const ALL_KEYS: [Key; 15] = [
     Key::Seed,
     Key::Width,
     Key::Height,
@@ -146,6 +146,7 @@ const ALL_KEYS: [Key; 14] = [
     Key::Listen,
     Key::Turns,
     Key::Certificate,
+    Key::Cost,
 ];
 
 /// The key that a text names.

@@ -124,5 +124,6 @@ fn append_form(text: &mut Vec<u8>, form: Form) -> Result<(), AllocError>
         Form::File | Form::ProfileFile => append_bytes(text, b"FILE"),
         Form::Query => append_bytes(text, b"QUERY"),
         Form::Address => append_bytes(text, b"ADDRESS"),
+        Form::Cost => append_bytes(text, b"COST"),
     }
 }

@@ -101,7 +101,7 @@ pub const CODE_KEYS: [KeyRow; 2] = [
     },
 ];
 
-/// The keys of the commands `route` and `certify`.
+/// The keys of the commands `route`, `certify` and `table`.
 pub const ROUTE_KEYS: [KeyRow; 5] = [
     KeyRow {
         form: Form::File,
@@ -172,6 +172,46 @@ pub const CHECK_KEYS: [KeyRow; 6] = [
         least: 1,
         most: 1,
         key: Key::Certificate,
+    },
+];
+
+/// The keys of the command `within`.
+pub const WITHIN_KEYS: [KeyRow; 6] = [
+    KeyRow {
+        form: Form::File,
+        least: 1,
+        most: 1,
+        key: Key::Lookups,
+    },
+    KeyRow {
+        form: Form::ProfileFile,
+        least: 1,
+        most: 1,
+        key: Key::Profile,
+    },
+    KeyRow {
+        form: Form::File,
+        least: 1,
+        most: 1,
+        key: Key::Map,
+    },
+    KeyRow {
+        form: Form::Query,
+        least: 1,
+        most: 1,
+        key: Key::Query,
+    },
+    KeyRow {
+        form: Form::File,
+        least: 0,
+        most: MOST_FILES,
+        key: Key::Tile,
+    },
+    KeyRow {
+        form: Form::Cost,
+        least: 1,
+        most: 1,
+        key: Key::Cost,
     },
 ];
 

@@ -15,7 +15,7 @@ mod value;
 
 pub use command::{
     CheckCommand, CodeCommand, Command, GridCommand, HillsCommand, MakeCommand, RouteCommand,
-    ServeCommand, command_of,
+    ServeCommand, WithinCommand, command_of,
 };
 pub use entry::FileWord;
 pub use file_names::{is_profile_file, profile_name};

@@ -4,7 +4,7 @@ ghost use Rattle.std.specs.Prelude.{◌≡◌};
 ghost use Rattle.command_words.specs.Rows.{about_of, command_name, key_name, keys_of};
 
 use crate::keys::{
-    CHECK_KEYS, CODE_KEYS, GRID_KEYS, HILLS_KEYS, MAKE_KEYS, ROUTE_KEYS, SERVE_KEYS,
+    CHECK_KEYS, CODE_KEYS, GRID_KEYS, HILLS_KEYS, MAKE_KEYS, ROUTE_KEYS, SERVE_KEYS, WITHIN_KEYS,
 };
 
 /// The keys of the words after a command.
@@ -24,6 +24,7 @@ pub enum Key {
     Listen,
     Turns,
     Certificate,
+    Cost,
 }
 
 /// What the value of a key has to be.
@@ -43,6 +44,8 @@ pub enum Form {
     Query,
     /// An address to listen at: an IP address and a port.
     Address,
+    /// A cost: a number as a profile's literal spells it, which isn't negative.
+    Cost,
 }
 
 /// A key of a command, the form of its value, and how often it is wanted at least and at most.
@@ -63,6 +66,8 @@ pub enum CommandName {
     Route,
     Certify,
     Check,
+    Table,
+    Within,
     Hills,
     Serve,
 }
@@ -72,13 +77,15 @@ pub enum CommandName {
 pub const MOST_TURNS: u64 = 1 << 63;
 
 /// The commands that are built.
-pub const COMMANDS: [CommandName; 8] = [
+pub const COMMANDS: [CommandName; 10] = [
     CommandName::Grid,
     CommandName::Make,
     CommandName::Code,
     CommandName::Route,
     CommandName::Certify,
     CommandName::Check,
+    CommandName::Table,
+    CommandName::Within,
     CommandName::Hills,
     CommandName::Serve,
 ];
@@ -104,6 +111,7 @@ impl Key {
             Key::Listen => "listen",
             Key::Turns => "turns",
             Key::Certificate => "certificate",
+            Key::Cost => "cost",
         }
     }
 }
@@ -121,6 +129,8 @@ impl CommandName {
             CommandName::Route => "route",
             CommandName::Certify => "certify",
             CommandName::Check => "check",
+            CommandName::Table => "table",
+            CommandName::Within => "within",
             CommandName::Hills => "hills",
             CommandName::Serve => "serve",
         }
@@ -135,8 +145,9 @@ impl CommandName {
             CommandName::Grid => &GRID_KEYS,
             CommandName::Make => &MAKE_KEYS,
             CommandName::Code => &CODE_KEYS,
-            CommandName::Route | CommandName::Certify => &ROUTE_KEYS,
+            CommandName::Route | CommandName::Certify | CommandName::Table => &ROUTE_KEYS,
             CommandName::Check => &CHECK_KEYS,
+            CommandName::Within => &WITHIN_KEYS,
             CommandName::Hills => &HILLS_KEYS,
             CommandName::Serve => &SERVE_KEYS,
         }
@@ -163,6 +174,11 @@ impl CommandName {
             CommandName::Check =>
                 "tests a certificate for a query without any search, and prints the cost of its \
                  track",
+            CommandName::Table =>
+                "prints what it costs at least to come from each waypoint of a query to each",
+            CommandName::Within =>
+                "prints each node to which it costs at most so much to come from a waypoint of a \
+                 query, with what it costs at least",
             CommandName::Hills =>
                 "prints what the cheapest track costs from corner to corner of the hilly grid of \
                  w by h cells of a seed",

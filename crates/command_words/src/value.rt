@@ -1,12 +1,14 @@
 //! The values of keys: numbers, places, what is made, and names of files.
 
 ghost use Rattle.std.specs.Prelude.{◌≡◌, option_map};
+ghost use Rattle.fixed_num.specs.Literal.{literal_of};
 ghost use Rattle.command_words.specs.Refusals.{texts_in};
-ghost use Rattle.command_words.specs.Value.{cut_word, first_place, number_of, number_value, place_of, place_value, product_of, product_value, value_of, within};
+ghost use Rattle.command_words.specs.Value.{cost_value, cut_word, first_place, number_of, number_value, place_of, place_value, product_of, product_value, unsigned_value, value_of, within};
 
 use crate::addresses::is_address;
 use crate::file_names::is_profile_file;
 use crate::rows::Form;
+use fixed_num::Num;
 use item_list::is_digit;
 
 /// A place of a grid by its column and its row.
@@ -41,6 +43,7 @@ pub fn value_of(form: Form, text: &[u8]) -> Option<Value>
         Form::Number { low, high } => number_value(text, low, high),
         Form::Place => place_value(text),
         Form::Product => product_value(text),
+        Form::Cost => cost_value(text),
         Form::File | Form::Query if !text.is_empty() => Some(Value::Named),
         Form::ProfileFile if is_profile_file(text) => Some(Value::Named),
         Form::Address if is_address(text) => Some(Value::Named),
@@ -131,4 +134,25 @@ fn product_value(text: &[u8]) -> Option<Value>
 {
     let product = product_of(text)?;
     Some(Value::Made(product))
+}
+
+/// The cost of a text as a value: its millionths, where it is a number that isn't negative.
+fn cost_value(text: &[u8]) -> Option<Value>
+    ensures exact { result ≡ cost_value (literal_of text.now) }
+{
+    match Num::read(text) {
+        Ok(number) => unsigned_value(number.millionths()),
+        Err(_) => None,
+    }
+}
+
+/// A number that isn't negative, as a value.
+fn unsigned_value(number: i64) -> Option<Value>
+    ensures exact { result ≡ unsigned_value number }
+{
+    if number < 0 {
+        None
+    } else {
+        Some(Value::Number(number.unsigned_abs()))
+    }
 }
