@@ -9,6 +9,7 @@ use Rattle.command_words.specs.declared.command.Command as Form
 use Rattle.command_words.specs.declared.command.GridCommand.{GridCommand}
 use Rattle.command_words.specs.declared.command.RouteCommand.{RouteCommand}
 use Rattle.command_words.specs.declared.command.ServeCommand.{ServeCommand}
+use Rattle.command_words.specs.declared.command.WithinCommand.{WithinCommand}
 use Rattle.context_check.specs.Refusal.{refusal_of}
 use Rattle.edge_io.specs.Files.{FilesSeen}
 use Rattle.hgt_tiles.specs.File.{relief_of_file}
@@ -38,6 +39,8 @@ use Rattle.run_answers.specs.Hills.{IsHillsAnswer}
 use Rattle.run_answers.specs.Make.{made_by}
 use Rattle.run_answers.specs.Refused.{IsRefusal}
 use Rattle.run_answers.specs.Route.{IsRouteAnswer, IsRouted, IsRoutedBy, route_files}
+use Rattle.run_answers.specs.Table.{IsTableCommandAnswer, IsTabledBy, IsTabledOver}
+use Rattle.run_answers.specs.Within.{IsNearbyBy, IsNearbyOver, IsWithinCommandAnswer}
 use Rattle.run_files.specs.Certificate.{IsCertificateIn, TakesCertificate}
 use Rattle.run_files.specs.Chain.{seen_as}
 use Rattle.run_files.specs.Checked.{TakesChecked, checked_by, checked_in}
@@ -116,6 +119,18 @@ module _ (Faulty : ℕ → Type 0)
         IsCertifiedBy profile world asked (Err status) → IsInner Faulty status
     certified-inner (Some sections) world asked status is = refusal-inner _ _ status is
     certified-inner None world asked status is = refusal-inner _ _ status is
+
+    -- the refusal of a request for a table by a profile, where there is one
+    tabled-inner : (profile : Option Sections) (world : WorldValue) (asked : Asked) (status : Status) →
+        IsTabledBy profile world asked (Err status) → IsInner Faulty status
+    tabled-inner (Some sections) world asked status is = refusal-inner _ _ status is
+    tabled-inner None world asked status is = refusal-inner _ _ status is
+
+    -- the refusal of a request with a cost by a profile, where there is one
+    nearby-inner : (profile : Option Sections) (world : WorldValue) (asked : Asked) (most : ℕ) (status : Status) →
+        IsNearbyBy profile world asked most (Err status) → IsInner Faulty status
+    nearby-inner (Some sections) world asked most status is = refusal-inner _ _ status is
+    nearby-inner None world asked most status is = refusal-inner _ _ status is
 
     -- the verdict on a certificate, where it is told as a refusal
     verdict-inner : (verdict : Verdict) (status : Status) → TellsVerdict verdict (Err status) → IsInner Faulty status
@@ -258,6 +273,26 @@ module _ (Faulty : ℕ → Type 0)
         (λ certificate. leaves-cause Faulty (IsCheckedOver offered asked certificate)
         (checked-by-inner (profile_named offered.profiles asked.profile) offered.world asked certificate))))
 
+    -- the command `table`
+    costs-cause : (command : RouteCommand) (old new : FilesSeen) (r : Result (List ℕ) Status) → IsTableCommandAnswer command old new r →
+        Cause Faulty (world_words (route_files command)) old new r
+    costs-cause command =
+        then-cause Faulty _ _ [] (world_words (route_files command))
+        (settles-cause Faulty (query_in command.query.name) (mapped-inner Query (request_of command.query.name) (λ e. tt)))
+        (λ asked. last-cause Faulty _ _ (world_words (route_files command)) (world-cause (route_files command))
+        (λ offered. leaves-cause Faulty (IsTabledOver offered asked)
+        (tabled-inner (profile_named offered.profiles asked.profile) offered.world asked)))
+
+    -- the command `within`
+    within-cause : (command : WithinCommand) (old new : FilesSeen) (r : Result (List ℕ) Status) →
+        IsWithinCommandAnswer command old new r → Cause Faulty (world_words (route_files command.route)) old new r
+    within-cause command =
+        then-cause Faulty _ _ [] (world_words (route_files command.route))
+        (settles-cause Faulty (query_in command.route.query.name) (mapped-inner Query (request_of command.route.query.name) (λ e. tt)))
+        (λ asked. last-cause Faulty _ _ (world_words (route_files command.route)) (world-cause (route_files command.route))
+        (λ offered. leaves-cause Faulty (IsNearbyOver offered asked command.cost)
+        (nearby-inner (profile_named offered.profiles asked.profile) offered.world asked command.cost)))
+
     -- the command `grid`
     grid-cause : (files : Option CodeCommand) (command : GridCommand) (old new : FilesSeen) (r : Result (List ℕ) Status) →
         IsGridAnswerBy files command old new r →
@@ -279,6 +314,8 @@ module _ (Faulty : ℕ → Type 0)
     command-cause (Form.TheVariants.Route command) may old new r is = route-cause command old new r is
     command-cause (Form.TheVariants.Certify command) may old new r is = certify-cause command (may command.query.word refl) old new r is
     command-cause (Form.TheVariants.Check command) may old new r is = check-cause command (may command.route.query.word refl) old new r is
+    command-cause (Form.TheVariants.Table command) may old new r is = costs-cause command old new r is
+    command-cause (Form.TheVariants.Within command) may old new r is = within-cause command old new r is
     command-cause (Form.TheVariants.Hills command) may old new r is =
         leaves-cause Faulty (IsHillsAnswer command) (refusal-inner _ _) old new r is
     command-cause (Form.TheVariants.Serve command) may old new r is = absurd is

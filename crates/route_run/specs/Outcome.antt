@@ -11,6 +11,8 @@ use Rattle.run_answers.specs.Grid.{IsGridAnswer}
 use Rattle.run_answers.specs.Hills.{IsHillsAnswer}
 use Rattle.run_answers.specs.Make.{made_by}
 use Rattle.run_answers.specs.Route.{IsRouteAnswer, route_files}
+use Rattle.run_answers.specs.Table.{IsTableCommandAnswer}
+use Rattle.run_answers.specs.Within.{IsWithinCommandAnswer}
 use Rattle.route_run.specs.Serving.{IsServeOutcome}
 use Rattle.route_run.specs.Ends.{Ends}
 use Rattle.route_run.specs.Offer.{serve_files}
@@ -39,6 +41,9 @@ IsCommandAnswer (Form.TheVariants.Code command) old new answer = IsCodeAnswer co
 IsCommandAnswer (Form.TheVariants.Route command) old new answer = IsRouteAnswer command old new answer
 IsCommandAnswer (Form.TheVariants.Certify command) old new answer = IsCertifyAnswer command old new answer
 IsCommandAnswer (Form.TheVariants.Check command) old new answer = IsCheckedAnswer command old new answer
+IsCommandAnswer (Form.TheVariants.Table command) old new answer = IsTableCommandAnswer command old new answer
+IsCommandAnswer (Form.TheVariants.Within command) old new answer =
+    IsWithinCommandAnswer command old new answer
 IsCommandAnswer (Form.TheVariants.Hills command) old new answer =
     Leaves (IsHillsAnswer command) old new answer
 IsCommandAnswer (Form.TheVariants.Serve command) old new answer = ⊥
@@ -121,6 +126,8 @@ file_words (Ok (Form.TheVariants.Code command)) = profile_words (Some command)
 file_words (Ok (Form.TheVariants.Route command)) = world_words (route_files command)
 file_words (Ok (Form.TheVariants.Certify command)) = world_words (route_files command)
 file_words (Ok (Form.TheVariants.Check command)) = check_words command
+file_words (Ok (Form.TheVariants.Table command)) = world_words (route_files command)
+file_words (Ok (Form.TheVariants.Within command)) = world_words (route_files command.route)
 file_words (Ok (Form.TheVariants.Hills command)) = []
 file_words (Ok (Form.TheVariants.Serve command)) = world_words (serve_files command)
 file_words (Err fault) = []

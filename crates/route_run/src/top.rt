@@ -14,7 +14,8 @@ use crate::server::serve_answer;
 use command_words::{Command, Refusal, command_of};
 use edge_io::{Files, Hub, Sink};
 use run_answers::{
-    certify_answer, check_answer, code_answer, grid_answer, hills_answer, make_answer, route_answer,
+    certify_answer, check_answer, code_answer, grid_answer, hills_answer, make_answer,
+    route_answer, table_answer, within_answer,
 };
 use run_files::Status;
 use std::alloc::Global;
@@ -78,6 +79,8 @@ fn command_run<F: Files, O: Sink, H: Hub>(
         Command::Route(command) => send(out, route_answer(alloc, command, files)),
         Command::Certify(command) => send(out, certify_answer(alloc, command, files)),
         Command::Check(command) => send(out, check_answer(alloc, command, files)),
+        Command::Table(command) => send(out, table_answer(alloc, command, files)),
+        Command::Within(command) => send(out, within_answer(alloc, command, files)),
         Command::Hills(command) => send(out, hills_answer(alloc, command)),
         Command::Serve(command) => serve_answer(alloc, command, files, hub),
     }

@@ -9,3 +9,5 @@ pub mod Make
 pub mod Outputs
 pub mod Refused
 pub mod Route
+pub mod Table
+pub mod Within

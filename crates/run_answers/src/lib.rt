@@ -9,9 +9,12 @@ mod grid;
 mod hills;
 mod lines;
 mod make;
+mod near_lines;
 mod output;
 mod refused;
 mod route;
+mod table;
+mod within;
 
 pub use certify::certify_answer;
 pub use check::check_answer;
@@ -21,3 +24,5 @@ pub use hills::hills_answer;
 pub use make::make_answer;
 pub use output::{MapOutput, Output};
 pub use route::route_answer;
+pub use table::table_answer;
+pub use within::within_answer;

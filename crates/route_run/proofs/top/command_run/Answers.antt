@@ -51,6 +51,19 @@ returns-in-Check g c = record {
       written _ _ _ _ (bytes_in c.check_answer.result) _ c.in-Check.is c.check_answer.ensures.exact c.send-in-Check.ensures.ends refl;
 }
 
+pub returns-in-Table : goal.returns-in-Table
+returns-in-Table g c = record {
+  exact =
+      written _ _ _ _ (bytes_in c.table_answer.result) _ c.in-Table.is c.table_answer.ensures.exact c.send-in-Table.ensures.ends refl;
+}
+
+pub returns-in-Within : goal.returns-in-Within
+returns-in-Within g c = record {
+  exact =
+      written _ _ _ _ (bytes_in c.within_answer.result) _ c.in-Within.is c.within_answer.ensures.exact c.send-in-Within.ensures.ends
+      refl;
+}
+
 pub returns-in-Hills : goal.returns-in-Hills
 returns-in-Hills g c = record {
   exact = written _ _ _ _ (bytes_in c.hills_answer.result) _ c.in-Hills.is (c.hills_answer.ensures.exact, refl) c.send-in-Hills.ensures.ends

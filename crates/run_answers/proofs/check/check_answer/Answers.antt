@@ -1,6 +1,5 @@
-use Rattle.std.proofs.Common.{Err, Ok, Result, ap, refl, subst, ◌∙◌}
+use Rattle.std.proofs.Common.{Err, Ok, ap, refl, subst, ◌∙◌}
 use Rattle.std.proofs.lemmas.Result.{err_from_is_err_and}
-use Rattle.certificate_text.specs.declared.certificate.Certificate.{Certificate}
 use Rattle.overpass_graph.specs.Maps.{MapValue}
 use Rattle.route_http.specs.Seen.{asked}
 use Rattle.run_files.proofs.StageLemmas.{then-goes, then-stops}
