@@ -17,15 +17,17 @@ use Rattle.route_http.specs.Asked.{Asked}
 use Rattle.route_http.specs.Request.{request_of}
 use Rattle.route_http.specs.declared.span.Span.{Span}
 use Rattle.session_answers.proofs.CallerLemmas.{verdict_unique}
+use Rattle.session_answers.specs.Aims.{most_for}
 use Rattle.session_answers.specs.Stored.{Stored}
 use Rattle.session_answers.specs.Verdicts.{part}
+use Rattle.session_answers.specs.declared.aim.Aim.{Aim}
 use Rattle.session_answers.specs.declared.verdict.Verdict.TheVariants.{Query}
 
 -- ---- What a session asks
 
 -- a session asks for something
 abbrev pub Asks : Connection → Type 0
-Asks c = (asked : Asked) × AsksFor c asked
+Asks c = (aim : Aim) × (asked : Asked) × AsksFor c aim asked
 
 -- each that waits does
 abbrev pub AreAsking : State → Type 0
@@ -66,14 +68,14 @@ takes_asks service stored old c now added settled reads (steps.silent is) waits 
 takes_asks service stored old c now added settled reads (steps.refused is) waits = cc
 takes_asks service stored old c now added settled reads (steps.upload is) waits = cc
 takes_asks service stored old c now added settled reads (steps.early is answers) waits = cc
-takes_asks service stored old c now added settled reads (steps.waits {span} is searched) waits =
-    (searched.asked, record { span = span; verdict = is; spells = searched.asks.asks })
+takes_asks service stored old c now added settled reads (steps.waits {aim} {span} is searched) waits =
+    (aim, searched.asked, record { span = span; verdict = is; spells = searched.asks.asks })
 takes_asks service stored old c now added settled reads (steps.gives_up some which) waits = cc
 
 goes_asks : (service : Service) (stored : List Stored) (c now : Connection) (settled : ℕ) → GoesOn service stored c now →
     now.phase ≡ Waits settled → Asks now
-goes_asks service stored c now settled (steps.more {asked} phase asks few) waits =
-    (asked, record { span = asks.span; verdict = asks.verdict; spells = asks.spells })
+goes_asks service stored c now settled (steps.more {aim} {asked} phase asks few) waits =
+    (aim, asked, record { span = asks.span; verdict = asks.verdict; spells = asks.spells })
 goes_asks service stored c now settled (steps.answers phase asked within answers) waits = cc
 goes_asks service stored c now settled (steps.gives_up phase) waits = cc
 
@@ -138,12 +140,15 @@ asking_each s new ids acts all none_served = all
 asking_each s new ids acts all (more_served {ids = first} {id} {acts = before} {own} {between} {c} {left} each known serves) =
     asking_left between id c left known (asking_each s between first before all each) (left_serves id c own left serves)
 
--- a session asks for one thing, however much is settled for it
-pub asks_once : (c : Connection) (m n : ℕ) (a b : Asked) → AsksFor (waiting_for c m) a → AsksFor (waiting_for c n) b → a ≡ b
-asks_once c m n a b one other =
-    let verdict : Query one.span ≡ Query other.span =
-    verdict_unique c.bytes c.ended (Query one.span) (Query other.span) one.verdict other.verdict in
+-- a session asks for one thing, however much is settled for it: as much may be
+pub most_once : (c : Connection) (m n : ℕ) (p q : Aim) (a b : Asked) → AsksFor (waiting_for c m) p a → AsksFor (waiting_for c n) q b →
+    most_for p a ≡ most_for q b
+most_once c m n p q a b one other =
+    let verdict : Query p one.span ≡ Query q other.span =
+    verdict_unique c.bytes c.ended (Query p one.span) (Query q other.span) one.verdict other.verdict in
+    let aim : p ≡ q = cc in
     let span : one.span ≡ other.span = cc in
-    let same : Ok a ≡ Ok b =
+    let spelt : Ok a ≡ Ok b =
     sym one.spells ∙ ap (λ (x : Span). request_of (part c.bytes x)) span ∙ other.spells in
-    cc
+    let same : a ≡ b = cc in
+    λ i. most_for (aim i) (same i)

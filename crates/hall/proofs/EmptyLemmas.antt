@@ -1,7 +1,7 @@
 -- A hall without connections.
-use Rattle.std.proofs.Common.{◌≡◌, ℕ, zero, suc, Bool, List, [], length, get_or, replicate, Option, Some, None, option_map, inl, inr, refl, sym, ◌∙◌, ap, subst, arith}
+use Rattle.std.proofs.Common.{◌≡◌, ℕ, zero, suc, Bool, List, [], length, get_or, replicate, Option, Some, None, refl, sym, ◌∙◌, ap, subst, arith}
 use Rattle.std.proofs.lemmas.List.{length-replicate}
-use Rattle.hall.specs.Parts.{AreReadied, IsHeld, count_of, seat_count, seated_of, seats_of, state_in}
+use Rattle.hall.specs.Parts.{AreReadied, IsHeld, count_of, seat_count, seats_of, state_in}
 use Rattle.hall.specs.Sound.{AreWaiting}
 use Rattle.hall.specs.State.{empty_hall}
 use Rattle.hall.specs.View.{Seated, known_at}

@@ -61,6 +61,7 @@ ended_each_wait service given new n acts turns law k state is id settled c known
     let parts = split service (empty_hall given) new n acts turns k state is in
     let waits = law given k parts.first state parts.before id settled c known phase in
     record {
+      aim = waits.aim;
       asked = waits.asked;
       asks = waits.asks;
       ended = λ enough.

@@ -7,7 +7,7 @@ use Rattle.hall.proofs.SoundLemmas.{sound_works}
 use Rattle.hall.specs.Held.{IsAmong}
 use Rattle.hall.specs.Parts.{HasTurn, IsHeld, IsSeatOf, IsWaitingIn, Makes, connection_of, phase_in, seats_of, service_at, service_in, state_in}
 use Rattle.hall.specs.Sound.{IsWaiting}
-use Rattle.hall.specs.State.{Connection, Reading, Service, Waits, changed}
+use Rattle.hall.specs.State.{Connection, Service, Waits, changed}
 use Rattle.hall.specs.Steps as steps
 use Rattle.hall.specs.Steps.{GoesOn, Works}
 use Rattle.hall.specs.View.{Seated}

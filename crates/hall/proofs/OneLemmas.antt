@@ -1,19 +1,19 @@
 -- What a turn does to one connection, and what it leaves of the others.
 use Rattle.std.proofs.Common.{◌≡◌, ◌≢◌, ◌==◌, ℕ, false, take, List, [], ◌∷◌, ◌++◌, Option, Some, None, inl, inr, refl, sym, ◌∙◌, ap, subst, append-nil, append_assoc}
 use Rattle.std.proofs.lemmas.Bool.{cases_eq, eq-eqb, false≢true, ne_eqb}
-use Rattle.edge_io.specs.Acts.{Act, Gave, Took, Broke, Closed, is_event_of}
+use Rattle.edge_io.specs.Acts.{Act, Took, Broke, Closed, is_event_of}
 use Rattle.edge_io.specs.declared.event.Event.{Event}
 use Rattle.edge_io.specs.declared.event.Event.TheVariants.{Opened, Bytes, Ended, Lost, Quiet, Over}
 use Rattle.hall.proofs.ChangeLemmas.{changes_gone, changes_left, changes_now, changes_put}
 use Rattle.hall.proofs.IdLemmas.{among_first, among_last, among_split, different_split}
 use Rattle.hall.proofs.TrafficLemmas.{AreApart, AreApart-more, AreApart-none, AreApart-one}
-use Rattle.hall.specs.Held.{AreAll, AreDifferent, IsAmong}
+use Rattle.hall.specs.Held.{AreDifferent, IsAmong}
 use Rattle.hall.specs.Sends.{Closes, Sends, Serves}
 use Rattle.hall.specs.Sends as sending
-use Rattle.hall.specs.State.{Connection, Service, State, changed, left_as, put}
+use Rattle.hall.specs.State.{Connection, Service, State, changed, left_as}
 use Rattle.hall.specs.Steps.{GoesOn, Hears, Loses, Opens, Step, Works, session, turned_away, with_bytes, with_end}
 use Rattle.hall.specs.Steps as steps
-use Rattle.hall.specs.Turns.{ServesEach, Turn, shut}
+use Rattle.hall.specs.Turns.{ServesEach, Turn}
 use Rattle.hall.specs.Turns.ServesEach.{none as none_served, more as more_served}
 use Rattle.session_answers.specs.Stored.{Stored}
 

@@ -8,7 +8,7 @@ use Rattle.hall.proofs.SoundLemmas.{sound_opens}
 use Rattle.hall.specs.Held.{HasRoom, IsFull, count_at, most_sessions}
 use Rattle.hall.specs.Parts.{AreReadied, IsHeld, IsPlaced, IsSearchAt, IsSearchIn, connection_of, count_of, known_of, phase_in, seated_of, seats_of, service_at, service_in, state_in}
 use Rattle.hall.specs.Sound.{IsSound}
-use Rattle.hall.specs.State.{Connection, Reading, State, Waits, put}
+use Rattle.hall.specs.State.{Connection, State, Waits, put}
 use Rattle.hall.specs.Steps as steps
 use Rattle.hall.specs.Steps.{Opens, session, turned_away}
 use Rattle.hall.specs.View.{Seated}
@@ -17,11 +17,11 @@ use Rattle.hall.specs.declared.room.Room.{Room}
 use Rattle.hall.specs.declared.seat.Phase.TheVariants as phases
 use Rattle.hall.specs.declared.seat.Phase.{Phase as Kept}
 use Rattle.hall.specs.declared.seat.Seat.{Seat}
-use Rattle.route_engine.specs.Pending.{settled_of}
 use Rattle.route_ready.specs.World.{world_of}
 use Rattle.route_ready.specs.Worlds.{WorldValue}
 use Rattle.session_answers.specs.Profiles.{stored_of}
 use Rattle.session_answers.specs.Received.{received_of}
+use Rattle.session_answers.specs.Searches.{settled_by}
 use Rattle.session_answers.specs.Stored.{Stored}
 
 module _ (room new : Room) (held : IsHeld room) (id : ℕ) (none : (state_in room).known id ≡ None) (seat : Seat) (desk :
@@ -94,7 +94,7 @@ is_full room held seen away same many = (
 still_in : (world : WorldValue) (stored : List Stored) (bytes : List ℕ) (ended : Bool) (whole : Option ℕ) (p : Kept) →
     ((settled : ℕ) → phase_in p ≡ Waits settled → ⊥) → IsSearchIn world stored bytes ended whole p
 still_in world stored bytes ended whole phases.Reading still = tt
-still_in world stored bytes ended whole (phases.Waits pending place) still = absurd (still (settled_of pending) refl)
+still_in world stored bytes ended whole (phases.Waits pending place) still = absurd (still (settled_by pending) refl)
 still_in world stored bytes ended whole (phases.Answered frame sent) still = tt
 still_in world stored bytes ended whole phases.Silent still = tt
 

@@ -4,7 +4,7 @@ use Rattle.hall.proofs.RoomLemmas.{Becomes, IsReplaced, made_state, made_becomes
 use Rattle.hall.proofs.SoundInLemmas.{read_sound}
 use Rattle.hall.proofs.SoundLemmas.{sound_hears, IsHearing}
 use Rattle.hall.specs.Parts.{IsHeld, IsReaderOf, Settles, connection_of, phase_in, seats_of, service_in, state_in}
-use Rattle.hall.specs.State.{Connection, Reading, Waits}
+use Rattle.hall.specs.State.{Connection, Reading}
 use Rattle.hall.specs.Steps as steps
 use Rattle.hall.specs.Steps.{Hears}
 use Rattle.hall.specs.View.{Seated}

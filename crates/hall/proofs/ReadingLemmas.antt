@@ -12,7 +12,6 @@ use Rattle.hall.specs.declared.seat.Phase.{Phase as Kept}
 use Rattle.hall.specs.declared.seat.Phase.TheVariants as phases
 use Rattle.hall.specs.declared.seat.Seat.{Seat}
 use Rattle.session_answers.specs.declared.kept.KeptProfiles.{KeptProfiles}
-use Rattle.route_engine.specs.declared.pending.Pending.{Pending}
 use Rattle.route_http.specs.declared.span.Span.{Span}
 use Rattle.route_ready.specs.World.{world_of}
 use Rattle.session_answers.proofs.CallerLemmas.{job_now, kept_more, verdict_unique}
@@ -23,8 +22,10 @@ use Rattle.session_answers.specs.Received.{received_of}
 use Rattle.session_answers.specs.Rows.{IsEarlyFrame}
 use Rattle.session_answers.specs.Stored.{Stored, Uploaded, upload_of}
 use Rattle.session_answers.specs.Verdicts.{IsVerdict, part}
+use Rattle.session_answers.specs.declared.aim.Aim.{Aim}
 use Rattle.session_answers.specs.declared.profiles.Profiles.{Profiles}
 use Rattle.session_answers.specs.declared.refusal.Refusal.{Refusal}
+use Rattle.session_answers.specs.declared.search.Search.{Search}
 use Rattle.session_answers.specs.declared.verdict.Verdict.{Verdict}
 use Rattle.session_answers.specs.declared.verdict.Verdict.TheVariants.{NoByte, Refused, Upload, Query}
 
@@ -111,7 +112,8 @@ settles_refused desk are before seat made r is answer =
 
 module _ (desk : Desk) (kept : KeptProfiles) (are : AreKept (world_of desk.world) (stored_of desk.profiles) kept) (before : Connection)
     (seat : Seat) (n : ℕ)
-    (counts : n ≡ length (stored_of desk.profiles)) (span : Span) (is : IsVerdict (received_of seat.received) seat.ended (Query span)) where
+    (counts : n ≡ length (stored_of desk.profiles)) (aim : Aim) (span : Span)
+    (is : IsVerdict (received_of seat.received) seat.ended (Query aim span)) where
   -- its request is whole now
   abbrev whole : Seat
   whole = record seat { before = Some n }
@@ -133,8 +135,8 @@ module _ (desk : Desk) (kept : KeptProfiles) (are : AreKept (world_of desk.world
 
   -- a search that waits, or want of memory
   module _ (new : Desk) (world : new.world ≡ desk.world) (profiles : new.profiles ≡ desk.profiles) (readied : AreReadied new) (place : ℕ)
-      (pending : Pending)
-      (begun : IsBegun (world_of desk.world) (stored_of desk.profiles) (part (received_of seat.received) span) place pending) where
+      (pending : Search)
+      (begun : IsBegun (world_of desk.world) (stored_of desk.profiles) aim (part (received_of seat.received) span) place pending) where
     stored_same : stored_of new.profiles ≡ stored_of desk.profiles ++ []
     stored_same = ap stored_of profiles ∙ sym (append-nil (stored_of desk.profiles))
 
@@ -146,11 +148,12 @@ module _ (desk : Desk) (kept : KeptProfiles) (are : AreKept (world_of desk.world
         subst (λ (d : Desk). IsSearchAt d (waiting_by whole pending place)) desk_is
         (record {
           before = length (stored_of desk.profiles);
+          aim = aim;
           span = span;
           verdict = is;
           whole_is = ap (λ (m : ℕ). Some m) counts;
           within = omega arith;
-          job = job_now (world_of desk.world) (part (received_of seat.received) span) place pending (stored_of desk.profiles) begun.job;
+          job = job_now (world_of desk.world) aim (part (received_of seat.received) span) place pending (stored_of desk.profiles) begun.job;
         })
       where
         desk_is : record desk { queue = new.queue; kept = new.kept; alloc = new.alloc } ≡ new
@@ -182,7 +185,7 @@ module _ (desk : Desk) (kept : KeptProfiles) (are : AreKept (world_of desk.world
           own = refl;
           alike = refl;
           added = [];
-          is = steps.gives_up {kept = connection_of whole} (has_byte (received_of seat.received) seat.ended (Query span) is (λ e. cc))
+          is = steps.gives_up {kept = connection_of whole} (has_byte (received_of seat.received) seat.ended (Query aim span) is (λ e. cc))
               (inr (inr whole_is));
           stored = stored_same;
           waiting = queue ∙ sym (append-nil desk.queue.items);

@@ -3,12 +3,12 @@ use Rattle.std.proofs.Common.{◌≡◌, ◌<◌, ◌≤◌, ◌==◌, ◌+◌, 
 use Rattle.std.proofs.lemmas.Bool.{cases_eq}
 use Rattle.std.proofs.lemmas.List.{length-set}
 use Rattle.std.specs.Bool.{beq}
-use Rattle.hall.proofs.SeatCountLemmas.{count_set, counts}
+use Rattle.hall.proofs.SeatCountLemmas.{count_set}
 use Rattle.hall.proofs.SeatLemmas.{IsAlone, IsFor, alone_at, known_seat, known_set, once_set, seat_is, seat_within, seats_long, seats_set, set_twice}
 use Rattle.hall.specs.Held.{count_at, most_sessions}
 use Rattle.hall.specs.Parts.{AreReadied, IsHeld, IsSearchAt, IsSearchIn, IsSearching, Makes, connection_of, count_of, known_of, seated_of, seats_of, service_at, service_in, state_in}
 use Rattle.hall.specs.Sound.{IsSound}
-use Rattle.hall.specs.State.{Connection, Reading, Service, State, Waits, changed, put, waits_as}
+use Rattle.hall.specs.State.{Connection, Service, State, changed, waits_as}
 use Rattle.hall.specs.View.{Seated, known_at}
 use Rattle.hall.specs.declared.desk.Desk.{Desk}
 use Rattle.hall.specs.declared.room.Room.{Room}
@@ -32,11 +32,12 @@ search_more : (world : WorldValue) (stored more : List Stored) (bytes : List ℕ
 search_more world stored more bytes ended whole phases.Reading is = tt
 search_more world stored more bytes ended whole (phases.Waits pending place) is = record {
   before = is.before;
+  aim = is.aim;
   span = is.span;
   verdict = is.verdict;
   whole_is = is.whole_is;
   within = omega (arith, is.within, length-append stored more);
-  job = job_more world (part bytes is.span) place pending is.before stored more is.within is.job;
+  job = job_more world is.aim (part bytes is.span) place pending is.before stored more is.within is.job;
 }
 search_more world stored more bytes ended whole (phases.Answered frame sent) is = tt
 search_more world stored more bytes ended whole phases.Silent is = tt

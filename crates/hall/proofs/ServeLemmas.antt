@@ -21,22 +21,23 @@ use Rattle.hall.specs.Steps as steps
 use Rattle.hall.specs.Turns.{Meets}
 use Rattle.session_answers.specs.Rows.{IsQueryFrame}
 use Rattle.session_answers.specs.Stored.{Stored}
+use Rattle.session_answers.specs.declared.aim.Aim.{Aim}
 
 -- ---- A turn of work
 
 module _ (service : Service) (meets : Meets) (stored : List Stored) (id : ℕ) (acts : List Act) (c : Connection) where
   -- a frame that answers its query is the row of its request
-  answer_row : (a : IsAsked meets stored id acts c.bytes c.ended c.before) (before : ℕ) (query frame : List ℕ) → AskedBy c before query →
-      IsQueryFrame service.world (take before stored) query frame → IsRowOf service a.state.stored c.bytes c.ended frame []
-  answer_row a before query frame asked answers =
+  answer_row : (a : IsAsked meets stored id acts c.bytes c.ended c.before) (before : ℕ) (aim : Aim) (query frame : List ℕ) →
+      AskedBy c before aim query → IsQueryFrame service.world (take before stored) aim query frame → IsRowOf service a.state.stored c.bytes c.ended frame []
+  answer_row a before aim query frame asked answers =
       let one : Some before ≡ Some (length a.state.stored) = sym asked.before_is ∙ a.counts in
       let count : before ≡ length a.state.stored = cc in
       let front : take before stored ≡ a.state.stored =
       ap (λ (n : ℕ). take n stored) count ∙ ap (λ (xs : List Stored). take (length a.state.stored) xs) a.grown
       ∙ take-append_seam a.state.stored a.rest in
       rows.query asked.verdict
-      (subst (λ (q : List ℕ). IsQueryFrame service.world a.state.stored q frame) asked.query_is
-      (subst (λ (xs : List Stored). IsQueryFrame service.world xs query frame) front answers))
+      (subst (λ (q : List ℕ). IsQueryFrame service.world a.state.stored aim q frame) asked.query_is
+      (subst (λ (xs : List Stored). IsQueryFrame service.world xs aim query frame) front answers))
 
   -- what is known of a connection whose search had a turn fits
   goes_fit : (now : Connection) → IsHeldSo service meets stored id acts c → GoesOn service stored c now →
@@ -44,12 +45,12 @@ module _ (service : Service) (meets : Meets) (stored : List Stored) (id : ℕ) (
   goes_fit now at (steps.more {settled} waits asks few) =
       let fits = subst (FitsPhase service meets stored id acts c) waits at.by_phase in
       record { opened = at.opened; unclosed = at.unclosed; by_phase = fits }
-  goes_fit now at (steps.answers {settled} {before} {query} {frame} waits asked within answers) =
+  goes_fit now at (steps.answers {settled} {before} {aim} {query} {frame} waits asked within answers) =
       let fits = subst (FitsPhase service meets stored id acts c) waits at.by_phase in
       record {
         opened = at.opened;
         unclosed = at.unclosed;
-        by_phase = (row fits.0.decided (answer_row fits.0 before query frame asked answers), fits.1);
+        by_phase = (row fits.0.decided (answer_row fits.0 before aim query frame asked answers), fits.1);
       }
   goes_fit now at (steps.gives_up {settled} waits) =
       let fits = subst (FitsPhase service meets stored id acts c) waits at.by_phase in

@@ -15,7 +15,7 @@ use Rattle.hall.specs.Parts.{AreReadied, FitsUnsent, IsHeld, IsSearchAt, IsSearc
 use Rattle.hall.specs.Sends.{IsDone, IsPiece, nothing, taken, broken, stays, done, sent_more}
 use Rattle.hall.specs.Served.{AreLive, ClosedDone, SentPiece, ServedAll, ServedEach, ServedOne, ServedSeat}
 use Rattle.hall.specs.Sound.{IsSound}
-use Rattle.hall.specs.State.{Answered, Connection, Phase, Reading, Service, Silent, State, Waits, left_as, put, without}
+use Rattle.hall.specs.State.{Answered, Connection, Phase, Reading, Service, Silent, State, Waits, left_as, put}
 use Rattle.hall.specs.View.{Seated}
 use Rattle.hall.specs.declared.desk.Desk.{Desk}
 use Rattle.hall.specs.declared.room.Room.{Room}

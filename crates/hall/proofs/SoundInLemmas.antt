@@ -83,11 +83,11 @@ module _ (service : Service) (stored : List Stored) (old c : Connection) (was : 
 pub goes_sound : (service : Service) (stored : List Stored) (c now : Connection) → c.away ≡ false → GoesOn service stored c now →
     IsSoundIn service (stored ++ []) now now.phase
 goes_sound service stored c now held (steps.more waits asks few) = held
-goes_sound service stored c now held (steps.answers {settled} {before} {query} {frame} waits asked within answers) =
+goes_sound service stored c now held (steps.answers {settled} {before} {aim} {query} {frame} waits asked within answers) =
     frame_sound service stored [] c frame
     (rows.whole {before = before} held asked.before_is within
     (rows.query asked.verdict
-    (subst (λ (q : List ℕ). IsQueryFrame service.world (take before stored) q frame) asked.query_is answers)))
+    (subst (λ (q : List ℕ). IsQueryFrame service.world (take before stored) aim q frame) asked.query_is answers)))
 goes_sound service stored c now held (steps.gives_up waits) = frame_sound service stored [] c memory_frame (rows.memory held)
 
 pub goes_waits : (service : Service) (stored : List Stored) (c now : Connection) → GoesOn service stored c now →

@@ -14,9 +14,10 @@ use Rattle.hall.specs.Steps as steps
 use Rattle.hall.specs.Steps.{AsksFor, GoesOn, Hears, Loses, Opens, Step, Works, memory_frame, session, turned_away, with_bytes, with_end, work_quota}
 use Rattle.hall.specs.Turns.ServesEach.{none as none_served, more as more_served}
 use Rattle.hall.specs.Turns.{ServesEach}
-use Rattle.route_engine.specs.Labels.{most_labels}
 use Rattle.route_http.specs.Asked.{Asked}
+use Rattle.session_answers.specs.Aims.{most_for}
 use Rattle.session_answers.specs.Stored.{Stored}
+use Rattle.session_answers.specs.declared.aim.Aim.{Aim}
 
 -- a session is as it was, and no more wait before it
 pub record IsStill (s new : State) (id : ℕ) (c : Connection) : Type 0 where
@@ -27,7 +28,7 @@ pub record IsStill (s new : State) (id : ℕ) (c : Connection) : Type 0 where
 pub data HasWorked (id : ℕ) (c : Connection) (settled : ℕ) (s new : State) : Type 0 where
   framed : {frame : List ℕ} → new.known id ≡ Some (with_frame c frame) → HasWorked id c settled s new
   waits_on :
-      {asked : Asked} → AsksFor c asked → settled + work_quota ≤ most_labels asked →
+      {aim : Aim} {asked : Asked} → AsksFor c aim asked → settled + work_quota ≤ most_for aim asked →
       new.known id ≡ Some (record c { phase = Waits (settled + work_quota) }) → HasWorked id c settled s new
   nearer :
       new.known id ≡ Some c → ((n : ℕ) → IsAmongFirst id (suc n) s.waiting → IsAmongFirst id n new.waiting) →
@@ -151,10 +152,10 @@ module _ (id : ℕ) (c : Connection) (settled : ℕ) (waits : c.phase ≡ Waits 
 
   goes_worked : (service : Service) (stored : List Stored) (s new : State) (now : Connection) → new.known id ≡ Some now →
       GoesOn service stored c now → HasWorked id c settled s new
-  goes_worked service stored s new now known (steps.more {settled = n} {asked} phase asks few) =
+  goes_worked service stored s new now known (steps.more {settled = n} {aim} {asked} phase asks few) =
       let one : Waits settled ≡ Waits n = sym waits ∙ phase in
       let same : n ≡ settled = cc in
-      waits_on asks (subst (λ (m : ℕ). m + work_quota ≤ most_labels asked) same few)
+      waits_on asks (subst (λ (m : ℕ). m + work_quota ≤ most_for aim asked) same few)
       (known ∙ ap (λ (m : ℕ). Some (record c { phase = Waits (m + work_quota) })) same)
   goes_worked service stored s new now known (steps.answers {frame} phase asked within answers) = framed {frame = frame} known
   goes_worked service stored s new now known (steps.gives_up phase) = framed {frame = memory_frame} known

@@ -108,11 +108,11 @@ module _ (service : Service) (meets : Meets) (s : State) (id : ℕ) (acts : List
   takes_fit now added met (steps.upload {span} v) = (row (decided (changed s id now added) added met refl) (rows.upload v), taking.none)
   takes_fit now added met (steps.early {span} {frame} v found) =
       (row (decided (changed s id now []) [] met refl) (rows.query v (queries.before found)), taking.none)
-  takes_fit now added met (steps.waits {span} v searched) = (
+  takes_fit now added met (steps.waits {aim} {span} v searched) = (
     record {
       state = s;
       decided = decided (changed s id now []) [] met refl;
-      some = λ silent. (let clash : Query span ≡ NoByte = verdict_unique c.bytes c.ended (Query span) NoByte v silent in cc);
+      some = λ silent. (let clash : Query aim span ≡ NoByte = verdict_unique c.bytes c.ended (Query aim span) NoByte v silent in cc);
       counts = refl;
       rest = [];
       grown = refl;

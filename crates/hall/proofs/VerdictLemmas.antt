@@ -6,15 +6,17 @@ use Rattle.route_http.specs.declared.heads.Head.TheVariants.{Whole, More, Bad, T
 use Rattle.route_http.specs.declared.heads.Method.{Method}
 use Rattle.route_http.specs.declared.heads.Method.TheVariants.{Get, Post, Other}
 use Rattle.route_http.specs.declared.span.Span.{Span}
-use Rattle.session_answers.specs.Verdicts.{IsVerdict, by_path, is_whole, most_body, of_route, of_upload, part, profile_path, route_path, unfinished, verdict_by}
+use Rattle.session_answers.specs.Verdicts.{IsVerdict, by_path, is_whole, most_body, of_query, of_upload, part, profile_path, route_path, table_path, unfinished, verdict_by}
+use Rattle.session_answers.specs.declared.aim.Aim.{Aim}
+use Rattle.session_answers.specs.declared.aim.Aim.TheVariants.{Track, Table}
 use Rattle.session_answers.specs.declared.refusal.Refusal.{Refusal}
 use Rattle.session_answers.specs.declared.refusal.Refusal.TheVariants.{BadRequest, BodyTooLong, MethodNotAllowed, UnknownPath}
 use Rattle.session_answers.specs.declared.verdict.Verdict.{Verdict}
 use Rattle.session_answers.specs.declared.verdict.Verdict.TheVariants.{Undecided, NoByte, Refused, Upload, Query}
 
--- ---- of a request for a route or an upload
+-- ---- of a request for a route or a table, or an upload
 
--- a request for a route is decided, and has a byte
+-- a request for a route or a table is decided, and has a byte
 pub record IsDecided (v : Verdict) : Type 0 where
   pub decided : v ≡ Undecided → ⊥
   pub has_byte : v ≡ NoByte → ⊥
@@ -25,12 +27,12 @@ refused_is_decided r = record { decided = λ h. cc; has_byte = λ h. cc }
 by_test : (P : Verdict → Type 0) (b : Bool) (v w : Verdict) → P v → P w → P (cond b v w)
 by_test P b v w first second = elim b as (λ x. P (cond x v w)) [ true ↦ first | false ↦ second ]
 
-route_is_decided : (method : Method) (query : Span) (body : ℕ) → IsDecided (of_route method query body)
-route_is_decided Get query body =
-    by_test IsDecided (nat_lt most_body body) (Refused BodyTooLong) (Query query) (refused_is_decided BodyTooLong)
+query_is_decided : (aim : Aim) (method : Method) (query : Span) (body : ℕ) → IsDecided (of_query aim method query body)
+query_is_decided aim Get query body =
+    by_test IsDecided (nat_lt most_body body) (Refused BodyTooLong) (Query aim query) (refused_is_decided BodyTooLong)
     (record { decided = λ h. cc; has_byte = λ h. cc })
-route_is_decided Post query body = refused_is_decided MethodNotAllowed
-route_is_decided Other query body = refused_is_decided MethodNotAllowed
+query_is_decided aim Post query body = refused_is_decided MethodNotAllowed
+query_is_decided aim Other query body = refused_is_decided MethodNotAllowed
 
 -- the place of an upload's text
 abbrev text_of : ℕ → ℕ → Span
@@ -59,21 +61,29 @@ upload_is_decided long Post body bytes whole =
 path_has_byte : (path : List ℕ) (long : ℕ) (method : Method) (query : Span) (body : ℕ) (bytes : List ℕ) →
     by_path path long method query body bytes ≡ NoByte → ⊥
 path_has_byte path long method query body bytes is =
-    by_test (λ v. v ≡ NoByte → ⊥) (bytes_eq path route_path) (of_route method query body)
+    by_test (λ v. v ≡ NoByte → ⊥) (bytes_eq path route_path) (of_query Track method query body)
+    (cond (bytes_eq path table_path) (of_query Table method query body)
+    (cond (bytes_eq path profile_path) (of_upload long method body bytes) (Refused UnknownPath)))
+    (query_is_decided Track method query body).has_byte
+    (by_test (λ v. v ≡ NoByte → ⊥) (bytes_eq path table_path) (of_query Table method query body)
     (cond (bytes_eq path profile_path) (of_upload long method body bytes) (Refused UnknownPath))
-    (route_is_decided method query body).has_byte
+    (query_is_decided Table method query body).has_byte
     (by_test (λ v. v ≡ NoByte → ⊥) (bytes_eq path profile_path) (of_upload long method body bytes) (Refused UnknownPath)
-    (upload_has_byte long method body bytes) (λ h. cc))
+    (upload_has_byte long method body bytes) (λ h. cc)))
     is
 
 path_is_decided : (path : List ℕ) (long : ℕ) (method : Method) (query : Span) (body : ℕ) (bytes : List ℕ) →
     is_whole long method body bytes ≡ true → IsDecided (by_path path long method query body bytes)
 path_is_decided path long method query body bytes whole =
-    by_test IsDecided (bytes_eq path route_path) (of_route method query body)
+    by_test IsDecided (bytes_eq path route_path) (of_query Track method query body)
+    (cond (bytes_eq path table_path) (of_query Table method query body)
+    (cond (bytes_eq path profile_path) (of_upload long method body bytes) (Refused UnknownPath)))
+    (query_is_decided Track method query body)
+    (by_test IsDecided (bytes_eq path table_path) (of_query Table method query body)
     (cond (bytes_eq path profile_path) (of_upload long method body bytes) (Refused UnknownPath))
-    (route_is_decided method query body)
+    (query_is_decided Table method query body)
     (by_test IsDecided (bytes_eq path profile_path) (of_upload long method body bytes) (Refused UnknownPath)
-    (upload_is_decided long method body bytes whole) (refused_is_decided UnknownPath))
+    (upload_is_decided long method body bytes whole) (refused_is_decided UnknownPath)))
 
 whole_is_decided : (bytes : List ℕ) (long : ℕ) (method : Method) (path query : Span) (body : ℕ) →
     IsDecided (verdict_by (Whole long method path query body) bytes true)

@@ -2,7 +2,7 @@
 use Rattle.std.proofs.Common.{◌≡◌, ◌⊎◌, ◌+◌, ◌*◌, ◌/◌, ◌<◌, ◌≤◌, ℕ, zero, suc, false, List, Some, None, inl, inr, refl, sym, ◌∙◌, ap, arith}
 use Rattle.edge_io.specs.Acts.{Act}
 use Rattle.edge_io.specs.declared.event.Event.{Event}
-use Rattle.hall.proofs.AskingLemmas.{AreAsking, asking_each, asking_step, asking_works, asks_once}
+use Rattle.hall.proofs.AskingLemmas.{AreAsking, asking_each, asking_step, asking_works, most_once}
 use Rattle.hall.proofs.FewLemmas.{few_each, few_empty, few_step, few_wait, few_works}
 use Rattle.hall.proofs.PlaceLemmas.{IsAmongFirst, first_all}
 use Rattle.hall.proofs.SoundLemmas.{sound_each, sound_empty, sound_step, sound_works}
@@ -15,9 +15,10 @@ use Rattle.hall.specs.Steps.{AsksFor, work_quota}
 use Rattle.hall.specs.Turns.Turns.{none, more}
 use Rattle.hall.specs.Turns.{Turn, Turns}
 use Rattle.hall.specs.Waiting.{AllEndInTime, EndsAmong, EndsEachWait, EndsWait, lost, answered, most_turns}
-use Rattle.route_engine.specs.Labels.{most_labels}
 use Rattle.route_http.specs.Asked.{Asked}
+use Rattle.session_answers.specs.Aims.{most_for}
 use Rattle.session_answers.specs.Stored.{Stored}
+use Rattle.session_answers.specs.declared.aim.Aim.{Aim}
 
 -- ---- A turn
 
@@ -65,19 +66,19 @@ record IsInTime (s : State) (id : ℕ) (c : Connection) (most left : ℕ) : Type
   few : most < settled + work_quota * suc rounds
   left_is : place + most_sessions * rounds ≤ left
 
-module _ (service : Service) (id : ℕ) (c : Connection) (asked : Asked) (settled : ℕ) (asks : AsksFor (waiting_for c settled) asked) where
+module _ (service : Service) (id : ℕ) (c : Connection) (aim : Aim) (asked : Asked) (settled : ℕ)
+    (asks : AsksFor (waiting_for c settled) aim asked) where
   -- a frame is given to it; or it waits with so many turns left
   abbrev Goes : State → ℕ → Type 0
-  Goes worked left = ((frame : List ℕ) × (worked.known id ≡ Some (with_frame c frame))) ⊎ IsInTime worked id c (most_labels asked) left
+  Goes worked left = ((frame : List ℕ) × (worked.known id ≡ Some (with_frame c frame))) ⊎ IsInTime worked id c (most_for aim asked) left
 
   -- so it is after a turn of work
   goes_worked : (s worked : State) (now place rounds left : ℕ) → IsWell service worked → IsAmongFirst id (suc place) s.waiting →
-      most_labels asked < now + work_quota * suc rounds → suc place + most_sessions * rounds ≤ suc left →
+      most_for aim asked < now + work_quota * suc rounds → suc place + most_sessions * rounds ≤ suc left →
       HasWorked id (waiting_for c now) now s worked → Goes worked left
   goes_worked s worked now place rounds left well first few left_is (framed {frame} known) = inl (frame, known)
-  goes_worked s worked now place zero left well first few left_is (waits_on {asked = other} asks_other fits known) =
-      let same = asks_once c settled now asked other asks asks_other in
-      absurd (omega (arith, few, fits, ap most_labels same))
+  goes_worked s worked now place zero left well first few left_is (waits_on {aim = its} {asked = other} asks_other fits known) =
+      absurd (omega (arith, few, fits, most_once c settled now aim its asked other asks asks_other))
   goes_worked s worked now place (suc rounds) left well first few left_is (waits_on asks_other fits known) =
       inr (record {
         settled = now + work_quota;
@@ -105,13 +106,13 @@ module _ (service : Service) (id : ℕ) (c : Connection) (asked : Asked) (settle
   -- a turn ends its wait, or leaves it with a turn less
   abbrev Comes : State → Event → State → ℕ → Type 0
   Comes new event worked left =
-      EndsWait id c event worked ⊎ ((rest : ℕ) × (left ≡ suc rest) × IsInTime new id c (most_labels asked) rest)
+      EndsWait id c event worked ⊎ ((rest : ℕ) × (left ≡ suc rest) × IsInTime new id c (most_for aim asked) rest)
 
   module _ (s new : State) (event : Event) (bytes : List ℕ) (acts : List Act) (turn : Turn service s event bytes acts new) (well :
       IsWell service s) where
     -- work and serving, by how many wait before it
     comes_by : (now place rounds left : ℕ) → turn.stepped.known id ≡ Some (waiting_for c now) → IsAmongFirst id place turn.stepped.waiting →
-        most_labels asked < now + work_quota * suc rounds → place + most_sessions * rounds ≤ left → Comes new event turn.worked left
+        most_for aim asked < now + work_quota * suc rounds → place + most_sessions * rounds ≤ left → Comes new event turn.worked left
     comes_by now zero rounds left known first few left_is = absurd first
     comes_by now (suc place) rounds zero known first few left_is = absurd (omega (arith, left_is))
     comes_by now (suc place) rounds (suc left) known first few left_is =
@@ -137,7 +138,7 @@ module _ (service : Service) (id : ℕ) (c : Connection) (asked : Asked) (settle
               ))
         ]
 
-    comes : (left : ℕ) → IsInTime s id c (most_labels asked) left → Comes new event turn.worked left
+    comes : (left : ℕ) → IsInTime s id c (most_for aim asked) left → Comes new event turn.worked left
     comes left waits =
         elim (still_step id (waiting_for c waits.settled) waits.settled refl service s turn.stepped event bytes turn.at_once waits.known
         turn.step) [
@@ -153,11 +154,11 @@ module _ (service : Service) (id : ℕ) (c : Connection) (asked : Asked) (settle
   record IsLeftOver (new : State) (m left : ℕ) : Type 0 where
     rest : ℕ
     left_is : left ≡ rest + m
-    waits : IsInTime new id c (most_labels asked) rest
+    waits : IsInTime new id c (most_for aim asked) rest
     well : IsWell service new
 
   comes_among : (s new : State) (m left : ℕ) (acts : List Act) (turns : Turns service s m acts new) → IsWell service s →
-      IsInTime s id c (most_labels asked) left → EndsAmong service s id c m acts new turns ⊎ IsLeftOver new m left
+      IsInTime s id c (most_for aim asked) left → EndsAmong service s id c m acts new turns ⊎ IsLeftOver new m left
   comes_among s new m left acts none well waits = inr (record { rest = left; left_is = omega arith; waits = waits; well = well })
   comes_among s new m left acts (more {n = before} {acts = first} {own} {between} {event} {bytes} turns turn) well waits =
       elim (comes_among s between before left first turns well waits) [
@@ -181,7 +182,7 @@ module _ (service : Service) (id : ℕ) (c : Connection) (asked : Asked) (settle
   some_left s (suc place) first = omega arith
 
   ends_among : (s new : State) (m left : ℕ) (acts : List Act) (turns : Turns service s m acts new) → IsWell service s →
-      IsInTime s id c (most_labels asked) left → left ≤ m → EndsAmong service s id c m acts new turns
+      IsInTime s id c (most_for aim asked) left → left ≤ m → EndsAmong service s id c m acts new turns
   ends_among s new m left acts turns well waits within =
       elim (comes_among s new m left acts turns well waits) [
         | inl ends ↦ ends
@@ -210,8 +211,8 @@ ends_in_time : (service : Service) (s : State) → IsWell service s → AllEndIn
 ends_in_time service s well id settled c known phase =
     let own = well.asking id c settled known phase in
     let is : waiting_for c settled ≡ c = λ i. record c { phase = sym phase i } in
-    let asks = own.1 in
-    let waits : IsInTime s id c (most_labels own.0) (most_turns own.0) =
+    let asks = own.2 in
+    let waits : IsInTime s id c (most_for own.0 own.1) (most_turns own.0 own.1) =
     record {
       settled = settled;
       known = known ∙ ap (λ (d : Connection). Some d) (sym is);
@@ -219,16 +220,17 @@ ends_in_time service s well id settled c known phase =
       first = first_all id most_sessions s.waiting
           (well.sound.queued.whole id (record { c = c; known = known; settled = settled; phase = phase }))
           (few_wait service s well.sound well.few);
-      rounds = most_labels own.0 / work_quota;
+      rounds = most_for own.0 own.1 / work_quota;
       few = omega arith;
       left_is = omega arith;
     } in
     record {
-      asked = own.0;
+      aim = own.0;
+      asked = own.1;
       asks = asks;
       ends = λ m acts new turns within.
-          ends_among service id c own.0 settled (record { span = asks.span; verdict = asks.verdict; spells = asks.spells }) s new m
-          (most_turns own.0) acts turns well waits within;
+          ends_among service id c own.0 own.1 settled (record { span = asks.span; verdict = asks.verdict; spells = asks.spells }) s new m
+          (most_turns own.0 own.1) acts turns well waits within;
     }
 
 -- each search comes to its end

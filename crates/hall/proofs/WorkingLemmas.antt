@@ -10,22 +10,22 @@ use Rattle.hall.specs.declared.room.Room.{Room}
 use Rattle.hall.specs.declared.seat.Frame.{Frame}
 use Rattle.hall.specs.declared.seat.Frame.TheVariants as frames
 use Rattle.hall.specs.declared.seat.Seat.{Seat}
-use Rattle.route_engine.specs.Labels.{most_labels}
-use Rattle.route_engine.specs.Pending.{settled_of}
-use Rattle.route_engine.specs.declared.pending.Pending.{Pending}
 use Rattle.route_ready.specs.World.{world_of}
+use Rattle.session_answers.specs.Aims.{most_for}
 use Rattle.session_answers.specs.Jobs.{IsJobOf}
 use Rattle.session_answers.specs.Profiles.{stored_of}
 use Rattle.session_answers.specs.Received.{received_of}
 use Rattle.session_answers.specs.Rows.{IsQueryFrame}
+use Rattle.session_answers.specs.Searches.{settled_by}
 use Rattle.session_answers.specs.Verdicts.{part}
+use Rattle.session_answers.specs.declared.search.Search.{Search}
 
-module _ (desk : Desk) (seat : Seat) (place : ℕ) (pending : Pending)
+module _ (desk : Desk) (seat : Seat) (place : ℕ) (pending : Search)
     (search : IsSearchOf (world_of desk.world) (stored_of desk.profiles) (received_of seat.received) seat.ended seat.before place pending)
     (are : AreReadied desk) where
   -- the connection as it waited
   abbrev waited : Connection
-  waited = waiting_for (connection_of seat) (settled_of pending)
+  waited = waiting_for (connection_of seat) (settled_by pending)
 
   -- it gets a frame
   framed : (made : Seat) (frame : Frame) → made ≡ answered_by seat frame →
@@ -47,29 +47,29 @@ module _ (desk : Desk) (seat : Seat) (place : ℕ) (pending : Pending)
 
   -- that of its query
   pub works_frame : (made : Seat) (frame : Frame) →
-      IsQueryFrame (world_of desk.world) (take search.before (stored_of desk.profiles)) (part (received_of seat.received) search.span)
-      (frame_in frame) →
+      IsQueryFrame (world_of desk.world) (take search.before (stored_of desk.profiles)) search.aim
+      (part (received_of seat.received) search.span) (frame_in frame) →
       made ≡ answered_by seat frame → Makes desk desk (HasTurn desk waited) seat.id seat.away made
   works_frame made frame is same =
-      let asked : AskedBy waited search.before (part (received_of seat.received) search.span) =
+      let asked : AskedBy waited search.before search.aim (part (received_of seat.received) search.span) =
       record { span = search.span; verdict = search.verdict; query_is = refl; before_is = search.whole_is } in
-      framed made frame same (steps.answers {settled = settled_of pending} refl asked search.within is)
+      framed made frame same (steps.answers {settled = settled_by pending} refl asked search.within is)
 
   -- or memory ran out
   pub works_memory : (made : Seat) → made ≡ answered_by seat frames.Memory → Makes desk desk (HasTurn desk waited) seat.id seat.away made
-  works_memory made same = framed made frames.Memory same (steps.gives_up {settled = settled_of pending} refl)
+  works_memory made same = framed made frames.Memory same (steps.gives_up {settled = settled_by pending} refl)
 
   -- or the search goes on, and waits last where the queue has room
   module _ (new : Desk) (world : new.world ≡ desk.world) (profiles : new.profiles ≡ desk.profiles) (kept : new.kept ≡ desk.kept) (next :
-      Pending)
-      (job : IsJobOf (world_of desk.world) (take search.before (stored_of desk.profiles)) (part (received_of seat.received) search.span)
-      place next)
-      (counts : settled_of next ≡ settled_of pending + work_quota) where
+      Search)
+      (job : IsJobOf (world_of desk.world) (take search.before (stored_of desk.profiles)) search.aim
+      (part (received_of seat.received) search.span) place next)
+      (counts : settled_by next ≡ settled_by pending + work_quota) where
     -- the request that the query spells, for which no more is settled than may be
-    asks : AsksFor waited job.asked
+    asks : AsksFor waited search.aim job.asked
     asks = record { span = search.span; verdict = search.verdict; spells = job.asks.asks }
 
-    few : settled_of pending + work_quota ≤ most_labels job.asked
+    few : settled_by pending + work_quota ≤ most_for search.aim job.asked
     few = omega (arith, counts, job.within)
 
     -- a desk at which only the queue changes
@@ -81,6 +81,7 @@ module _ (desk : Desk) (seat : Seat) (place : ℕ) (pending : Pending)
         subst (λ (d : Desk). IsSearchAt d (waiting_by seat next place)) desk_is
         (record {
           before = search.before;
+          aim = search.aim;
           span = search.span;
           verdict = search.verdict;
           whole_is = search.whole_is;
@@ -101,7 +102,7 @@ module _ (desk : Desk) (seat : Seat) (place : ℕ) (pending : Pending)
           added = [];
           is = (
             subst (λ (m : ℕ). GoesOn (service_at desk) (stored_of desk.profiles) waited (waiting_for waited m)) (sym counts)
-                (steps.more {settled = settled_of pending} {asked = job.asked} refl asks few),
+                (steps.more {settled = settled_by pending} {aim = search.aim} {asked = job.asked} refl asks few),
             refl,
           );
           stored = stored_same;
@@ -116,7 +117,7 @@ module _ (desk : Desk) (seat : Seat) (place : ℕ) (pending : Pending)
           own = refl;
           alike = refl;
           added = [];
-          is = (steps.gives_up {settled = settled_of pending} refl, refl);
+          is = (steps.gives_up {settled = settled_by pending} refl, refl);
           stored = stored_same;
           waiting = queue ∙ sym (append-nil desk.queue.items);
           searching = tt;

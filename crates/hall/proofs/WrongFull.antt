@@ -24,11 +24,14 @@ use Rattle.route_http.specs.declared.heads.Method.TheVariants.{Get, Post, Other}
 use Rattle.route_http.specs.declared.kind.Kind.TheVariants.{Json, Plain}
 use Rattle.route_http.specs.declared.span.Span.{Span}
 use Rattle.route_ready.specs.Lines.{route_line}
+use Rattle.session_answers.specs.Aims.{kind_for}
 use Rattle.session_answers.specs.Frames.{line_frame, refusal_frame, status_of}
 use Rattle.session_answers.specs.Rows as queries
-use Rattle.session_answers.specs.Rows.{Asks, IsEarlyFrame, IsQueryFrame, kind_of}
+use Rattle.session_answers.specs.Rows.{Asks, IsEarlyFrame, IsQueryFrame}
 use Rattle.session_answers.specs.Stored.{Stored, Uploaded, by_check, by_text, most_uploads, stored_after, upload_name, upload_reply}
-use Rattle.session_answers.specs.Verdicts.{by_path, is_whole, most_body, of_route, of_upload, part, profile_path, route_path, verdict_by}
+use Rattle.session_answers.specs.Verdicts.{by_path, is_whole, most_body, of_query, of_upload, part, profile_path, route_path, table_path, verdict_by}
+use Rattle.session_answers.specs.declared.aim.Aim.{Aim}
+use Rattle.session_answers.specs.declared.aim.Aim.TheVariants.{Track, Table}
 use Rattle.session_answers.specs.declared.refusal.Refusal.TheVariants.{BadRequest, BodyTooLong, OutOfMemory, UnknownPath, UnknownProfile, SessionsFull, UploadsFull}
 use Rattle.session_answers.specs.declared.verdict.Verdict.{Verdict}
 use Rattle.session_answers.specs.declared.verdict.Verdict.TheVariants.{Undecided, NoByte, Refused, Upload, Query}
@@ -39,16 +42,16 @@ NotFull Undecided = Unit {0}
 NotFull NoByte = Unit {0}
 NotFull (Refused r) = status_of r ≢ 503
 NotFull (Upload span) = Unit {0}
-NotFull (Query span) = Unit {0}
+NotFull (Query aim span) = Unit {0}
 
 either : (b : Bool) (v w : Verdict) → NotFull v → NotFull w → NotFull (cond b v w)
 either true v w first second = first
 either false v w first second = second
 
-route_never : (method : Method) (query : Span) (body : ℕ) → NotFull (of_route method query body)
-route_never Get query body = either (nat_lt most_body body) (Refused BodyTooLong) (Query query) (λ is. omega arith) tt
-route_never Post query body = λ is. omega arith
-route_never Other query body = λ is. omega arith
+asked_never : (aim : Aim) (method : Method) (query : Span) (body : ℕ) → NotFull (of_query aim method query body)
+asked_never aim Get query body = either (nat_lt most_body body) (Refused BodyTooLong) (Query aim query) (λ is. omega arith) tt
+asked_never aim Post query body = λ is. omega arith
+asked_never aim Other query body = λ is. omega arith
 
 upload_never : (long : ℕ) (method : Method) (body : ℕ) (bytes : List ℕ) → NotFull (of_upload long method body bytes)
 upload_never long Get body bytes = λ is. omega arith
@@ -61,10 +64,15 @@ upload_never long Post body bytes =
 path_never : (path : List ℕ) (long : ℕ) (method : Method) (query : Span) (body : ℕ) (bytes : List ℕ) →
     NotFull (by_path path long method query body bytes)
 path_never path long method query body bytes =
-    either (bytes_eq path route_path) (of_route method query body)
-    (cond (bytes_eq path profile_path) (of_upload long method body bytes) (Refused UnknownPath)) (route_never method query body)
+    either (bytes_eq path route_path) (of_query Track method query body)
+    (cond (bytes_eq path table_path) (of_query Table method query body)
+    (cond (bytes_eq path profile_path) (of_upload long method body bytes) (Refused UnknownPath)))
+    (asked_never Track method query body)
+    (either (bytes_eq path table_path) (of_query Table method query body)
+    (cond (bytes_eq path profile_path) (of_upload long method body bytes) (Refused UnknownPath))
+    (asked_never Table method query body)
     (either (bytes_eq path profile_path) (of_upload long method body bytes) (Refused UnknownPath) (upload_never long method body bytes)
-    (λ is. omega arith))
+    (λ is. omega arith)))
 
 verdict_never : (head : Head) (bytes : List ℕ) (ended : Bool) → NotFull (verdict_by head bytes ended)
 verdict_never TooLong bytes ended = λ is. omega arith
@@ -77,17 +85,17 @@ verdict_never (Whole long method path query body) bytes ended =
     (path_never (part bytes path) long method query body bytes)
 
 -- nor is a query answered in it
-query_never : (service : Service) (stored : List Stored) (query frame : List ℕ) → IsQueryFrame service.world stored query frame →
-    status_in frame ≢ 503
-query_never service stored query frame (queries.before (queries.malformed {e} failed)) is =
+query_never : (service : Service) (stored : List Stored) (aim : Aim) (query frame : List ℕ) →
+    IsQueryFrame service.world stored aim query frame → status_in frame ≢ 503
+query_never service stored aim query frame (queries.before (queries.malformed {e} failed)) is =
     omega (arith, status-400 Plain (request_line e ++ 10 ∷ []), is)
-query_never service stored query frame (queries.before (queries.unknown asks unknown)) is = omega (arith, status-refusal UnknownProfile, is)
-query_never service stored query frame (queries.before (queries.early {sections} {e} asks early)) is =
+query_never service stored aim query frame (queries.before (queries.unknown asks unknown)) is = omega (arith, status-refusal UnknownProfile, is)
+query_never service stored aim query frame (queries.before (queries.early {sections} {e} asks early)) is =
     omega (arith, status-422 Plain (route_line (Some sections) e ++ 10 ∷ []), is)
-query_never service stored query frame (queries.refused {sections} {e} asks answer) is =
+query_never service stored aim query frame (queries.refused {sections} asks e answer) is =
     omega (arith, status-422 Plain (route_line (Some sections) e ++ 10 ∷ []), is)
-query_never service stored query frame (queries.told {asked} {bytes} asks reply) is =
-    omega (arith, status-200 (kind_of asked.form) bytes, is)
+query_never service stored aim query frame (queries.told {asked} asks bytes reply) is =
+    omega (arith, status-200 (kind_for aim asked.form) bytes, is)
 
 -- that no more uploads are stored is told otherwise than that no more sessions are held
 uploads_and_sessions : refusal_frame UploadsFull ≢ full_frame
@@ -122,8 +130,8 @@ row_never_full service stored bytes ended frame added is (rows.refused {r} verdi
     (sym (status-refusal r) ∙ ap status_in is ∙ status-refusal SessionsFull)
 row_never_full service stored bytes ended frame added is (rows.upload {span} verdict) =
     upload_never_full service.world.table (length stored - service.given) (profile_of (part bytes span)) is
-row_never_full service stored bytes ended frame added is (rows.query {span} verdict answers) =
-    query_never service stored (part bytes span) frame answers (ap status_in is ∙ status-refusal SessionsFull)
+row_never_full service stored bytes ended frame added is (rows.query {aim} {span} verdict answers) =
+    query_never service stored aim (part bytes span) frame answers (ap status_in is ∙ status-refusal SessionsFull)
 
 -- where there is room, not as many are held as may be
 room_never_full : (state : State) (turned : Bool) → HasRoom state turned → IsFull state turned → ⊥

@@ -21,11 +21,13 @@ use Rattle.route_http.specs.declared.kind.Kind.TheVariants.{Json, Plain}
 use Rattle.route_http.specs.declared.span.Span.{Span}
 use Rattle.route_ready.specs.Lines.{route_line}
 use Rattle.session_answers.proofs.CallerLemmas.{verdict_unique}
+use Rattle.session_answers.specs.Aims.{kind_for}
 use Rattle.session_answers.specs.Frames.{line_frame, refusal_frame, status_of}
 use Rattle.session_answers.specs.Rows as queries
-use Rattle.session_answers.specs.Rows.{Asks, IsEarlyFrame, IsQueryFrame, kind_of}
+use Rattle.session_answers.specs.Rows.{Asks, IsEarlyFrame, IsQueryFrame}
 use Rattle.session_answers.specs.Stored.{Stored, by_check, by_text, find_stored, upload_reply}
 use Rattle.session_answers.specs.Verdicts.{IsVerdict, part}
+use Rattle.session_answers.specs.declared.aim.Aim.{Aim}
 use Rattle.session_answers.specs.declared.refusal.Refusal.{Refusal}
 use Rattle.session_answers.specs.declared.refusal.Refusal.TheVariants.{BadRequest, OutOfMemory, UnknownProfile, SessionsFull}
 use Rattle.session_answers.specs.declared.verdict.Verdict.{Verdict}
@@ -54,42 +56,47 @@ only_row service meets id acts frame below (row {state} {bytes} {ended} {added} 
 
 -- so much is decided to be a well-formed query for a profile that is stored
 pub record IsKnown (stored : List Stored) (bytes : List ℕ) (ended : Bool) : Type 0 where
+  pub aim : Aim
   pub span : Span
-  pub verdict : IsVerdict bytes ended (Query span)
+  pub verdict : IsVerdict bytes ended (Query aim span)
   pub asked : Asked
   pub sections : Sections
   pub asks : Asks stored (part bytes span) asked sections
 
 -- it is answered by a reply, or by why there is none
-known_query : (service : Service) (stored : List Stored) (query : List ℕ) (asked : Asked) (sections : Sections) (frame : List ℕ) →
-    Asks stored query asked sections → IsQueryFrame service.world stored query frame → (status_in frame ≡ 200) ⊎ (status_in frame ≡ 422)
-known_query service stored query asked sections frame asks (queries.before (queries.malformed {e} failed)) =
+known_query : (service : Service) (stored : List Stored) (aim : Aim) (query : List ℕ) (asked : Asked) (sections : Sections)
+    (frame : List ℕ) → Asks stored query asked sections → IsQueryFrame service.world stored aim query frame →
+    (status_in frame ≡ 200) ⊎ (status_in frame ≡ 422)
+known_query service stored aim query asked sections frame asks (queries.before (queries.malformed {e} failed)) =
     (let clash : Ok asked ≡ Err e = sym asks.asks ∙ failed in absurd (cc))
-known_query service stored query asked sections frame asks (queries.before (queries.unknown {asked = other} other_asks unknown)) =
+known_query service stored aim query asked sections frame asks (queries.before (queries.unknown {asked = other} other_asks unknown)) =
     (let one : Ok asked ≡ Ok other = sym asks.asks ∙ other_asks in
     let same : asked ≡ other = cc in
     let clash : Some sections ≡ None = sym asks.found ∙ ap (λ (a : Asked). find_stored stored a.profile) same ∙ unknown in
     absurd (cc))
-known_query service stored query asked sections frame asks (queries.before (queries.early {sections = found} {e} other early)) =
+known_query service stored aim query asked sections frame asks (queries.before (queries.early {sections = found} {e} other early)) =
     inr (status-422 Plain (route_line (Some found) e ++ 10 ∷ []))
-known_query service stored query asked sections frame asks (queries.refused {sections = found} {e} other answer) =
+known_query service stored aim query asked sections frame asks (queries.refused {sections = found} other e answer) =
     inr (status-422 Plain (route_line (Some found) e ++ 10 ∷ []))
-known_query service stored query asked sections frame asks (queries.told {asked = other} {bytes} other_asks reply) =
-    inl (status-200 (kind_of other.form) bytes)
+known_query service stored aim query asked sections frame asks (queries.told {asked = other} other_asks bytes reply) =
+    inl (status-200 (kind_for aim other.form) bytes)
 
 known_row : (service : Service) (stored : List Stored) (bytes : List ℕ) (ended : Bool) (frame : List ℕ) (added : List Stored) →
     IsKnown stored bytes ended → IsRowOf service stored bytes ended frame added → (status_in frame ≡ 200) ⊎ (status_in frame ≡ 422)
 known_row service stored bytes ended frame added known (rows.refused {r} other) =
-    (let clash : Query known.span ≡ Refused r = verdict_unique bytes ended (Query known.span) (Refused r) known.verdict other in
+    (let clash : Query known.aim known.span ≡ Refused r =
+    verdict_unique bytes ended (Query known.aim known.span) (Refused r) known.verdict other in
     absurd (cc))
 known_row service stored bytes ended frame added known (rows.upload {span} other) =
-    (let clash : Query known.span ≡ Upload span = verdict_unique bytes ended (Query known.span) (Upload span) known.verdict other in
+    (let clash : Query known.aim known.span ≡ Upload span =
+    verdict_unique bytes ended (Query known.aim known.span) (Upload span) known.verdict other in
     absurd (cc))
-known_row service stored bytes ended frame added known (rows.query {span} other answers) =
-    let one : Query span ≡ Query known.span = verdict_unique bytes ended (Query span) (Query known.span) other known.verdict in
+known_row service stored bytes ended frame added known (rows.query {aim} {span} other answers) =
+    let one : Query aim span ≡ Query known.aim known.span =
+    verdict_unique bytes ended (Query aim span) (Query known.aim known.span) other known.verdict in
     let same : span ≡ known.span = cc in
-    known_query service stored (part bytes known.span) known.asked known.sections frame known.asks
-    (subst (λ (x : Span). IsQueryFrame service.world stored (part bytes x) frame) same answers)
+    known_query service stored aim (part bytes known.span) known.asked known.sections frame known.asks
+    (subst (λ (x : Span). IsQueryFrame service.world stored aim (part bytes x) frame) same answers)
 
 module _ (service : Service) (meets : Meets) (id : ℕ) (acts : List Act) (frame : List ℕ) (known : (state : State) (bytes : List ℕ)
     (ended : Bool) (added : List Stored) → IsDecidedIn meets id acts state bytes ended added → IsKnown state.stored bytes ended) where
@@ -135,8 +142,8 @@ name_row : (service : Service) (stored : List Stored) (bytes : List ℕ) (ended 
     frame ≡ frame_of 200 Json (upload_reply 1) → IsRowOf service stored bytes ended frame added → ⊥
 name_row service stored bytes ended span frame added verdict one is (rows.refused {r} other) =
     (let clash : Upload span ≡ Refused r = verdict_unique bytes ended (Upload span) (Refused r) verdict other in cc)
-name_row service stored bytes ended span frame added verdict one is (rows.query {span = asked} other answers) =
-    (let clash : Upload span ≡ Query asked = verdict_unique bytes ended (Upload span) (Query asked) verdict other in cc)
+name_row service stored bytes ended span frame added verdict one is (rows.query {aim} {span = asked} other answers) =
+    (let clash : Upload span ≡ Query aim asked = verdict_unique bytes ended (Upload span) (Query aim asked) verdict other in cc)
 name_row service stored bytes ended span frame added verdict one is (rows.upload {span = found} other) =
     second_is service.world.table (profile_of (part bytes found))
     (ap (λ (n : ℕ). (by_text service.world.table n (profile_of (part bytes found))).frame) (sym one) ∙ is)

@@ -7,6 +7,7 @@ use Rattle.session_answers.specs.Frames.{refusal_frame}
 use Rattle.session_answers.specs.Rows.{IsQueryFrame}
 use Rattle.session_answers.specs.Stored.{Stored}
 use Rattle.session_answers.specs.Verdicts.{IsVerdict, part}
+use Rattle.session_answers.specs.declared.aim.Aim.{Aim}
 use Rattle.session_answers.specs.declared.refusal.Refusal.{Refusal}
 use Rattle.session_answers.specs.declared.verdict.Verdict.TheVariants.{Refused, Upload, Query}
 
@@ -21,8 +22,8 @@ pub data IsRowOf (service : Service) (stored : List Stored) (bytes : List ℕ) (
       IsRowOf service stored bytes ended (uploaded service stored (part bytes span)).frame
       (uploaded service stored (part bytes span)).added
   query :
-      {span : Span} {frame : List ℕ} → IsVerdict bytes ended (Query span) →
-      IsQueryFrame service.world stored (part bytes span) frame → IsRowOf service stored bytes ended frame []
+      {aim : Aim} {span : Span} {frame : List ℕ} → IsVerdict bytes ended (Query aim span) →
+      IsQueryFrame service.world stored aim (part bytes span) frame → IsRowOf service stored bytes ended frame []
 
 -- a frame is allowed for a connection: that of one that is turned away; of a session that of a refused
 -- request, its row where its request was whole, or that of want of memory

@@ -12,16 +12,17 @@ use Rattle.hall.specs.declared.seat.Frame.TheVariants as frames
 use Rattle.hall.specs.declared.seat.Phase.{Phase as Kept}
 use Rattle.hall.specs.declared.seat.Phase.TheVariants as phases
 use Rattle.hall.specs.declared.seat.Seat.{Seat}
-use Rattle.route_engine.specs.Pending.{settled_of}
-use Rattle.route_engine.specs.declared.pending.Pending.{Pending}
 use Rattle.route_http.specs.declared.span.Span.{Span}
 use Rattle.route_ready.specs.World.{world_of}
 use Rattle.route_ready.specs.Worlds.{WorldValue}
 use Rattle.session_answers.specs.Jobs.{AreKept, IsJobOf}
 use Rattle.session_answers.specs.Profiles.{given_of, stored_of}
 use Rattle.session_answers.specs.Received.{received_of}
+use Rattle.session_answers.specs.Searches.{settled_by}
 use Rattle.session_answers.specs.Stored.{Stored}
 use Rattle.session_answers.specs.Verdicts.{IsVerdict, part}
+use Rattle.session_answers.specs.declared.aim.Aim.{Aim}
+use Rattle.session_answers.specs.declared.search.Search.{Search}
 use Rattle.session_answers.specs.declared.verdict.Verdict.TheVariants.{Query}
 
 -- ---- What parts stand for
@@ -35,7 +36,7 @@ frame_in (frames.Own bytes) = bytes.items
 -- how far a connection is
 abbrev pub phase_in : Kept → Phase
 phase_in phases.Reading = Reading
-phase_in (phases.Waits pending place) = Waits (settled_of pending)
+phase_in (phases.Waits pending place) = Waits (settled_by pending)
 phase_in (phases.Answered frame sent) = Answered (frame_in frame) sent
 phase_in phases.Silent = Silent
 
@@ -144,13 +145,14 @@ HaveOneSeat seats = (j k : ℕ) (x y : Seated) → get_or seats j None ≡ Some 
 
 -- a search is that for the query that these bytes ask, over the profiles that were stored before they did
 pub record IsSearchOf (world : WorldValue) (stored : List Stored) (bytes : List ℕ) (ended : Bool) (whole :
-    Option ℕ) (place : ℕ) (pending : Pending) : Type 0 where
+    Option ℕ) (place : ℕ) (pending : Search) : Type 0 where
   pub before : ℕ
+  pub aim : Aim
   pub span : Span
-  pub verdict : IsVerdict bytes ended (Query span)
+  pub verdict : IsVerdict bytes ended (Query aim span)
   pub whole_is : whole ≡ Some before
   pub within : before ≤ length stored
-  pub job : IsJobOf world (take before stored) (part bytes span) place pending
+  pub job : IsJobOf world (take before stored) aim (part bytes span) place pending
 
 -- where the search of a seat waits, it is that of its connection
 abbrev pub IsSearchIn : (world : WorldValue) (stored : List Stored) (bytes : List ℕ) (ended : Bool) (whole :
@@ -189,7 +191,7 @@ pub record IsHeld (room : Room) : Type 0 where
 abbrev pub answered_by : Seat → Frame → Seat
 answered_by seat frame = record seat { phase = phases.Answered frame 0 }
 
-abbrev pub waiting_by : Seat → Pending → ℕ → Seat
+abbrev pub waiting_by : Seat → Search → ℕ → Seat
 waiting_by seat pending place = record seat { phase = phases.Waits pending place }
 
 -- a seat of which more bytes are sent
@@ -200,7 +202,7 @@ sent_in (phases.Answered frame sent) n = phases.Answered frame (sent + n)
 sent_in phases.Silent n = phases.Silent
 
 -- a search is put last and its connection waits, or the connection is answered by want of memory
-pub data Joins (old new : List ℕ) (seat : Seat) (place : ℕ) (pending : Pending) (made : Seat) : Type 0 where
+pub data Joins (old new : List ℕ) (seat : Seat) (place : ℕ) (pending : Search) (made : Seat) : Type 0 where
   last : new ≡ old ++ seat.id ∷ [] → made ≡ waiting_by seat pending place →
       Joins old new seat place pending made
   none : new ≡ old → made ≡ answered_by seat frames.Memory → Joins old new seat place pending made

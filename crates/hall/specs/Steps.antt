@@ -4,14 +4,15 @@ use Rattle.edge_io.specs.declared.event.Event.{Event}
 use Rattle.edge_io.specs.declared.event.Event.TheVariants as event
 use Rattle.hall.specs.Held.{HasRoom, IsFull}
 use Rattle.hall.specs.State.{Connection, Service, State, Reading, Waits, Answered, Silent, changed, freed, put, with_frame}
-use Rattle.route_engine.specs.Labels.{most_labels}
 use Rattle.route_http.specs.Asked.{Asked}
 use Rattle.route_http.specs.Request.{request_of}
 use Rattle.route_http.specs.declared.span.Span.{Span}
+use Rattle.session_answers.specs.Aims.{most_for}
 use Rattle.session_answers.specs.Frames.{refusal_frame}
 use Rattle.session_answers.specs.Rows.{IsEarlyFrame, IsQueryFrame, IsSearched}
 use Rattle.session_answers.specs.Stored.{Stored, Uploaded, upload_of}
 use Rattle.session_answers.specs.Verdicts.{IsVerdict, part}
+use Rattle.session_answers.specs.declared.aim.Aim.{Aim}
 use Rattle.session_answers.specs.declared.refusal.Refusal.{Refusal}
 use Rattle.session_answers.specs.declared.refusal.Refusal.TheVariants.{OutOfMemory, SessionsFull}
 use Rattle.session_answers.specs.declared.verdict.Verdict.TheVariants.{Undecided, NoByte, Refused, Upload, Query}
@@ -47,11 +48,11 @@ pub data Takes (service : Service) (stored : List Stored) (old c : Connection) :
       (with_frame (whole_in stored c) (uploaded service stored (part c.bytes span)).frame)
       (uploaded service stored (part c.bytes span)).added
   early :
-      {span : Span} {frame : List ℕ} → IsVerdict c.bytes c.ended (Query span) →
+      {aim : Aim} {span : Span} {frame : List ℕ} → IsVerdict c.bytes c.ended (Query aim span) →
       IsEarlyFrame service.world stored (part c.bytes span) frame →
       Takes service stored old c (with_frame (whole_in stored c) frame) []
   waits :
-      {span : Span} → IsVerdict c.bytes c.ended (Query span) →
+      {aim : Aim} {span : Span} → IsVerdict c.bytes c.ended (Query aim span) →
       IsSearched service.world stored (part c.bytes span) →
       Takes service stored old c (record (whole_in stored c) { phase = Waits 0 }) []
   gives_up :
@@ -113,29 +114,30 @@ Step service s event.Over bytes new shut = (new ≡ s) × (shut ≡ None)
 abbrev pub work_quota : ℕ
 work_quota = 2000
 
--- the query of a connection whose request was whole after so many profiles
-pub record AskedBy (c : Connection) (before : ℕ) (query : List ℕ) : Type 0 where
+-- what the query of a connection is asked for whose request was whole after so many profiles, and the query
+pub record AskedBy (c : Connection) (before : ℕ) (aim : Aim) (query : List ℕ) : Type 0 where
   pub span : Span
-  pub verdict : IsVerdict c.bytes c.ended (Query span)
+  pub verdict : IsVerdict c.bytes c.ended (Query aim span)
   pub query_is : query ≡ part c.bytes span
   pub before_is : c.before ≡ Some before
 
--- the request that the query of a connection spells
-pub record AsksFor (c : Connection) (asked : Asked) : Type 0 where
+-- what the query of a connection is asked for, and the request that it spells
+pub record AsksFor (c : Connection) (aim : Aim) (asked : Asked) : Type 0 where
   pub span : Span
-  pub verdict : IsVerdict c.bytes c.ended (Query span)
+  pub verdict : IsVerdict c.bytes c.ended (Query aim span)
   pub spells : request_of (part c.bytes span) ≡ Ok asked
 
 -- what a connection comes to by a turn of its search: it waits on, while no more is settled than may be for its
 -- request; or it is answered by its query or by want of memory
 pub data GoesOn (service : Service) (stored : List Stored) (c : Connection) : Connection → Type 0 where
   more :
-      {settled : ℕ} {asked : Asked} → c.phase ≡ Waits settled → AsksFor c asked →
-      settled + work_quota ≤ most_labels asked →
+      {settled : ℕ} {aim : Aim} {asked : Asked} → c.phase ≡ Waits settled → AsksFor c aim asked →
+      settled + work_quota ≤ most_for aim asked →
       GoesOn service stored c (record c { phase = Waits (settled + work_quota) })
   answers :
-      {settled before : ℕ} {query frame : List ℕ} → c.phase ≡ Waits settled → AskedBy c before query →
-      before ≤ length stored → IsQueryFrame service.world (take before stored) query frame →
+      {settled before : ℕ} {aim : Aim} {query frame : List ℕ} → c.phase ≡ Waits settled →
+      AskedBy c before aim query → before ≤ length stored →
+      IsQueryFrame service.world (take before stored) aim query frame →
       GoesOn service stored c (with_frame c frame)
   gives_up : {settled : ℕ} → c.phase ≡ Waits settled → GoesOn service stored c (with_frame c memory_frame)
 

@@ -9,9 +9,10 @@ use Rattle.hall.specs.State.{Connection, Service, State, Waits, empty_hall, with
 use Rattle.hall.specs.Steps.{AsksFor, work_quota}
 use Rattle.hall.specs.Turns.{Turns}
 use Rattle.hall.specs.Turns.Turns.{none, more}
-use Rattle.route_engine.specs.Labels.{most_labels}
 use Rattle.route_http.specs.Asked.{Asked}
+use Rattle.session_answers.specs.Aims.{most_for}
 use Rattle.session_answers.specs.Stored.{Stored}
+use Rattle.session_answers.specs.declared.aim.Aim.{Aim}
 
 -- ---- The end of a wait
 
@@ -32,17 +33,18 @@ EndsAmong service s id c n acts new (more {n = before} {acts = first} {between} 
 -- ---- The waits that follow
 
 -- the most turns that a session waits for its frame: it has a turn of work in as many turns as sessions may be
--- held, and it has one for each `work_quota` labels that may be settled for its request, and one more
-abbrev pub most_turns : Asked → ℕ
-most_turns asked = most_sessions * suc (most_labels asked / work_quota)
+-- held, and it has one for each `work_quota` labels that may be settled for what it asks, and one more
+abbrev pub most_turns : Aim → Asked → ℕ
+most_turns aim asked = most_sessions * suc (most_for aim asked / work_quota)
 
 -- a session that waits asks for something, and whatever turns follow, so many of them end its wait: it gets a
 -- frame or is lost
 pub record EndsInTime (service : Service) (s : State) (id : ℕ) (c : Connection) : Type 0 where
+  pub aim : Aim
   pub asked : Asked
-  pub asks : AsksFor c asked
+  pub asks : AsksFor c aim asked
   pub ends : (m : ℕ) (acts : List Act) (new : State) (turns : Turns service s m acts new) →
-      most_turns asked ≤ m → EndsAmong service s id c m acts new turns
+      most_turns aim asked ≤ m → EndsAmong service s id c m acts new turns
 
 -- so it is for each session that waits
 abbrev pub AllEndInTime : Service → State → Type 0
@@ -67,12 +69,13 @@ EndedSince id c k (more {n} {event} turns turn) =
     EndedSince id c k turns ⊎ ((k ≤ n) × EndsWait id c event turn.worked)
 
 -- a session that waited after so many of these turns asked for something; and where so many more turns were
--- made as its request allows, one of these ended its wait
+-- made as what it asks allows, one of these ended its wait
 pub record EndedInTime {service : Service} {s new : State} {n : ℕ} {acts : List Act}
     (turns : Turns service s n acts new) (k id : ℕ) (c : Connection) : Type 0 where
+  pub aim : Aim
   pub asked : Asked
-  pub asks : AsksFor c asked
-  pub ended : k + most_turns asked ≤ n → EndedSince id c k turns
+  pub asks : AsksFor c aim asked
+  pub ended : k + most_turns aim asked ≤ n → EndedSince id c k turns
 
 -- in these turns no search went on for ever: so it was for each session that waited after some of them
 abbrev pub EndedEachWait :

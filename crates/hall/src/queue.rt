@@ -6,12 +6,12 @@ ghost use Rattle.hall.specs.State.{without};
 
 use crate::seat::{Frame, Seat};
 use crate::seating::{answered, waits};
-use route_engine::Pending;
+use session_answers::Search;
 use std::collections::VecDeque;
 
 /// Puts a connection last, and gives it as one that waits. Where the queue can't grow, the
 /// connection is answered by want of memory.
-pub(crate) fn joined(queue: &mut VecDeque<u64>, seat: Seat, place: u32, pending: Pending) -> Seat
+pub(crate) fn joined(queue: &mut VecDeque<u64>, seat: Seat, place: u32, pending: Search) -> Seat
     ensures joins { Joins queue.old.items queue.new.items seat place pending result }
 {
     match queue.push_back(seat.id) {

@@ -18,7 +18,7 @@ use crate::seat::{Frame, Seat};
 use crate::seating::{answered, silent, whole};
 use crate::seats::{lifted, put, reader_of};
 use route_http::Span;
-use session_answers::{Begun, Refusal, Verdict, begin, refusal_frame, upload};
+use session_answers::{Aim, Begun, Refusal, Verdict, begin, refusal_frame, upload};
 use std::alloc::Global;
 
 /// Takes bytes that came from a connection.
@@ -97,7 +97,7 @@ fn settled(desk: &mut Desk, seat: Seat, verdict: Verdict) -> Seat
         Verdict::NoByte => silent(seat),
         Verdict::Refused(refusal) => refused(desk.alloc, seat, refusal),
         Verdict::Upload(span) => uploaded(desk, seat, span),
-        Verdict::Query(span) => asked(desk, seat, span),
+        Verdict::Query(aim, span) => asked(desk, seat, aim, span),
     }
 }
 
@@ -128,11 +128,11 @@ fn uploaded(desk: &mut Desk, seat: Seat, span: Span) -> Seat
     }
 }
 
-/// A session that asks for a route.
-fn asked(desk: &mut Desk, seat: Seat, span: Span) -> Seat
+/// A session that asks for a route or for a table.
+fn asked(desk: &mut Desk, seat: Seat, aim: Aim, span: Span) -> Seat
     requires kept { AreReadied desk.old }
-    requires verdict { IsVerdict (received_of seat.received) seat.ended (Query span) }
-    requires within { IsVerdictIn (received_of seat.received) (Query span) }
+    requires verdict { IsVerdict (received_of seat.received) seat.ended (Query aim span) }
+    requires within { IsVerdictIn (received_of seat.received) (Query aim span) }
     ensures settles { (old : Connection) →
         Settles desk.old desk.new old (connection_of seat) seat.id seat.away result }
 {
@@ -143,6 +143,7 @@ fn asked(desk: &mut Desk, seat: Seat, span: Span) -> Seat
         &desk.world,
         &desk.profiles,
         &mut desk.kept,
+        aim,
         query,
     ) {
         Ok(Begun::Frame(frame)) => answered(whole(seat, before), Frame::Own(frame)),

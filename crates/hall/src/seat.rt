@@ -1,7 +1,6 @@
 //! What is kept of a connection.
 
-use route_engine::Pending;
-use session_answers::Received;
+use session_answers::{Received, Search};
 
 /// A frame that is sent: one of the two that were made before, or one of its own.
 #[derive(Drop)]
@@ -19,7 +18,7 @@ pub(crate) enum Phase {
     /// Its bytes are read.
     Reading,
     /// Its search waits for a turn; with the place of its profile.
-    Waits(Pending, u32),
+    Waits(Search, u32),
     /// So many bytes of its frame are sent.
     Answered(Frame, usize),
     /// Its peer ended before the first byte.

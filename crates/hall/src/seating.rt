@@ -6,8 +6,7 @@ ghost use Rattle.hall.specs.Steps.{session, turned_away};
 ghost use Rattle.hall.specs.declared.seat.Phase.TheVariants as phases;
 
 use crate::seat::{Frame, Phase, Seat};
-use route_engine::Pending;
-use session_answers::Received;
+use session_answers::{Received, Search};
 use std::alloc::Global;
 
 /// A new session.
@@ -57,7 +56,7 @@ pub(crate) fn whole(seat: Seat, before: usize) -> Seat
 }
 
 /// A connection whose search waits.
-pub(crate) fn waits(seat: Seat, pending: Pending, place: u32) -> Seat
+pub(crate) fn waits(seat: Seat, pending: Search, place: u32) -> Seat
     ensures value { result ≡ waiting_by seat pending place }
 {
     let mut seat = seat;

@@ -3,10 +3,10 @@
 ghost use Rattle.std.specs.Prelude.{◌≡◌};
 ghost use Rattle.hall.specs.Parts.{AreReadied, HasTurn, IsHeld, IsSearchAt, IsSearchOf, IsWaitingIn, Makes, connection_of, service_in, state_in, waiting_for};
 ghost use Rattle.hall.specs.Steps.{Works};
-ghost use Rattle.route_engine.specs.Pending.{settled_of};
 ghost use Rattle.route_ready.specs.World.{world_of};
 ghost use Rattle.session_answers.specs.Profiles.{stored_of};
 ghost use Rattle.session_answers.specs.Received.{received_of};
+ghost use Rattle.session_answers.specs.Searches.{settled_by};
 
 use crate::desk::Desk;
 use crate::queue::joined;
@@ -15,8 +15,7 @@ use crate::seat::{Frame, Phase, Seat};
 use crate::seating::answered;
 use crate::seats::{lifted, put, seat_of};
 use item_list::Turn;
-use route_engine::Pending;
-use session_answers::turn;
+use session_answers::{Search, turn};
 use std::mem::replace;
 
 /// How many labels a turn settles.
@@ -55,12 +54,12 @@ fn worked(desk: &mut Desk, seat: Seat) -> Seat
 }
 
 /// The same by the search that waited, which was taken out.
-fn turned(desk: &mut Desk, seat: Seat, place: u32, pending: Pending) -> Seat
+fn turned(desk: &mut Desk, seat: Seat, place: u32, pending: Search) -> Seat
     requires kept { AreReadied desk.old }
     requires search { IsSearchOf (world_of desk.old.world) (stored_of desk.old.profiles)
         (received_of seat.received) seat.ended seat.before place pending }
     ensures works { Makes desk.old desk.new
-        (HasTurn desk.old (waiting_for (connection_of seat) (settled_of pending))) seat.id seat.away
+        (HasTurn desk.old (waiting_for (connection_of seat) (settled_by pending))) seat.id seat.away
         result }
 {
     let profile = desk.profiles.profile(place);

@@ -9,7 +9,9 @@ use Rattle.route_http.specs.declared.heads.Head.TheVariants as heads
 use Rattle.route_http.specs.declared.heads.Method.{Method}
 use Rattle.route_http.specs.declared.heads.Method.TheVariants.{Get, Post, Other}
 use Rattle.route_http.specs.declared.span.Span.{Span}
-use Rattle.session_answers.specs.Verdicts.{IsSpanIn, IsVerdict, IsVerdictIn, is_whole, most_body, of_body, of_route, of_upload, part, profile_path, route_path, verdict_by}
+use Rattle.session_answers.specs.Verdicts.{IsSpanIn, IsVerdict, IsVerdictIn, is_whole, most_body, of_body, of_query, of_upload, part, profile_path, route_path, table_path, verdict_by}
+use Rattle.session_answers.specs.declared.aim.Aim.{Aim}
+use Rattle.session_answers.specs.declared.aim.Aim.TheVariants.{Track, Table}
 use Rattle.session_answers.specs.declared.verdict.Verdict.{Verdict}
 
 -- what is fixed is one thing
@@ -37,11 +39,12 @@ module _ (bytes : List ℕ) where
       (record { ordered = omega arith; fits = ends }, omega arith))
       (λ e. tt))
 
-  -- that of a request for a route whose query stands within them
-  route-in : (method : Method) (query : Span) (body : ℕ) → IsSpanIn bytes query → IsVerdictIn bytes (of_route method query body)
-  route-in Get query body fits = if-in (nat_lt most_body body) _ _ (λ e. tt) (λ e. fits)
-  route-in Post query body fits = tt
-  route-in Other query body fits = tt
+  -- that of a request for a route or for a table whose query stands within them
+  query-in : (aim : Aim) (method : Method) (query : Span) (body : ℕ) → IsSpanIn bytes query →
+      IsVerdictIn bytes (of_query aim method query body)
+  query-in aim Get query body fits = if-in (nat_lt most_body body) _ _ (λ e. tt) (λ e. fits)
+  query-in aim Post query body fits = tt
+  query-in aim Other query body fits = tt
 
   upload-in : (long : ℕ) (method : Method) (body : ℕ) → long ≤ length bytes → IsVerdictIn bytes (of_upload long method body bytes)
   upload-in long Get body fits = tt
@@ -57,8 +60,11 @@ module _ (bytes : List ℕ) where
   head-in (heads.Whole long method path query body) ended within =
       let ends : query.end ≤ length bytes = omega (arith, within) in
       if-in (ended && not (is_whole long method body bytes)) _ _ (λ e. tt) (λ e.
-      if-in (bytes_eq (part bytes path) route_path) _ _ (λ e. route-in method query body (record { ordered = within.4; fits = ends })) (λ e.
-      if-in (bytes_eq (part bytes path) profile_path) _ _ (λ e. upload-in long method body within.0) (λ e. tt)))
+      if-in (bytes_eq (part bytes path) route_path) _ _
+      (λ e. query-in Track method query body (record { ordered = within.4; fits = ends })) (λ e.
+      if-in (bytes_eq (part bytes path) table_path) _ _
+      (λ e. query-in Table method query body (record { ordered = within.4; fits = ends })) (λ e.
+      if-in (bytes_eq (part bytes path) profile_path) _ _ (λ e. upload-in long method body within.0) (λ e. tt))))
 
 -- what is fixed stands within the bytes
 pub verdict_in : (bytes : List ℕ) (ended : Bool) (v : Verdict) → IsVerdict bytes ended v → IsVerdictIn bytes v

@@ -1,3 +1,4 @@
+pub mod Aims
 pub mod Frames
 pub mod HeadProps
 pub mod Jobs
@@ -5,5 +6,6 @@ pub mod Kept
 pub mod Profiles
 pub mod Received
 pub mod Rows
+pub mod Searches
 pub mod Stored
 pub mod Verdicts

@@ -2,8 +2,7 @@
 use Rattle.std.specs.Prelude.{◌≡◌, ℕ, List, Some, None, Ok, Err}
 use Rattle.profile_text.specs.Tree.{Sections}
 use Rattle.route_engine.specs.Refusals.{IsEarly}
-use Rattle.route_engine.specs.Replies.{IsReply, question_of}
-use Rattle.route_engine.specs.Answers.{IsAnswer}
+use Rattle.route_engine.specs.Replies.{question_of}
 use Rattle.cost_model.specs.Rides.{Setting}
 use Rattle.route_engine.specs.Settings.{IsSettingOf, open_map_of}
 use Rattle.route_http.specs.Asked.{Asked}
@@ -11,15 +10,13 @@ use Rattle.route_http.specs.Frames.{frame_of}
 use Rattle.route_http.specs.Lines.{request_line}
 use Rattle.route_http.specs.Request.{request_of}
 use Rattle.route_http.specs.declared.error.RequestError.{RequestError}
-use Rattle.route_http.specs.declared.form.Form.{Form}
-use Rattle.route_http.specs.declared.form.Form.TheVariants as forms
-use Rattle.route_http.specs.declared.kind.Kind.{Kind}
-use Rattle.route_http.specs.declared.kind.Kind.TheVariants as kinds
 use Rattle.route_ready.specs.Lines.{route_line}
 use Rattle.route_ready.specs.Worlds.{WorldValue}
 use Rattle.route_ready.specs.declared.error.RouteError.{RouteError}
+use Rattle.session_answers.specs.Aims.{IsRefusalTo, IsReplyTo, kind_for}
 use Rattle.session_answers.specs.Frames.{line_frame, refusal_frame}
 use Rattle.session_answers.specs.Stored.{Stored, find_stored}
+use Rattle.session_answers.specs.declared.aim.Aim.{Aim}
 use Rattle.session_answers.specs.declared.refusal.Refusal.TheVariants.{UnknownProfile}
 use Rattle.route_engine.specs.Waypoints.{AreNodes}
 
@@ -28,12 +25,7 @@ pub record Asks (stored : List Stored) (query : List ℕ) (asked : Asked) (secti
   pub asks : request_of query ≡ Ok asked
   pub found : find_stored stored asked.profile ≡ Some sections
 
--- the kind of a reply
-abbrev pub kind_of : Form → Kind
-kind_of forms.GeoJson = kinds.Json
-kind_of forms.Csv = kinds.Csv
-
--- the frame of a request that has no track
+-- the frame of a request that has no reply
 abbrev pub route_frame : Sections → RouteError → List ℕ
 route_frame sections e = line_frame 422 (route_line (Some sections) e)
 
@@ -49,17 +41,19 @@ pub data IsEarlyFrame (world : WorldValue) (stored : List Stored) (query : List 
       {asked : Asked} {sections : Sections} {e : RouteError} → Asks stored query asked sections →
       IsEarly (question_of world sections asked) e → IsEarlyFrame world stored query (route_frame sections e)
 
--- the frames that answer a query: these; the reply of a track; or why there is none
-pub data IsQueryFrame (world : WorldValue) (stored : List Stored) (query : List ℕ) : List ℕ → Type 0 where
-  before : {frame : List ℕ} → IsEarlyFrame world stored query frame → IsQueryFrame world stored query frame
+-- the frames that answer a query, by what it is asked for: these, whatever that is; its reply; or why there is
+-- none
+pub data IsQueryFrame (world : WorldValue) (stored : List Stored) (aim : Aim) (query : List ℕ) :
+    List ℕ → Type 0 where
+  before : {frame : List ℕ} → IsEarlyFrame world stored query frame → IsQueryFrame world stored aim query frame
   refused :
-      {asked : Asked} {sections : Sections} {e : RouteError} → Asks stored query asked sections →
-      IsAnswer (question_of world sections asked) (Err e) →
-      IsQueryFrame world stored query (route_frame sections e)
+      {asked : Asked} {sections : Sections} → Asks stored query asked sections → (e : RouteError) →
+      IsRefusalTo aim (question_of world sections asked) e →
+      IsQueryFrame world stored aim query (route_frame sections e)
   told :
-      {asked : Asked} {sections : Sections} {bytes : List ℕ} → Asks stored query asked sections →
-      IsReply (question_of world sections asked) bytes →
-      IsQueryFrame world stored query (frame_of 200 (kind_of asked.form) bytes)
+      {asked : Asked} {sections : Sections} → Asks stored query asked sections → (bytes : List ℕ) →
+      IsReplyTo aim (question_of world sections asked) bytes →
+      IsQueryFrame world stored aim query (frame_of 200 (kind_for aim asked.form) bytes)
 
 -- a query is to be searched for: its profile is stored and accepted, and each waypoint is moved to a node
 pub record IsSearched (world : WorldValue) (stored : List Stored) (query : List ℕ) : Type 0 where

@@ -6,6 +6,8 @@ use Rattle.route_http.specs.declared.heads.Head.TheVariants.{Whole, More, Bad, T
 use Rattle.route_http.specs.declared.heads.Method.{Method}
 use Rattle.route_http.specs.declared.heads.Method.TheVariants.{Get, Post, Other}
 use Rattle.route_http.specs.declared.span.Span.{Span}
+use Rattle.session_answers.specs.declared.aim.Aim.{Aim}
+use Rattle.session_answers.specs.declared.aim.Aim.TheVariants.{Track, Table}
 use Rattle.session_answers.specs.declared.refusal.Refusal.TheVariants.{HeadTooLong, BadRequest, UnknownPath, MethodNotAllowed, BodyTooLong}
 use Rattle.session_answers.specs.declared.verdict.Verdict.{Verdict}
 use Rattle.session_answers.specs.declared.verdict.Verdict.TheVariants.{Undecided, NoByte, Refused, Upload, Query}
@@ -27,9 +29,12 @@ pub record IsSpanIn (bytes : List ℕ) (span : Span) : Type 0 where
 abbrev pub most_body : ℕ
 most_body = 262144
 
--- the paths that are served: of routes, and of profiles
+-- the paths that are served: of routes, of tables of costs, and of profiles
 abbrev pub route_path : List ℕ
 route_path = codes "/brouter"
+
+abbrev pub table_path : List ℕ
+table_path = codes "/brouter/table"
 
 abbrev pub profile_path : List ℕ
 profile_path = codes "/brouter/profile"
@@ -40,11 +45,11 @@ is_whole long Post body bytes = nat_le (long + body) (length bytes)
 is_whole long Get body bytes = true
 is_whole long Other body bytes = true
 
--- what a request for a route comes to
-abbrev pub of_route : Method → Span → ℕ → Verdict
-of_route Get query body = if nat_lt most_body body then Refused BodyTooLong else Query query
-of_route Post query body = Refused MethodNotAllowed
-of_route Other query body = Refused MethodNotAllowed
+-- what a request for a route or for a table comes to, by which of them it is
+abbrev pub of_query : Aim → Method → Span → ℕ → Verdict
+of_query aim Get query body = if nat_lt most_body body then Refused BodyTooLong else Query aim query
+of_query aim Post query body = Refused MethodNotAllowed
+of_query aim Other query body = Refused MethodNotAllowed
 
 -- what an upload comes to whose body has so many bytes
 abbrev pub of_body : ℕ → ℕ → List ℕ → Verdict
@@ -63,8 +68,9 @@ of_upload long Post body bytes = of_body long body bytes
 abbrev pub by_path : (path : List ℕ) (long : ℕ) (method : Method) (query : Span) (body : ℕ)
     (bytes : List ℕ) → Verdict
 by_path path long method query body bytes =
-    if bytes_eq path route_path then of_route method query body
-    else (if bytes_eq path profile_path then of_upload long method body bytes else Refused UnknownPath)
+    if bytes_eq path route_path then of_query Track method query body
+    else (if bytes_eq path table_path then of_query Table method query body
+    else (if bytes_eq path profile_path then of_upload long method body bytes else Refused UnknownPath))
 
 -- what bytes come to behind which the head may still go on
 abbrev pub unfinished : Bool → List ℕ → Verdict
@@ -88,11 +94,11 @@ pub record IsVerdict (bytes : List ℕ) (ended : Bool) (verdict : Verdict) : Typ
 
 -- ---- Where it stands
 
--- the text of an upload and the query of a route stand within the bytes, and the text is no longer than a
--- body may be
+-- the text of an upload, and the query of a route or of a table, stand within the bytes, and the text is no
+-- longer than a body may be
 abbrev pub IsVerdictIn : List ℕ → Verdict → Type 0
 IsVerdictIn bytes Undecided = Unit {0}
 IsVerdictIn bytes NoByte = Unit {0}
 IsVerdictIn bytes (Refused refusal) = Unit {0}
 IsVerdictIn bytes (Upload span) = IsSpanIn bytes span × (span.end ≤ span.start + most_body)
-IsVerdictIn bytes (Query span) = IsSpanIn bytes span
+IsVerdictIn bytes (Query aim span) = IsSpanIn bytes span

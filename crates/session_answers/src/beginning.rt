@@ -1,4 +1,4 @@
-//! What a request for a route comes to at once.
+//! What a query comes to at once.
 
 ghost use Rattle.std.specs.Prelude.{◌≡◌, ◌≢◌, ◌<◌, List, ℕ, Ok, Some, IfOk, length};
 ghost use Rattle.lookup_table.specs.Tag.{name_place};
@@ -13,40 +13,44 @@ ghost use Rattle.session_answers.specs.Frames.{line_frame};
 ghost use Rattle.session_answers.specs.Jobs.{AreKept, Begins};
 ghost use Rattle.session_answers.specs.Profiles.{stored_of};
 
+use crate::aim::Aim;
 use crate::frames::{line_frame, refusal_frame};
 use crate::kept::KeptProfiles;
 use crate::profiles::Profiles;
 use crate::refusal::Refusal;
 use crate::routes::route_frame;
-use route_engine::Pending;
+use crate::search::{Search, search_for};
 use route_http::{Request, RequestError, request};
 use route_ready::World;
 use std::alloc::{AllocError, Global};
 
-/// What a request for a route comes to at once.
+/// What a query comes to at once.
 #[derive(Drop)]
 pub enum Begun {
     /// It is answered by this frame.
     Frame(Vec<u8>),
     /// It is searched for, by the stored profile at this place.
-    Job(Pending, u32),
+    Job(Search, u32),
 }
 
-/// What a query comes to at once, over a world and the stored profiles. Profiles that were made
-/// ready before are used again. An error is want of memory; what is kept is still sound then.
+/// What a query comes to at once that is asked for this, over a world and the stored profiles.
+/// Profiles that were made ready before are used again. An error is want of memory; what is kept is
+/// still sound then.
 pub fn begin(
     alloc: Global,
     world: &World,
     profiles: &Profiles,
     kept: &mut KeptProfiles,
+    aim: Aim,
     query: &[u8],
 ) -> Result<Begun, AllocError>
     requires kept { AreKept (world_of world.now) (stored_of profiles.now) kept.old }
-    ensures exact { IfOk result (Begins (world_of world.now) (stored_of profiles.now) query.now) }
+    ensures exact { IfOk result
+        (Begins (world_of world.now) (stored_of profiles.now) aim query.now) }
     ensures kept { AreKept (world_of world.now) (stored_of profiles.now) kept.new }
 {
     match request(alloc, query) {
-        Ok(request) => named(alloc, world, profiles, kept, request),
+        Ok(request) => named(alloc, world, profiles, kept, aim, request),
         Err(error) => {
             let frame = malformed(alloc, error)?;
             Ok(Begun::Frame(frame))
@@ -74,16 +78,17 @@ fn named(
     world: &World,
     profiles: &Profiles,
     kept: &mut KeptProfiles,
+    aim: Aim,
     request: Request,
 ) -> Result<Begun, AllocError>
     requires kept { AreKept (world_of world.now) (stored_of profiles.now) kept.old }
     requires within { IsWithin (asked request) }
     ensures exact { (query : List ℕ) → request_of query ≡ Ok (asked request) →
-        IfOk result (Begins (world_of world.now) (stored_of profiles.now) query) }
+        IfOk result (Begins (world_of world.now) (stored_of profiles.now) aim query) }
     ensures kept { AreKept (world_of world.now) (stored_of profiles.now) kept.new }
 {
     match profiles.find(request.profile.as_slice()) {
-        Some(place) => stored(alloc, world, profiles, kept, request, place),
+        Some(place) => stored(alloc, world, profiles, kept, aim, request, place),
         None => {
             let frame = refusal_frame(alloc, Refusal::UnknownProfile)?;
             Ok(Begun::Frame(frame))
@@ -97,6 +102,7 @@ fn stored(
     world: &World,
     profiles: &Profiles,
     kept: &mut KeptProfiles,
+    aim: Aim,
     request: Request,
     place: u32,
 ) -> Result<Begun, AllocError>
@@ -106,13 +112,13 @@ fn stored(
     requires found { name_place (names_of (stored_of profiles.now)) (asked request).profile ≡
         Some place }
     ensures exact { (query : List ℕ) → request_of query ≡ Ok (asked request) →
-        IfOk result (Begins (world_of world.now) (stored_of profiles.now) query) }
+        IfOk result (Begins (world_of world.now) (stored_of profiles.now) aim query) }
     ensures kept { AreKept (world_of world.now) (stored_of profiles.now) kept.new }
 {
     let profile = profiles.profile(place);
     match kept.ready(alloc, world, profile, place, &request.overrides) {
-        Ok(ready) => match Pending::new(alloc, world, ready, request) {
-            Ok(pending) => Ok(Begun::Job(pending, place)),
+        Ok(ready) => match search_for(alloc, world, ready, aim, request) {
+            Ok(search) => Ok(Begun::Job(search, place)),
             Err(error) => {
                 let frame = route_frame(alloc, profile, error)?;
                 Ok(Begun::Frame(frame))

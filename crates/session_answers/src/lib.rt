@@ -2,6 +2,7 @@
 //! the stored profiles.
 #![tactic(auto)]
 
+mod aim;
 mod beginning;
 mod frames;
 mod kept;
@@ -11,17 +12,20 @@ mod profiles;
 mod received;
 mod refusal;
 mod routes;
+mod search;
 mod turning;
 mod uploading;
 mod verdict;
 mod warming;
 
+pub use aim::Aim;
 pub use beginning::{Begun, begin};
 pub use frames::{line_frame, refusal_frame};
 pub use kept::KeptProfiles;
 pub use profiles::Profiles;
 pub use received::Received;
 pub use refusal::Refusal;
+pub use search::Search;
 pub use turning::turn;
 pub use uploading::upload;
 pub use verdict::Verdict;

@@ -1,4 +1,4 @@
-//! The frames of requests that have no track.
+//! The frames of requests that have no reply.
 
 ghost use Rattle.std.specs.Prelude.{◌≡◌, ◌≢◌, IfOk};
 ghost use Rattle.profile_text.specs.Expr.{sections_in};
@@ -10,7 +10,7 @@ use profile_text::Profile;
 use route_ready::{RouteError, line};
 use std::alloc::{AllocError, Global};
 
-/// The frame of a request that has no track, by the profile that it asks for. Want of memory is no
+/// The frame of a request that has no reply, by the profile that it asks for. Want of memory is no
 /// reason.
 pub(crate) fn route_frame(
     alloc: Global,

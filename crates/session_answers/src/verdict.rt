@@ -2,9 +2,10 @@
 
 ghost use Rattle.std.specs.Prelude.{◌≡◌, ◌≤◌, length};
 ghost use Rattle.route_http.specs.Heads.{IsHeadOf, IsHeadWithin};
-ghost use Rattle.session_answers.specs.Verdicts.{IsVerdict, IsVerdictIn, by_path, is_whole, of_body, of_route, of_upload};
+ghost use Rattle.session_answers.specs.Verdicts.{IsVerdict, IsVerdictIn, by_path, is_whole, of_body, of_query, of_upload};
 ghost use Rattle.session_answers.specs.Verdicts.{unfinished, verdict_by};
 
+use crate::aim::Aim;
 use crate::refusal::Refusal;
 use route_http::{Head, Method, Span};
 
@@ -22,8 +23,8 @@ pub enum Verdict {
     Refused(Refusal),
     /// A profile is uploaded; its text stands here.
     Upload(Span),
-    /// A route is asked for; its query stands here.
-    Query(Span),
+    /// This is asked for; its query stands here.
+    Query(Aim, Span),
 }
 
 /// What is fixed by the head that bytes come to, and by whether the peer ended.
@@ -98,7 +99,9 @@ fn by_path(
     ensures exact { result ≡ by_path path.now long method query body bytes.now }
 {
     if path == b"/brouter".as_slice() {
-        of_route(method, query, body)
+        of_query(Aim::Track, method, query, body)
+    } else if path == b"/brouter/table".as_slice() {
+        of_query(Aim::Table, method, query, body)
     } else if path == b"/brouter/profile".as_slice() {
         of_upload(long, method, body, bytes)
     } else {
@@ -106,16 +109,16 @@ fn by_path(
     }
 }
 
-/// What a request for a route comes to.
-fn of_route(method: Method, query: Span, body: u64) -> Verdict
-    ensures exact { result ≡ of_route method query body }
+/// What a request for a route or for a table comes to.
+fn of_query(aim: Aim, method: Method, query: Span, body: u64) -> Verdict
+    ensures exact { result ≡ of_query aim method query body }
 {
     match method {
         Method::Get => {
             if body > MOST_BODY {
                 Verdict::Refused(Refusal::BodyTooLong)
             } else {
-                Verdict::Query(query)
+                Verdict::Query(aim, query)
             }
         }
         _ => Verdict::Refused(Refusal::MethodNotAllowed),

@@ -16,13 +16,13 @@ use Rattle.hall.proofs.reading.asked.Goals as goal
 pub returns-in-Ok-Frame : goal.returns-in-Ok-Frame
 returns-in-Ok-Frame c =
     let desk = c.args.desk.now in
-    let early = subst (Begins (world_of desk.world) (stored_of desk.profiles) c.part-query.result.now) c.in-Ok-Frame.field-0-is
+    let early = subst (Begins (world_of desk.world) (stored_of desk.profiles) c.args.aim c.part-query.result.now) c.in-Ok-Frame.field-0-is
     c.in-Ok-Frame.ensures.exact in
     let frame = frames.Own c.in-Ok-Frame.frame in
     record {
       settles = λ old.
           settles_early desk c.begin.new.kept c.begin.ensures.kept old c.args.seat c.len-before.result c.len-before.ensures.value
-          c.args.span c.requires.verdict
+          c.args.aim c.args.span c.requires.verdict
           c.answered.result frame c.part-query.result.now (c.answered.ensures.value
           ∙ ap (λ (s : Seat). answered_by s frame) c.whole.ensures.value)
           c.part-query.ensures.value early;
@@ -34,14 +34,14 @@ returns-in-Ok-Job c =
     let new : Desk = record desk { kept = c.begin.new.kept; queue = c.joined.new.queue } in
     let place = c.in-Ok-Job.place in
     let pending = c.in-Ok-Job.pending in
-    let begun = subst (Begins (world_of desk.world) (stored_of desk.profiles) c.part-query.result.now) c.in-Ok-Job.field-0-is
+    let begun = subst (Begins (world_of desk.world) (stored_of desk.profiles) c.args.aim c.part-query.result.now) c.in-Ok-Job.field-0-is
     c.in-Ok-Job.ensures.exact in
-    let here = subst (λ (q : List ℕ). IsBegun (world_of desk.world) (stored_of desk.profiles) q place pending) c.part-query.ensures.value
+    let here = subst (λ (q : List ℕ). IsBegun (world_of desk.world) (stored_of desk.profiles) c.args.aim q place pending) c.part-query.ensures.value
     begun in
     record {
       settles = λ old.
           settles_search desk c.begin.new.kept c.begin.ensures.kept old c.args.seat c.len-before.result c.len-before.ensures.value
-          c.args.span c.requires.verdict
+          c.args.aim c.args.span c.requires.verdict
           new refl refl c.begin.ensures.kept place pending here c.joined.result
           (subst (λ (s : Seat). Joins desk.queue.items c.joined.new.queue.items s place pending c.joined.result)
           c.whole-in-Ok-Job.ensures.value c.joined.ensures.joins);
@@ -55,5 +55,5 @@ returns-in-Err c =
           settles_frame c.args.desk.now c.begin.new.kept c.begin.ensures.kept old (connection_of seat) seat.id seat.away
           c.answered-in-Err.result seat frames.Memory
           c.answered-in-Err.ensures.value refl refl
-          (gives_up (has_byte (received_of seat.received) seat.ended (Query c.args.span) c.requires.verdict (λ e. cc)) (inr (inl refl)));
+          (gives_up (has_byte (received_of seat.received) seat.ended (Query c.args.aim c.args.span) c.requires.verdict (λ e. cc)) (inr (inl refl)));
     }

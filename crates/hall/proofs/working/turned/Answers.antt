@@ -5,12 +5,12 @@ use Rattle.hall.specs.Steps.{work_quota}
 use Rattle.hall.specs.declared.desk.Desk.{Desk}
 use Rattle.hall.specs.declared.seat.Frame.TheVariants as frames
 use Rattle.profile_text.specs.Expr.{sections_in}
-use Rattle.route_engine.specs.Pending.{settled_of}
 use Rattle.route_ready.specs.World.{world_of}
 use Rattle.session_answers.proofs.CallerLemmas.{job_place, job_profile}
 use Rattle.session_answers.specs.Jobs.{CountsTo, TurnsTo}
 use Rattle.session_answers.specs.Profiles.{stored_of}
 use Rattle.session_answers.specs.Received.{received_of}
+use Rattle.session_answers.specs.Searches.{settled_by}
 use Rattle.session_answers.specs.Verdicts.{part}
 
 pub profile-profile-requires : goal.profile-profile-requires
@@ -18,7 +18,7 @@ profile-profile-requires c =
     let desk = c.args.desk.now in
     let search = c.requires.search in
     record {
-      fits = job_place (world_of desk.world) (part (received_of c.args.seat.received) search.span) c.args.place c.args.pending
+      fits = job_place (world_of desk.world) search.aim (part (received_of c.args.seat.received) search.span) c.args.place c.args.pending
           search.before (stored_of desk.profiles) search.job;
     }
 
@@ -29,12 +29,12 @@ returns-in-Ok-More c =
     let world = world_of desk.world in
     let stored = take search.before (stored_of desk.profiles) in
     let query = part (received_of c.args.seat.received) search.span in
-    let there = job_profile world query c.args.place c.args.pending search.before (stored_of desk.profiles) search.job
+    let there = job_profile world search.aim query c.args.place c.args.pending search.before (stored_of desk.profiles) search.job
     (sections_in c.profile-profile.result.now) c.profile-profile.ensures.value in
     let new : Desk = record desk { queue = c.joined.new.queue } in
-    let turned = subst (TurnsTo world stored query c.args.place) c.in-Ok-More.field-0-is
-    (c.in-Ok-More.ensures.exact stored query c.args.place search.job there) in
-    let counted = subst (CountsTo work_quota (settled_of c.args.pending)) c.in-Ok-More.field-0-is c.in-Ok-More.ensures.counts in
+    let turned = subst (TurnsTo world stored search.aim query c.args.place) c.in-Ok-More.field-0-is
+    (c.in-Ok-More.ensures.exact stored search.aim query c.args.place search.job there) in
+    let counted = subst (CountsTo work_quota (settled_by c.args.pending)) c.in-Ok-More.field-0-is c.in-Ok-More.ensures.counts in
     record {
       works = works_more desk c.args.seat c.args.place c.args.pending search c.requires.kept new refl refl refl c.in-Ok-More.pending turned
           counted
@@ -48,10 +48,10 @@ returns-in-Ok-Done c =
     let world = world_of desk.world in
     let stored = take search.before (stored_of desk.profiles) in
     let query = part (received_of c.args.seat.received) search.span in
-    let there = job_profile world query c.args.place c.args.pending search.before (stored_of desk.profiles) search.job
+    let there = job_profile world search.aim query c.args.place c.args.pending search.before (stored_of desk.profiles) search.job
     (sections_in c.profile-profile.result.now) c.profile-profile.ensures.value in
-    let turned = subst (TurnsTo world stored query c.args.place) c.in-Ok-Done.field-0-is
-    (c.in-Ok-Done.ensures.exact stored query c.args.place search.job there) in
+    let turned = subst (TurnsTo world stored search.aim query c.args.place) c.in-Ok-Done.field-0-is
+    (c.in-Ok-Done.ensures.exact stored search.aim query c.args.place search.job there) in
     record {
       works = works_frame desk c.args.seat c.args.place c.args.pending search c.requires.kept c.answered.result
           (frames.Own c.in-Ok-Done.frame) turned c.answered.ensures.value;

@@ -9,8 +9,8 @@ use Rattle.session_answers.specs.Profiles.{stored_of}
 use Rattle.session_answers.specs.Rows.{Asks}
 use Rattle.session_answers.proofs.beginning.stored.Goals as goal
 
-pub returns-in-Ok-new-clause-exact : goal.returns-in-Ok-new-clause-exact
-returns-in-Ok-new-clause-exact c = λ query reads.
+pub returns-in-Ok-search_for-clause-exact : goal.returns-in-Ok-search_for-clause-exact
+returns-in-Ok-search_for-clause-exact c = λ query reads.
     let world = world_of c.args.world.now in
     let stored = stored_of c.args.profiles.now in
     let request = asked c.args.request in
@@ -19,11 +19,12 @@ returns-in-Ok-new-clause-exact c = λ query reads.
     let ready = (c.in-Ok.ensures.exact (profiles_of stored) c.requires.kept there).1 in
     let asks : Asks stored query request sections =
     record { asks = reads; found = found_at stored request.profile c.args.place sections c.requires.found there } in
-    begun-job world stored query c.args.place request sections c.in-Ok-new.pending asks there c.in-Ok-new.ensures.pending
-    (c.in-Ok-new.ensures.answers sections ready) c.in-Ok-new.ensures.fresh
+    begun-job world stored c.args.aim query c.args.place request sections c.in-Ok-search_for.search asks there
+    c.in-Ok-search_for.ensures.aims c.in-Ok-search_for.ensures.over (c.in-Ok-search_for.ensures.answers sections ready)
+    c.in-Ok-search_for.ensures.fresh
 
-pub returns-in_ok-frame-in-Err-new-clause-exact : goal.returns-in_ok-frame-in-Err-new-clause-exact
-returns-in_ok-frame-in-Err-new-clause-exact c = λ query reads.
+pub returns-in_ok-frame-in-Err-search_for-clause-exact : goal.returns-in_ok-frame-in-Err-search_for-clause-exact
+returns-in_ok-frame-in-Err-search_for-clause-exact c = λ query reads.
     let world = world_of c.args.world.now in
     let stored = stored_of c.args.profiles.now in
     let request = asked c.args.request in
@@ -32,8 +33,9 @@ returns-in_ok-frame-in-Err-new-clause-exact c = λ query reads.
     let ready = (c.in-Ok.ensures.exact (profiles_of stored) c.requires.kept there).1 in
     let asks : Asks stored query request sections =
     record { asks = reads; found = found_at stored request.profile c.args.place sections c.requires.found there } in
-    early-frame world stored query request sections asks c.in-Err-new.error c.in_ok-frame-in-Err-new.frame.items
-    c.in_ok-frame-in-Err-new.ensures.reason c.in_ok-frame-in-Err-new.ensures.exact (c.in-Err-new.ensures.cause sections ready)
+    early-frame world stored query request sections asks c.in-Err-search_for.error c.in_ok-frame-in-Err-search_for.frame.items
+    c.in_ok-frame-in-Err-search_for.ensures.reason c.in_ok-frame-in-Err-search_for.ensures.exact
+    (c.in-Err-search_for.ensures.cause sections ready)
 
 pub returns-in_ok-frame-in-Err-clause-exact : goal.returns-in_ok-frame-in-Err-clause-exact
 returns-in_ok-frame-in-Err-clause-exact c = λ query reads.
