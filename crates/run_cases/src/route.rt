@@ -1,9 +1,10 @@
-//! Cases of requests answered as a whole and in turns, and of stored profiles.
+//! Cases of requests answered as a whole and in turns, of tables, and of stored profiles.
 
 mod answers;
 mod inputs;
 mod replies;
 mod shelves;
+mod tables;
 mod tracks;
 mod turns;
 
@@ -11,7 +12,7 @@ use case_rows::{Case, place_of};
 use std::alloc::{AllocError, Global};
 
 /// The calls of this part.
-pub(crate) const CALLS: [&str; 5] = ["route", "costs", "job", "reply", "shelf"];
+pub(crate) const CALLS: [&str; 6] = ["route", "costs", "job", "reply", "table", "shelf"];
 
 /// The place of the call of a case.
 fn call_of(case: &Case) -> usize {
@@ -21,7 +22,7 @@ fn call_of(case: &Case) -> usize {
 /// The answer to a case.
 pub(crate) fn answer(alloc: Global, case: &Case) -> Result<Vec<u8>, AllocError> {
     match call_of(case) {
-        4 => shelves::answer(alloc, case),
+        5 => shelves::answer(alloc, case),
         _ => answers::answer(alloc, case),
     }
 }

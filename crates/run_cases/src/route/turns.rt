@@ -9,6 +9,7 @@ ghost use Rattle.way_class.specs.Links.{links_of};
 use crate::route::call_of;
 use crate::route::inputs::quota;
 use crate::route::replies::in_replies;
+use crate::route::tables::in_table;
 use crate::route::tracks::append_track;
 use crate::told::outside;
 use case_rows::Case;
@@ -54,6 +55,7 @@ fn by_ready(
     let ready = Rc::new(alloc, ready)?;
     match call_of(case) {
         2 => in_job(alloc, case, world, ready, request),
+        4 => in_table(alloc, case, world, ready, request),
         _ => in_replies(alloc, case, world, ready, request),
     }
 }

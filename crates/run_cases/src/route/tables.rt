@@ -1,0 +1,126 @@
+//! Tables of costs, found in turns.
+
+ghost use Rattle.std.specs.Prelude.{◌≡◌, ◌≤◌, length};
+ghost use Rattle.route_engine.specs.Jobs.{IsWithin};
+ghost use Rattle.route_engine.specs.TableJobs.{IsTableOn};
+ghost use Rattle.route_http.specs.Seen.{asked};
+ghost use Rattle.route_ready.specs.World.{world_of};
+ghost use Rattle.way_class.specs.Links.{links_of};
+
+use crate::route::inputs::quota;
+use crate::route::turns::MOST_TURNS;
+use crate::told::outside;
+use case_rows::Case;
+use item_list::{Turn, append_bytes, append_named, append_wide};
+use route_engine::{CostRows, TableJob};
+use route_http::Request;
+use route_ready::{Ready, RouteError, World, line};
+use std::alloc::{AllocError, Global};
+use std::rc::Rc;
+
+/// The table of a request found in turns, or the line of a waypoint without a node.
+pub(crate) fn in_table(
+    alloc: Global,
+    case: &Case,
+    world: &World,
+    ready: Rc<Ready>,
+    request: Request,
+) -> Result<Vec<u8>, AllocError>
+    requires counted { (links_of ready.value.bound).count ≡ length (world_of world.now).map.links }
+    requires within { IsWithin (asked request) }
+{
+    match TableJob::new(alloc, world, ready, request) {
+        Ok(job) => by_quota(alloc, case, world, job),
+        Err(error) => line(alloc, &error, None),
+    }
+}
+
+/// The same with the quota of a case.
+fn by_quota(alloc: Global, case: &Case, world: &World, job: TableJob) -> Result<Vec<u8>, AllocError>
+    requires on { IsTableOn (world_of world.now) job }
+{
+    let quota = quota(case);
+    if quota > 0 {
+        return turned(alloc, world, job, quota);
+    }
+    outside(alloc)
+}
+
+/// The same in turns of a quota.
+fn turned(alloc: Global, world: &World, job: TableJob, quota: u32) -> Result<Vec<u8>, AllocError>
+    requires on { IsTableOn (world_of world.now) job }
+    requires some { 1 ≤ quota }
+{
+    let mut job = job;
+    'turns: for turn in 1..MOST_TURNS {
+        match job.turn(world, quota) {
+            Turn::More(_) => {}
+            Turn::Done(Ok(_)) => return found(alloc, &job, turn),
+            Turn::Done(Err(error)) => return refused(alloc, &job, turn, error),
+        }
+    }
+    Vec::from_slice(alloc, b"not at its end")
+}
+
+/// The rows of a job behind its counts.
+fn found(alloc: Global, job: &TableJob, turns: u64) -> Result<Vec<u8>, AllocError> {
+    let mut text = counts(alloc, job, turns)?;
+    match job.costs() {
+        Some(table) => append_table(&mut text, table)?,
+        None => append_bytes(&mut text, b"no table is there")?,
+    }
+    Ok(text)
+}
+
+/// The line of a job's refusal behind its counts.
+fn refused(
+    alloc: Global,
+    job: &TableJob,
+    turns: u64,
+    error: RouteError,
+) -> Result<Vec<u8>, AllocError> {
+    let mut text = counts(alloc, job, turns)?;
+    append_bytes(&mut text, b" ")?;
+    if job.costs().is_some() {
+        append_bytes(&mut text, b"a table is there: ")?;
+    }
+    let told = line(alloc, &error, None)?;
+    append_bytes(&mut text, told.as_slice())?;
+    Ok(text)
+}
+
+/// How many turns a job took, and how many labels it settled.
+fn counts(alloc: Global, job: &TableJob, turns: u64) -> Result<Vec<u8>, AllocError> {
+    let mut text = Vec::new(alloc);
+    append_named(&mut text, b"turns ", turns)?;
+    append_named(&mut text, b" settled ", job.settled())?;
+    Ok(text)
+}
+
+/// Appends the rows of a table, each behind a space.
+fn append_table(text: &mut Vec<u8>, table: &CostRows) -> Result<(), AllocError> {
+    'rows: for place in 0..table.rows.len() {
+        append_bytes(text, b" ")?;
+        append_row(text, table.rows[place].as_slice())?;
+    }
+    Ok(())
+}
+
+/// Appends the costs of a row, with a comma between each two.
+fn append_row(text: &mut Vec<u8>, row: &[Option<u128>]) -> Result<(), AllocError> {
+    'costs: for place in 0..row.len() {
+        if place > 0 {
+            append_bytes(text, b",")?;
+        }
+        append_cost(text, row[place])?;
+    }
+    Ok(())
+}
+
+/// Appends a cost in millionths, or that there is none.
+fn append_cost(text: &mut Vec<u8>, cost: Option<u128>) -> Result<(), AllocError> {
+    match cost {
+        Some(cost) => append_wide(text, cost),
+        None => append_bytes(text, b"-"),
+    }
+}
