@@ -1,5 +1,5 @@
 -- What is read of the walk of a line.
-use Rattle.std.proofs.Common.{◌≡◌, ℕ, ◌<◌, List, [], ◌∷◌, ◌++◌, length, get_or, drop, Some, None, refl, sym, ap, ◌∙◌, subst, arith, append_assoc, append-nil}
+use Rattle.std.proofs.Common.{◌≡◌, ℕ, ◌<◌, List, [], ◌∷◌, ◌++◌, length, Some, None, refl, sym, ap, ◌∙◌, subst, arith, append_assoc, append-nil}
 use Rattle.std.specs.List.{AllByRecursion}
 use Rattle.std.proofs.lemmas.List.{flat_map_more}
 use Rattle.overpass_graph.specs.Maps.{MapValue, IsMap}
@@ -69,20 +69,15 @@ module _ (map : MapValue) (text walk rest named : List ℕ) (is : IsMap map) (so
             (last.1.0, (last.1.1.0.1, both.1));
       })
 
--- a text that begins with a space
-pub space-first : (rest named : List ℕ) → 0 < length rest → get_or rest 0 0 ≡ 32 → named ≡ drop 1 rest → rest ≡ 32 ∷ named
-space-first [] named some first named_is = absurd (omega arith)
-space-first (c ∷ rest) named some first named_is = ap (λ n. n ∷ rest) first ∙ ap (λ t. 32 ∷ t) (sym named_is)
-
 -- where something else is left, the text says no walk
 pub walking-other : (map : MapValue) (text walk rest : List ℕ) → IsWalking map text walk rest → 0 < length rest →
-    (get_or rest 0 0 ≡ 32 → ⊥) → Reads (walk_text map) (AreLinks map) text None
+    ((named : List ℕ) → rest ≡ 32 ∷ named → ⊥) → Reads (walk_text map) (AreLinks map) text None
 walking-other map text walk rest so some other all are same =
     let left = so.whole all are same in by_left left.0 left.1.1
   where
     by_left : (left : List ℕ) → rest ≡ walk_text map left → ⊥
     by_left [] is = absurd (omega (arith, some, ap length is))
-    by_left (l ∷ left) is = other (ap (λ (t : List ℕ). get_or t 0 0) is)
+    by_left (l ∷ left) is = other (link_text map l ++ walk_text map left) is
 
 -- where nothing is left, it says the walk
 pub walking-last : (map : MapValue) (text walk rest : List ℕ) → IsWalking map text walk rest → length rest ≡ 0 →

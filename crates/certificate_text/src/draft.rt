@@ -64,7 +64,7 @@ impl Draft {
 
     /// Takes the first line of a text, and gives what follows it; nothing where none that can
     /// stand there begins the text.
-    pub(crate) fn read<'a>(
+    pub(crate) fn take_line<'a>(
         &mut self,
         alloc: Global,
         map: &Map,

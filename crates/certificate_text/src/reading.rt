@@ -37,7 +37,7 @@ fn read_lines(alloc: Global, text: &[u8], map: &Map) -> Result<Certificate, Cert
     let mut rest = text;
     let mut number = 2u32;
     'lines: while !rest.is_empty() {
-        let Some(after) = draft.read(alloc, map, rest)? else {
+        let Some(after) = draft.take_line(alloc, map, rest)? else {
             return Err(CertError::Line { line: number });
         };
         rest = after;

@@ -4,7 +4,7 @@ ghost use Rattle.std.specs.Prelude.{◌≡◌, IfOk, option_map};
 ghost use Rattle.certificate_text.specs.Lines.{AreLinks, walk_text};
 ghost use Rattle.certificate_text.specs.Parts.{Reads};
 
-use crate::cuts::count_of;
+use crate::cuts::{behind_byte, count_of};
 use crate::names::link_at;
 use overpass_graph::Map;
 use std::alloc::{AllocError, Global};
@@ -18,10 +18,9 @@ pub(crate) fn walk_of(alloc: Global, map: &Map, text: &[u8]) -> Result<Option<Ve
     let mut walk = Vec::with_capacity(alloc, count_of(text, b' '))?;
     let mut rest = text;
     'links: while !rest.is_empty() {
-        if rest[0] != b' ' {
+        let Some(named) = behind_byte(rest, b' ') else {
             return Ok(None);
-        }
-        let (_, named) = rest.split_at(1);
+        };
         let Some(found) = link_at(map, named) else {
             return Ok(None);
         };

@@ -182,7 +182,8 @@ impl CommandName {
             CommandName::Hills =>
                 "prints what the cheapest track costs from corner to corner of the hilly grid of \
                  w by h cells of a seed",
-            CommandName::Serve => "answers routes over HTTP, and takes profiles",
+            CommandName::Serve =>
+                "answers routes and tables of costs over HTTP, and takes profiles",
         }
     }
 }

@@ -5,7 +5,7 @@ use Rattle.edge_io.specs.Acts.{Act, is_event_of, told}
 use Rattle.edge_io.specs.declared.event.Event.{Event}
 use Rattle.edge_io.specs.declared.event.Event.TheVariants.{Opened, Bytes, Ended, Lost, Quiet, Over}
 use Rattle.hall.proofs.GrowthLemmas.{StandsBefore, events_in_order}
-use Rattle.hall.proofs.FrameLemmas.{status-200, status-422, status-refusal, status_in}
+use Rattle.hall.proofs.FrameLemmas.{no_success-early, status-200, status-422, status-refusal, status_in}
 use Rattle.hall.specs.Allowed as rows
 use Rattle.hall.specs.Allowed.{IsRowOf}
 use Rattle.hall.specs.Causes.{HasCause, HearsIn, IsDecidedIn, away, memory, row}
@@ -17,7 +17,7 @@ use Rattle.profile_text.specs.Tree.{Sections}
 use Rattle.profile_text.specs.declared.error.TextError.{TextError}
 use Rattle.route_http.specs.Asked.{Asked}
 use Rattle.route_http.specs.Frames.{frame_of, length_line, reason_of, status_line, type_line}
-use Rattle.route_http.specs.declared.kind.Kind.TheVariants.{Json, Plain}
+use Rattle.route_http.specs.declared.kind.Kind.TheVariants.{Csv, Json, Plain}
 use Rattle.route_http.specs.declared.span.Span.{Span}
 use Rattle.route_ready.specs.Lines.{route_line}
 use Rattle.session_answers.proofs.CallerLemmas.{verdict_unique}
@@ -28,6 +28,7 @@ use Rattle.session_answers.specs.Rows.{Asks, IsEarlyFrame, IsQueryFrame}
 use Rattle.session_answers.specs.Stored.{Stored, by_check, by_text, find_stored, upload_reply}
 use Rattle.session_answers.specs.Verdicts.{IsVerdict, part}
 use Rattle.session_answers.specs.declared.aim.Aim.{Aim}
+use Rattle.session_answers.specs.declared.aim.Aim.TheVariants.{Table}
 use Rattle.session_answers.specs.declared.refusal.Refusal.{Refusal}
 use Rattle.session_answers.specs.declared.refusal.Refusal.TheVariants.{BadRequest, OutOfMemory, UnknownProfile, SessionsFull}
 use Rattle.session_answers.specs.declared.verdict.Verdict.{Verdict}
@@ -117,6 +118,53 @@ module _ (service : Service) (meets : Meets) (id : ℕ) (acts : List Act) (frame
   -- nor that its request was bad, whatever its peer did since
   pub no_bad_request : frame ≡ refusal_frame BadRequest → HasCause service meets id acts frame → ⊥
   no_bad_request = no_refusal BadRequest (λ h. omega arith) (omega arith)
+
+-- ---- A query for a table of costs
+
+-- so much is decided to be a query for a table
+pub record IsForTable (bytes : List ℕ) (ended : Bool) : Type 0 where
+  pub span : Span
+  pub verdict : IsVerdict bytes ended (Query Table span)
+
+-- lines are of another kind than JSON
+lines_and_json : (lines body : List ℕ) → frame_of 200 Csv lines ≢ frame_of 200 Json body
+unfolding frame_of status_line type_line reason_of digits
+lines_and_json lines body is = let clash : ◌≡◌ {A = ℕ} 116 97 = ap (λ (f : List ℕ). get_or f 31 0) is in omega arith
+
+table_query : (service : Service) (stored : List Stored) (query frame lines : List ℕ) → frame ≡ frame_of 200 Csv lines →
+    IsQueryFrame service.world stored Table query frame → ⊥
+table_query service stored query frame lines is (queries.before at_once) =
+    no_success-early service stored query frame at_once (ap status_in is ∙ status-200 Csv lines)
+table_query service stored query frame lines is (queries.refused {sections} asks e answer) =
+    omega (arith, status-422 Plain (route_line (Some sections) e ++ 10 ∷ []), status-200 Csv lines, ap status_in is)
+table_query service stored query frame lines is (queries.told asks bytes reply) = lines_and_json lines bytes (sym is)
+
+table_row : (service : Service) (stored : List Stored) (bytes : List ℕ) (ended : Bool) (frame lines : List ℕ) (added : List Stored) →
+    IsForTable bytes ended → frame ≡ frame_of 200 Csv lines → IsRowOf service stored bytes ended frame added → ⊥
+table_row service stored bytes ended frame lines added known is (rows.refused {r} other) =
+    (let clash : Query Table known.span ≡ Refused r =
+    verdict_unique bytes ended (Query Table known.span) (Refused r) known.verdict other in
+    cc)
+table_row service stored bytes ended frame lines added known is (rows.upload {span} other) =
+    (let clash : Query Table known.span ≡ Upload span =
+    verdict_unique bytes ended (Query Table known.span) (Upload span) known.verdict other in
+    cc)
+table_row service stored bytes ended frame lines added known is (rows.query {aim} {span} other answers) =
+    let one : Query aim span ≡ Query Table known.span =
+    verdict_unique bytes ended (Query aim span) (Query Table known.span) other known.verdict in
+    let same : aim ≡ Table = cc in
+    table_query service stored (part bytes span) frame lines is
+    (subst (λ (a : Aim). IsQueryFrame service.world stored a (part bytes span) frame) same answers)
+
+-- it isn't answered in lines, as a track may be
+pub no_lines_for_a_table : (service : Service) (meets : Meets) (id : ℕ) (acts : List Act) (frame lines : List ℕ) → ((state : State)
+    (bytes : List ℕ) (ended : Bool) (added : List Stored) → IsDecidedIn meets id acts state bytes ended added → IsForTable bytes ended) →
+    frame ≡ frame_of 200 Csv lines → HasCause service meets id acts frame → ⊥
+no_lines_for_a_table service meets id acts frame lines known is cause =
+    let status : status_in frame ≡ 200 = ap status_in is ∙ status-200 Csv lines in
+    let found = only_row service meets id acts frame (omega (arith, status)) cause in
+    table_row service found.state.stored found.bytes found.ended frame lines found.added
+    (known found.state found.bytes found.ended found.added found.decided) is found.is
 
 -- ---- One name for two uploads
 

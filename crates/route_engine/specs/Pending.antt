@@ -33,7 +33,7 @@ pub record IsFor (world : WorldValue) (sections : Sections) (asked : Asked) (p :
   pub planned : IsPlanned world asked p
   pub told : TellsOf asked p.told
 
--- how many labels have been settled for it
+-- how much has been counted for it: labels that were settled, and beginnings
 abbrev pub settled_of : Pending → ℕ
 settled_of p = settled_by p.job
 
@@ -64,11 +64,11 @@ TellsEnd world p end = MatchResult end (λ bytes. RepliesTo world p bytes.items)
 abbrev pub TellsTurn : WorldValue → Pending → Turn Pending (Result (Vec ℕ Global) RouteError) → Type 0
 TellsTurn world p = Says (λ next. IsPending world next × StaysFor world p next) (TellsEnd world p)
 
--- the whole quota is settled where it goes on
+-- the whole quota is counted where it goes on
 abbrev pub CountsTurn : {E : Type 0} → ℕ → ℕ → Turn Pending E → Type 0
 CountsTurn quota before = Says (λ next. settled_of next ≡ before + quota) (λ _. Unit {0})
 
--- no more is settled for it than may be for the request that it stands for
+-- no more is counted for it than may be for the request that it stands for
 abbrev pub IsBounded : WorldValue → Pending → Type 0
 IsBounded world p = (sections : Sections) (asked : Asked) → IsFor world sections asked p →
     settled_of p ≤ most_labels asked

@@ -72,7 +72,7 @@ impl Pending {
         }
     }
 
-    /// How many labels have been settled for it.
+    /// How much is counted for it: the labels that its searches settled, and the beginnings.
     pub fn settled(&self) -> u64
         ensures value { result ≡ settled_of self.now }
     {
@@ -87,8 +87,8 @@ impl Pending {
         self.told.form
     }
 
-    /// Settles at most `quota` labels for it. It goes on where as many were settled, and is at its
-    /// end with the bytes of its reply, or where there is no track.
+    /// Goes on by a turn that counts at most `quota` labels and beginnings. It goes on where as much
+    /// was counted, and is at its end with the bytes of its reply, or where there is no track.
     pub fn turn(
         self,
         alloc: Global,

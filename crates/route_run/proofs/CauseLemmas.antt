@@ -1,6 +1,5 @@
 -- How often files were opened by the stages of a command, and when a fault of theirs is answered.
-use Rattle.std.proofs.Common.{◌≡◌, ℕ, zero, suc, ◌+◌, inl, inr, List, [], ◌∷◌, ◌++◌, length, Some, Result, Ok, Err, true, refl, sym, ap, ◌∙◌, subst, arith, append-nil, length-append}
-use Rattle.std.specs.Prelude.{slice_get}
+use Rattle.std.proofs.Common.{◌≡◌, ℕ, suc, ◌+◌, inl, inr, List, [], ◌∷◌, ◌++◌, length, Some, Result, Ok, Err, true, refl, sym, ap, ◌∙◌, subst, arith, append-nil, length-append}
 use Rattle.command_words.specs.Given.{Named}
 use Rattle.edge_io.specs.Faults.{CountRose, count_after, next_count}
 use Rattle.edge_io.specs.Files.{FilesSeen, Opens}

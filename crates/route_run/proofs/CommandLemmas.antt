@@ -1,5 +1,5 @@
 -- How often the files of each command are opened, and the cause of each of its statuses.
-use Rattle.std.proofs.Common.{ℕ, inl, inr, Bool, true, false, cond, ◌==◌, List, [], ◌∷◌, ◌++◌, length, Option, Some, None, Result, Ok, Err, ◌≡◌, refl, ap, ◌∙◌, sym, subst}
+use Rattle.std.proofs.Common.{ℕ, inl, inr, Bool, true, false, cond, ◌==◌, List, [], ◌∷◌, ◌++◌, Option, Some, None, Result, Ok, Err, ◌≡◌, refl, ap, ◌∙◌, sym, subst}
 use Rattle.certificate_text.specs.declared.certificate.Certificate.{Certificate}
 use Rattle.command_words.specs.Given.{Named}
 use Rattle.command_words.specs.declared.command.CheckCommand.{CheckCommand}

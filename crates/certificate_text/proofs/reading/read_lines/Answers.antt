@@ -7,7 +7,7 @@ use Rattle.certificate_text.proofs.reading.read_lines.Goals as goal
 pub lines-preserved : goal.lines-preserved
 lines-preserved c =
     let read = rw c.in-Some.is at c.in_ok-after.ensures.exact in
-    reading-next c.args.map.now _ c.lines.number c.lines.rest.now c.lines.draft c.read.new.self c.lines.invariant c.in-Some.after.now
+    reading-next c.args.map.now _ c.lines.number c.lines.rest.now c.lines.draft c.take_line.new.self c.lines.invariant c.in-Some.after.now
     _ read refl
 
 pub returns-then-is_ended : goal.returns-then-is_ended

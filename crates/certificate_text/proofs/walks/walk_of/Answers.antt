@@ -1,26 +1,21 @@
 use Rattle.item_list.proofs.ListLemmas.{some_from_test}
-use Rattle.certificate_text.proofs.WalkLemmas.{space-first, walking-lost, walking-next, walking-other}
+use Rattle.certificate_text.proofs.WalkLemmas.{walking-lost, walking-next, walking-other}
 use Rattle.certificate_text.proofs.walks.walk_of.Goals as goal
 
-pub returns-then-rest-ne32 : goal.returns-then-rest-ne32
-returns-then-rest-ne32 c = record {
+pub returns-in_default : goal.returns-in_default
+returns-in_default c = record {
   exact = walking-other c.args.map.now c.args.text.now c.links.walk.items c.links.rest.now c.links.invariant
-      (some_from_test c.links.rest.now c.links-test.ensures) c.if-rest-ne32.true;
+      (some_from_test c.links.rest.now c.links-test.ensures) c.in_default.ensures.exact;
 }
 
-pub returns-in_default : goal.returns-in_default
-returns-in_default c =
-    let begins = space-first c.links.rest.now c.split_at.result.1.now (some_from_test c.links.rest.now c.links-test.ensures)
-    c.if-rest-ne32.false c.split_at.ensures.back in
-    record {
-      exact = walking-lost c.args.map.now c.args.text.now c.links.walk.items c.links.rest.now c.split_at.result.1.now
-          c.links-count.ensures.lawful c.links.invariant begins c.in_default.ensures.exact;
-    }
+pub returns-in_default-link_at : goal.returns-in_default-link_at
+returns-in_default-link_at c = record {
+  exact = walking-lost c.args.map.now c.args.text.now c.links.walk.items c.links.rest.now c.in-Some.named.now
+      c.links-count.ensures.lawful c.links.invariant c.in-Some.ensures.exact c.in_default-link_at.ensures.exact;
+}
 
 pub links-preserved : goal.links-preserved
 links-preserved c =
-    let begins = space-first c.links.rest.now c.split_at.result.1.now (some_from_test c.links.rest.now c.links-test.ensures)
-    c.if-rest-ne32.false c.split_at.ensures.back in
-    walking-next c.args.map.now c.args.text.now c.links.walk.items c.links.rest.now c.split_at.result.1.now
-    c.links-count.ensures.lawful c.links.invariant begins c.in-Some.found.0 c.in-Some.found.1.now
-    c.push.new.self.items c.in-Some.ensures.exact c.in_ok-push.ensures.items
+    walking-next c.args.map.now c.args.text.now c.links.walk.items c.links.rest.now c.in-Some.named.now
+    c.links-count.ensures.lawful c.links.invariant c.in-Some.ensures.exact c.in-Some-link_at.found.0 c.in-Some-link_at.found.1.now
+    c.push.new.self.items c.in-Some-link_at.ensures.exact c.in_ok-push.ensures.items
