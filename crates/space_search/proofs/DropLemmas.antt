@@ -1,30 +1,15 @@
 -- What a search's lists are once the next label was dropped.
-use Rattle.std.proofs.Common.{◌≡◌, ℕ, ◌<◌, ◌+◌, ◌↔◌, List, ◌∷◌, length, get_or, Option, Some, None, refl, arith, sym, ◌∙◌, subst}
+use Rattle.std.proofs.Common.{◌≡◌, ℕ, ◌+◌, List, ◌∷◌, Some, refl, arith, sym, ◌∙◌}
 use Rattle.std.proofs.lemmas.List.Sorted.{length_permutation}
-use Rattle.std.proofs.lemmas.Option.{slice_get_within, get_or_from_slice_get}
-use Rattle.std.specs.BinaryHeap.{PopsGreatest}
-use Rattle.std.specs.List.{slice_get}
 use Rattle.std.specs.List.Sorted.{IsPermutation}
-use Rattle.std.specs.Option.{IfSome, IsSome}
-use Rattle.space_search.specs.Books.{Books, Entry, entry_cmp, IsLabel, IsCovered, IsAccounted, IsSearch, IsClosed, KeepsLabels}
+use Rattle.space_search.specs.Books.{Books, IsLabel, IsCovered, IsAccounted, IsSearch, IsClosed, KeepsLabels}
+use Rattle.space_search.specs.Queues.{Entry}
 use Rattle.space_search.specs.Laws.{HasRank}
 use Rattle.space_search.specs.Moves.{IsNext, Drops}
 use Rattle.space_search.specs.Rules.{Rules}
 use Rattle.space_search.specs.declared.label.Label.{Label}
 use Rattle.space_search.proofs.SameLemmas.{follows-moved, keeps-same, keeps-back, stands-same, index-same}
-use Rattle.space_search.proofs.TakeLemmas.{Popped, accounted-popped, left-queued}
-
--- what a pop gives is the entry at the front
-pub popped-front :
-    (all rest : List Entry) (r : Option Entry) (top : Entry) (n : ℕ) →
-    IfSome r (λ x. x ≡ get_or all 0 x) → IfSome r (λ x. IsPermutation all (x ∷ rest)) →
-    IfSome r (λ x. PopsGreatest entry_cmp all x rest) → (IsSome r ↔ (0 < n)) → n ≡ length all →
-    slice_get all 0 ≡ Some top → Popped all top rest
-popped-front all rest None top n first moved ordered some is there =
-    let none = some.1 (omega (arith, is, slice_get_within all 0 top there)) in cc
-popped-front all rest (Some x) top n first moved ordered some is there =
-    let same : x ≡ top = first ∙ get_or_from_slice_get all 0 top x there in
-    record { permutation = subst (λ y. IsPermutation all (y ∷ rest)) same moved; ordered = λ h. (ordered h).0 }
+use Rattle.space_search.proofs.TakeLemmas.{accounted-popped, left-queued}
 
 -- two ranks of one state at one cost are equal
 pub rank-unique :
@@ -44,7 +29,7 @@ pub record Leaving {S : Type 0} (rules : Rules S) (kept : Books S) (number : ℕ
   pub search : IsSearch rules kept
   pub closed : IsClosed rules kept
   pub next : IsNext rules kept number label
-  pub popped : Popped kept.queue (record { 0 = (next.rank, number) }) rest
+  pub popped : IsPermutation kept.queue (record { 0 = (next.rank, number) } ∷ rest)
 
 module _ {S : Type 0} (rules : Rules S) (kept : Books S) (number : ℕ) (label : Label S) (rest : List Entry)
     (leaving : Leaving rules kept number label rest) where
@@ -81,7 +66,6 @@ module _ {S : Type 0} (rules : Rules S) (kept : Books S) (number : ℕ) (label :
               queued =
                   λ e h. leaving.search.queued e
                   (left-queued kept.queue (record { 0 = (leaving.next.rank, number) }) rest leaving.popped e h);
-              ordered = leaving.popped.ordered leaving.search.ordered;
               above = λ p l r s h e inside.
                   leaving.search.above p l r (back p l s) h e
                   (left-queued kept.queue (record { 0 = (leaving.next.rank, number) }) rest leaving.popped e inside);
@@ -95,5 +79,5 @@ module _ {S : Type 0} (rules : Rules S) (kept : Books S) (number : ℕ) (label :
             };
         labels = refl;
         settled = refl;
-        work = omega (arith, length_permutation _ _ leaving.popped.permutation);
+        work = omega (arith, length_permutation _ _ leaving.popped);
       }

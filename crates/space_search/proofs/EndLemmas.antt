@@ -2,7 +2,8 @@
 use Rattle.std.proofs.Common.{◌≡◌, ℕ, ◌<◌, ◌≤◌, ◌+◌, [], length, Option, Some, None, refl, ap, arith, sym, ◌∙◌, subst}
 use Rattle.std.specs.Bool.{IsTrue}
 use Rattle.std.specs.List.{Contains}
-use Rattle.space_search.specs.Books.{Books, Entry, Follows, IsCovered, IsAccounted, by_label, by_queue, by_bound, IsSearch, IsClosed}
+use Rattle.space_search.specs.Books.{Books, Follows, IsCovered, IsAccounted, by_label, by_queue, by_bound, IsSearch, IsClosed}
+use Rattle.space_search.specs.Queues.{Entry}
 use Rattle.space_search.specs.Laws.{IsSpace, HasRank}
 use Rattle.space_search.specs.Moves.{IsNext}
 use Rattle.space_search.specs.Rules.{Rules}

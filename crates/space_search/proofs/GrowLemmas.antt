@@ -2,7 +2,8 @@
 use Rattle.std.proofs.Common.{◌≡◌, ℕ, ◌<◌, ◌≤◌, ◌+◌, ◌^◌, ◌⊎◌, inl, inr, List, [], ◌∷◌, ◌++◌, length, set, get_or, Some, false, refl, ap, arith, sym, ◌∙◌, subst, length-set, length-append}
 use Rattle.std.proofs.lemmas.Option.{slice_get_read, slice_get_within}
 use Rattle.std.specs.List.{slice_get}
-use Rattle.space_search.specs.Books.{Books, Entry, IsLabel, IsSettled, IsUncovered, IsNeedless, IsLatest, IsIndex, KeepsLabels}
+use Rattle.space_search.specs.Books.{Books, IsLabel, IsSettled, IsUncovered, IsNeedless, IsLatest, IsIndex, KeepsLabels}
+use Rattle.space_search.specs.Queues.{Entry}
 use Rattle.space_search.specs.Rules.{Rules}
 use Rattle.space_search.specs.declared.label.Label.{Label}
 use Rattle.space_search.proofs.DropLemmas.{Leaving}

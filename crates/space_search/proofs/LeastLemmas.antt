@@ -3,7 +3,8 @@
 use Rattle.std.proofs.Common.{◌≡◌, ℕ, ◌<◌, ◌≤◌, ◌+◌, List, [], ◌∷◌, Some, None, true, refl, arith, sym, ◌∙◌, subst}
 use Rattle.std.specs.Bool.{IsTrue}
 use Rattle.std.specs.List.{Contains}
-use Rattle.space_search.specs.Books.{Books, Entry, IsSettled, Waits, by_label, by_queue, by_bound, IsSearch, IsClosed}
+use Rattle.space_search.specs.Books.{Books, IsSettled, Waits, by_label, by_queue, by_bound, IsSearch, IsClosed}
+use Rattle.space_search.specs.Queues.{Entry}
 use Rattle.space_search.specs.Laws.{IsSpace, HasRank}
 use Rattle.space_search.specs.Rules.{Rules}
 use Rattle.space_search.specs.Runs.{Walks, rests, steps, IsRun, starts, Reaches, IsUnreachable}

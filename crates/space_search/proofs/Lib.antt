@@ -11,6 +11,7 @@ pub mod NextLemmas
 pub mod OfferLemmas
 pub mod OrderLemmas
 pub mod PruneLemmas
+pub mod QueueLemmas
 pub mod ReachLemmas
 pub mod ReadLemmas
 pub mod RunLemmas

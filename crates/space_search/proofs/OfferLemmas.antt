@@ -1,10 +1,10 @@
 -- What an offered label changes in a search's lists.
 use Rattle.std.proofs.Common.{◌≡◌, ℕ, ◌<◌, ◌≤◌, ◌+◌, ◌⊎◌, inl, inr, List, [], ◌∷◌, ◌++◌, length, Some, refl, ap, arith, sym, subst, length-append}
-use Rattle.std.specs.BinaryHeap.{IsHeap}
 use Rattle.std.specs.List.{slice_get, Contains}
 use Rattle.std.specs.List.Sorted.{IsPermutation}
 use Rattle.std.proofs.lemmas.List.Sorted.{Contains-permutation, IsPermutation-sym, length_permutation}
-use Rattle.space_search.specs.Books.{Books, Entry, entry_cmp, IsLabel, IsSettled, Follows, IsSearch, IsAccounted, by_queue, RanksAbove, Extends, Leaves, KeepsLabels}
+use Rattle.space_search.specs.Books.{Books, IsLabel, IsSettled, Follows, IsSearch, IsAccounted, by_queue, RanksAbove, Extends, Leaves, KeepsLabels}
+use Rattle.space_search.specs.Queues.{Entry}
 use Rattle.space_search.specs.Laws.{HasRank}
 use Rattle.space_search.specs.Moves.{Offers}
 use Rattle.space_search.specs.Rules.{Rules}
@@ -42,7 +42,6 @@ pub record Queues {S : Type 0} (rules : Rules S) (kept : Books S) (label : Label
   pub room : length kept.labels < 4294967295
   pub is : entry.0 ≡ (rank, length kept.labels)
   pub queued : IsPermutation (entry ∷ kept.queue) queue
-  pub ordered : IsHeap entry_cmp kept.queue → IsHeap entry_cmp queue
 
 module _ {S : Type 0} (rules : Rules S) (kept : Books S) (label : Label S) (labels : List (Label S)) (queue : List Entry)
     (search : IsSearch rules kept) (pushed : labels ≡ kept.labels ++ label ∷ []) where
@@ -143,7 +142,6 @@ module _ {S : Type 0} (rules : Rules S) (kept : Books S) (label : Label S) (labe
           few = omega (arith, longer, q.room);
           follows = follows-next;
           queued = queued-next;
-          ordered = q.ordered search.ordered;
           above = above-next;
           index = index-same rules kept (offered kept labels queue) stays search.stands refl refl refl search.index;
         }

@@ -93,7 +93,6 @@ module _ {S : Type 0} (rules : Rules S) (kept : Books S) (search : IsSearch rule
                     few = search.few;
                     follows = λ n l h. follows-moved rules kept relinked _ _ l to (omega arith) (search.follows n l h);
                     queued = search.queued;
-                    ordered = search.ordered;
                     above = λ p l r s. search.above p l r (back p l s);
                     index = index-relinked;
                   };

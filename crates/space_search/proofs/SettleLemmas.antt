@@ -3,7 +3,8 @@ use Rattle.std.proofs.Common.{◌≡◌, ℕ, ◌≤◌, ◌+◌, ◌⊎◌, inl
 use Rattle.std.proofs.lemmas.List.Sorted.{length_permutation}
 use Rattle.std.proofs.lemmas.Option.{slice_get_within, get_or_from_slice_get}
 use Rattle.std.specs.List.{Contains}
-use Rattle.space_search.specs.Books.{Books, Entry, IsLabel, IsSettled, Follows, IsCovered, IsAccounted, Reads, IsRising, Stands, IsSearch, KeepsLabels, Leaves}
+use Rattle.space_search.specs.Books.{Books, IsLabel, IsSettled, Follows, IsCovered, IsAccounted, Reads, IsRising, Stands, IsSearch, KeepsLabels, Leaves}
+use Rattle.space_search.specs.Queues.{Entry}
 use Rattle.space_search.specs.Laws.{IsSpace, HasRank}
 use Rattle.space_search.specs.Moves.{Settles}
 use Rattle.space_search.specs.Rules.{Rules}
@@ -173,7 +174,6 @@ module _ {S : Type 0} (rules : Rules S) (laws : IsSpace rules) (kept : Books S) 
             follows-moved rules kept next_books (length kept.settled) (length w.settled) l more
             (omega (arith, (longer rules kept number label rest w))) (w.leaving.search.follows n l h);
         queued = λ e h. w.leaving.search.queued e (left-queued kept.queue entry rest w.leaving.popped e h);
-        ordered = w.leaving.popped.ordered w.leaving.search.ordered;
         above = λ place l low s r e h.
             let there : Contains kept.queue e = left-queued kept.queue entry rest w.leaving.popped e h in
             elim (cases place l s) [
@@ -199,7 +199,7 @@ module _ {S : Type 0} (rules : Rules S) (laws : IsSpace rules) (kept : Books S) 
         now = now rules kept number label rest w;
         earlier = more;
         counted = (longer rules kept number label rest w);
-        work = omega (arith, length_permutation _ _ w.leaving.popped.permutation);
+        work = omega (arith, length_permutation _ _ w.leaving.popped);
       }
 
   -- and all settled labels still stand

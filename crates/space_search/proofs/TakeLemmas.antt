@@ -1,10 +1,10 @@
 -- What was taken care of still is when labels are offered and when the next one leaves the queue.
 use Rattle.std.proofs.Common.{◌≡◌, ℕ, ◌<◌, ◌+◌, inl, inr, List, ◌∷◌, length, Some, ap, arith, sym, ◌∙◌, subst}
-use Rattle.std.specs.BinaryHeap.{IsHeap}
 use Rattle.std.specs.List.{Contains}
 use Rattle.std.specs.List.Sorted.{IsPermutation}
 use Rattle.std.proofs.lemmas.List.Sorted.{Contains-permutation, IsPermutation-sym}
-use Rattle.space_search.specs.Books.{Books, Entry, entry_cmp, IsLabel, IsSettled, IsCovered, IsAccounted, by_label, by_queue, by_bound, HasStarts, HasSteps, HasStepsBelow, IsSearch, IsClosed, Extends, KeepsLabels, Leaves}
+use Rattle.space_search.specs.Books.{Books, IsLabel, IsSettled, IsCovered, IsAccounted, by_label, by_queue, by_bound, HasStarts, HasSteps, HasStepsBelow, IsSearch, IsClosed, Extends, KeepsLabels, Leaves}
+use Rattle.space_search.specs.Queues.{Entry}
 use Rattle.space_search.specs.Rules.{Rules}
 use Rattle.space_search.specs.declared.label.Label.{Label}
 use Rattle.item_list.proofs.ListLemmas.{slice_get-same, Contains-cons_cases, Contains-rest}
@@ -89,14 +89,9 @@ module _ {S : Type 0} (rules : Rules S) (before after : Books S) (more : Extends
             ];
       }
 
--- the top entry was taken from a queue, and the rest is left
-pub record Popped (queue : List Entry) (top : Entry) (rest : List Entry) : Type 0 where
-  pub permutation : IsPermutation queue (top ∷ rest)
-  pub ordered : IsHeap entry_cmp queue → IsHeap entry_cmp rest
-
 -- the next label left the queue, and it is covered now
 pub record PopsCovered {S : Type 0} (rules : Rules S) (kept after : Books S) (number : ℕ) (label : Label S) (top : Entry) : Type 0 where
-  pub popped : Popped kept.queue top after.queue
+  pub popped : IsPermutation kept.queue (top ∷ after.queue)
   pub is : top.0.1 ≡ number
   pub there : IsLabel kept number label
   pub same_labels : after.labels ≡ kept.labels
@@ -113,7 +108,7 @@ module _ {S : Type 0} (rules : Rules S) (kept after : Books S) (number : ℕ) (l
   accounted-popped state cost (by_queue w) =
       elim (
       Contains-cons_cases top after.queue w.entry
-      (Contains-permutation kept.queue (top ∷ after.queue) w.entry p.popped.permutation w.queued)
+      (Contains-permutation kept.queue (top ∷ after.queue) w.entry p.popped w.queued)
       ) [
         | inl first ↦
             let number_is : number ≡ w.entry.0.1 = sym p.is ∙ ap (λ (e : Entry). e.0.1) first in
@@ -141,10 +136,10 @@ module _ {S : Type 0} (rules : Rules S) (kept after : Books S) (number : ℕ) (l
 
 -- an entry that is left was there before
 pub left-queued :
-    (queue : List Entry) (top : Entry) (rest : List Entry) → Popped queue top rest → (entry : Entry) → Contains rest entry →
+    (queue : List Entry) (top : Entry) (rest : List Entry) → IsPermutation queue (top ∷ rest) → (entry : Entry) → Contains rest entry →
     Contains queue entry
 left-queued queue top rest popped entry h =
-    Contains-permutation (top ∷ rest) queue entry (IsPermutation-sym _ _ popped.permutation) (Contains-rest top rest entry h)
+    Contains-permutation (top ∷ rest) queue entry (IsPermutation-sym _ _ popped) (Contains-rest top rest entry h)
 
 -- a settled label is one where everything stays
 pub settled-extended : {S : Type 0} (rules : Rules S) (before after : Books S) → Extends before after → KeepsLabels before after

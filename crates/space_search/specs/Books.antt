@@ -1,24 +1,13 @@
 -- What a search keeps while it runs: the labels that it made, the queue of those that wait, those that it
 -- settled, and for each slot the chain of its settled ones. This project's own rule.
-use Rattle.std.specs.BinaryHeap.{heap_items, IsHeap}
 use Rattle.std.specs.Bool.{IsTrue}
 use Rattle.std.specs.List.{slice_get, Contains}
-use Rattle.std.specs.Ordering.{nat_cmp, ordering_then}
 use Rattle.std.specs.Prelude.{ℕ, ◌≡◌, ◌<◌, ◌≤◌, ◌+◌, ◌*◌, ◌-◌, ◌^◌, ◌⊎◌, false, Some, None, List, [], length}
-use Rattle.std.specs.declared.cmp.Ordering.{Ordering}
-use Rattle.std.specs.declared.cmp.Reverse.{Reverse}
 use Rattle.space_search.specs.Laws.{HasRank}
+use Rattle.space_search.specs.Queues.{Entry}
 use Rattle.space_search.specs.Rules.{Rules, COST_BOUND}
 use Rattle.space_search.specs.declared.label.Label.{Label}
 use Rattle.space_search.specs.declared.lists.Lists.{Lists}
-
--- an entry of the queue: the rank of its label, and the label's number
-abbrev pub Entry : Type 0
-Entry = Reverse (ℕ × ℕ)
-
--- the order of the queue: the greatest entry is the one of least rank, then of least number
-abbrev pub entry_cmp : Entry → Entry → Ordering
-entry_cmp a b = ordering_then (nat_cmp b.0.0 a.0.0) (nat_cmp b.0.1 a.0.1)
 
 -- the lists that a search keeps
 pub record Books (S : Type 0) : Type 0 where
@@ -38,7 +27,7 @@ abbrev pub books : {S : Type 0} → Lists S → Books S
 books lists =
     record {
       labels = lists.labels.items;
-      queue = heap_items lists.queue;
+      queue = lists.queue;
       settled = lists.settled.items;
       newest = lists.newest;
       older = lists.older.items;
@@ -226,7 +215,6 @@ pub record IsSearch {S : Type 0} (rules : Rules S) (kept : Books S) : Type 0 whe
   pub queued :
       (entry : Entry) → Contains kept.queue entry →
       (label : Label S) × IsLabel kept entry.0.1 label × HasRank rules label.state label.cost entry.0.0
-  pub ordered : IsHeap entry_cmp kept.queue
   -- what waits ranks no less than any settled label
   pub above :
       (place : ℕ) (label : Label S) (rank : ℕ) → IsSettled kept place label →
@@ -261,4 +249,3 @@ pub record IsFresh {S : Type 0} (kept : Books S) : Type 0 where
   pub settled : kept.settled ≡ []
   pub newest : kept.newest ≡ []
   pub older : kept.older ≡ []
-  pub ordered : IsHeap entry_cmp kept.queue

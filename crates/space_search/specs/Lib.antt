@@ -5,6 +5,7 @@ pub mod Laws
 pub mod Limits
 pub mod Moves
 pub mod Outcome
+pub mod Queues
 pub mod Rules
 pub mod Runs
 pub mod Searches

@@ -2,7 +2,8 @@
 use Rattle.std.specs.List.{slice_get, Contains}
 use Rattle.std.specs.Bool.{IsTrue}
 use Rattle.std.specs.Prelude.{ℕ, ◌≡◌, ◌<◌, ◌≤◌, ◌+◌, false, Some, [], length}
-use Rattle.space_search.specs.Books.{Books, Entry, IsLabel, IsSettled, IsAccounted, HasStarts, HasStepsBelow, IsUncovered, IsLatest, IsSearch, IsClosed, Extends, KeepsLabels, work_left}
+use Rattle.space_search.specs.Books.{Books, IsLabel, IsSettled, IsAccounted, HasStarts, HasStepsBelow, IsUncovered, IsLatest, IsSearch, IsClosed, Extends, KeepsLabels, work_left}
+use Rattle.space_search.specs.Queues.{Entry}
 use Rattle.space_search.specs.Laws.{HasRank}
 use Rattle.space_search.specs.Rules.{Rules}
 use Rattle.space_search.specs.declared.label.Label.{Label}

@@ -11,6 +11,7 @@ mod offer;
 mod outcome;
 mod phase;
 mod prune;
+mod queue;
 mod search;
 mod settle;
 mod space;

@@ -3,17 +3,16 @@
 ghost use Rattle.space_search.specs.Books.{books, IsFresh};
 
 use crate::label::Label;
+use crate::queue::Queue;
 use item_list::Paged;
 use std::alloc::Global;
-use std::cmp::Reverse;
-use std::collections::BinaryHeap;
 
 /// The labels made so far by number; the queue of those that wait, least rank first, then least
 /// number; the numbers of the settled ones in order; and for each slot the chain of its settled
 /// ones: the newest, and for each the one before it, by place plus 1, or 0 for none.
 pub struct Lists<T> {
     pub(crate) labels: Vec<Label<T>>,
-    pub(crate) queue: BinaryHeap<Reverse<(u128, u32)>>,
+    pub(crate) queue: Queue,
     pub(crate) settled: Vec<u32>,
     pub(crate) newest: Paged<u32>,
     pub(crate) older: Vec<u32>,
@@ -38,7 +37,7 @@ impl<T> Lists<T> {
     {
         Lists {
             labels: Vec::new(alloc),
-            queue: BinaryHeap::new(alloc),
+            queue: Queue::new(alloc),
             settled: Vec::new(alloc),
             newest: Paged::none(alloc, 0),
             older: Vec::new(alloc),

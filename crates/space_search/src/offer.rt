@@ -11,7 +11,6 @@ use crate::lists::Lists;
 use crate::space::Space;
 use item_list::next_number;
 use std::alloc::AllocError;
-use std::cmp::Reverse;
 
 /// Whether a settled label covers the state at this cost, which ranks no less than any of them.
 /// Those that left their slot's chain needn't be tested.
@@ -84,13 +83,9 @@ fn enqueue<T: Copy + Drop, S: Space<State = T>>(
     ensures settled { (books lists.new).settled ≡ (books lists.old).settled }
 {
     let number = next_number(lists.labels.len())?;
-    let entry = Reverse((rank, number));
     match lists.labels.push(label) {
         Ok(()) => {}
         Err(_) => return Err(AllocError),
     }
-    match lists.queue.push(entry) {
-        Ok(()) => Ok(()),
-        Err(_) => Err(AllocError),
-    }
+    lists.queue.push(rank, number)
 }

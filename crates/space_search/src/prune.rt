@@ -9,7 +9,8 @@ use crate::lists::Lists;
 use crate::space::Space;
 
 /// Takes out of the chain of its slot what the newest settled label supersedes. That stays settled.
-/// A space that doesn't say so of a label and itself says so of none, and isn't asked further.
+/// Where it is alone in its slot's chain the space isn't asked. A space that doesn't say so of a
+/// label and itself says so of none, and isn't asked further.
 pub(crate) fn prune<T: Copy + Drop, S: Space<State = T>>(
     space: &S,
     lists: &mut Lists<T>,
@@ -20,6 +21,9 @@ pub(crate) fn prune<T: Copy + Drop, S: Space<State = T>>(
         IsSettled (books lists.old) place label }
     ensures prunes { Prunes (S.rules space.now) (books lists.old) (books lists.new) }
 {
+    if lists.older[lists.older.len() - 1] == 0 {
+        return;
+    }
     if !space.supersedes(&label.state, label.cost, &label.state, label.cost) {
         return;
     }

@@ -24,7 +24,7 @@ pub(crate) fn drop_next<T: Copy + Drop, S: Space<State = T>>(
     requires covered { IsCovered (S.rules _space.now) (books lists.old) _label.state _label.cost }
     ensures drops { Drops (S.rules _space.now) (books lists.old) (books lists.new) }
 {
-    let _taken = lists.queue.pop();
+    lists.queue.pop();
 }
 
 /// Takes the next label, which is no goal and which no settled label covers, from the queue and
@@ -81,7 +81,7 @@ fn settle_last<T: Copy + Drop, S: Space<State = T>>(
         Ok(()) => {}
         Err(_) => return Err(AllocError),
     }
-    let _taken = lists.queue.pop();
+    lists.queue.pop();
     Ok(())
 }
 

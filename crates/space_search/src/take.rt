@@ -45,10 +45,10 @@ pub(crate) fn take<T: Copy + Drop, S: Space<State = T>>(
     ensures leaves { Leaves (S.rules space.now) (books lists.old) (books lists.new) }
     ensures fits { length (books lists.new).settled ≤ limit }
 {
-    let Some(found) = next(space, lists) else {
+    let Some(number) = next(space, lists) else {
         return Ok(Taken::Empty);
     };
-    let (number, label) = found;
+    let label = lists.labels[number as usize];
     if space.goal(&label.state) {
         return Ok(Taken::Goal(number));
     }

@@ -1,9 +1,12 @@
 use Rattle.std.proofs.Common.{◌∙◌, ap, arith}
+use Rattle.std.proofs.lemmas.Result.{on_ok_weaker}
 use Rattle.space_search.proofs.OfferLemmas.{offers-pushed, leaves-pushed}
 use Rattle.space_search.proofs.offer.enqueue.Goals as goal
 
-pub returns-in-Ok-push-clause-offers : goal.returns-in-Ok-push-clause-offers
-returns-in-Ok-push-clause-offers g c =
+pub returns-clause-offers : goal.returns-clause-offers
+returns-clause-offers g c =
+    on_ok_weaker c.push-2.result
+    (λ puts.
     offers-pushed _ _ c.args.label _ _ c.requires.kept c.in-Ok.ensures.items
     (record {
       entry = _;
@@ -13,12 +16,9 @@ returns-in-Ok-push-clause-offers g c =
       ranked = c.requires.ranked;
       room = omega (arith, c.in_ok-number.ensures.exact.1, c.len.ensures, c.args.lists.now.labels.ok.0);
       is = ap (λ n. (c.args.rank, n)) (c.in_ok-number.ensures.exact.0 ∙ c.len.ensures ∙ c.args.lists.now.labels.ok.0);
-      queued = c.in-Ok-push.ensures.permutation;
-      ordered = c.in-Ok-push.ensures.heap_order;
-    })
+      queued = puts;
+    }))
+    c.push-2.ensures.puts
 
-pub returns-in-Ok-push-clause-leaves : goal.returns-in-Ok-push-clause-leaves
-returns-in-Ok-push-clause-leaves g c = leaves-pushed _ _ c.args.label _ _ c.requires.kept c.in-Ok.ensures.items
-
-pub returns-in-Err-push-clause-leaves : goal.returns-in-Err-push-clause-leaves
-returns-in-Err-push-clause-leaves g c = leaves-pushed _ _ c.args.label _ _ c.requires.kept c.in-Ok.ensures.items
+pub returns-clause-leaves : goal.returns-clause-leaves
+returns-clause-leaves g c = leaves-pushed _ _ c.args.label _ _ c.requires.kept c.in-Ok.ensures.items

@@ -1,6 +1,5 @@
 use Rattle.std.proofs.Common.{arith, ◌≡◌, ◌+◌, length, set, refl, ap, ◌∙◌}
 use Rattle.space_search.specs.Books.{books}
-use Rattle.space_search.proofs.DropLemmas.{popped-front}
 use Rattle.space_search.proofs.SameLemmas.{leaves-failed}
 use Rattle.space_search.proofs.GrowLemmas.{Writes}
 use Rattle.space_search.proofs.SettleLemmas.{settles, leaves-settled}
@@ -25,9 +24,7 @@ returns g c =
             search = c.requires.kept;
             closed = c.requires.closed;
             next = c.requires.next;
-            popped =
-                popped-front _ _ c.pop-taken.result _ _ c.pop-taken.ensures.top c.pop-taken.ensures.permutation
-                c.pop-taken.ensures.heap_order c.pop-taken.ensures.variant c.args.lists.now.queue.data.ok.0 c.requires.next.first;
+            popped = c.pop.ensures.takes _ c.requires.next.first;
           };
       no_goal = c.requires.no_goal;
       uncovered = c.requires.uncovered;
