@@ -3,6 +3,7 @@ pub mod FactorLemmas
 pub mod RateLemmas
 pub mod LinkLemmas
 pub mod PaidLemmas
+pub mod PriceLemmas
 pub mod WalkLemmas
 pub mod ModeLemmas
 pub mod CostLemmas

@@ -1,11 +1,11 @@
 -- Sums, products and quotients of the program's numbers, and the bounds that they keep.
 use Rattle.std.proofs.Common.{◌≡◌, ℕ, ◌*◌, ◌/◌, ◌≤◌, ℤ, pos, negsuc, ◌+ℤ◌, ◌-ℤ◌, ◌*ℤ◌, ◌≤ℤ◌, nat_abs, refl, ap, ◌∙◌, sym, unsigned_abs, int_div, SFits, w64, to_z, of_z, arith}
-use Rattle.std.specs.Int.{w128}
+use Rattle.std.specs.Int.{w128, int_div_euclid}
 use Rattle.std.proofs.lemmas.Int.{ints, to_z-of_z, to_z_pos, fits_signed_from_abs, unsigned_abs-mul}
 use Rattle.std.proofs.lemmas.Nat.{mul-le}
 use Rattle.std.proofs.Math.Nat.{div-le_self}
 use Rattle.cost_model.specs.Facts.{IsCost}
-use Rattle.cost_model.specs.Parts.{per_metre, IsWeight, ArePaid, sum_of}
+use Rattle.cost_model.specs.Parts.{per_metre, turn_price, IsWeight, ArePaid, sum_of}
 use Rattle.cost_model.specs.declared.parts.Parts.{Parts}
 
 -- a rate that is no less than nothing comes to a count
@@ -138,3 +138,34 @@ sum_fits parts is =
       five = fits_signed_from_abs w128 _ (omega (arith, ints));
       low = omega (arith, ints);
     }
+
+-- what a share in millionths of a small cost comes to in 64 bits
+share-narrow : (cost : ℕ) (share : ℤ) → cost ≤ 4000000000000 → SFits w64 share → pos 0 ≤ℤ share → share ≤ℤ pos 2000000 →
+    to_z w128 (cost * nat_abs (to_z w64 (of_z w64 share)) / 1000000) ≡ int_div_euclid (pos cost *ℤ share) (pos 1000000)
+share-narrow cost (pos n) few fits low high =
+    let small : cost * n ≤ 4000000000000 * 2000000 = mul-le cost n 4000000000000 2000000 few (omega (arith, ints)) in
+    let below : cost * n / 1000000 ≤ cost * n = div-le_self (cost * n) 1000000 in
+    rw (to_z-of_z w64 (pos n) fits) (to_z_pos w128 (cost * n / 1000000) (omega arith))
+share-narrow cost (negsuc n) few fits low high = absurd (omega (arith, ints))
+
+-- is the price of a turn
+pub turn-narrow : (turncost cosine : ℤ) → SFits w64 turncost → pos 0 ≤ℤ turncost → turncost ≤ℤ pos 4000000000000 →
+    unsigned_abs cosine ≤ 1000000 →
+    to_z w128 (nat_abs (to_z w64 (of_z w64 turncost)) * nat_abs (to_z w64 (of_z w64 (pos 1000000 -ℤ cosine))) / 1000000)
+    ≡ turn_price turncost cosine
+unfolding turn_price
+turn-narrow (pos n) cosine fits low high k =
+    let share : SFits w64 (pos 1000000 -ℤ cosine) = fits_signed_from_abs w64 _ (omega (arith, ints)) in
+    rw (to_z-of_z w64 (pos n) fits)
+    (share-narrow n (pos 1000000 -ℤ cosine) (omega (arith, ints)) share (omega (arith, ints)) (omega (arith, ints)))
+turn-narrow (negsuc n) cosine fits low high k = absurd (omega (arith, ints))
+
+-- and the product on the way to it fits
+pub turn-fits : (turncost cosine : ℤ) → SFits w64 turncost → pos 0 ≤ℤ turncost → turncost ≤ℤ pos 4000000000000 →
+    unsigned_abs cosine ≤ 1000000 →
+    unsigned_abs (to_z w64 (of_z w64 turncost)) * unsigned_abs (to_z w64 (of_z w64 (pos 1000000 -ℤ cosine)))
+    ≤ 8000000000000000000
+turn-fits turncost cosine fits low high k =
+    let share : SFits w64 (pos 1000000 -ℤ cosine) = fits_signed_from_abs w64 _ (omega (arith, ints)) in
+    rw (to_z-of_z w64 turncost fits, to_z-of_z w64 (pos 1000000 -ℤ cosine) share)
+    (mul-le (unsigned_abs turncost) (unsigned_abs (pos 1000000 -ℤ cosine)) 4000000000000 2000000 (omega (arith, ints)) (omega (arith, ints)))

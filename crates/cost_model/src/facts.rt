@@ -2,7 +2,9 @@
 
 ghost use Rattle.std.specs.Prelude.{◌≡◌, ◌<◌};
 ghost use Rattle.cost_model.specs.Facts.{AreLinks, Links};
+ghost use Rattle.cost_model.specs.OpenLinks.{low_price_of};
 
+use crate::least::low_price;
 use geo_int::Arrow;
 
 /// The facts of a link, by the tags of its way and of the node at its end.
@@ -39,6 +41,15 @@ pub trait FactsOf {
     fn facts(&self, link: u32) -> LinkFacts
         requires within { link < (links self.now).count }
         ensures value { result ≡ (links self.now).facts link };
+
+    /// What it costs to enter a link at least whose segment wasn't used; `None` where its facts don't
+    /// let a rider take it. What keeps these prices finds them without the facts.
+    fn low_price(&self, link: u32) -> Option<u128>
+        requires within { link < (links self.now).count }
+        ensures value { result ≡ low_price_of ((links self.now).facts link) }
+    {
+        low_price(&self.facts(link))
+    }
 
     /// The facts of every link keep the bounds.
     ghost sound: { (source : Self) → AreLinks (links source) };

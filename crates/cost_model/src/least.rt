@@ -2,10 +2,12 @@
 
 ghost use Rattle.std.specs.Prelude.{◌≡◌, ◌≤ℤ◌, ◌<◌, ◌^◌, pos};
 ghost use Rattle.cost_model.specs.Facts.{AreFacts};
+ghost use Rattle.cost_model.specs.OpenLinks.{low_price_of};
 ghost use Rattle.cost_model.specs.Parts.{counted, least_distance, least_factor, least_price as price_of};
 
 use crate::distance::along;
 use crate::facts::LinkFacts;
+use crate::open_links::is_passable;
 
 /// What it costs to enter a link at least, in millionths, whatever walk enters it: the low form of
 /// its distance part, counted twice where its segment was `used`, and the charge of its end.
@@ -15,6 +17,19 @@ pub fn least_price(facts: &LinkFacts, used: bool) -> u128
     ensures below { result < 2 ^ 68 }
 {
     (twice(used, distance(facts)) + facts.charge as i128) as u128
+}
+
+/// What it costs to enter a link at least whose segment wasn't used, as `least_price` says; `None`
+/// where its facts don't let a rider take it.
+pub fn low_price(facts: &LinkFacts) -> Option<u128>
+    requires facts { AreFacts facts.now }
+    ensures exact { result ≡ low_price_of facts.now }
+{
+    if is_passable(facts) {
+        Some(least_price(facts, false))
+    } else {
+        None
+    }
 }
 
 /// A distance part, counted twice where this is asked for.

@@ -15,8 +15,8 @@ mod terrain;
 
 pub use distance::distance_part;
 pub use facts::{FactsOf, LinkFacts};
-pub use least::least_price;
-pub use links::{enter, first};
+pub use least::{least_price, low_price};
+pub use links::{enter, enter_priced, first};
 pub use map_modes::modes;
 pub use open_links::{OpenLinks, Passages, is_passable};
 pub use parts::{Carry, Parts};

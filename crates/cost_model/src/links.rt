@@ -2,8 +2,8 @@
 
 ghost use Rattle.std.specs.Prelude.{◌≡◌, ◌≤◌, ◌≤ℤ◌, ℕ, ◌*ℤ◌, true, None, Some, List, [], unsigned_abs};
 ghost use Rattle.geo_int.specs.Arrow.{IsArrow};
-ghost use Rattle.cost_model.specs.Facts.{AreFacts};
-ghost use Rattle.cost_model.specs.Parts.{ArePaid, IsHeld, MovesWithWeights, initial_of, least_distance, parts_after, parts_with, ranked, turn_of, turn_price};
+ghost use Rattle.cost_model.specs.Facts.{AreFacts, IsCost};
+ghost use Rattle.cost_model.specs.Parts.{ArePaid, IsHeld, MovesWithWeights, entry_cost, initial_of, least_distance, parts_after, parts_with, ranked, turn_of, turn_price};
 ghost use Rattle.cost_model.specs.Prices.{IsPrices};
 ghost use Rattle.cost_model.specs.Walks.{GoesOn, IsCarriedBy, carry_after, empty_pair, pair_of};
 ghost use Rattle.cost_model.specs.declared.facts.LinkFacts.{LinkFacts};
@@ -81,6 +81,41 @@ pub fn enter(
     )
 }
 
+/// What it costs in all to go on by a link after the one whose facts are `last`, which `carry`
+/// names, the distance part once more where the segment was used, and what is carried on from it. A
+/// search asks this for each label, so the parts are put together in place.
+pub fn enter_priced(
+    carry: &Carry,
+    last: &LinkFacts,
+    link: u32,
+    facts: &LinkFacts,
+    rates: &Rates,
+    used: bool,
+) -> (Carry, u128)
+    requires last { IsArrow last.now.arrow }
+    requires facts { AreFacts facts.now }
+    requires held { IsHeld rates.now (pair_of carry.now) }
+    ensures carry { result.0 ≡ carry_after rates.now link facts.now (pair_of carry.now) }
+    ensures price { result.1 ≡
+        entry_cost rates.now used (Some last.now) facts.now (pair_of carry.now) }
+{
+    let down = descent(facts, rates, carry.down);
+    let up = ascent(facts, rates, carry.up);
+    let next = Carry {
+        link,
+        down: down.e,
+        up: up.e,
+    };
+    let parts = Parts {
+        distance: distance_part(facts, down.weight, up.weight),
+        turn: turn(last, facts),
+        initial: initial(last, facts),
+        node: facts.charge as i128,
+        elevation: paid(down.paid, rates.down_rate()) + paid(up.paid, rates.up_rate()),
+    };
+    (next, parts.price(used))
+}
+
 /// What a link costs with these turn and initial parts, and what is carried on from it.
 fn entered(
     link: u32,
@@ -134,13 +169,19 @@ fn turn(last: &LinkFacts, facts: &LinkFacts) -> i128
     priced(facts.turncost, turn_cos(&last.arrow, &facts.arrow))
 }
 
-/// The price of a turn of this cosine.
+/// The price of a turn of this cosine. Products of 128 bits are divided only for turn costs above
+/// four million: that is much slower.
 fn priced(turncost: i64, cosine: i64) -> i128
-    requires turncost { unsigned_abs turncost ≤ 1000000000000000 }
+    requires turncost { IsCost turncost }
     requires cosine { unsigned_abs cosine ≤ 1000000 }
     ensures exact { result ≡ turn_price turncost cosine }
 {
-    (turncost as i128 * (1_000_000 - cosine) as i128).div_euclid(1_000_000)
+    let share = 1_000_000 - cosine;
+    if turncost <= 4_000_000_000_000 {
+        (turncost as u64 * share as u64 / 1_000_000) as i128
+    } else {
+        (turncost as i128 * share as i128).div_euclid(1_000_000)
+    }
 }
 
 /// The initial part: that of the way that is entered, where the classifier changes.

@@ -1,7 +1,7 @@
 //! What a walk carries from link to link, and the parts of what a link costs.
 
-ghost use Rattle.std.specs.Prelude.{◌≡◌, ◌≤ℤ◌, ◌<ℤ◌, ◌^◌, pos};
-ghost use Rattle.cost_model.specs.Parts.{ArePaid, sum_of};
+ghost use Rattle.std.specs.Prelude.{◌≡◌, ◌≤ℤ◌, ◌<ℤ◌, ◌^◌, pos, true};
+ghost use Rattle.cost_model.specs.Parts.{ArePaid, cost_of, ranked, sum_of};
 
 /// What a walk carries: its last link, and the buffers of descending and climbing in micrometres.
 #[derive(Clone, Copy)]
@@ -30,5 +30,19 @@ impl Parts {
         ensures high { result <ℤ pos (2 ^ 81) }
     {
         self.distance + self.turn + self.initial + self.node + self.elevation
+    }
+
+    /// What the parts come to, the distance part once more where the segment was used.
+    pub fn price(&self, used: bool) -> u128
+        requires paid { ArePaid self.now }
+        requires twice { ArePaid (ranked true self.now) }
+        ensures exact { result ≡ cost_of (ranked used self.now) }
+    {
+        let sum = self.sum();
+        if used {
+            (sum + self.distance) as u128
+        } else {
+            sum as u128
+        }
     }
 }

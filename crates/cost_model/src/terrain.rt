@@ -3,6 +3,7 @@
 ghost use Rattle.std.specs.Prelude.{◌≡◌, ◌<◌, ⊤, length};
 ghost use Rattle.cost_model.specs.Facts.{AreLinks};
 ghost use Rattle.cost_model.specs.Modes.{modes_of};
+ghost use Rattle.cost_model.specs.OpenLinks.{low_price_of};
 ghost use Rattle.cost_model.specs.Rides.{Terrain};
 
 use crate::facts::{FactsOf, LinkFacts};
@@ -25,6 +26,12 @@ pub trait TerrainOf: Copy {
     fn facts(&self, link: u32) -> LinkFacts
         requires within { link < length (terrain self.now).map.links }
         ensures value { result ≡ (terrain self.now).links.facts link };
+
+    /// What it costs to enter a link at least whose segment wasn't used; `None` where its facts don't
+    /// let a rider take it.
+    fn low_price(&self, link: u32) -> Option<u128>
+        requires within { link < length (terrain self.now).map.links }
+        ensures value { result ≡ low_price_of ((terrain self.now).links.facts link) };
 
     /// The rates.
     fn rates(&self) -> &Rates
@@ -101,6 +108,10 @@ impl<'a, F: FactsOf> TerrainOf for PricedMap<'a, F> {
 
     fn facts(&self, link: u32) -> LinkFacts {
         self.facts.facts(link)
+    }
+
+    fn low_price(&self, link: u32) -> Option<u128> {
+        self.facts.low_price(link)
     }
 
     fn rates(&self) -> &Rates {

@@ -99,7 +99,7 @@ fn found_near<N: Amount, P: LinkPrices>(
     })
 }
 
-/// Up to which radius sums are found, by the sum of the start: an eighth more, and a little.
+/// Up to which radius sums are found, by the sum of the start: a thirty-second more, and a little.
 fn radius_for(sum: u128) -> u128 {
-    sum.saturating_add(sum / 8).saturating_add(MORE)
+    sum.saturating_add(sum / 32).saturating_add(MORE)
 }

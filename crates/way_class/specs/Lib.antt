@@ -6,5 +6,6 @@ pub mod Refusals
 pub mod Classes
 pub mod Parts
 pub mod Bound
+pub mod Lows
 pub mod Links
 pub mod Outcome

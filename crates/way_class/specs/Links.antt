@@ -81,7 +81,7 @@ facts-bounded arrow rise side charge arrow_is rise_is bounded charge_is = record
 }
 
 -- so do the facts of a row
-row-bounded : (ways : List WayClass) (nodes : List NodeClass) (row : Row) → AreFacts (facts_in ways nodes row)
+pub row-bounded : (ways : List WayClass) (nodes : List NodeClass) (row : Row) → AreFacts (facts_in ways nodes row)
 row-bounded ways nodes row =
     facts-bounded (arrow_in row) row.rise (side_by (slice_get ways row.way) row.back) _ row.arrow_is
     row.rise_is

@@ -13,6 +13,7 @@ ghost use Rattle.way_class.specs.declared.error.BindError.TheVariants.{NoMemory}
 use crate::bound::Bound;
 use crate::error::BindError;
 use crate::heights::node_heights;
+use crate::lows::low_prices;
 use crate::nodes::{Nodes, bind_nodes};
 use crate::rows::link_rows;
 use crate::ways::{Ways, bind_ways};
@@ -95,10 +96,17 @@ fn joined(
         nodes.numbers.as_slice(),
         heights.as_slice(),
     )?;
+    let lows = low_prices(
+        alloc,
+        ways.kept.items.as_slice(),
+        nodes.kept.items.as_slice(),
+        rows.as_slice(),
+    )?;
     Ok(Bound {
         globals,
         rows,
         ways: ways.kept.items,
         nodes: nodes.kept.items,
+        lows,
     })
 }

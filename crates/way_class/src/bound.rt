@@ -1,6 +1,7 @@
 //! A profile that is bound to a map.
 
 ghost use Rattle.std.specs.Prelude.{◌≡◌, ◌<◌, ◌^◌, length};
+ghost use Rattle.way_class.specs.Lows.{AreLows};
 
 use crate::charge::NodeClass;
 use crate::row::Row;
@@ -13,7 +14,10 @@ pub struct Bound {
     pub(crate) rows: Vec<Row>,
     pub(crate) ways: Vec<WayClass>,
     pub(crate) nodes: Vec<NodeClass>,
+    /// What is kept of the low prices of links.
+    pub(crate) lows: Vec<u64>,
     ghost few: { length rows.items < 2 ^ 32 },
+    ghost lows_are: { AreLows ways.items nodes.items rows.items (length rows.items) lows.items },
 }
 
 impl Drop for Bound {
@@ -23,6 +27,7 @@ impl Drop for Bound {
             rows: _,
             ways: _,
             nodes: _,
+            lows: _,
         } = self;
     }
 }

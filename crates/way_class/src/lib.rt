@@ -11,6 +11,7 @@ mod error;
 mod height;
 mod heights;
 mod lookups;
+mod lows;
 mod nodes;
 mod row;
 mod rows;

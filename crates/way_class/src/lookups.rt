@@ -8,9 +8,10 @@ ghost use Rattle.way_class.specs.Parts.{fields_of};
 
 use crate::bound::Bound;
 use crate::charge::NodeClass;
+use crate::lows::NOT_KEPT;
 use crate::row::Row;
 use crate::side::{WayClass, WaySide};
-use cost_model::{FactsOf, LinkFacts};
+use cost_model::{FactsOf, LinkFacts, low_price};
 use geo_int::Arrow;
 
 impl FactsOf for Bound {
@@ -29,10 +30,19 @@ impl FactsOf for Bound {
             &self.rows[link as usize],
         )
     }
+
+    fn low_price(&self, link: u32) -> Option<u128> {
+        let low = self.lows[link as usize];
+        if low < NOT_KEPT {
+            Some(low as u128)
+        } else {
+            low_price(&self.facts(link))
+        }
+    }
 }
 
 /// The facts of a link by its row.
-fn facts_by_row(ways: &[WayClass], nodes: &[NodeClass], row: &Row) -> LinkFacts
+pub(crate) fn facts_by_row(ways: &[WayClass], nodes: &[NodeClass], row: &Row) -> LinkFacts
     ensures exact { result ≡ facts_in ways.now nodes.now row.now }
 {
     let mut facts = side_facts(ways, row);
@@ -46,13 +56,7 @@ fn side_facts(ways: &[WayClass], row: &Row) -> LinkFacts
         result ≡ facts_by (arrow_in row.now) row.now.rise side (pos 0) }
 {
     match ways.get(row.way as usize) {
-        Some(class) => {
-            if row.back {
-                of_side(row, &class.backward)
-            } else {
-                of_side(row, &class.forward)
-            }
-        }
+        Some(class) => of_side(row, class.side(row.back)),
         None => {
             let nothing = WaySide {
                 costfactor: 0,

@@ -1,12 +1,15 @@
 use Rattle.std.proofs.Common.{length, refl, subst, arith}
 use Rattle.way_class.specs.Bound.{AreRows, Columns}
 use Rattle.way_class.proofs.BoundLemmas.{IsAllBound, all-free, facts-are, facts-there}
+use Rattle.way_class.proofs.LowLemmas.{lows-same}
 use Rattle.way_class.proofs.binder.joined.Goals as goal
 
 pub invariant_of-result : goal.invariant_of-result
 invariant_of-result c = record {
   few = omega
       (arith, c.in_ok-rows.ensures.exact.count, c.in_ok-rows.ensures.lawful.roads.few_links);
+  lows_are = lows-same _ _ _ _ _ _ _ c.as_slice-4.ensures.value c.as_slice-5.ensures.value c.as_slice-6.ensures.value
+      c.in_ok-lows.ensures.exact;
 }
 
 pub returns : goal.returns
