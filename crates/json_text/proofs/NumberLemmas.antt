@@ -15,7 +15,7 @@ pub record Takes (part next : Part) : Type 0 where
   pub digit : part_after part kind_.Digit ≡ Some next
 
 -- so each digit does
-takes_kind : (part next : Part) (kind : Kind) → Takes part next → is_digit_kind kind ≡ true → part_after part kind ≡ Some next
+pub takes_kind : (part next : Part) (kind : Kind) → Takes part next → is_digit_kind kind ≡ true → part_after part kind ≡ Some next
 takes_kind part next kind_.Zero t h = t.zero
 takes_kind part next kind_.Digit t h = t.digit
 takes_kind part next kind_.Point t h = absurd (false≢true h)

@@ -1,8 +1,11 @@
 -- What runs of bytes do that are read without a step.
 use Rattle.std.proofs.Common.{eqb, ◌≡◌, ◌≤◌, ◌<◌, ◌+◌, ◌-◌, ℕ, zero, suc, Bool, true, cond, List, [], ◌∷◌, ◌++◌, length, take, drop, get_or, vec_len, refl, sym, ◌∙◌, ap, subst, append_assoc, arith, Option, Some, None, if◌then◌else◌, reverse}
-use Rattle.std.proofs.lemmas.List.{take-append-drop, get_or-drop, length-drop}
+use Rattle.std.proofs.lemmas.List.{take-append-drop, get_or-drop, length-drop, drop-drop}
+use Rattle.std.proofs.Math.Seq.{take-add}
+use mathlib.Core.Bool.{false≢true}
 use Rattle.json_text.specs.declared.mode.Bracket.{Bracket}
 use Rattle.json_text.specs.declared.mode.Part.{Part}
+use Rattle.json_text.specs.declared.mode.Part.TheVariants as part_
 use Rattle.json_text.specs.declared.mode.Lead.TheVariants as lead_
 use Rattle.json_text.specs.declared.mode.Role.{Role}
 use Rattle.json_text.specs.declared.mode.Place.TheVariants as place_
@@ -10,13 +13,14 @@ use Rattle.json_text.specs.declared.mode.Mode.{Mode}
 use Rattle.json_text.specs.declared.mode.Mode.TheVariants as mode_
 use Rattle.json_text.specs.declared.scanner.Scanner.{Scanner}
 use Rattle.json_text.specs.Marks.{Symbol, Byte, End, Step, Mark, Seen, symbols_of, steps_of, symbols, see, Begins}
-use Rattle.json_text.specs.Bytes.{AreAll, is_space, is_plain, kind_of, lead_of}
-use Rattle.json_text.specs.Rest.{Kept, keeping, holding, IsFrontOf, first_of, part_after, OnPart}
+use Rattle.json_text.specs.Bytes.{AreAll, is_space, is_plain, is_digit, kind_of, lead_of}
+use Rattle.json_text.specs.Rest.{Kept, keeping, holding, IsFrontOf, first_of, part_after, takes_digits, OnPart}
 use Rattle.json_text.specs.Machine.{Reads, Stuck, byte_move, start_of, start_move, first_move, after_move, name_move, number_move, lead_move}
 use Rattle.json_text.specs.Taking.{kept_of, MaySpace}
 use Rattle.json_text.specs.Scanner.{fed, pending, symbols_left, Holds, is_number, most_steps}
 use Rattle.json_text.specs.Told.{PartsGo, ReadsOn}
 use Rattle.std.proofs.lemmas.Bool.Decides.{nat_tests}
+use Rattle.json_text.proofs.NumberLemmas.{Takes, takes_kind}
 use Rattle.json_text.proofs.Lists.{append_nil, symbols_append, steps_append, bytes_append, begins}
 use Rattle.json_text.proofs.Fronts.{reads_on}
 use Rattle.json_text.proofs.HoldLemmas.{widen}
@@ -199,6 +203,48 @@ parts_at part last next from at bytes f l g h =
     subst (λ k. PartsGo part (take k (drop from bytes)) next) longer
     (parts_more part (at - from) (drop from bytes) last next g inside
     (ap (λ b. part_after last (kind_of b)) (get_or-drop from bytes (at - from) 0 ∙ ap (λ k. get_or bytes k 0) place) ∙ h))
+
+-- a part that goes on with digits stays over a digit
+digit_stays : (part : Part) (b : ℕ) → takes_digits part ≡ true → is_digit b ≡ true → part_after part (kind_of b) ≡ Some part
+digit_stays part b t d = takes_kind part part (kind_of b) (stays part t) d
+  where
+    stays : (part : Part) → takes_digits part ≡ true → Takes part part
+    stays part_.Whole t = record { zero = refl; digit = refl }
+    stays part_.Fraction t = record { zero = refl; digit = refl }
+    stays part_.Exponent t = record { zero = refl; digit = refl }
+    stays part_.Nothing t = absurd (false≢true t)
+    stays part_.Minus t = absurd (false≢true t)
+    stays part_.Zero t = absurd (false≢true t)
+    stays part_.Point t = absurd (false≢true t)
+    stays part_.Letter t = absurd (false≢true t)
+    stays part_.Sign t = absurd (false≢true t)
+
+-- and over a run of digits
+pub digits_stay : (part : Part) (run : List ℕ) → takes_digits part ≡ true → AreAll is_digit run → PartsGo part run part
+digits_stay part [] t a = refl
+digits_stay part (b ∷ run) t a =
+    subst (λ o. OnPart o (λ next. PartsGo next run part)) (sym (digit_stays part b t a.0)) (digits_stay part run t a.1)
+
+-- a number that goes on over a run and then over another goes on over both
+pub parts_append : (part mid to : Part) (run more : List ℕ) → PartsGo part run mid → PartsGo mid more to → PartsGo part (run ++ more) to
+parts_append part mid to [] more g h = subst (λ z. PartsGo z more to) g h
+parts_append part mid to (b ∷ run) more g h =
+    on_part (part_after part (kind_of b)) (λ z. PartsGo z run mid) (λ z. PartsGo z (run ++ more) to) g
+    (λ z k. parts_append z mid to run more k h)
+
+-- the same for runs of which one begins where the other ends
+pub parts_on : (part mid to : Part) (from between at : ℕ) (bytes : List ℕ) → from ≤ between → between ≤ at
+    → PartsGo part (take (between - from) (drop from bytes)) mid → PartsGo mid (take (at - between) (drop between bytes)) to
+    → PartsGo part (take (at - from) (drop from bytes)) to
+parts_on part mid to from between at bytes f b g h =
+    let total : (between - from) + (at - between) ≡ at - from = omega arith in
+    let place : from + (between - from) ≡ between = omega arith in
+    let rest : drop (between - from) (drop from bytes) ≡ drop between bytes =
+    drop-drop (between - from) from bytes ∙ ap (λ k. drop k bytes) place in
+    subst (λ xs. PartsGo part xs to)
+    (sym (ap (λ k. take k (drop from bytes)) (sym total) ∙ take-add (between - from) (at - between) (drop from bytes)
+    ∙ ap (λ xs. take (between - from) (drop from bytes) ++ take (at - between) xs) rest))
+    (parts_append part mid to (take (between - from) (drop from bytes)) (take (at - between) (drop between bytes)) g h)
 
 -- what a scanner has beside its place and the content that is read
 abbrev pub Beside : Type 0

@@ -4,9 +4,10 @@ ghost use Rattle.std.specs.Prelude.{◌≡◌, ◌<◌, ◌≤◌};
 ghost use Rattle.json_text.specs.Bytes as bytes_;
 ghost use Rattle.json_text.specs.Machine as machine;
 ghost use Rattle.json_text.specs.Rest as rest;
+ghost use Rattle.json_text.specs.declared.mode.Part.TheVariants as part_;
 ghost use Rattle.json_text.specs.Grammar as grammar;
 
-use crate::mode::{Bracket, Escape, Kind, Lead, Letters, Mode, Part, Place, Role, Start, Tail};
+use crate::mode::{Bracket, Escape, Lead, Letters, Mode, Part, Place, Role, Start, Tail};
 
 /// Whether a byte is white space.
 pub fn is_space(b: u8) -> bool
@@ -15,25 +16,11 @@ pub fn is_space(b: u8) -> bool
     b == 32 || b == 10 || b == 13 || b == 9
 }
 
-/// What a byte can be in a number.
-pub fn kind_of(b: u8) -> Kind
-    ensures value { result ≡ bytes_.kind_of b }
+/// Whether a byte is a digit, zero or another.
+pub fn is_digit(b: u8) -> bool
+    ensures value { result ≡ bytes_.is_digit b }
 {
-    if b == 48 {
-        Kind::Zero
-    } else if 49 <= b && b <= 57 {
-        Kind::Digit
-    } else if b == 46 {
-        Kind::Point
-    } else if b == 69 || b == 101 {
-        Kind::Letter
-    } else if b == 43 {
-        Kind::Plus
-    } else if b == 45 {
-        Kind::Minus
-    } else {
-        Kind::Other
-    }
+    48 <= b && b <= 57
 }
 
 /// Whether a byte is a hexadecimal digit.
@@ -131,29 +118,50 @@ pub fn start_of(b: u8) -> Start
         116 => Start::Word(Letters::T),
         102 => Start::Word(Letters::F),
         110 => Start::Word(Letters::N),
-        _ => match part_after(Part::Nothing, kind_of(b)) {
+        _ => match next_part(Part::Nothing, b) {
             Some(part) => Start::Number(part),
             None => Start::Nothing,
         },
     }
 }
 
-/// The part of a number that a byte of a kind continues, behind a part.
-pub fn part_after(part: Part, kind: Kind) -> Option<Part>
-    ensures value { result ≡ rest.part_after part kind }
+/// The part of a number that a byte begins where no minus may stand.
+fn whole_part(b: u8) -> Option<Part>
+    ensures value { result ≡ rest.part_after part_.Minus (bytes_.kind_of b) }
 {
-    match (part, kind) {
-        (Part::Nothing, Kind::Minus) => Some(Part::Minus),
-        (Part::Nothing | Part::Minus, Kind::Zero) => Some(Part::Zero),
-        (Part::Nothing | Part::Minus, Kind::Digit) => Some(Part::Whole),
-        (Part::Zero | Part::Whole, Kind::Point) => Some(Part::Point),
-        (Part::Zero | Part::Whole | Part::Fraction, Kind::Letter) => Some(Part::Letter),
-        (Part::Whole, Kind::Zero | Kind::Digit) => Some(Part::Whole),
-        (Part::Point | Part::Fraction, Kind::Zero | Kind::Digit) => Some(Part::Fraction),
-        (Part::Letter, Kind::Plus | Kind::Minus) => Some(Part::Sign),
-        (Part::Letter | Part::Sign | Part::Exponent, Kind::Zero | Kind::Digit) => Some(
-            Part::Exponent,
-        ),
+    if is_digit(b) {
+        Some(if b == 48 { Part::Zero } else { Part::Whole })
+    } else {
+        None
+    }
+}
+
+/// The part behind the whole part of a number, if another part follows.
+fn behind_whole(b: u8) -> Option<Part>
+    ensures value { result ≡ rest.part_after part_.Zero (bytes_.kind_of b) }
+{
+    match b {
+        46 => Some(Part::Point),
+        69 | 101 => Some(Part::Letter),
+        _ => None,
+    }
+}
+
+/// The part of a number behind a byte, if it goes on with it. It goes by the part first, since one
+/// or two tests of the byte are enough behind each.
+#[inline(always)]
+pub fn next_part(part: Part, b: u8) -> Option<Part>
+    ensures value { result ≡ rest.part_after part (bytes_.kind_of b) }
+{
+    match part {
+        Part::Nothing if b == 45 => Some(Part::Minus),
+        Part::Nothing | Part::Minus => whole_part(b),
+        Part::Whole if is_digit(b) => Some(Part::Whole),
+        Part::Zero | Part::Whole => behind_whole(b),
+        Part::Point | Part::Fraction if is_digit(b) => Some(Part::Fraction),
+        Part::Fraction if b == 69 || b == 101 => Some(Part::Letter),
+        Part::Letter if b == 43 || b == 45 => Some(Part::Sign),
+        Part::Letter | Part::Sign | Part::Exponent if is_digit(b) => Some(Part::Exponent),
         _ => None,
     }
 }

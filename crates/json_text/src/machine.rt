@@ -2,9 +2,9 @@
 
 ghost use Rattle.std.specs.Prelude.{◌≤◌, vec_len};
 
-use crate::bytes::{is_space, kind_of, letter_after, letters_after, may_end, part_after};
+use crate::bytes::{is_space, letter_after, letters_after, may_end, next_part};
 use crate::given::word_step;
-use crate::mode::{Bracket, Ending, Letters, Mode, Part, Taken};
+use crate::mode::{Bracket, Ending, Letters, Mode, Part, Place, Taken};
 use std::alloc::{AllocError, Global};
 use std::mem;
 
@@ -95,7 +95,7 @@ impl Machine {
             (kept_of self.old) b)) }
         ensures kept { OnErr result (self.new.text.items ≡ self.old.text.items) }
     {
-        match part_after(part, kind_of(b)) {
+        match next_part(part, b) {
             Some(next) => {
                 self.content.push(b)?;
                 self.mode = Mode::Number(next);
@@ -148,6 +148,8 @@ impl Machine {
         ensures kept { OnErr result (self.new.text.items ≡ self.old.text.items) }
     {
         match self.mode {
+            // Most texts end behind plain bytes, which a run has read.
+            Mode::Text(role, Place::Chars(None)) if b == 34 => self.unquote(role, None),
             Mode::Text(role, place) => self.place(role, place, b),
             Mode::Number(part) => self.number(part, b),
             Mode::Word(letters) => self.word(letters, b),

@@ -26,7 +26,7 @@ pub enum Letters {
     Nul,
 }
 
-/// What a byte can be in a number.
+/// What a byte can be in a number: a word of the clauses, by which the code doesn't go.
 #[derive(Clone, Copy)]
 pub enum Kind {
     Zero,

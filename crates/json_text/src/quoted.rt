@@ -21,7 +21,7 @@ impl Machine {
     ghost use Rattle.json_text.specs.Taking.{kept_of, Takes};
 
     /// Ends a text between quotation marks.
-    fn unquote(&mut self, role: Role, waiting: Option<u16>) -> Result<Taken, AllocError>
+    pub fn unquote(&mut self, role: Role, waiting: Option<u16>) -> Result<Taken, AllocError>
         ensures exact { IfOk result (Takes self.old self.new
             (machine.lead_move role waiting lead_.Quote (kept_of self.old) 34)) }
         ensures kept { OnErr result (self.new.text.items ≡ self.old.text.items) }
