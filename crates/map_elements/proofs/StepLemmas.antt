@@ -68,6 +68,24 @@ module _ (old text new : List ℕ) (rows after : List Row) (step : JsonStep) (ro
       subst (λ (b : List ℕ). AreWithin b after) (sym bytes)
       (subst (λ (r : List Row). AreWithin (old ++ text) r) (sym e) (AreWithin-more old text rows within))
 
+-- the row of a step without content
+abbrev pub bare_row : JsonStep → Row
+bare_row step = record { start = 0; length = 0; step = step }
+
+-- where such a row was put behind the rows or not, one step is more or none
+module _ (bytes : List ℕ) (rows after : List Row) (step : JsonStep) where
+  pub steps_in-bare : (pushed : Bool) → after ≡ (if pushed then rows ++ bare_row step ∷ [] else rows) →
+      steps_in bytes after ≡ (if pushed then steps_in bytes rows ++ step_for step [] ∷ [] else steps_in bytes rows)
+  steps_in-bare true e = ap (steps_in bytes) e ∙ map_push (step_in bytes) rows (bare_row step)
+  steps_in-bare false e = ap (steps_in bytes) e
+
+  -- and the rows are within the bytes
+  pub AreWithin-bare : AreWithin bytes rows → (pushed : Bool) → after ≡ (if pushed then rows ++ bare_row step ∷ [] else rows) →
+      AreWithin bytes after
+  AreWithin-bare within true e =
+      subst (λ (r : List Row). AreWithin bytes r) (sym e) (AreWithin-push bytes rows (bare_row step) within (omega arith))
+  AreWithin-bare within false e = subst (λ (r : List Row). AreWithin bytes r) (sym e) within
+
 -- ---- Parts
 
 -- the rows behind the first ones are within the bytes

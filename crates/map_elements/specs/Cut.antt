@@ -1,6 +1,8 @@
 -- How long the value at the front of steps is (this project's own rule).
-use Rattle.std.specs.Prelude.{ℕ, suc, Bool, true, false, List, [], ◌∷◌}
+use Rattle.std.specs.Prelude.{◌≡◌, ℕ, suc, Bool, true, false, List, [], ◌∷◌}
+use Rattle.json_text.specs.declared.step.JsonStep.{JsonStep}
 use Rattle.json_text.specs.Marks.{Step}
+use Rattle.json_text.specs.Steps.{step_for}
 use Rattle.map_elements.specs.Entries.{depth_after, by_depth}
 
 -- how many steps belong to a value, as far as they have come, of which so many brackets are open
@@ -28,3 +30,13 @@ is_close step = false
 abbrev pub has_none : List Step → Bool
 has_none [] = true
 has_none (step ∷ steps) = false
+
+-- this step, whatever its content, stands at the front of steps, and these behind it
+pub record IsBefore (step : JsonStep) (steps behind : List Step) : Type 0 where
+  pub text : List ℕ
+  pub is : steps ≡ step_for step text ∷ behind
+
+-- this step, whatever its content, stands at the front of steps
+pub record BeginsWith (step : JsonStep) (steps : List Step) : Type 0 where
+  pub rest : List Step
+  pub before : IsBefore step steps rest

@@ -10,7 +10,7 @@ ghost use Rattle.map_elements.specs.Entries.{member};
 ghost use Rattle.map_elements.specs.Fields.{with_some, text_of, whole_list_of, member_list_of, tags_of};
 ghost use Rattle.map_elements.specs.Seen.{needed, seen};
 
-use crate::fields::element::ElementFields;
+use crate::fields::element::{ElementFields, Slots};
 use crate::steps::StepList;
 use fixed_num::coord;
 use geo_int::Spot;
@@ -58,7 +58,11 @@ pub fn read_element(alloc: Global, at: u64, steps: &StepList) -> Result<Element,
 {
     match steps.part().members() {
         None => Err(MapError::Shape { place: at }),
-        Some(entries) => read_typed(alloc, at, &ElementFields::new(entries)),
+        Some(entries) => {
+            let mut first = Slots::new();
+            first.look_through(&entries);
+            read_typed(alloc, at, &ElementFields::new(entries, &first))
+        }
     }
 }
 

@@ -87,8 +87,23 @@ impl StepList {
     {
         match step {
             JsonStep::Key | JsonStep::Text | JsonStep::Number => self.add(step, text),
-            _ => self.add(step, &[]),
+            _ => self.add_bare(step),
         }
+    }
+
+    /// Puts a step that has no content at the end: a row alone, and no bytes.
+    fn add_bare(&mut self, step: JsonStep) -> Result<(), AllocError>
+        ensures value { self.new
+            ≡ (if is_ok result then self.old ++ step_for step [] ∷ [] else self.old) }
+    {
+        keep_row(
+            &mut self.rows,
+            Row {
+                start: 0,
+                length: 0,
+                step,
+            },
+        )
     }
 
     /// Puts a step at the end, and these bytes as its content.

@@ -1,28 +1,87 @@
 //! Where the values stand that an element is read from.
-ghost use Rattle.std.specs.Prelude.{◌≡◌, None, Some, MatchOption, if◌then◌else◌};
-ghost use Rattle.map_elements.specs.Entries.{is_named, member};
+ghost use Rattle.std.specs.Prelude.{◌≡◌, List, [], None, Some, MatchOption};
+ghost use Rattle.map_elements.specs.Entries.{Entry, member};
 ghost use Rattle.map_elements.specs.Fields.{with_some, text_of, number_of, whole_number_of};
-ghost use Rattle.map_elements.specs.Noted.{first_of};
+ghost use Rattle.map_elements.specs.Noted.{Noted, Notes, noted};
 ghost use lib.Chars.{codes};
 
 use crate::steps::entries::{Entries, Field};
 use crate::steps::part::Part;
 use std::marker::Model;
 
-/// The members of an element, with the values of the first of each name that elements have.
+/// The values of the first members of the names that elements have, as far as they have come.
 #[derive(Drop)]
-pub(crate) struct ElementFields<'a> {
-    all: Entries<'a>,
-    kind: Option<Part<'a>>,
-    id: Option<Part<'a>>,
-    lat: Option<Part<'a>>,
-    lon: Option<Part<'a>>,
-    nodes: Option<Part<'a>>,
-    members: Option<Part<'a>>,
-    tags: Option<Part<'a>>,
+pub(crate) struct Slots<'a> {
+    pub(crate) kind: Option<Part<'a>>,
+    pub(crate) id: Option<Part<'a>>,
+    pub(crate) lat: Option<Part<'a>>,
+    pub(crate) lon: Option<Part<'a>>,
+    pub(crate) nodes: Option<Part<'a>>,
+    pub(crate) members: Option<Part<'a>>,
+    pub(crate) tags: Option<Part<'a>>,
 }
 
-impl<'a> Model for ElementFields<'a> {
+impl<'a> Slots<'a> {
+    /// Nothing has come.
+    pub(crate) fn new() -> Slots<'a>
+        ensures value { (all : List Entry) → Noted result all all }
+    {
+        Slots {
+            kind: None,
+            id: None,
+            lat: None,
+            lon: None,
+            nodes: None,
+            members: None,
+            tags: None,
+        }
+    }
+
+    /// Looks through the members of an element once.
+    pub(crate) fn look_through(&mut self, all: &Entries<'a>)
+        requires none { Noted self.old all.now all.now }
+        ensures value { Noted self.new all.now [] }
+    {
+        let mut left = all.again();
+        'entries: while let Some(entry) = left.next() {
+            self.note(&entry);
+        }
+    }
+
+    /// Notes one more member. It is compared with the names of its own length alone.
+    #[inline(always)]
+    fn note(&mut self, entry: &Field<'a>)
+        ensures value { Notes self.old entry.now self.new }
+    {
+        let Some(name) = entry.name() else {
+            return;
+        };
+        match name.len() {
+            2 => note(&mut self.id, b"id", entry),
+            3 => {
+                note(&mut self.lat, b"lat", entry);
+                note(&mut self.lon, b"lon", entry);
+            }
+            4 => {
+                note(&mut self.kind, b"type", entry);
+                note(&mut self.tags, b"tags", entry);
+            }
+            5 => note(&mut self.nodes, b"nodes", entry),
+            7 => note(&mut self.members, b"members", entry),
+            _ => {}
+        }
+    }
+}
+
+/// The members of an element, beside the values of the first of each name that elements have, which
+/// stay where they are: copies of so many cost more than looking for them.
+#[derive(Drop)]
+pub(crate) struct ElementFields<'a, 'b> {
+    all: Entries<'a>,
+    first: &'b Slots<'a>,
+}
+
+impl<'a, 'b> Model for ElementFields<'a, 'b> {
     ghost use Rattle.std.specs.Prelude.{List, []};
     ghost use Rattle.map_elements.specs.Entries.{Entry};
     ghost use Rattle.map_elements.specs.Noted.{Noted};
@@ -31,41 +90,16 @@ impl<'a> Model for ElementFields<'a> {
 
     ghost view = { λ f. f.all };
 
-    ghost invariant = { λ f. Noted f.kind f.id f.lat f.lon f.nodes f.members f.tags f.all [] };
+    ghost invariant = { λ f. Noted f.first.now f.all [] };
 }
 
-impl<'a> ElementFields<'a> {
-    /// The members of an element, looked through once.
-    pub(crate) fn new(all: Entries<'a>) -> ElementFields<'a>
+impl<'a, 'b> ElementFields<'a, 'b> {
+    /// The members of an element that were looked through.
+    pub(crate) fn new(all: Entries<'a>, first: &'b Slots<'a>) -> ElementFields<'a, 'b>
+        requires noted { Noted first.now all [] }
         ensures value { result ≡ all.entry }
     {
-        let mut left = all.again();
-        let mut kind = None;
-        let mut id = None;
-        let mut lat = None;
-        let mut lon = None;
-        let mut nodes = None;
-        let mut members = None;
-        let mut tags = None;
-        'entries: while let Some(entry) = left.next() {
-            note(&mut kind, b"type", &entry);
-            note(&mut id, b"id", &entry);
-            note(&mut lat, b"lat", &entry);
-            note(&mut lon, b"lon", &entry);
-            note(&mut nodes, b"nodes", &entry);
-            note(&mut members, b"members", &entry);
-            note(&mut tags, b"tags", &entry);
-        }
-        ElementFields {
-            all,
-            kind,
-            id,
-            lat,
-            lon,
-            nodes,
-            members,
-            tags,
-        }
+        ElementFields { all, first }
     }
 
     /// The type.
@@ -73,7 +107,7 @@ impl<'a> ElementFields<'a> {
         ensures exact { let found = with_some (member (codes "type") self.now) text_of in
             MatchOption result (found ≡ None) (λ text. found ≡ Some text.now) }
     {
-        match &self.kind {
+        match &self.first.kind {
             None => None,
             Some(value) => value.text(),
         }
@@ -83,7 +117,7 @@ impl<'a> ElementFields<'a> {
     pub(crate) fn id(&self) -> Option<i64>
         ensures exact { result ≡ with_some (member (codes "id") self.now) whole_number_of }
     {
-        match &self.id {
+        match &self.first.id {
             None => None,
             Some(value) => value.whole_number(),
         }
@@ -94,7 +128,7 @@ impl<'a> ElementFields<'a> {
         ensures exact { let found = with_some (member (codes "lat") self.now) number_of in
             MatchOption result (found ≡ None) (λ text. found ≡ Some text.now) }
     {
-        match &self.lat {
+        match &self.first.lat {
             None => None,
             Some(value) => value.number(),
         }
@@ -105,7 +139,7 @@ impl<'a> ElementFields<'a> {
         ensures exact { let found = with_some (member (codes "lon") self.now) number_of in
             MatchOption result (found ≡ None) (λ text. found ≡ Some text.now) }
     {
-        match &self.lon {
+        match &self.first.lon {
             None => None,
             Some(value) => value.number(),
         }
@@ -115,21 +149,21 @@ impl<'a> ElementFields<'a> {
     pub(crate) fn nodes(&self) -> Option<Part<'a>>
         ensures exact { result ≡ member (codes "nodes") self.now }
     {
-        again(&self.nodes)
+        again(&self.first.nodes)
     }
 
     /// The value of the members.
     pub(crate) fn members(&self) -> Option<Part<'a>>
         ensures exact { result ≡ member (codes "members") self.now }
     {
-        again(&self.members)
+        again(&self.first.members)
     }
 
     /// The value of the tags.
     pub(crate) fn tags(&self) -> Option<Part<'a>>
         ensures exact { result ≡ member (codes "tags") self.now }
     {
-        again(&self.tags)
+        again(&self.first.tags)
     }
 }
 
@@ -146,8 +180,7 @@ fn again<'a>(value: &Option<Part<'a>>) -> Option<Part<'a>>
 /// Notes the value of a member of a name, unless one was noted.
 #[inline(always)]
 fn note<'a>(slot: &mut Option<Part<'a>>, name: &[u8], entry: &Field<'a>)
-    ensures value { slot.new ≡ first_of slot.old
-        (if is_named name.now entry.now then Some entry.now.value else None) }
+    ensures value { slot.new ≡ noted name.now slot.old entry.now }
 {
     if entry.is_named(name) && slot.is_none() {
         *slot = Some(entry.value());

@@ -96,6 +96,7 @@ impl<'a> Entries<'a> {
     }
 
     /// The next entry.
+    #[inline(always)]
     pub(crate) fn next(&mut self) -> Option<Field<'a>>
         ensures value { MatchOption result
             ((self.old ≡ []) × (self.new ≡ []))
@@ -127,10 +128,9 @@ fn take_entry<'a>(left: &mut Part<'a>, name: Option<&'a [u8]>) -> Option<Field<'
         ((all ≡ []) × (entries_from None [] zero left.new ≡ []))
         (λ entry. all ≡ entry ∷ entries_from None [] zero left.new) }
 {
-    let mut behind = left.again();
-    match behind.take_first() {
+    match left.first_step() {
         None => begun(left.again(), name),
-        Some((step, _)) => {
+        Some(step) => {
             if closes(step) {
                 return None;
             }

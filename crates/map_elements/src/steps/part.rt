@@ -2,9 +2,9 @@
 ghost use Rattle.std.specs.Prelude.{ℕ, ◌≡◌, ◌≤◌, ◌<◌, ◌+◌, List, [], ◌∷◌, length, take, drop, MatchOption};
 ghost use Rattle.json_text.specs.Marks.{Key};
 ghost use Rattle.json_text.specs.Steps.{step_for};
-ghost use Rattle.map_elements.specs.Steps.{steps_in, AreWithin};
+ghost use Rattle.map_elements.specs.Steps.{content_in, steps_in, AreWithin};
 ghost use Rattle.map_elements.specs.Entries.{depth_after};
-ghost use Rattle.map_elements.specs.Cut.{size_of, ends_in, has_none, is_close, IsNoKey};
+ghost use Rattle.map_elements.specs.Cut.{BeginsWith, IsBefore, size_of, ends_in, has_none, is_close, IsNoKey};
 
 use crate::steps::Row;
 use json_text::JsonStep;
@@ -62,6 +62,32 @@ impl<'a> Part<'a> {
         self.rows.is_empty()
     }
 
+    /// The first step, without its content.
+    pub(crate) fn first_step(&self) -> Option<JsonStep>
+        ensures value { MatchOption result (self.now ≡ []) (λ step. BeginsWith step self.now) }
+    {
+        match self.rows.first() {
+            None => None,
+            Some(row) => Some(row.step),
+        }
+    }
+
+    /// Takes the first step away, and looks at no content.
+    fn skip_first(&mut self) -> Option<JsonStep>
+        ensures value { MatchOption result
+            ((self.old ≡ []) × (self.new ≡ []))
+            (λ step. IsBefore step self.old self.new) }
+    {
+        let all = self.rows;
+        match all.split_first() {
+            None => None,
+            Some((row, rows)) => {
+                self.rows = rows;
+                Some(row.step)
+            }
+        }
+    }
+
     /// Takes the first step away.
     pub(crate) fn take_first(&mut self) -> Option<(JsonStep, &'a [u8])>
         ensures value { MatchOption result
@@ -72,8 +98,7 @@ impl<'a> Part<'a> {
         match all.split_first() {
             None => None,
             Some((row, rows)) => {
-                let bytes = self.bytes;
-                let text = &bytes[row.start..row.start + row.length as usize];
+                let text = content_of(self.bytes, row);
                 self.rows = rows;
                 Some((row.step, text))
             }
@@ -86,13 +111,17 @@ impl<'a> Part<'a> {
             (IsNoKey self.old × (self.new ≡ self.old))
             (λ text. self.old ≡ Key text.now ∷ self.new) }
     {
-        let mut behind = self.again();
-        match behind.take_first() {
-            Some((JsonStep::Key, text)) => {
-                *self = behind;
-                Some(text)
-            }
-            _ => None,
+        let all = self.rows;
+        match all.split_first() {
+            None => None,
+            Some((row, rows)) => match row.step {
+                JsonStep::Key => {
+                    let text = content_of(self.bytes, row);
+                    self.rows = rows;
+                    Some(text)
+                }
+                _ => None,
+            },
         }
     }
 
@@ -122,10 +151,23 @@ impl<'a> Part<'a> {
         ensures ends { result.1 ≡ ends_in 0 self.now }
         ensures fits { result.0 ≤ length self.now }
     {
+        match self.first_step() {
+            None => (0, false),
+            Some(JsonStep::Open | JsonStep::ListOpen) => self.group_size(),
+            Some(_) => (1, true),
+        }
+    }
+
+    /// The same, where brackets have to be counted.
+    fn group_size(&self) -> (usize, bool)
+        ensures size { result.0 ≡ size_of 0 self.now }
+        ensures ends { result.1 ≡ ends_in 0 self.now }
+        ensures fits { result.0 ≤ length self.now }
+    {
         let total = self.len();
         let mut left = self.again();
         let mut depth: usize = 0;
-        'steps: while let Some((step, _)) = left.take_first() {
+        'steps: while let Some(step) = left.skip_first() {
             depth = depth_behind(depth, step);
             if depth == 0 {
                 return (total - left.len(), true);
@@ -133,6 +175,14 @@ impl<'a> Part<'a> {
         }
         (total, false)
     }
+}
+
+/// The content of a row among these bytes.
+fn content_of<'a>(bytes: &'a [u8], row: &Row) -> &'a [u8]
+    requires within { row.now.start + row.now.length ≤ length bytes.now }
+    ensures value { result.now ≡ content_in bytes.now row.now }
+{
+    &bytes[row.start..row.start + row.length as usize]
 }
 
 /// How many brackets are open behind a step, where so many are before it.

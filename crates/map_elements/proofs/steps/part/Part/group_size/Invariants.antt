@@ -1,6 +1,6 @@
 use Rattle.std.proofs.Common.{length}
 use Rattle.map_elements.proofs.CountLemmas.{Counts}
-use Rattle.map_elements.proofs.steps.part.Part.value_size.Given as goal
+use Rattle.map_elements.proofs.steps.part.Part.group_size.Given as goal
 
 abbrev pub invariant-steps : goal.invariant-steps
 invariant-steps l = Counts l.self l.left l.total l.depth
