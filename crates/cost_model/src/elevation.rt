@@ -22,9 +22,22 @@ fn slope(facts: &LinkFacts, rate: i64) -> i64
     along(facts.arrow.len, rate) as i64
 }
 
-/// What the buffer of descending leaves, pays and weighs over a link.
-pub(crate) fn descent(facts: &LinkFacts, rates: &Rates, down: i64) -> Stepped
+/// By how much a buffer is reduced at most over a link.
+pub(crate) fn reduction(facts: &LinkFacts, rates: &Rates) -> i64
     requires facts { AreFacts facts.now }
+    ensures exact { result ≡ (climb_of rates.now facts.now).reduction }
+    ensures low { pos 0 ≤ℤ result }
+    ensures high { result ≤ℤ pos 1000000000000000000 }
+{
+    slope(facts, rates.reduction)
+}
+
+/// What the buffer of descending leaves, pays and weighs over a link that reduces it so.
+pub(crate) fn descent(facts: &LinkFacts, rates: &Rates, reduction: i64, down: i64) -> Stepped
+    requires facts { AreFacts facts.now }
+    requires reduced { reduction ≡ (climb_of rates.now facts.now).reduction }
+    requires reduced_low { pos 0 ≤ℤ reduction }
+    requires reduced_high { reduction ≤ℤ pos 1000000000000000000 }
     requires low { pos 0 ≤ℤ down }
     requires high { down ≤ℤ rates.now.limits.most }
     ensures exact { let climb = climb_of rates.now facts.now in
@@ -32,12 +45,15 @@ pub(crate) fn descent(facts: &LinkFacts, rates: &Rates, down: i64) -> Stepped
     ensures prices { IsPrices rates.now }
 {
     let added = -facts.rise - slope(facts, rates.down_cutoff);
-    step(down, added, slope(facts, rates.reduction), &rates.limits)
+    step(down, added, reduction, &rates.limits)
 }
 
-/// What the buffer of climbing leaves, pays and weighs over a link.
-pub(crate) fn ascent(facts: &LinkFacts, rates: &Rates, up: i64) -> Stepped
+/// What the buffer of climbing leaves, pays and weighs over a link that reduces it so.
+pub(crate) fn ascent(facts: &LinkFacts, rates: &Rates, reduction: i64, up: i64) -> Stepped
     requires facts { AreFacts facts.now }
+    requires reduced { reduction ≡ (climb_of rates.now facts.now).reduction }
+    requires reduced_low { pos 0 ≤ℤ reduction }
+    requires reduced_high { reduction ≤ℤ pos 1000000000000000000 }
     requires low { pos 0 ≤ℤ up }
     requires high { up ≤ℤ rates.now.limits.most }
     ensures exact { let climb = climb_of rates.now facts.now in
@@ -45,5 +61,5 @@ pub(crate) fn ascent(facts: &LinkFacts, rates: &Rates, up: i64) -> Stepped
     ensures prices { IsPrices rates.now }
 {
     let added = facts.rise - slope(facts, rates.up_cutoff);
-    step(up, added, slope(facts, rates.reduction), &rates.limits)
+    step(up, added, reduction, &rates.limits)
 }

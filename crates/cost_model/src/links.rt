@@ -9,7 +9,7 @@ ghost use Rattle.cost_model.specs.Walks.{GoesOn, IsCarriedBy, carry_after, empty
 ghost use Rattle.cost_model.specs.declared.facts.LinkFacts.{LinkFacts};
 
 use crate::distance::distance_part;
-use crate::elevation::{ascent, descent};
+use crate::elevation::{ascent, descent, reduction};
 use crate::facts::LinkFacts;
 use crate::parts::{Carry, Parts};
 use crate::rates::Rates;
@@ -84,6 +84,7 @@ pub fn enter(
 /// What it costs in all to go on by a link after the one whose facts are `last`, which `carry`
 /// names, the distance part once more where the segment was used, and what is carried on from it. A
 /// search asks this for each label, so the parts are put together in place.
+#[inline(always)]
 pub fn enter_priced(
     carry: &Carry,
     last: &LinkFacts,
@@ -99,8 +100,9 @@ pub fn enter_priced(
     ensures price { result.1 ≡
         entry_cost rates.now used (Some last.now) facts.now (pair_of carry.now) }
 {
-    let down = descent(facts, rates, carry.down);
-    let up = ascent(facts, rates, carry.up);
+    let reduced = reduction(facts, rates);
+    let down = descent(facts, rates, reduced, carry.down);
+    let up = ascent(facts, rates, reduced, carry.up);
     let next = Carry {
         link,
         down: down.e,
@@ -131,8 +133,9 @@ fn entered(
     ensures parts { result.1 ≡ parts_with rates.now turn initial facts.now pair }
     ensures prices { IsPrices rates.now }
 {
-    let down = descent(facts, rates, pair.down);
-    let up = ascent(facts, rates, pair.up);
+    let reduced = reduction(facts, rates);
+    let down = descent(facts, rates, reduced, pair.down);
+    let up = ascent(facts, rates, reduced, pair.up);
     let carry = Carry {
         link,
         down: down.e,

@@ -1,4 +1,4 @@
-use Rattle.std.proofs.Common.{◌≡◌, ◌-ℤ◌, SFits, w64, subst}
+use Rattle.std.proofs.Common.{◌≡◌, ◌-ℤ◌, SFits, w64, ap, subst, ◌∙◌}
 use Rattle.std.proofs.lemmas.Int.{to_z-of_z}
 use Rattle.elev_buffer.specs.Step.{step_of}
 use Rattle.cost_model.specs.Prices.{Prices, IsPrices}
@@ -12,19 +12,17 @@ returns-clause-exact c =
     let sizes = rise-fits _ c.requires.facts.rise in
     let rise : SFits w64 c.args.facts.now.rise = sizes.0 in
     let cutoff = slope-narrow _ c.rates.invariant.up_cutoff in
-    let reduction = slope-narrow _ c.rates.invariant.reduction in
     let s : SFits w64 c.slope.result = record { sfits = c.slope.type_inv } in
-    let r : SFits w64 c.slope-2.result = record { sfits = c.slope-2.type_inv } in
     let a : SFits w64 (c.args.facts.now.rise -ℤ c.slope.result) =
     added_fits c.args.facts.now.rise c.slope.result c.requires.facts.rise c.slope.ensures.low c.slope.ensures.high in
     let is_s : c.slope.result ≡ per_metre c.args.facts.now.arrow.len c.rates.inside.up_cutoff =
     simp (to_z-of_z, cutoff) at c.slope.ensures.exact in
-    let is_r : c.slope-2.result ≡ per_metre c.args.facts.now.arrow.len c.rates.inside.reduction =
-    simp (to_z-of_z, reduction) at c.slope-2.ensures.exact in
-    subst (λ (p : Prices). c.step.result ≡
-    step_of p.limits (climb_of p c.args.facts.now).up_added (climb_of p c.args.facts.now).reduction c.args.up)
+    subst (λ (p : Prices). c.step.result ≡ step_of p.limits (climb_of p c.args.facts.now).up_added c.args.reduction c.args.up)
     c.rates.view_is
-    (rw (← is_s, ← is_r) (simp (to_z-of_z, rise, s, r, a, c.ranges.up) at c.step.ensures.exact))
+    (rw (← is_s) (simp (to_z-of_z, rise, s, a, c.ranges.reduction, c.ranges.up) at c.step.ensures.exact))
+    ∙ ap
+    (λ n. step_of c.args.rates.now.limits (climb_of c.args.rates.now c.args.facts.now).up_added n c.args.up)
+    c.requires.reduced
 
 pub returns-clause-prices : goal.returns-clause-prices
 returns-clause-prices c = subst (λ p. IsPrices p) c.rates.view_is c.rates.invariant

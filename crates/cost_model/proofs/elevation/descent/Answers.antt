@@ -1,4 +1,4 @@
-use Rattle.std.proofs.Common.{◌≡◌, pos, ◌-ℤ◌, SFits, w64, subst}
+use Rattle.std.proofs.Common.{◌≡◌, pos, ◌-ℤ◌, SFits, w64, ap, subst, ◌∙◌}
 use Rattle.std.proofs.lemmas.Int.{to_z-of_z}
 use Rattle.elev_buffer.specs.Step.{step_of}
 use Rattle.cost_model.specs.Prices.{Prices, IsPrices}
@@ -13,19 +13,17 @@ returns-clause-exact c =
     let rise : SFits w64 c.args.facts.now.rise = sizes.0 in
     let fall : SFits w64 (pos 0 -ℤ c.args.facts.now.rise) = sizes.1 in
     let cutoff = slope-narrow _ c.rates.invariant.down_cutoff in
-    let reduction = slope-narrow _ c.rates.invariant.reduction in
     let s : SFits w64 c.slope.result = record { sfits = c.slope.type_inv } in
-    let r : SFits w64 c.slope-2.result = record { sfits = c.slope-2.type_inv } in
     let a : SFits w64 ((pos 0 -ℤ c.args.facts.now.rise) -ℤ c.slope.result) =
     added_fits (pos 0 -ℤ c.args.facts.now.rise) c.slope.result sizes.2 c.slope.ensures.low c.slope.ensures.high in
     let is_s : c.slope.result ≡ per_metre c.args.facts.now.arrow.len c.rates.inside.down_cutoff =
     simp (to_z-of_z, cutoff) at c.slope.ensures.exact in
-    let is_r : c.slope-2.result ≡ per_metre c.args.facts.now.arrow.len c.rates.inside.reduction =
-    simp (to_z-of_z, reduction) at c.slope-2.ensures.exact in
-    subst (λ (p : Prices). c.step.result ≡
-    step_of p.limits (climb_of p c.args.facts.now).down_added (climb_of p c.args.facts.now).reduction c.args.down)
+    subst (λ (p : Prices). c.step.result ≡ step_of p.limits (climb_of p c.args.facts.now).down_added c.args.reduction c.args.down)
     c.rates.view_is
-    (rw (← is_s, ← is_r) (simp (to_z-of_z, rise, fall, s, r, a, c.ranges.down) at c.step.ensures.exact))
+    (rw (← is_s) (simp (to_z-of_z, rise, fall, s, a, c.ranges.reduction, c.ranges.down) at c.step.ensures.exact))
+    ∙ ap
+    (λ n. step_of c.args.rates.now.limits (climb_of c.args.rates.now c.args.facts.now).down_added n c.args.down)
+    c.requires.reduced
 
 pub returns-clause-prices : goal.returns-clause-prices
 returns-clause-prices c = subst (λ p. IsPrices p) c.rates.view_is c.rates.invariant
