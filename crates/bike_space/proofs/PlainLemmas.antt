@@ -1,9 +1,8 @@
 -- A space of a leg in which no segment is used, and whose lower bound says nothing.
-use Rattle.std.proofs.Common.{◌≡◌, ℕ, ℤ, pos, Bool, true, false, ◌&&◌, int_le, nat_lt, List, get_or, replicate, Option, Some, None, refl, ap, ◌∙◌, subst, arith}
+use Rattle.std.proofs.Common.{◌≡◌, ℕ, ℤ, pos, Bool, false, ◌&&◌, int_le, nat_lt, List, [], get_or, Option, Some, None, ap, ◌∙◌, subst, arith}
 use Rattle.std.proofs.Math.Logic.{∥∥₁_elim}
 use Rattle.std.proofs.Props.{props}
-use Rattle.std.proofs.lemmas.Bool.Decides.{nat_tests}
-use Rattle.std.proofs.lemmas.List.{get_or_past, get_or-replicate, length-replicate}
+use Rattle.std.proofs.lemmas.List.{get_or_past}
 use Rattle.cost_model.specs.Rides.{Leg}
 use Rattle.cost_model.specs.declared.parts.Carry.{Carry}
 use Rattle.least_sums.specs.Prices.{Prices}
@@ -16,15 +15,9 @@ use Rattle.bike_space.specs.Remaining.{IsRemainingUpTo}
 use Rattle.bike_space.specs.Tasks.{Task, is_carried, rules_of}
 use Rattle.bike_space.proofs.CarryLemmas.{carried-is}
 
--- no number is marked in a list of marks that are all false
-pub unmarked : (count : ℕ) (marks : List Bool) → marks ≡ replicate count false → (link : ℕ) → is_marked marks link ≡ false
-unmarked count marks is link =
-    ap (λ (l : List Bool). get_or l link false) is
-    ∙ (elim (nat_lt link count) as (λ (t : Bool). nat_lt link count ≡ t → get_or (replicate count false) link false ≡ false) [
-      | true ↦ λ t. get_or-replicate count link false false (grind (arith, nat_tests, t))
-      | false ↦ λ t. get_or_past (replicate count false) link false
-          (let long = length-replicate count false in grind (arith, nat_tests, t, long))
-    ] refl)
+-- no number is marked in a list without marks
+pub unmarked : (marks : List Bool) → marks ≡ [] → (link : ℕ) → is_marked marks link ≡ false
+unmarked marks none link = ap (λ (l : List Bool). get_or l link false) none ∙ get_or_past [] link false (omega arith)
 
 -- up to a radius of 0 each least sum is 0
 least-none : (roads : Roads) (prices : Prices) (target node : ℕ) (sum : Option ℕ) →

@@ -72,11 +72,12 @@ fn rested<G: TerrainOf>(
 {
     // What the map and the rates promise of themselves.
     let map = terrain.map();
-    let links = map.links();
+    let _links = map.links();
     let _rate = terrain.rates().down_rate();
     let low = unknown_sums(alloc, map)?;
     let cut = Vec::from_slice(alloc, cut)?;
-    let used = vec![in alloc; false; links as usize]?;
+    // What is behind the end of a list isn't marked, so that no list says that no link is used.
+    let used = Vec::new(alloc);
     Ok(Rested {
         low,
         cut,

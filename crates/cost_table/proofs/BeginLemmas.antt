@@ -6,8 +6,9 @@ use Rattle.space_search.specs.View.{Reached}
 use Rattle.bike_space.specs.Lawful.{IsTask}
 use Rattle.bike_space.specs.Tasks.{Task}
 use Rattle.cost_table.specs.Costs.{IsLeastCost, Quest, leg_to}
-use Rattle.cost_table.specs.Found.{AreAwaited, BeginsBy, IsNew, NoneWaits, PutsDown, cost_at, waits}
+use Rattle.cost_table.specs.Found.{AreAwaited, BeginsBy, IsNew, PutsDown, cost_at, waits}
 use Rattle.cost_table.specs.Reaches.{IsFoundAfter}
+use Rattle.cost_table.specs.Waiting.{NoneWaits}
 use Rattle.cost_table.specs.declared.found.Found.{Found}
 use Rattle.cost_table.specs.declared.want.Want.{Want}
 use Rattle.cost_table.specs.declared.want.Want.TheVariants.{Nodes, Within}

@@ -6,7 +6,8 @@ use Rattle.std.proofs.lemmas.Bool.{cases_eq}
 use Rattle.std.proofs.lemmas.Bool.Decides.{nat_tests}
 use Rattle.std.proofs.lemmas.Map.Views.{Contains-from_any, list_any-from_Contains}
 use Rattle.cost_table.specs.Costs.{IsCostOf, IsLeastCost, Quest, leg_to}
-use Rattle.cost_table.specs.Found.{AreAwaited, PutsDown, WaitsNoLonger, cost_at}
+use Rattle.cost_table.specs.Found.{AreAwaited, PutsDown, cost_at}
+use Rattle.cost_table.specs.Waiting.{WaitsNoLonger}
 use Rattle.cost_table.specs.declared.found.Found.{Found}
 
 -- ---- Costs that are put down

@@ -10,8 +10,9 @@ use Rattle.bike_space.specs.Tasks.{Task, rules_of}
 use Rattle.bike_space.proofs.CallerLemmas.{walk-some}
 use Rattle.cost_table.specs.Costs.{AreCosts, IsCostOf, IsCostWithin, IsLeastCost, Quest, leg_to}
 use Rattle.cost_table.specs.Endless.{endless}
-use Rattle.cost_table.specs.Found.{AreSame, NoneWaits, NotesBy, NotesNamed, NotesWithin, PutsDown, WaitsNoLonger, beyond, cost_at, found, passed, waits, within}
+use Rattle.cost_table.specs.Found.{AreSame, NotesBy, NotesNamed, NotesWithin, PutsDown, beyond, cost_at, found, passed, waits, within}
 use Rattle.cost_table.specs.Reaches.{AreNamed, AreNear, IsFoundAfter, arrival}
+use Rattle.cost_table.specs.Waiting.{NoneWaits, WaitsNoLonger}
 use Rattle.cost_table.specs.declared.found.Found.{Found}
 use Rattle.cost_table.specs.declared.want.Want.{Want}
 use Rattle.cost_table.specs.declared.want.Want.TheVariants.{Nodes, Within}

@@ -2,8 +2,8 @@
 -- own rule).
 use Rattle.std.specs.Prelude.{ℕ, ◌≡◌, ◌≢◌, ◌≤◌, ◌<◌, Bool, true, false, not, ◌&&◌, nat_eq, List, Option, Some, None}
 use Rattle.std.specs.List.{list_any}
-use Rattle.std.specs.HashSet.{contains}
 use Rattle.indexmap.specs.IndexMap.{get}
+use Rattle.cost_table.specs.Waiting.{NoneWaits, WaitsNoLonger, waits_among}
 use Rattle.cost_table.specs.declared.found.Found.{Found}
 use Rattle.cost_table.specs.declared.want.Want.{Want}
 use Rattle.cost_table.specs.declared.want.Want.TheVariants.{Nodes, Within}
@@ -14,7 +14,7 @@ cost_at found node = get nat_eq found.costs node
 
 -- whether a node waits
 abbrev pub waits : Found → ℕ → Bool
-waits found node = contains nat_eq found.waiting node
+waits found node = waits_among found.waiting node
 
 -- nothing is found, and none waits
 pub record IsNew (found : Found) : Type 0 where
@@ -36,16 +36,6 @@ pub record PutsDown (node cost : ℕ) (before after : ℕ → Option ℕ) : Type
 abbrev pub AreAwaited : (nodes : List ℕ) (source : ℕ) (waiting : ℕ → Bool) → Type 0
 AreAwaited nodes source waiting =
     (node : ℕ) → waiting node ≡ (list_any (nat_eq node) nodes && not (nat_eq node source))
-
--- a node waits no longer
-pub record WaitsNoLonger (node : ℕ) (before after : ℕ → Bool) : Type 0 where
-  pub here : after node ≡ false
-  pub others : (other : ℕ) → other ≢ node → after other ≡ before other
-
--- whether none waits
-abbrev pub NoneWaits : (waiting : ℕ → Bool) → Bool → Type 0
-NoneWaits waiting true = (node : ℕ) → waiting node ≡ false
-NoneWaits waiting false = (node : ℕ) × (waiting node ≡ true)
 
 -- what begins by what is asked, with whether all is found
 abbrev pub BeginsBy : Want → (source : ℕ) (after : Found) → Bool → Type 0

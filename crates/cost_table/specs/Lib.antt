@@ -1,4 +1,5 @@
 pub mod Endless
 pub mod Costs
+pub mod Waiting
 pub mod Found
 pub mod Reaches

@@ -4,7 +4,8 @@ ghost use Rattle.std.specs.Prelude.{◌≡◌, IsTrue};
 ghost use Rattle.space_search.specs.Laws.{HasEvenBound, IsSpace};
 ghost use Rattle.cost_table.specs.Endless.{AreOne, endless};
 
-use space_search::Space;
+use space_search::{Space, Steps};
+use std::alloc::AllocError;
 
 /// A space as one without goals, in which ranks are costs: a search over it settles whatever is
 /// reached, the cheaper first. Whichever target the space was made with, it has no effect. It takes
@@ -67,6 +68,10 @@ impl<'a, S: Space> Space for Endless<'a, S> {
 
     fn step(&self, state: &S::State, number: u32) -> Option<(S::State, u128)> {
         self.space.step(state, number)
+    }
+
+    fn list_steps(&self, state: &S::State, found: &mut Steps<S::State>) -> Result<(), AllocError> {
+        self.space.list_steps(state, found)
     }
 
     fn goal(&self, _state: &S::State) -> bool {

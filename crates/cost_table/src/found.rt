@@ -1,16 +1,16 @@
 //! The costs that are found, and the nodes that still wait for theirs.
 
-ghost use Rattle.std.specs.HashSet.{contains};
 ghost use Rattle.std.specs.List.{Contains, IsDistinct};
 ghost use Rattle.std.specs.Option.{IsSome};
 ghost use Rattle.std.specs.Prelude.{ℕ, ◌≡◌, ◌↔◌, IfOk, OnOk, false, nat_eq};
 ghost use Rattle.indexmap.specs.IndexMap.{get};
 ghost use Rattle.cost_table.specs.Found.{AreAwaited, Begins, IsNew, NotesBy, PutsDown, cost_at};
+ghost use Rattle.cost_table.specs.Waiting.{waits_among};
 
+use crate::waiting::Waiting;
 use crate::want::Want;
 use indexmap::IndexMap;
 use std::alloc::{AllocError, Global};
-use std::collections::HashSet;
 
 /// The costs that are found.
 pub(crate) struct Found {
@@ -18,7 +18,7 @@ pub(crate) struct Found {
     /// What it costs to come to each node that was found, in the order in which they were.
     pub(crate) costs: IndexMap<u32, u128>,
     /// The nodes that are asked for and not found; none where all within a cost are.
-    pub(crate) waiting: HashSet<u32>,
+    pub(crate) waiting: Waiting,
 }
 
 impl Drop for Found {
@@ -40,7 +40,7 @@ impl Found {
         Found {
             want,
             costs: IndexMap::new(alloc),
-            waiting: HashSet::new(alloc),
+            waiting: Waiting::new(alloc),
         }
     }
 
@@ -68,7 +68,7 @@ impl Found {
     {
         match &self.want {
             Want::Nodes(_) => {
-                if !self.waiting.remove(&node) {
+                if !self.waiting.take(node) {
                     return Ok(false);
                 }
                 put_down(&mut self.costs, node, cost)?;
@@ -111,13 +111,13 @@ fn put_down(costs: &mut IndexMap<u32, u128>, node: u32, cost: u128) -> Result<()
 }
 
 /// All these nodes wait but the one that is left.
-fn wait_all(nodes: &[u32], source: u32, waiting: &mut HashSet<u32>) -> Result<(), AllocError>
-    requires none { (node : ℕ) → contains nat_eq waiting.old node ≡ false }
-    ensures waits { OnOk result (AreAwaited nodes.now source (contains nat_eq waiting.new)) }
+fn wait_all(nodes: &[u32], source: u32, waiting: &mut Waiting) -> Result<(), AllocError>
+    requires none { (node : ℕ) → waits_among waiting.old node ≡ false }
+    ensures waits { OnOk result (AreAwaited nodes.now source (waits_among waiting.new)) }
 {
     'nodes: for node in nodes {
         if *node != source {
-            waiting.insert(*node)?;
+            waiting.add(*node)?;
         }
     }
     Ok(())

@@ -6,6 +6,7 @@ mod found;
 mod reach;
 mod settling;
 mod turn;
+mod waiting;
 mod want;
 
 pub use reach::Reach;

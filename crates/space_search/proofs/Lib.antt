@@ -7,6 +7,7 @@ pub mod EndLemmas
 pub mod GrowLemmas
 pub mod LeastLemmas
 pub mod LimitLemmas
+pub mod ListedLemmas
 pub mod NextLemmas
 pub mod OfferLemmas
 pub mod OrderLemmas

@@ -1,14 +1,18 @@
 -- What was taken care of still is when labels are offered and when the next one leaves the queue.
-use Rattle.std.proofs.Common.{◌≡◌, ℕ, ◌<◌, ◌+◌, inl, inr, List, ◌∷◌, length, Some, ap, arith, sym, ◌∙◌, subst}
-use Rattle.std.specs.List.{Contains}
+use Rattle.std.proofs.Common.{◌≡◌, ℕ, ◌<◌, ◌+◌, inl, inr, List, ◌∷◌, get_or, length, Some, ap, arith, sym, ◌∙◌, subst}
+use Rattle.std.specs.List.{Contains, slice_get}
+use Rattle.std.proofs.lemmas.Option.{slice_get-get_or}
 use Rattle.std.specs.List.Sorted.{IsPermutation}
 use Rattle.std.proofs.lemmas.List.Sorted.{Contains-permutation, IsPermutation-sym}
 use Rattle.space_search.specs.Books.{Books, IsLabel, IsSettled, IsCovered, IsAccounted, by_label, by_queue, by_bound, HasStarts, HasSteps, HasStepsBelow, IsSearch, IsClosed, Extends, KeepsLabels, Leaves}
 use Rattle.space_search.specs.Queues.{Entry}
+use Rattle.space_search.specs.Listed.{steps_of}
 use Rattle.space_search.specs.Rules.{Rules}
 use Rattle.space_search.specs.declared.label.Label.{Label}
+use Rattle.space_search.specs.declared.step.Step.{Step}
 use Rattle.item_list.proofs.ListLemmas.{slice_get-same, Contains-cons_cases, Contains-rest}
 use Rattle.item_list.proofs.TestLemmas.{below-next}
+use Rattle.space_search.proofs.ListedLemmas.{has-step}
 use Rattle.space_search.proofs.SameLemmas.{settled-unique, settled-within, keeps-back}
 use Rattle.std.proofs.lemmas.Bool.{cases_eq}
 
@@ -45,15 +49,24 @@ module _ {S : Type 0} (rules : Rules S) (before after : Books S) (more : Extends
       )
   accounted-extended state cost (by_bound none) = by_bound none
 
-  -- one more step is taken care of
-  pub has_steps-more :
-      (label : Label S) (upto : ℕ) → HasSteps rules before label upto →
-      ((state : S) (cost : ℕ) → rules.step label.state upto ≡ Some (state, cost) → IsAccounted rules after state (label.cost + cost)) →
-      HasSteps rules after label (upto + 1)
-  has_steps-more label upto done this number state cost below is =
-      elim (below-next number upto below) [
-        | inl earlier ↦ accounted-extended state (label.cost + cost) (done number state cost earlier is)
-        | inr at ↦ this state cost (subst (λ n. rules.step label.state n ≡ Some (state, cost)) at is)
+  -- one more of the listed steps is taken care of
+  pub offered-more :
+      (items : List (Step S)) (cost index : ℕ) (last : Step S) →
+      ((place : ℕ) (one : Step S) → place < index → slice_get items place ≡ Some one →
+      IsAccounted rules before one.state (cost + one.cost)) →
+      index < length items → last ≡ get_or items index last →
+      IsAccounted rules after last.state (cost + last.cost) →
+      (place : ℕ) (one : Step S) → place < index + 1 → slice_get items place ≡ Some one →
+      IsAccounted rules after one.state (cost + one.cost)
+  offered-more items cost index last done within at this place one below is =
+      elim (below-next place index below) [
+        | inl earlier ↦ accounted-extended one.state (cost + one.cost) (done place one earlier is)
+        | inr here ↦
+            let found : slice_get items index ≡ Some last =
+            slice_get-get_or items index last within ∙ ap Some (sym at) in
+            let same : Some one ≡ Some last = sym is ∙ ap (slice_get items) here ∙ found in
+            let one-is : last ≡ one = cc in
+            subst (λ (k : Step S). IsAccounted rules after k.state (cost + k.cost)) one-is this
       ]
 
   -- one more start is taken care of
@@ -154,3 +167,17 @@ leaves-extended rules before between after more leaves =
       stands = leaves.stands;
       keeps = λ place label s. leaves.keeps place label (to-settled rules before between more place label s);
     }
+
+-- once all that is listed of a label's steps is taken care of, all its steps are
+pub all-offered :
+    {S : Type 0} (rules : Rules S) (kept : Books S) (label : Label S) (items : List (Step S)) →
+    items ≡ steps_of rules label.state →
+    ((place : ℕ) (one : Step S) → place < length items → slice_get items place ≡ Some one →
+    IsAccounted rules kept one.state (label.cost + one.cost)) →
+    HasSteps rules kept label (rules.steps label.state)
+all-offered {S} rules kept label items are offered number state cost below is =
+    let one : Step S = record { choice = number; state = state; cost = cost } in
+    let there : Contains items one =
+    subst (λ l. Contains l one) (sym are)
+    (has-step (rules.step label.state) (rules.steps label.state) number state cost below is) in
+    offered there.0 one there.1 (slice_get-get_or items there.0 one there.1 ∙ ap Some there.2)

@@ -49,7 +49,7 @@ pub record Between {S : Type 0} (rules : Rules S) (before after : Search S) : Ty
 -- nothing is between where only the phase changes
 pub between-same :
     {S : Type 0} (rules : Rules S) (search : Search S) (phase : Phase) → IsSearchOf rules search →
-    Between rules search (record { lists = search.lists; limit = search.limit; found = search.found; phase = phase })
+    Between rules search (record search { phase = phase })
 between-same rules search phase of =
     record { leaves = record { stands = of.stands; keeps = λ place label s. s }; limit = refl; settled = refl }
 

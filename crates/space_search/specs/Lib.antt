@@ -3,6 +3,7 @@ pub mod Chains
 pub mod Ends
 pub mod Laws
 pub mod Limits
+pub mod Listed
 pub mod Moves
 pub mod Outcome
 pub mod Queues

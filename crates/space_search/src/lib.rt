@@ -15,6 +15,7 @@ mod queue;
 mod search;
 mod settle;
 mod space;
+mod step;
 mod take;
 mod turns;
 
@@ -23,3 +24,4 @@ pub use outcome::{Outcome, Run};
 pub use phase::Phase;
 pub use search::Search;
 pub use space::Space;
+pub use step::{Step, Steps};

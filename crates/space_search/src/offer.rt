@@ -2,6 +2,7 @@
 
 ghost use Rattle.std.specs.Prelude.{◌≡◌, ◌<◌, IsTrue, OnOk, false, length};
 ghost use Rattle.space_search.specs.Books.{books, IsSearch, Follows, IsCovered, IsUncovered, IsLater, RanksAbove, Leaves};
+ghost use Rattle.space_search.specs.Chains.{IsTested};
 ghost use Rattle.space_search.specs.Moves.{Offers};
 ghost use Rattle.space_search.specs.Laws.{HasRank};
 ghost use Rattle.space_search.specs.Rules.{LOW_BOUND};
@@ -13,7 +14,9 @@ use item_list::next_number;
 use std::alloc::AllocError;
 
 /// Whether a settled label covers the state at this cost, which ranks no less than any of them.
-/// Those that left their slot's chain needn't be tested.
+/// Those that left their slot's chain needn't be tested. Most chains are empty, so that is seen in
+/// place.
+#[inline(always)]
 pub(crate) fn is_covered<T: Copy + Drop, S: Space<State = T>>(
     space: &S,
     lists: &Lists<T>,
@@ -29,7 +32,32 @@ pub(crate) fn is_covered<T: Copy + Drop, S: Space<State = T>>(
         IsUncovered (S.rules space.now) (books lists.now) state.now cost }
 {
     let slot = space.slot(state);
-    let mut cursor = lists.newest.get(slot as usize);
+    let newest = lists.newest.get(slot as usize);
+    if newest == 0 {
+        return false;
+    }
+    is_covered_from(space, lists, newest, state, cost)
+}
+
+/// Whether a settled label covers the state at this cost, where the chain of its slot is tested
+/// down to a cursor.
+fn is_covered_from<T: Copy + Drop, S: Space<State = T>>(
+    space: &S,
+    lists: &Lists<T>,
+    from: u32,
+    state: &T,
+    cost: u128,
+) -> bool
+    requires later { IsLater (S.rules space.now) (books lists.now) state.now cost }
+    requires small { cost < LOW_BOUND }
+    requires kept { IsSearch (S.rules space.now) (books lists.now) }
+    requires tested { IsTested (S.rules space.now) (books lists.now) state.now cost from }
+    ensures covered { IsTrue result →
+        IsCovered (S.rules space.now) (books lists.now) state.now cost }
+    ensures uncovered { result ≡ false →
+        IsUncovered (S.rules space.now) (books lists.now) state.now cost }
+{
+    let mut cursor = from;
     'chain: while cursor > 0 {
         let place = (cursor - 1) as usize;
         let label = lists.labels[lists.settled[place] as usize];

@@ -9,6 +9,7 @@ use crate::lists::Lists;
 use crate::offer::offer;
 use crate::prune::prune;
 use crate::space::Space;
+use crate::step::Steps;
 use std::alloc::AllocError;
 
 /// Takes the next label from the queue, where a settled label covers it.
@@ -85,10 +86,11 @@ fn settle_last<T: Copy + Drop, S: Space<State = T>>(
     Ok(())
 }
 
-/// Offers what the steps of the newest settled label give.
+/// Offers what the steps of the newest settled label give, which are put down in a list for that.
 pub(crate) fn advance<T: Copy + Drop, S: Space<State = T>>(
     space: &S,
     lists: &mut Lists<T>,
+    steps: &mut Steps<T>,
     label: Label<T>,
 ) -> Result<(), AllocError>
     requires kept { IsSearch (S.rules space.now) (books lists.old) }
@@ -102,17 +104,15 @@ pub(crate) fn advance<T: Copy + Drop, S: Space<State = T>>(
     ensures settled { (books lists.new).settled ≡ (books lists.old).settled }
 {
     let parent = lists.settled.len() as u32;
-    'steps: for choice in 0..space.steps(&label.state) {
-        if let Some(found) = space.step(&label.state, choice) {
-            let (state, more) = found;
-            let reached = Label {
-                cost: label.cost + more,
-                state,
-                parent,
-                choice,
-            };
-            offer(space, lists, reached)?;
-        }
+    space.list_steps(&label.state, steps)?;
+    'steps: for step in steps.as_slice() {
+        let reached = Label {
+            cost: label.cost + step.cost,
+            state: step.state,
+            parent,
+            choice: step.choice,
+        };
+        offer(space, lists, reached)?;
     }
     Ok(())
 }

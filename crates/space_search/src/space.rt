@@ -1,10 +1,15 @@
 //! The interface of everything that is searched.
 
-ghost use Rattle.std.specs.Prelude.{◌≡◌, ◌<◌, IsTrue};
+ghost use Rattle.std.specs.Prelude.{◌≡◌, ◌<◌, IsTrue, OnOk};
+ghost use Rattle.space_search.specs.Listed.{steps_of};
 ghost use Rattle.space_search.specs.Rules.{Rules, LOW_BOUND};
 ghost use Rattle.space_search.specs.Laws.{IsSpace, Supersedes};
 
-/// A space of states with starts, steps and goals, all by number. No call takes memory.
+use crate::step::{Step, Steps};
+use std::alloc::AllocError;
+
+/// A space of states with starts, steps and goals, all by number. No call but `list_steps` takes
+/// memory, and that one only for its list.
 ///
 /// `rules` says in one record what all calls answer, and `keeps_laws` that the record keeps the
 /// laws of a space. A start or step that isn't permitted is `None`; else it gives the state that is
@@ -45,6 +50,30 @@ pub trait Space {
         requires valid { IsTrue ((rules self.now).is_valid state.now) }
         requires within { number < (rules self.now).steps state.now }
         ensures value { result ≡ (rules self.now).step state.now number };
+
+    /// Lists the permitted steps of a state in the order of their numbers, in place of what the list
+    /// held. A search asks for all steps of a state at once, so that a space can look up once what
+    /// they share; one in which they share nothing needs no body for it.
+    fn list_steps(
+        &self,
+        state: &Self::State,
+        found: &mut Steps<Self::State>,
+    ) -> Result<(), AllocError>
+        requires valid { IsTrue ((rules self.now).is_valid state.now) }
+        ensures value { OnOk result (found.new ≡ steps_of (rules self.now) state.now) }
+    {
+        found.clear();
+        'steps: for choice in 0..self.steps(state) {
+            if let Some(reached) = self.step(state, choice) {
+                found.put(Step {
+                    choice,
+                    state: reached.0,
+                    cost: reached.1,
+                })?;
+            }
+        }
+        Ok(())
+    }
 
     /// Whether a state is a goal.
     fn goal(&self, state: &Self::State) -> bool

@@ -11,6 +11,7 @@ use crate::offer::is_covered;
 use crate::outcome::Outcome;
 use crate::settle::{advance, drop_next, settle_next};
 use crate::space::Space;
+use crate::step::Steps;
 use item_list::Turn;
 use std::alloc::AllocError;
 
@@ -34,6 +35,7 @@ pub enum Taken {
 pub(crate) fn take<T: Copy + Drop, S: Space<State = T>>(
     space: &S,
     lists: &mut Lists<T>,
+    steps: &mut Steps<T>,
     limit: u64,
 ) -> Result<Taken, AllocError>
     requires kept { IsSearch (S.rules space.now) (books lists.old) }
@@ -60,7 +62,7 @@ pub(crate) fn take<T: Copy + Drop, S: Space<State = T>>(
         return Ok(Taken::Spent);
     }
     settle_next(space, lists, number, label)?;
-    advance(space, lists, label)?;
+    advance(space, lists, steps, label)?;
     Ok(Taken::Settled)
 }
 
@@ -69,6 +71,7 @@ pub(crate) fn take<T: Copy + Drop, S: Space<State = T>>(
 pub(crate) fn take_many<T: Copy + Drop, S: Space<State = T>>(
     space: &S,
     lists: &mut Lists<T>,
+    steps: &mut Steps<T>,
     limit: u64,
     quota: u32,
 ) -> Result<(Turn<(), Outcome<u32>>, u32), AllocError>
@@ -83,7 +86,7 @@ pub(crate) fn take_many<T: Copy + Drop, S: Space<State = T>>(
 {
     let mut count = 0;
     'turn: while count < quota {
-        match take(space, lists, limit)? {
+        match take(space, lists, steps, limit)? {
             Taken::Dropped => {}
             Taken::Settled => count += 1,
             Taken::Goal(number) => {

@@ -20,6 +20,7 @@ use crate::outcome::{Outcome, Run};
 use crate::phase::{Phase, after_turn};
 use crate::search::Search;
 use crate::space::Space;
+use crate::step::Steps;
 use crate::take::take_many;
 use item_list::{Items, Turn};
 use std::alloc::{AllocError, Global};
@@ -35,6 +36,7 @@ impl<T: Copy + Drop> Search<T> {
     {
         Search {
             lists: Lists::new(alloc),
+            steps: Steps::new(alloc),
             limit,
             found: 0,
             phase: Phase::New,
@@ -82,7 +84,7 @@ impl<T: Copy + Drop> Search<T> {
             }
             Phase::Running => self.phase = Phase::Failed,
         }
-        let answer = take_many(space, &mut self.lists, self.limit, quota)?;
+        let answer = take_many(space, &mut self.lists, &mut self.steps, self.limit, quota)?;
         let (turn, found) = answer;
         self.found = found;
         self.phase = after_turn(turn);

@@ -8,13 +8,12 @@ use Rattle.bike_space.proofs.PlainLemmas.{unmarked}
 use Rattle.bike_space.proofs.plain.rested.Goals as goal
 
 pub returns-clause-unused : goal.returns-clause-unused
-returns-clause-unused g c =
-    unmarked _ c.in_ok-used.used.items (c.in_ok-used.ensures.items_if_clones_equal (λ y same. same))
+returns-clause-unused g c = unmarked c.new-used.result.items c.new-used.ensures.items
 
 pub returns-clause-wakes : goal.returns-clause-wakes
 returns-clause-wakes g c =
     let terrain = g.G.TerrainOf.terrain c.args.terrain.now in
-    let prices = (priced_by terrain c.in_ok-cut.cut.items c.in_ok-used.used.items).price in
+    let prices = (priced_by terrain c.in_ok-cut.cut.items c.new-used.result.items).price in
     opened-wakes terrain _
     (record {
       is_map = subst IsMap c.map-map.ensures.value c.links-links.ensures.lawful;

@@ -1,25 +1,34 @@
-use Rattle.std.proofs.Common.{arith, ◌∙◌, ap, ◌≡◌, ◌+◌, ◌-◌, length}
-use Rattle.space_search.specs.Books.{books, IsAccounted}
-use Rattle.space_search.proofs.OfferLemmas.{extends-refl}
-use Rattle.space_search.proofs.ReachLemmas.{step-fits, follows-step, above-step, this-one}
+use Rattle.std.proofs.Common.{arith, ◌∙◌, ap, sym, ◌≡◌, ◌+◌, ◌-◌, length}
+use Rattle.space_search.specs.Books.{books}
+use Rattle.space_search.proofs.ListedLemmas.{step-at}
+use Rattle.space_search.proofs.ReachLemmas.{step-fits, follows-step, above-step}
 use Rattle.space_search.proofs.SameLemmas.{settled-within}
-use Rattle.space_search.proofs.TakeLemmas.{has_steps-more, extends-trans, closed-advanced, settled-extended, leaves-extended}
+use Rattle.space_search.proofs.TakeLemmas.{offered-more, all-offered, extends-trans, closed-advanced, settled-extended, leaves-extended}
 use Rattle.space_search.proofs.settle.advance.Goals as goal
-use Rattle.space_search.proofs.settle.advance.Goals.{in-Some+in_ok-offer, in_default}
 
 pub overflow_add-reached : goal.overflow_add-reached
 overflow_add-reached g c =
     let n = length c.args.lists.now.settled.items in
+    let one = c.step-item.result in
+    let step =
+    step-at (g.S.Space.rules c.args.space.now) c.args.label.state c.as_slice-step-items.result.now c.steps.step-index
+    c.step-item.result (c.as_slice-step-items.ensures.value ∙ c.in_ok-list_steps.ensures.value) c.steps-test.true
+    c.step-item.is in
     omega (
       arith,
       step-fits _ (g.met.S.Space.keeps_laws c.args.space.now) (books c.args.lists.now) c.requires.kept (n - 1) c.args.label
-          c.requires.now (omega (arith, settled-within _ _ _ c.requires.now)) c.steps.choice c.in-Some.found
-          (omega (arith, c.steps-choice-end.ensures.value)) c.in-Some.ensures.value,
+          c.requires.now (omega (arith, settled-within _ _ _ c.requires.now)) one.choice (one.state, one.cost)
+          step.0 (sym step.1),
     )
 
 -- the parts of the goals that follow: the newest settled label stands where it stood
 pub offer-requires-clause-follows : goal.offer-requires-clause-follows
 offer-requires-clause-follows g c =
+    let one = c.step-item.result in
+    let step =
+    step-at (g.S.Space.rules c.args.space.now) c.args.label.state c.as_slice-step-items.result.now c.steps.step-index
+    c.step-item.result (c.as_slice-step-items.ensures.value ∙ c.in_ok-list_steps.ensures.value) c.steps-test.true
+    c.step-item.is in
     let counted : length c.steps.lists.settled.items ≡ (length c.args.lists.now.settled.items - 1) + 1 =
     omega (arith, settled-within _ _ _ c.requires.now, ap length c.steps.invariant.extends.settled) in
     let parent : c.len-parent.result ≡ length c.steps.lists.settled.items =
@@ -29,17 +38,22 @@ offer-requires-clause-follows g c =
     c.steps.invariant.kept (length c.args.lists.now.settled.items - 1) c.args.label
     (settled-extended (g.S.Space.rules c.args.space.now) (books c.args.lists.now) (books c.steps.lists)
     c.steps.invariant.extends _ _ c.requires.now)
-    counted c.steps.choice c.in-Some.found (omega (arith, c.steps-choice-end.ensures.value)) c.in-Some.ensures.value)
+    counted one.choice (one.state, one.cost) step.0 (sym step.1))
 
 pub offer-requires-clause-above : goal.offer-requires-clause-above
 offer-requires-clause-above g c =
+    let one = c.step-item.result in
+    let step =
+    step-at (g.S.Space.rules c.args.space.now) c.args.label.state c.as_slice-step-items.result.now c.steps.step-index
+    c.step-item.result (c.as_slice-step-items.ensures.value ∙ c.in_ok-list_steps.ensures.value) c.steps-test.true
+    c.step-item.is in
     let counted : length c.steps.lists.settled.items ≡ (length c.args.lists.now.settled.items - 1) + 1 =
     omega (arith, settled-within _ _ _ c.requires.now, ap length c.steps.invariant.extends.settled) in
     above-step (g.S.Space.rules c.args.space.now) (g.met.S.Space.keeps_laws c.args.space.now) (books c.steps.lists)
     c.steps.invariant.kept (length c.args.lists.now.settled.items - 1) c.args.label
     (settled-extended (g.S.Space.rules c.args.space.now) (books c.args.lists.now) (books c.steps.lists)
     c.steps.invariant.extends _ _ c.requires.now)
-    counted c.steps.choice c.in-Some.found (omega (arith, c.steps-choice-end.ensures.value)) c.in-Some.ensures.value
+    counted one.choice (one.state, one.cost) step.0 (sym step.1)
 
 pub returns-in_err-offer-clause-leaves : goal.returns-in_err-offer-clause-leaves
 returns-in_err-offer-clause-leaves g c =
@@ -48,47 +62,29 @@ returns-in_err-offer-clause-leaves g c =
 
 pub steps-preserved : goal.steps-preserved
 steps-preserved g c =
-    elim c.match-step.branch [
-      | in-Some+in_ok-offer w ↦
-          let offers = w.in_ok-offer.ensures.offers in
-          rw w.lists-is
-          (
-          record {
-            kept = offers.kept;
-            extends = extends-trans _ _ _ c.steps.invariant.extends offers.extends;
-            steps =
-                has_steps-more (g.S.Space.rules c.args.space.now) (books c.steps.lists) (books w.offer.new.lists)
-                offers.extends c.args.label c.steps.choice c.steps.invariant.steps
-                (this-one
-                (λ s m. IsAccounted (g.S.Space.rules c.args.space.now) (books w.offer.new.lists) s (c.args.label.cost + m))
-                _ w.in-Some.found w.in-Some.ensures.value offers.accounted);
-            work = omega (arith, offers.work, c.steps.invariant.work);
-          }
-          )
-      | in_default w ↦
-          rw w.lists-is
-          (
-          record {
-            kept = c.steps.invariant.kept;
-            extends = c.steps.invariant.extends;
-            steps =
-                has_steps-more (g.S.Space.rules c.args.space.now) (books c.steps.lists) (books c.steps.lists)
-                (extends-refl (books c.steps.lists)) c.args.label c.steps.choice c.steps.invariant.steps
-                (λ s m is. absurd (w.in_default.not-Some (s, m) (c.step.ensures.value ∙ is)));
-            work = c.steps.invariant.work;
-          }
-          )
-    ]
+    let offers = c.in_ok-offer.ensures.offers in
+    record {
+      kept = offers.kept;
+      extends = extends-trans _ _ _ c.steps.invariant.extends offers.extends;
+      offered =
+          offered-more (g.S.Space.rules c.args.space.now) (books c.steps.lists) (books c.offer.new.lists) offers.extends
+          c.as_slice-step-items.result.now c.args.label.cost c.steps.step-index c.step-item.result
+          c.steps.invariant.offered c.steps-test.true c.step-item.is offers.accounted;
+      work = omega (arith, offers.work, c.steps.invariant.work);
+    }
 
 pub returns-clause-advances : goal.returns-clause-advances
 returns-clause-advances g c =
+    let rules = g.S.Space.rules c.args.space.now in
     record {
       kept = c.steps.invariant.kept;
       closed =
           closed-advanced _ (books c.args.lists.now) (books c.steps.lists) c.steps.invariant.extends
           (length c.args.lists.now.settled.items - 1) c.args.label c.requires.kept c.requires.now
           (omega (arith, settled-within _ _ _ c.requires.now)) c.requires.starts c.requires.steps
-          (λ i s m below is. c.steps.invariant.steps i s m (omega (arith, c.steps-choice-end.ensures.value)) is);
+          (all-offered rules (books c.steps.lists) c.args.label c.as_slice-step-items.result.now
+          (c.as_slice-step-items.ensures.value ∙ c.in_ok-list_steps.ensures.value)
+          (λ place one within is. c.steps.invariant.offered place one (omega (arith, within, c.steps-test.false)) is));
       extends = c.steps.invariant.extends;
       work = c.steps.invariant.work;
     }

@@ -1,5 +1,7 @@
-use Rattle.std.proofs.Common.{◌≤◌}
-use Rattle.space_search.specs.Books.{books, IsSearch, HasSteps, Extends, work_left}
+use Rattle.std.proofs.Common.{◌≡◌, ◌≤◌, ◌<◌, ◌+◌, ℕ, Some}
+use Rattle.std.specs.List.{slice_get}
+use Rattle.space_search.specs.Books.{books, IsSearch, IsAccounted, Extends, work_left}
+use Rattle.space_search.specs.declared.step.Step.{Step}
 use Rattle.space_search.proofs.settle.advance.Given as goal
 
 abbrev pub invariant-steps : goal.invariant-steps
@@ -7,6 +9,8 @@ invariant-steps g l =
     record {
       kept : IsSearch (g.S.Space.rules l.space) (books l.lists);
       extends : Extends (books l.initial.lists) (books l.lists);
-      steps : HasSteps (g.S.Space.rules l.space) (books l.lists) l.label l.choice;
+      offered :
+          (place : ℕ) (one : Step g.row.T.Denot) → place < l.step-index → slice_get l.step-items place ≡ Some one →
+          IsAccounted (g.S.Space.rules l.space) (books l.lists) one.state (l.label.cost + one.cost);
       work : work_left (books l.lists) ≤ work_left (books l.initial.lists);
     }

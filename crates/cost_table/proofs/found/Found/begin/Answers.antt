@@ -2,7 +2,6 @@ use Rattle.std.proofs.Common.{sym, subst}
 use Rattle.cost_table.specs.Found.{AreAwaited, BeginsBy, waits}
 use Rattle.cost_table.specs.declared.found.Found.{Found}
 use Rattle.cost_table.specs.declared.want.Want.{Want}
-use Rattle.cost_table.proofs.WaitLemmas.{none-among}
 use Rattle.cost_table.proofs.found.Found.begin.Goals as goal
 
 pub returns-in_ok-wait_all-in-Nodes-clause-begins : goal.returns-in_ok-wait_all-in-Nodes-clause-begins
@@ -14,5 +13,5 @@ returns-in_ok-wait_all-in-Nodes-clause-begins c =
     record {
       puts = c.in_ok-put_down.ensures.puts;
       by_want = subst (λ (w : Want). BeginsBy w c.args.source after c.is_empty.result) (sym c.in-Nodes.is)
-          (all, none-among c.wait_all.new.waiting.keys c.is_empty.result c.is_empty.ensures);
+          (all, c.is_empty.ensures.exact);
     }

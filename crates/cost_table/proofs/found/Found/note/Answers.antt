@@ -2,19 +2,19 @@ use Rattle.std.proofs.Common.{false, true, sym, subst, refl, ◌∙◌}
 use Rattle.cost_table.specs.Found.{NotesBy, beyond, found, passed, waits, within}
 use Rattle.cost_table.specs.declared.found.Found.{Found}
 use Rattle.cost_table.specs.declared.want.Want.{Want}
-use Rattle.cost_table.proofs.WaitLemmas.{none-among, none-taken, taken-away}
+use Rattle.cost_table.proofs.WaitLemmas.{none-taken}
 use Rattle.cost_table.proofs.found.Found.note.Goals as goal
 
-pub returns-then-not-remove-clause-notes : goal.returns-then-not-remove-clause-notes
-returns-then-not-remove-clause-notes c =
+pub returns-then-not-take-clause-notes : goal.returns-then-not-take-clause-notes
+returns-then-not-take-clause-notes c =
     let self : Found = c.args.self.now in
-    let after : Found = record { want = self.want; costs = self.costs; waiting = c.remove.new.self } in
-    let none = sym c.remove.ensures.test ∙ c.if-not-remove.true in
+    let after : Found = record { want = self.want; costs = self.costs; waiting = c.take.new.self } in
+    let none = sym c.take.ensures.test ∙ c.if-not-take.true in
     subst (λ (w : Want). NotesBy w c.args.node c.args.cost self after false) (sym c.in-Nodes.is)
     (passed none
     (record {
       costs = λ node. refl;
-      waiting = none-taken c.args.node (waits self) (waits after) none c.remove.ensures.updates.1 c.remove.ensures.updates.2;
+      waiting = none-taken c.args.node (waits self) (waits after) none c.take.ensures.taken;
     }))
 
 pub returns-then-cost-most-clause-notes : goal.returns-then-cost-most-clause-notes
@@ -26,11 +26,10 @@ returns-then-cost-most-clause-notes c =
 pub returns-in_ok-put_down-in-Nodes-clause-notes : goal.returns-in_ok-put_down-in-Nodes-clause-notes
 returns-in_ok-put_down-in-Nodes-clause-notes c =
     let self : Found = c.args.self.now in
-    let after : Found = record { want = self.want; costs = c.put_down.new.costs; waiting = c.remove.new.self } in
+    let after : Found = record { want = self.want; costs = c.put_down.new.costs; waiting = c.take.new.self } in
     subst (λ (w : Want). NotesBy w c.args.node c.args.cost self after c.is_empty.result) (sym c.in-Nodes.is)
-    (found (sym c.remove.ensures.test ∙ c.if-not-remove.false)
-    (taken-away c.args.node (waits self) (waits after) c.remove.ensures.updates.1 c.remove.ensures.updates.2)
-    c.in_ok-put_down-in-Nodes.ensures.puts (none-among c.remove.new.self.keys c.is_empty.result c.is_empty.ensures))
+    (found (sym c.take.ensures.test ∙ c.if-not-take.false) c.take.ensures.taken c.in_ok-put_down-in-Nodes.ensures.puts
+    c.is_empty.ensures.exact)
 
 pub returns-in_ok-put_down-in-Within-clause-notes : goal.returns-in_ok-put_down-in-Within-clause-notes
 returns-in_ok-put_down-in-Within-clause-notes c =
