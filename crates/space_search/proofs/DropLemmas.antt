@@ -22,7 +22,7 @@ rank-unique rules state cost a b p q =
 -- the lists once the front entry was dropped
 abbrev pub dropped : {S : Type 0} → Books S → List Entry → Books S
 dropped kept rest =
-    record { labels = kept.labels; queue = rest; settled = kept.settled; newest = kept.newest; older = kept.older }
+    record { labels = kept.labels; queue = rest; settled = kept.settled; heads = kept.heads; many = kept.many }
 
 -- the next label leaves the queue of a search in which everything is taken care of
 pub record Leaving {S : Type 0} (rules : Rules S) (kept : Books S) (number : ℕ) (label : Label S) (rest : List Entry) : Type 0 where

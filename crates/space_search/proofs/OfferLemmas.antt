@@ -30,7 +30,7 @@ leaves-same rules kept search = record { stands = search.stands; keeps = λ plac
 -- the lists once a label was put at the end of the labels and into the queue
 abbrev pub offered : {S : Type 0} → Books S → List (Label S) → List Entry → Books S
 offered kept labels queue =
-    record { labels = labels; queue = queue; settled = kept.settled; newest = kept.newest; older = kept.older }
+    record { labels = labels; queue = queue; settled = kept.settled; heads = kept.heads; many = kept.many }
 
 -- a label goes to the end of the labels and into the queue
 pub record Queues {S : Type 0} (rules : Rules S) (kept : Books S) (label : Label S) (queue : List Entry) : Type 0 where

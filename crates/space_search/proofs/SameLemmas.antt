@@ -1,9 +1,13 @@
 -- What a search's lists say stays true where no label is settled.
-use Rattle.std.proofs.Common.{◌≡◌, ℕ, ◌<◌, ◌≤◌, inl, inr, List, length, Some, ap, arith, sym, ◌∙◌, subst}
+use Rattle.std.proofs.Common.{◌≡◌, ℕ, ◌<◌, ◌≤◌, inl, inr, List, [], length, get_or, Some, refl, ap, arith, sym, ◌∙◌, subst}
 use Rattle.std.proofs.lemmas.Option.{slice_get_within}
-use Rattle.std.specs.List.{slice_get}
+use Rattle.std.specs.List.{slice_get, Contains}
 use Rattle.space_search.specs.Rules.{Rules}
-use Rattle.space_search.specs.Books.{Books, IsLabel, IsSettled, CameFrom, from_start, from_label, Follows, IsLater, IsNeedless, IsLatest, IsIndex, Reads, IsRising, Stands, KeepsLabels, IsSearch, Leaves}
+use Rattle.space_search.specs.Books.{Books, IsLabel, IsSettled, CameFrom, from_start, from_label, Follows, IsLater, IsNeedless, IsIndex, Reads, IsRising, Stands, KeepsLabels, IsSearch, Leaves, asked_of}
+use Rattle.space_search.specs.Fronts.{Asked, AreFronts, IsAsked, IsHead, alone, front_at, member_of}
+use Rattle.space_search.specs.declared.fronts.Head.{Head}
+use Rattle.space_search.specs.declared.fronts.Head.TheVariants.{Empty, One, Many}
+use Rattle.space_search.specs.declared.fronts.Member.{Member}
 use Rattle.space_search.specs.declared.label.Label.{Label}
 use Rattle.item_list.proofs.ListLemmas.{slice_get-same}
 
@@ -63,6 +67,49 @@ needless-moved rules before after place label keeps needless state cost later co
       covers = c.covers;
     }
 
+-- where labels are added alone, the fronts stay
+module _ {S : Type 0} (before after : Asked S)
+    (more : (number : ℕ) (label : Label S) → slice_get before.labels number ≡ Some label → slice_get after.labels number ≡ Some label)
+    (heads : after.heads ≡ before.heads) (many : after.many ≡ before.many) where
+  -- a front that there is stays
+  front-same : (head : Head) → IsHead before head → front_at after head ≡ front_at before head
+  front-same Empty h = refl
+  front-same (One number) h = ap alone (more number h.0 h.1 ∙ sym h.1)
+  front-same (Many place) h = ap (λ m. get_or m place []) many
+
+  -- and there still is one
+  head-same : (head : Head) → IsHead before head → IsHead after head
+  head-same Empty h = tt
+  head-same (One number) h = (h.0, more number h.0 h.1)
+  head-same (Many place) h = omega (arith, h, ap length many)
+
+  -- each slot has its front
+  pub fronts-same : AreFronts before → AreFronts after
+  fronts-same f =
+      record {
+        heads = λ slot head at. head-same head (f.heads slot head (rw (← heads) at));
+        apart = λ a b place p q. f.apart a b place (rw (← heads) p) (rw (← heads) q);
+      }
+
+  -- what a slot is asked it was asked before
+  pub asked-back : AreFronts before → (slot : ℕ) (one : Member S) → IsAsked after slot one → IsAsked before slot one
+  asked-back f slot one is =
+      let at : slice_get before.heads slot ≡ Some is.head = rw (← heads) is.at in
+      record {
+        head = is.head;
+        at = at;
+        among = subst (λ (l : List (Member S)). Contains l one) (front-same is.head (f.heads slot is.head at)) is.among;
+      }
+
+  -- and it is asked that still
+  pub asked-on : AreFronts before → (slot : ℕ) (one : Member S) → IsAsked before slot one → IsAsked after slot one
+  asked-on f slot one is =
+      record {
+        head = is.head;
+        at = rw heads is.at;
+        among = subst (λ (l : List (Member S)). Contains l one) (sym (front-same is.head (f.heads slot is.head is.at))) is.among;
+      }
+
 module _ {S : Type 0} (rules : Rules S) (before after : Books S)
     (more : (number : ℕ) (label : Label S) → IsLabel before number label → IsLabel after number label)
     (stands : Stands rules before) (settled : after.settled ≡ before.settled) where
@@ -113,41 +160,40 @@ module _ {S : Type 0} (rules : Rules S) (before after : Books S)
         rising = rising-same stands.rising;
       }
 
-  -- the newest of a slot below a place is as before
-  pub latest-same : (slot below cursor : ℕ) → IsLatest rules before slot below cursor → IsLatest rules after slot below cursor
-  latest-same slot below cursor l =
+  -- and so are the fronts
+  pub index-same : after.heads ≡ before.heads → after.many ≡ before.many → IsIndex rules before → IsIndex rules after
+  index-same heads many i =
       record {
-        inside = λ place is. let old = l.inside place is in (old.0, (old.1.0, keeps-same place old.1.0 old.1.1, old.1.2));
-        last = λ place label s same inside.
-            elim (l.last place label (keeps-back place label s) same inside) [
-              | inl early ↦ inl early
+        slots = ap length heads ∙ i.slots;
+        fronts = fronts-same (asked_of before) (asked_of after) more heads many i.fronts;
+        inside = λ slot one is.
+            let s = i.inside slot one (asked-back (asked_of before) (asked_of after) more heads many i.fronts slot one is) in
+            record {
+              place = s.place;
+              label = s.label;
+              settled = keeps-same s.place s.label s.settled;
+              slot_is = s.slot_is;
+              is = s.is;
+            };
+        last = λ place label s.
+            elim (i.last place label (keeps-back place label s)) [
+              | inl is ↦
+                  inl (asked-on (asked_of before) (asked_of after) more heads many i.fronts (rules.slot label.state)
+                  (member_of label) is)
               | inr needless ↦ inr (needless-moved rules before after place label keeps-same needless)
             ];
       }
 
-  -- and so are the chains
-  pub index-same : after.newest ≡ before.newest → after.older ≡ before.older → IsIndex rules before → IsIndex rules after
-  index-same newest older i =
-      record {
-        slots = ap length newest ∙ i.slots;
-        places = ap length older ∙ i.places ∙ sym (ap length settled);
-        newest = λ slot cursor at.
-            subst (λ n. IsLatest rules after slot n cursor) (ap length (sym settled))
-            (latest-same slot (length before.settled) cursor (i.newest slot cursor (rw (← newest) at)));
-        older = λ place cursor label at s.
-            latest-same (rules.slot label.state) place cursor
-            (i.older place cursor label (rw (← older) at) (keeps-back place label s));
-      }
-
 -- where memory ran out before the label was settled, nothing that is read has changed
 pub leaves-failed :
-    {S : Type 0} (rules : Rules S) (kept : Books S) (settled newest older : List ℕ) → IsSearch rules kept →
+    {S : Type 0} (rules : Rules S) (kept : Books S) (settled : List ℕ) (heads : List Head)
+    (many : List (List (Member S))) → IsSearch rules kept →
     settled ≡ kept.settled →
     Leaves rules kept
-    (record { labels = kept.labels; queue = kept.queue; settled = settled; newest = newest; older = older })
-leaves-failed rules kept settled newest older search is =
+    (record { labels = kept.labels; queue = kept.queue; settled = settled; heads = heads; many = many })
+leaves-failed rules kept settled heads many search is =
     let after : Books _ =
-    record { labels = kept.labels; queue = kept.queue; settled = settled; newest = newest; older = older } in
+    record { labels = kept.labels; queue = kept.queue; settled = settled; heads = heads; many = many } in
     record {
       stands = stands-same rules kept after (λ n l h. h) search.stands is;
       keeps = keeps-same rules kept after (λ n l h. h) search.stands is;

@@ -1,11 +1,15 @@
 -- What a search keeps while it runs: the labels that it made, the queue of those that wait, those that it
--- settled, and for each slot the chain of its settled ones. This project's own rule.
+-- settled, and for each slot the front that the covering test asks. This project's own rule.
 use Rattle.std.specs.Bool.{IsTrue}
 use Rattle.std.specs.List.{slice_get, Contains}
 use Rattle.std.specs.Prelude.{ℕ, ◌≡◌, ◌<◌, ◌≤◌, ◌+◌, ◌*◌, ◌-◌, ◌^◌, ◌⊎◌, false, Some, None, List, [], length}
+use Rattle.item_list.specs.Pages.{numbers_of}
+use Rattle.space_search.specs.Fronts.{Asked, AreFronts, IsAsked, heads_of, member_of}
 use Rattle.space_search.specs.Laws.{HasRank}
 use Rattle.space_search.specs.Queues.{Entry}
 use Rattle.space_search.specs.Rules.{Rules, COST_BOUND}
+use Rattle.space_search.specs.declared.fronts.Head.{Head}
+use Rattle.space_search.specs.declared.fronts.Member.{Member}
 use Rattle.space_search.specs.declared.label.Label.{Label}
 use Rattle.space_search.specs.declared.lists.Lists.{Lists}
 
@@ -17,10 +21,10 @@ pub record Books (S : Type 0) : Type 0 where
   pub queue : List Entry
   -- the numbers of the labels that were settled, in that order: a place in this list is a settled label
   pub settled : List ℕ
-  -- for each slot the place of its newest settled label in the chain, plus 1; 0 where it has none
-  pub newest : List ℕ
-  -- for each settled label the place of the one before it in its slot's chain, plus 1; 0 where there is none
-  pub older : List ℕ
+  -- where the front of each slot stands
+  pub heads : List Head
+  -- the fronts of several labels
+  pub many : List (List (Member S))
 
 -- the lists of a search, as contracts see them
 abbrev pub books : {S : Type 0} → Lists S → Books S
@@ -29,9 +33,13 @@ books lists =
       labels = lists.labels.items;
       queue = lists.queue;
       settled = lists.settled.items;
-      newest = lists.newest;
-      older = lists.older.items;
+      heads = heads_of lists.fronts.heads;
+      many = numbers_of lists.fronts.many.items;
     }
+
+-- what their fronts are read from
+abbrev pub asked_of : {S : Type 0} → Books S → Asked S
+asked_of kept = record { labels = kept.labels; heads = kept.heads; many = kept.many }
 
 -- the label with this number
 abbrev pub IsLabel : {S : Type 0} → Books S → ℕ → Label S → Type 0
@@ -147,28 +155,24 @@ pub record IsClosed {S : Type 0} (rules : Rules S) (kept : Books S) : Type 0 whe
   pub starts : HasStarts rules kept rules.starts
   pub steps : HasStepsBelow rules kept (length kept.settled)
 
--- the cursor names a label of a slot that was settled below a place, by its place plus 1; it is 0 where it
--- names none. Those of the slot between the two are needless
-pub record IsLatest {S : Type 0} (rules : Rules S) (kept : Books S) (slot below cursor : ℕ) : Type 0 where
-  pub inside :
-      (place : ℕ) → cursor ≡ place + 1 →
-      (place < below) × ((label : Label S) × IsSettled kept place label × (rules.slot label.state ≡ slot))
-  pub last :
-      (place : ℕ) (label : Label S) → IsSettled kept place label → rules.slot label.state ≡ slot →
-      place < below →
-      (place < cursor) ⊎ IsNeedless rules kept place label
+-- a settled label of the slot has this state at this cost
+pub record IsOfSlot {S : Type 0} (rules : Rules S) (kept : Books S) (slot : ℕ) (one : Member S) : Type 0 where
+  pub place : ℕ
+  pub label : Label S
+  pub settled : IsSettled kept place label
+  pub slot_is : rules.slot label.state ≡ slot
+  pub is : member_of label ≡ one
 
--- the chain of each slot's settled labels, which may leave out needless ones
+-- the fronts of the slots: what a slot is asked are settled labels of it, and those of its settled labels that
+-- it isn't asked are needless
 pub record IsIndex {S : Type 0} (rules : Rules S) (kept : Books S) : Type 0 where
-  pub slots : length kept.newest ≡ rules.slots
-  pub places : length kept.older ≡ length kept.settled
-  pub newest :
-      (slot cursor : ℕ) → slice_get kept.newest slot ≡ Some cursor →
-      IsLatest rules kept slot (length kept.settled) cursor
-  pub older :
-      (place cursor : ℕ) (label : Label S) → slice_get kept.older place ≡ Some cursor →
-      IsSettled kept place label →
-      IsLatest rules kept (rules.slot label.state) place cursor
+  pub slots : length kept.heads ≡ rules.slots
+  pub fronts : AreFronts (asked_of kept)
+  pub inside :
+      (slot : ℕ) (one : Member S) → IsAsked (asked_of kept) slot one → IsOfSlot rules kept slot one
+  pub last :
+      (place : ℕ) (label : Label S) → IsSettled kept place label →
+      IsAsked (asked_of kept) (rules.slot label.state) (member_of label) ⊎ IsNeedless rules kept place label
 
 -- what a settled label's run and cost can be read from, also after want of memory
 pub record Reads {S : Type 0} (rules : Rules S) (kept : Books S) : Type 0 where
@@ -247,5 +251,4 @@ pub record IsFresh {S : Type 0} (kept : Books S) : Type 0 where
   pub labels : kept.labels ≡ []
   pub queue : kept.queue ≡ []
   pub settled : kept.settled ≡ []
-  pub newest : kept.newest ≡ []
-  pub older : kept.older ≡ []
+  pub many : kept.many ≡ []

@@ -1,6 +1,6 @@
 pub mod Books
-pub mod Chains
 pub mod Ends
+pub mod Fronts
 pub mod Laws
 pub mod Limits
 pub mod Listed

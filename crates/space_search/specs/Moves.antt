@@ -2,7 +2,7 @@
 use Rattle.std.specs.List.{slice_get, Contains}
 use Rattle.std.specs.Bool.{IsTrue}
 use Rattle.std.specs.Prelude.{ℕ, ◌≡◌, ◌<◌, ◌≤◌, ◌+◌, false, Some, [], length}
-use Rattle.space_search.specs.Books.{Books, IsLabel, IsSettled, IsAccounted, HasStarts, HasStepsBelow, IsUncovered, IsLatest, IsSearch, IsClosed, Extends, KeepsLabels, work_left}
+use Rattle.space_search.specs.Books.{Books, IsLabel, IsSettled, IsAccounted, HasStarts, HasStepsBelow, IsUncovered, IsSearch, IsClosed, Extends, KeepsLabels, work_left}
 use Rattle.space_search.specs.Queues.{Entry}
 use Rattle.space_search.specs.Laws.{HasRank}
 use Rattle.space_search.specs.Rules.{Rules}
@@ -50,23 +50,6 @@ pub record Settles {S : Type 0} (rules : Rules S) (before after : Books S) (numb
   pub earlier : (place : ℕ) (old : Label S) → IsSettled before place old → IsSettled after place old
   pub counted : length after.settled ≡ length before.settled + 1
   pub work : work_left after < work_left before
-
--- needless labels left the chain of a slot, and everything else stays
-pub record Prunes {S : Type 0} (rules : Rules S) (before after : Books S) : Type 0 where
-  pub kept : IsSearch rules after
-  pub extends : Extends before after
-  pub work : work_left after ≤ work_left before
-
--- the link of the chain that goes from a place goes to this cursor now
-pub record Relinks {S : Type 0} (rules : Rules S) (before after : Books S) (link next : ℕ) : Type 0 where
-  pub prunes : Prunes rules before after
-  pub linked : slice_get after.older link ≡ Some next
-
--- the chain may go from the label of this place to this cursor: what it leaves out is needless
-pub record MayLink {S : Type 0} (rules : Rules S) (kept : Books S) (link next : ℕ) : Type 0 where
-  pub label : Label S
-  pub settled : IsSettled kept link label
-  pub latest : IsLatest rules kept (rules.slot label.state) link next
 
 -- all steps of the newest settled label were offered
 pub record Advances {S : Type 0} (rules : Rules S) (before after : Books S) : Type 0 where

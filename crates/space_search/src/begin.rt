@@ -4,6 +4,7 @@ ghost use Rattle.std.specs.Prelude.{◌≡◌, OnOk};
 ghost use Rattle.space_search.specs.Books.{books, IsFresh, Leaves};
 ghost use Rattle.space_search.specs.Moves.{Begins};
 
+use crate::heads::renew_heads;
 use crate::label::Label;
 use crate::lists::Lists;
 use crate::offer::offer;
@@ -20,7 +21,7 @@ pub(crate) fn begin<T: Copy + Drop, S: Space<State = T>>(
     ensures leaves { Leaves (S.rules space.now) (books lists.old) (books lists.new) }
     ensures settled { (books lists.new).settled ≡ (books lists.old).settled }
 {
-    lists.newest.renew(0, space.slots() as usize)?;
+    renew_heads(&mut lists.fronts.heads, space.slots() as usize)?;
     'starts: for choice in 0..space.starts() {
         if let Some(found) = space.start(choice) {
             let (state, cost) = found;

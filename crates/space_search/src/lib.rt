@@ -4,13 +4,15 @@
 mod begin;
 mod choices;
 mod finding;
+mod fronts;
+mod heads;
+mod join;
 mod label;
 mod lists;
 mod next;
 mod offer;
 mod outcome;
 mod phase;
-mod prune;
 mod queue;
 mod search;
 mod settle;

@@ -2,20 +2,19 @@
 
 ghost use Rattle.space_search.specs.Books.{books, IsFresh};
 
+use crate::fronts::Fronts;
 use crate::label::Label;
 use crate::queue::Queue;
-use item_list::Paged;
 use std::alloc::Global;
 
 /// The labels made so far by number; the queue of those that wait, least rank first, then least
-/// number; the numbers of the settled ones in order; and for each slot the chain of its settled
-/// ones: the newest, and for each the one before it, by place plus 1, or 0 for none.
+/// number; the numbers of the settled ones in order; and the fronts of the slots, by which the
+/// covering test finds settled labels.
 pub struct Lists<T> {
     pub(crate) labels: Vec<Label<T>>,
     pub(crate) queue: Queue,
     pub(crate) settled: Vec<u32>,
-    pub(crate) newest: Paged<u32>,
-    pub(crate) older: Vec<u32>,
+    pub(crate) fronts: Fronts<T>,
 }
 
 impl<T: Drop> Drop for Lists<T> {
@@ -24,8 +23,7 @@ impl<T: Drop> Drop for Lists<T> {
             labels: _,
             queue: _,
             settled: _,
-            newest: _,
-            older: _,
+            fronts: _,
         } = self;
     }
 }
@@ -39,8 +37,7 @@ impl<T> Lists<T> {
             labels: Vec::new(alloc),
             queue: Queue::new(alloc),
             settled: Vec::new(alloc),
-            newest: Paged::none(alloc, 0),
-            older: Vec::new(alloc),
+            fronts: Fronts::new(alloc),
         }
     }
 }

@@ -1,12 +1,16 @@
 //! A new label is queued, unless that is needless.
 
-ghost use Rattle.std.specs.Prelude.{◌≡◌, ◌<◌, IsTrue, OnOk, false, length};
+ghost use Rattle.std.specs.Prelude.{◌≡◌, ◌<◌, [], ◌∷◌, ◌++◌, IsTrue, OnErr, OnOk, false, length};
 ghost use Rattle.space_search.specs.Books.{books, IsSearch, Follows, IsCovered, IsUncovered, IsLater, RanksAbove, Leaves};
-ghost use Rattle.space_search.specs.Chains.{IsTested};
+ghost use Rattle.space_search.specs.Fronts.{FitTest};
 ghost use Rattle.space_search.specs.Moves.{Offers};
 ghost use Rattle.space_search.specs.Laws.{HasRank};
 ghost use Rattle.space_search.specs.Rules.{LOW_BOUND};
+ghost use Rattle.space_search.specs.declared.fronts.Member.{Member};
+ghost use Rattle.std.specs.List.{Contains};
 
+use crate::fronts::{Head, Member};
+use crate::heads::head_at;
 use crate::label::Label;
 use crate::lists::Lists;
 use crate::space::Space;
@@ -14,7 +18,7 @@ use item_list::next_number;
 use std::alloc::AllocError;
 
 /// Whether a settled label covers the state at this cost, which ranks no less than any of them.
-/// Those that left their slot's chain needn't be tested. Most chains are empty, so that is seen in
+/// Those that left their slot's front needn't be tested. Most fronts are empty, so that is seen in
 /// place.
 #[inline(always)]
 pub(crate) fn is_covered<T: Copy + Drop, S: Space<State = T>>(
@@ -32,39 +36,37 @@ pub(crate) fn is_covered<T: Copy + Drop, S: Space<State = T>>(
         IsUncovered (S.rules space.now) (books lists.now) state.now cost }
 {
     let slot = space.slot(state);
-    let newest = lists.newest.get(slot as usize);
-    if newest == 0 {
-        return false;
+    match head_at(&lists.fronts.heads, slot as usize) {
+        Head::Empty => false,
+        Head::One(number) => {
+            let label = &lists.labels[number as usize];
+            space.covers(&label.state, label.cost, state, cost)
+        }
+        Head::Many(front) => {
+            is_covered_by_front(space, &lists.fronts.many[front as usize], state, cost)
+        }
     }
-    is_covered_from(space, lists, newest, state, cost)
 }
 
-/// Whether a settled label covers the state at this cost, where the chain of its slot is tested
-/// down to a cursor.
-fn is_covered_from<T: Copy + Drop, S: Space<State = T>>(
+/// Whether a label of a front covers the state at this cost.
+fn is_covered_by_front<T: Copy + Drop, S: Space<State = T>>(
     space: &S,
-    lists: &Lists<T>,
-    from: u32,
+    front: &Vec<Member<T>>,
     state: &T,
     cost: u128,
 ) -> bool
-    requires later { IsLater (S.rules space.now) (books lists.now) state.now cost }
+    requires valid { IsTrue ((S.rules space.now).is_valid state.now) }
     requires small { cost < LOW_BOUND }
-    requires kept { IsSearch (S.rules space.now) (books lists.now) }
-    requires tested { IsTested (S.rules space.now) (books lists.now) state.now cost from }
-    ensures covered { IsTrue result →
-        IsCovered (S.rules space.now) (books lists.now) state.now cost }
-    ensures uncovered { result ≡ false →
-        IsUncovered (S.rules space.now) (books lists.now) state.now cost }
+    requires each { FitTest (S.rules space.now) front.now.items }
+    ensures covered { IsTrue result → (one : Member T) × Contains front.now.items one ×
+        IsTrue ((S.rules space.now).covers one.state one.cost state.now cost) }
+    ensures uncovered { result ≡ false → (one : Member T) → Contains front.now.items one →
+        (S.rules space.now).covers one.state one.cost state.now cost ≡ false }
 {
-    let mut cursor = from;
-    'chain: while cursor > 0 {
-        let place = (cursor - 1) as usize;
-        let label = lists.labels[lists.settled[place] as usize];
-        if space.covers(&label.state, label.cost, state, cost) {
+    'front: for one in front.as_slice() {
+        if space.covers(&one.state, one.cost, state, cost) {
             return true;
         }
-        cursor = lists.older[place];
     }
     false
 }
@@ -111,9 +113,18 @@ fn enqueue<T: Copy + Drop, S: Space<State = T>>(
     ensures settled { (books lists.new).settled ≡ (books lists.old).settled }
 {
     let number = next_number(lists.labels.len())?;
-    match lists.labels.push(label) {
-        Ok(()) => {}
-        Err(_) => return Err(AllocError),
-    }
+    add_label(&mut lists.labels, label)?;
     lists.queue.push(rank, number)
+}
+
+/// Puts a label behind those that were made. All spaces with one kind of state share it, so that
+/// the call for memory stands in one place.
+fn add_label<T: Copy + Drop>(labels: &mut Vec<Label<T>>, label: Label<T>) -> Result<(), AllocError>
+    ensures value { OnOk result (labels.new.items ≡ labels.old.items ++ label ∷ []) }
+    ensures same { OnErr result (labels.new.items ≡ labels.old.items) }
+{
+    match labels.push(label) {
+        Ok(()) => Ok(()),
+        Err(_) => Err(AllocError),
+    }
 }

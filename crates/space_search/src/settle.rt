@@ -4,10 +4,10 @@ ghost use Rattle.std.specs.Prelude.{◌≡◌, ◌+◌, ◌-◌, ◌<◌, ◌≤
 ghost use Rattle.space_search.specs.Books.{books, IsSearch, IsClosed, IsCovered, IsUncovered, IsSettled, HasStarts, HasStepsBelow, Leaves};
 ghost use Rattle.space_search.specs.Moves.{IsNext, Drops, Settles, Advances};
 
+use crate::join::join;
 use crate::label::Label;
 use crate::lists::Lists;
 use crate::offer::offer;
-use crate::prune::prune;
 use crate::space::Space;
 use crate::step::Steps;
 use std::alloc::AllocError;
@@ -28,8 +28,8 @@ pub(crate) fn drop_next<T: Copy + Drop, S: Space<State = T>>(
     lists.queue.pop();
 }
 
-/// Takes the next label, which is no goal and which no settled label covers, from the queue and
-/// settles it. What it supersedes leaves the covering test.
+/// Takes the next label, which is no goal and which no settled label covers, from the queue, and
+/// puts it behind the settled ones and into the front of its slot. What it supersedes leaves that.
 pub(crate) fn settle_next<T: Copy + Drop, S: Space<State = T>>(
     space: &S,
     lists: &mut Lists<T>,
@@ -47,37 +47,15 @@ pub(crate) fn settle_next<T: Copy + Drop, S: Space<State = T>>(
     ensures leaves { Leaves (S.rules space.now) (books lists.old) (books lists.new) }
     ensures most { length (books lists.new).settled ≤ length (books lists.old).settled + 1 }
 {
-    settle_last(space, lists, number, label)?;
-    prune(space, lists, label);
-    Ok(())
-}
-
-/// Takes the next label from the queue, and puts it behind the settled ones and at the front of its
-/// slot's chain.
-fn settle_last<T: Copy + Drop, S: Space<State = T>>(
-    space: &S,
-    lists: &mut Lists<T>,
-    number: u32,
-    label: Label<T>,
-) -> Result<(), AllocError>
-    requires kept { IsSearch (S.rules space.now) (books lists.old) }
-    requires closed { IsClosed (S.rules space.now) (books lists.old) }
-    requires next { IsNext (S.rules space.now) (books lists.old) number label }
-    requires no_goal { (S.rules space.now).is_goal label.state ≡ false }
-    requires uncovered { IsUncovered (S.rules space.now) (books lists.old) label.state label.cost }
-    requires room { length (books lists.old).settled + 1 < 2 ^ 32 }
-    ensures settles { OnOk result (Settles (S.rules space.now) (books lists.old)
-        (books lists.new) number label) }
-    ensures leaves { Leaves (S.rules space.now) (books lists.old) (books lists.new) }
-    ensures most { length (books lists.new).settled ≤ length (books lists.old).settled + 1 }
-{
     let slot = space.slot(&label.state) as usize;
-    let before = lists.newest.get(slot);
-    lists.newest.set(slot, lists.settled.len() as u32 + 1)?;
-    match lists.older.push(before) {
-        Ok(()) => {}
-        Err(_) => return Err(AllocError),
-    }
+    join(
+        space,
+        &lists.labels,
+        &mut lists.fronts,
+        slot,
+        number,
+        &label,
+    )?;
     match lists.settled.push(number) {
         Ok(()) => {}
         Err(_) => return Err(AllocError),

@@ -69,6 +69,7 @@ impl<T: Copy + Drop> Steps<T> {
     #[inline(always)]
     pub fn put(&mut self, step: Step<T>) -> Result<(), AllocError>
         ensures value { OnOk result (self.new ≡ self.old ++ step ∷ []) }
+        ensures same { OnErr result (self.new ≡ self.old) }
     {
         if self.count == self.room.len() {
             make_room(&mut self.room, step)?;

@@ -5,9 +5,9 @@ use Rattle.space_search.proofs.offer.enqueue.Goals as goal
 
 pub returns-clause-offers : goal.returns-clause-offers
 returns-clause-offers g c =
-    on_ok_weaker c.push-2.result
+    on_ok_weaker c.push.result
     (λ puts.
-    offers-pushed _ _ c.args.label _ _ c.requires.kept c.in-Ok.ensures.items
+    offers-pushed _ _ c.args.label _ _ c.requires.kept c.in_ok-add_label.ensures.value
     (record {
       entry = _;
       rank = c.args.rank;
@@ -18,7 +18,7 @@ returns-clause-offers g c =
       is = ap (λ n. (c.args.rank, n)) (c.in_ok-number.ensures.exact.0 ∙ c.len.ensures ∙ c.args.lists.now.labels.ok.0);
       queued = puts;
     }))
-    c.push-2.ensures.puts
+    c.push.ensures.puts
 
 pub returns-clause-leaves : goal.returns-clause-leaves
-returns-clause-leaves g c = leaves-pushed _ _ c.args.label _ _ c.requires.kept c.in-Ok.ensures.items
+returns-clause-leaves g c = leaves-pushed _ _ c.args.label _ _ c.requires.kept c.in_ok-add_label.ensures.value

@@ -1,0 +1,57 @@
+//! What the covering test asks: for each slot a front of settled labels.
+
+ghost use Rattle.std.specs.Prelude.{◌≡◌, []};
+
+use item_list::Paged;
+use std::alloc::Global;
+
+/// Where the front of a slot stands.
+#[derive(Clone, Copy, Drop)]
+pub enum Head {
+    /// It has no label.
+    Empty,
+    /// It has one, of this number.
+    One(u32),
+    /// It stands at this place of the fronts of several labels.
+    Many(u32),
+}
+
+/// A label of a front: what the covering test asks of it.
+#[derive(Clone, Copy)]
+pub struct Member<T> {
+    pub(crate) cost: u128,
+    pub(crate) state: T,
+}
+
+/// The fronts of all slots. The labels of one stand side by side; a front of one label, as nearly
+/// all are, is named by its number and takes no memory of its own.
+pub struct Fronts<T> {
+    /// For each slot a number that says its head.
+    pub(crate) heads: Paged<u64>,
+    pub(crate) many: Vec<Vec<Member<T>>>,
+    pub(crate) alloc: Global,
+}
+
+impl<T: Drop> Drop for Fronts<T> {
+    fn drop(self) {
+        let Fronts {
+            heads: _,
+            many: _,
+            alloc: _,
+        } = self;
+    }
+}
+
+impl<T> Fronts<T> {
+    /// No slots.
+    pub(crate) fn new(alloc: Global) -> Self
+        ensures heads { result.heads ≡ [] }
+        ensures many { result.many.items ≡ [] }
+    {
+        Fronts {
+            heads: Paged::none(alloc, 0),
+            many: Vec::new(alloc),
+            alloc,
+        }
+    }
+}
