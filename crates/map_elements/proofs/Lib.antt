@@ -1,12 +1,14 @@
 mod CountLemmas
 mod CutLemmas
 mod EntryLemmas
+mod FrontLemmas
 mod InsideLemmas
 mod ListLemmas
 mod NotedLemmas
 mod PlaceLemmas
 mod ProgressLemmas
 mod ReadingLemmas
+mod ShortLemmas
 mod StepLemmas
 mod TagLemmas
 mod TakingLemmas

@@ -36,6 +36,12 @@ pub record IsBefore (step : JsonStep) (steps behind : List Step) : Type 0 where
   pub text : List ℕ
   pub is : steps ≡ step_for step text ∷ behind
 
+-- a number stands at the front of steps, alone in this value, and these behind it
+pub record IsNumberBefore (value steps behind : List Step) : Type 0 where
+  pub text : List ℕ
+  pub alone : value ≡ Step.Number text ∷ []
+  pub is : steps ≡ Step.Number text ∷ behind
+
 -- this step, whatever its content, stands at the front of steps
 pub record BeginsWith (step : JsonStep) (steps : List Step) : Type 0 where
   pub rest : List Step

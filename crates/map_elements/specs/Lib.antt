@@ -1,6 +1,7 @@
 pub mod Steps
 pub mod Entries
 pub mod Cut
+pub mod Front
 pub mod Fields
 pub mod Whole
 pub mod Names

@@ -1,9 +1,9 @@
 -- The first members of the names that elements have, while members are looked through (this project's own
 -- rule).
-use Rattle.std.specs.Prelude.{◌≡◌, ℕ, List, Option, Some, None, if◌then◌else◌}
+use Rattle.std.specs.Prelude.{◌≡◌, ℕ, List, [], ◌∷◌, Option, Some, None, if◌then◌else◌}
 use lib.Chars.{codes}
 use Rattle.json_text.specs.Marks.{Step}
-use Rattle.map_elements.specs.Entries.{Entry, is_named, member}
+use Rattle.map_elements.specs.Entries.{Entry, is_named, member, whole_entry}
 use Rattle.map_elements.specs.declared.fields.element.Slots.{Slots}
 
 -- what was found first, or else what is found later
@@ -24,6 +24,10 @@ pub record Notes (old : Slots) (entry : Entry) (new : Slots) : Type 0 where
   pub nodes_is : new.nodes ≡ noted (codes "nodes") old.nodes entry
   pub members_is : new.members ≡ noted (codes "members") old.members entry
   pub tags_is : new.tags ≡ noted (codes "tags") old.tags entry
+
+-- one member was looked at, whose value is this step
+abbrev pub NotesOne : List ℕ → Step → Slots → Slots → Type 0
+NotesOne name step old new = Notes old (whole_entry (Some name) (step ∷ [])) new
 
 -- of the members that were looked through, these are the first of each name
 pub record Noted (first : Slots) (all left : List Entry) : Type 0 where

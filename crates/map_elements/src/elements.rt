@@ -1,22 +1,29 @@
 //! The element that a list of steps stands for.
-ghost use Rattle.std.specs.Prelude.{ℤ, ◌≡◌, List, Result, Ok, Err, Some, None, MatchOption, MatchResult};
+ghost use Rattle.std.specs.Prelude.{ℕ, zero, ℤ, ◌≡◌, length, IfSome, IsTrue, List, [], Result, Ok, Err, Some, None, MatchOption, MatchResult};
 ghost use Rattle.item_list.specs.Answer.{Answers};
 ghost use Rattle.geo_int.specs.Spot.{place_of};
 ghost use Rattle.map_tables.specs.Kept.{Tag};
 ghost use lib.Chars.{codes};
 ghost use Rattle.map_tables.specs.declared.error.MapError.TheVariants.{NoMemory, Shape, BadCoordinate};
 ghost use Rattle.map_elements.specs.Elements.{Node, element_of, element_by, node_of, node_at, way_of, relation_of, need};
-ghost use Rattle.map_elements.specs.Entries.{member};
+ghost use Rattle.map_elements.specs.Entries.{entries_from, member};
+ghost use Rattle.map_elements.specs.Front.{Fits, behind, told};
+ghost use Rattle.map_elements.specs.declared.front.Front.TheVariants.{Lon};
 ghost use Rattle.map_elements.specs.Fields.{with_some, text_of, whole_list_of, member_list_of, tags_of};
 ghost use Rattle.map_elements.specs.Seen.{needed, seen};
 
 use crate::fields::element::{ElementFields, Slots};
+use crate::front::{ElementSteps, Front};
 use crate::steps::StepList;
+use crate::steps::part::{Part, closes};
 use fixed_num::coord;
 use geo_int::Spot;
 use item_list::{Items, Tags};
 use map_tables::{MapError, Member};
 use std::alloc::Global;
+
+/// How many steps are kept of a node that has no tags.
+const SHORT: usize = 5;
 
 /// An element of a map's text.
 #[derive(Drop)]
@@ -56,14 +63,97 @@ pub enum Element {
 pub fn read_element(alloc: Global, at: u64, steps: &StepList) -> Result<Element, MapError>
     ensures exact { Answers seen (element_of at steps.now) NoMemory result }
 {
-    match steps.part().members() {
+    read_bare(alloc, at, &steps.part())
+}
+
+/// The element that the steps of a part stand for.
+fn read_bare(alloc: Global, at: u64, steps: &Part) -> Result<Element, MapError>
+    ensures exact { Answers seen (element_of at steps.now) NoMemory result }
+{
+    match steps.behind_open() {
         None => Err(MapError::Shape { place: at }),
-        Some(entries) => {
-            let mut first = Slots::new();
-            first.look_through(&entries);
-            read_typed(alloc, at, &ElementFields::new(entries, &first))
-        }
+        Some(left) => read_members_of(alloc, at, Front::Open, left),
     }
+}
+
+/// The element that the steps of an element that has ended stand for, at this place of the text.
+pub(crate) fn read_ended(alloc: Global, at: u64, steps: &ElementSteps) -> Result<Element, MapError>
+    ensures exact { Answers seen (element_of at steps.now) NoMemory result }
+{
+    let (front, left) = steps.kept();
+    if let Some(node) = short_node(alloc, front, &left) {
+        return node;
+    }
+    match front {
+        Front::Bare => read_bare(alloc, at, &left),
+        _ => read_members_of(alloc, at, front, left),
+    }
+}
+
+/// The node that most elements are, of no more than four plain values; none where it is another
+/// element or has the wrong shape.
+fn short_node(alloc: Global, front: Front, left: &Part) -> Option<Result<Element, MapError>>
+    requires fits { Fits front left.now }
+    ensures exact { (at : ℕ) → IfSome result
+        (λ node. Answers seen (element_of at (told front left.now)) NoMemory node) }
+{
+    match front {
+        Front::Lon if left.len() == SHORT => read_short(alloc, left),
+        _ => None,
+    }
+}
+
+/// The node of four plain values and a bracket that closes, if that is what has come.
+fn read_short(alloc: Global, left: &Part) -> Option<Result<Element, MapError>>
+    requires fits { Fits Lon left.now }
+    requires short { length left.now ≡ 5 }
+    ensures exact { (at : ℕ) → IfSome result
+        (λ node. Answers seen (element_of at (told Lon left.now)) NoMemory node) }
+{
+    let mut left = left.again();
+    let kind = left.take_one();
+    let id = left.take_one();
+    let lat = left.take_one();
+    let lon = left.take_one();
+    if !is_node(&kind) || !is_last(&left) {
+        return None;
+    }
+    let id = id.whole_number()?;
+    let lat = lat.number()?;
+    let lon = lon.number()?;
+    Some(node_with(id, lat, lon, Items::new(alloc)))
+}
+
+/// Whether a value is the type of nodes.
+fn is_node(kind: &Part) -> bool
+    ensures value { IsTrue result → text_of kind.now ≡ Some (codes "node") }
+{
+    match kind.text() {
+        None => false,
+        Some(text) => text == b"node".as_slice(),
+    }
+}
+
+/// Whether a bracket that closes comes first.
+fn is_last(left: &Part) -> bool
+    ensures value { IsTrue result → entries_from None [] zero left.now ≡ [] }
+{
+    match left.first_step() {
+        None => false,
+        Some(step) => closes(step),
+    }
+}
+
+/// The element of the members among steps, of which the front tells the first names.
+fn read_members_of(alloc: Global, at: u64, front: Front, left: Part) -> Result<Element, MapError>
+    requires fits { Fits front left }
+    ensures exact { let entries = entries_from None [] zero (behind front left.entry) in
+        let type = with_some (member (codes "type") entries) text_of in
+        Answers seen (need at type (λ type. element_by type at entries)) NoMemory result }
+{
+    let mut first = Slots::new();
+    first.look_through(front, &left);
+    read_typed(alloc, at, &ElementFields::new(front, left, &first))
 }
 
 /// The element of members, by its type.

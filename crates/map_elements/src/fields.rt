@@ -55,10 +55,9 @@ impl<'a> Part<'a> {
     pub(crate) fn members(&self) -> Option<Entries<'a>>
         ensures exact { result ≡ members_of self.now }
     {
-        let mut behind = self.again();
-        match behind.take_first() {
-            Some((JsonStep::Open, _)) => Some(Entries::behind(behind)),
-            _ => None,
+        match self.behind_open() {
+            None => None,
+            Some(left) => Some(Entries::behind(left)),
         }
     }
 

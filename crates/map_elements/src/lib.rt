@@ -3,6 +3,7 @@
 
 mod elements;
 mod fields;
+mod front;
 mod place;
 mod progress;
 mod reader;

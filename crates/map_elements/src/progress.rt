@@ -10,9 +10,9 @@ ghost use Rattle.map_elements.specs.Outcome.{take_element};
 ghost use Rattle.map_elements.specs.Seen.{seen};
 ghost use Rattle.map_elements.specs.Reader.{Holds, goes_on, IsFault, IsInList, IsRefused, IsTaken};
 
-use crate::elements::{Element, read_element};
+use crate::elements::{Element, read_ended};
+use crate::front::ElementSteps;
 use crate::place::{Place, depth_behind, first_place, goes_on, top_place};
-use crate::steps::StepList;
 use json_text::JsonStep;
 use map_tables::{Limits, MapError, Tables};
 use std::alloc::Global;
@@ -23,7 +23,7 @@ pub(crate) struct Progress {
     pub(crate) alloc: Global,
     pub(crate) place: Place,
     pub(crate) count: u64,
-    pub(crate) steps: StepList,
+    pub(crate) steps: ElementSteps,
     pub(crate) tables: Tables,
 }
 
@@ -51,7 +51,7 @@ impl Progress {
             alloc,
             place: Place::Start,
             count: 0,
-            steps: StepList::new(alloc),
+            steps: ElementSteps::new(alloc),
             tables: Tables::new(alloc, limits),
         }
     }
@@ -68,7 +68,7 @@ impl Progress {
         let Some(at) = self.count.checked_add(1) else {
             return Err(MapError::NoMemory);
         };
-        let element = match read_element(self.alloc, at, &self.steps) {
+        let element = match read_ended(self.alloc, at, &self.steps) {
             Ok(element) => element,
             Err(e) => return Err(e),
         };

@@ -52,6 +52,7 @@ impl Reading {
     }
 
     /// Reads the next step, if there is one.
+    #[inline(always)]
     fn take_next(&mut self) -> Result<bool, MapError>
         ensures value { (limits : Limited) (bytes : List ℕ) (ended : Bool) →
             StandsWith limits self.old bytes ended →

@@ -1,11 +1,14 @@
 //! Where the values stand that an element is read from.
-ghost use Rattle.std.specs.Prelude.{◌≡◌, List, [], None, Some, MatchOption};
-ghost use Rattle.map_elements.specs.Entries.{Entry, member};
+ghost use Rattle.std.specs.Prelude.{zero, ◌≡◌, List, [], ◌∷◌, None, Some, MatchOption};
+ghost use Rattle.json_text.specs.Marks.{Step};
+ghost use Rattle.map_elements.specs.Entries.{Entry, entries_from, member};
+ghost use Rattle.map_elements.specs.Front.{Fits, behind};
 ghost use Rattle.map_elements.specs.Fields.{with_some, text_of, number_of, whole_number_of};
-ghost use Rattle.map_elements.specs.Noted.{Noted, Notes, noted};
+ghost use Rattle.map_elements.specs.Noted.{Noted, Notes, NotesOne, noted};
 ghost use lib.Chars.{codes};
 
-use crate::steps::entries::{Entries, Field};
+use crate::front::Front;
+use crate::steps::entries::{Entries, Field, take_named};
 use crate::steps::part::Part;
 use std::marker::Model;
 
@@ -38,11 +41,73 @@ impl<'a> Slots<'a> {
     }
 
     /// Looks through the members of an element once.
-    pub(crate) fn look_through(&mut self, all: &Entries<'a>)
-        requires none { Noted self.old all.now all.now }
-        ensures value { Noted self.new all.now [] }
+    pub(crate) fn look_through(&mut self, front: Front, all: &Part<'a>)
+        requires none { (all : List Entry) → Noted self.old all all }
+        requires fits { Fits front all.now }
+        ensures value { Noted self.new (entries_from None [] zero (behind front all.now)) [] }
     {
         let mut left = all.again();
+        self.note_front(front, &mut left);
+        self.note_all(Entries::behind(left));
+    }
+
+    /// Notes the members whose names the front tells, and takes their values away.
+    fn note_front(&mut self, front: Front, left: &mut Part<'a>)
+        requires none { (all : List Entry) → Noted self.old all all }
+        requires fits { Fits front left.old }
+        ensures value { Noted self.new (entries_from None [] zero (behind front left.old))
+            (entries_from None [] zero left.new) }
+    {
+        match front {
+            Front::Bare | Front::Open => {}
+            Front::Kind => self.note_named(left, b"type"),
+            Front::Id => {
+                self.note_plain(left, b"type");
+                self.note_named(left, b"id");
+            }
+            Front::Lat => {
+                self.note_plain(left, b"type");
+                self.note_plain(left, b"id");
+                self.note_named(left, b"lat");
+            }
+            Front::Lon => {
+                self.note_plain(left, b"type");
+                self.note_plain(left, b"id");
+                self.note_plain(left, b"lat");
+                self.note_named(left, b"lon");
+            }
+        }
+    }
+
+    /// Notes a member of this name whose value is the first step.
+    #[inline(always)]
+    fn note_plain(&mut self, left: &mut Part<'a>, name: &'a [u8])
+        ensures value { (step : Step) (steps : List Step) → left.old ≡ step ∷ steps →
+            NotesOne name.now step self.old self.new × (left.new ≡ steps) }
+    {
+        let value = left.take_one();
+        self.note(&Field::whole(name, value));
+    }
+
+    /// Notes the member of this name whose value comes, if one is left.
+    #[inline(always)]
+    fn note_named(&mut self, left: &mut Part<'a>, name: &'a [u8])
+        ensures value { (all : List Entry) →
+            Noted self.old all (entries_from (Some name.now) [] zero left.old) →
+            Noted self.new all (entries_from None [] zero left.new) }
+    {
+        match take_named(left, name) {
+            None => {}
+            Some(entry) => self.note(&entry),
+        }
+    }
+
+    /// Notes all members that are left.
+    fn note_all(&mut self, entries: Entries<'a>)
+        ensures value { (all : List Entry) → Noted self.old all entries.entry →
+            Noted self.new all [] }
+    {
+        let mut left = entries;
         'entries: while let Some(entry) = left.next() {
             self.note(&entry);
         }
@@ -77,29 +142,32 @@ impl<'a> Slots<'a> {
 /// stay where they are: copies of so many cost more than looking for them.
 #[derive(Drop)]
 pub(crate) struct ElementFields<'a, 'b> {
-    all: Entries<'a>,
+    all: Part<'a>,
+    front: Front,
     first: &'b Slots<'a>,
 }
 
 impl<'a, 'b> Model for ElementFields<'a, 'b> {
-    ghost use Rattle.std.specs.Prelude.{List, []};
-    ghost use Rattle.map_elements.specs.Entries.{Entry};
+    ghost use Rattle.std.specs.Prelude.{zero, List, [], None};
+    ghost use Rattle.map_elements.specs.Entries.{Entry, entries_from};
+    ghost use Rattle.map_elements.specs.Front.{behind};
     ghost use Rattle.map_elements.specs.Noted.{Noted};
 
     ghost Value = { List Entry };
 
-    ghost view = { λ f. f.all };
+    ghost view = { λ f. entries_from None [] zero (behind f.front f.all) };
 
-    ghost invariant = { λ f. Noted f.first.now f.all [] };
+    ghost invariant = { λ f.
+        Noted f.first.now (entries_from None [] zero (behind f.front f.all)) [] };
 }
 
 impl<'a, 'b> ElementFields<'a, 'b> {
     /// The members of an element that were looked through.
-    pub(crate) fn new(all: Entries<'a>, first: &'b Slots<'a>) -> ElementFields<'a, 'b>
-        requires noted { Noted first.now all [] }
-        ensures value { result ≡ all.entry }
+    pub(crate) fn new(front: Front, all: Part<'a>, first: &'b Slots<'a>) -> ElementFields<'a, 'b>
+        requires noted { Noted first.now (entries_from None [] zero (behind front all)) [] }
+        ensures value { result ≡ entries_from None [] zero (behind front all.entry) }
     {
-        ElementFields { all, first }
+        ElementFields { all, front, first }
     }
 
     /// The type.

@@ -64,8 +64,8 @@ fn whole_numbers(alloc: Global, items: Entries) -> Result<Option<Items<i64>>, Al
 {
     let mut left = items;
     let mut numbers = Items::new(alloc);
-    'items: while let Some(item) = left.next() {
-        let Some(number) = item.value().whole_number() else {
+    'items: while let Some(value) = left.next_value() {
+        let Some(number) = value.whole_number() else {
             return Ok(None);
         };
         numbers.push(number)?;

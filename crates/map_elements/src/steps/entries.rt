@@ -1,6 +1,6 @@
 //! The entries of an object or array, cut off one by one.
-ghost use Rattle.std.specs.Prelude.{zero, ◌≡◌, List, [], ◌∷◌, None, MatchOption, option_map, option_to_list};
-ghost use Rattle.map_elements.specs.Entries.{begun_entry, entries_from, is_named, member};
+ghost use Rattle.std.specs.Prelude.{zero, ◌≡◌, List, [], ◌∷◌, Some, None, MatchOption, option_map, option_to_list};
+ghost use Rattle.map_elements.specs.Entries.{begun_entry, entries_from, is_named, member, values_of, whole_entry};
 ghost use Rattle.map_elements.specs.Cut.{IsNoKey};
 
 use crate::steps::part::{Part, closes};
@@ -40,6 +40,17 @@ impl<'a> Model for Entries<'a> {
 }
 
 impl<'a> Field<'a> {
+    /// A member of a name, which is whole.
+    pub(crate) fn whole(name: &'a [u8], value: Part<'a>) -> Field<'a>
+        ensures value { result ≡ whole_entry (Some name.now) value.entry }
+    {
+        Field {
+            name: Some(name),
+            value,
+            is_whole: true,
+        }
+    }
+
     /// Its name, if it is a member of an object.
     pub(crate) fn name(&self) -> Option<&'a [u8]>
         ensures value { option_map (λ n. n.now) result ≡ self.now.name }
@@ -102,18 +113,46 @@ impl<'a> Entries<'a> {
             ((self.old ≡ []) × (self.new ≡ []))
             (λ entry. self.old ≡ entry ∷ self.new) }
     {
-        let name = take_names(&mut self.left);
+        let name = take_names(&mut self.left, None);
         take_entry(&mut self.left, name)
+    }
+
+    /// The value of the next entry. Most entries of arrays are numbers.
+    #[inline(always)]
+    pub(crate) fn next_value(&mut self) -> Option<Part<'a>>
+        ensures value { MatchOption result
+            ((values_of self.old ≡ []) × (values_of self.new ≡ []))
+            (λ value. values_of self.old ≡ value ∷ values_of self.new) }
+    {
+        if let Some(number) = self.left.take_number() {
+            return Some(number);
+        }
+        match self.next() {
+            None => None,
+            Some(entry) => Some(entry.value()),
+        }
     }
 }
 
-/// Takes away the names that stand at the front, and gives the last of them.
-fn take_names<'a>(left: &mut Part<'a>) -> Option<&'a [u8]>
-    ensures names { entries_from None [] zero left.old
+/// Takes away the entry whose name has come, if one is left.
+pub(crate) fn take_named<'a>(left: &mut Part<'a>, name: &'a [u8]) -> Option<Field<'a>>
+    ensures value { let all = entries_from (Some name.now) [] zero left.old in
+        MatchOption result
+        ((all ≡ []) × (entries_from None [] zero left.new ≡ []))
+        (λ entry. all ≡ entry ∷ entries_from None [] zero left.new) }
+{
+    let last = take_names(left, Some(name));
+    take_entry(left, last)
+}
+
+/// Takes away the names that stand at the front, and gives the last of them, or else the one that
+/// has come before.
+fn take_names<'a>(left: &mut Part<'a>, before: Option<&'a [u8]>) -> Option<&'a [u8]>
+    ensures names { entries_from (option_map (λ n. n.now) before.entry) [] zero left.old
         ≡ entries_from (option_map (λ n. n.now) result) [] zero left.new }
     ensures others { IsNoKey left.new }
 {
-    let mut name = None;
+    let mut name = before;
     'names: while let Some(text) = left.take_key() {
         name = Some(text);
     }

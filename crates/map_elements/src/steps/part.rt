@@ -1,10 +1,12 @@
 //! A part of a list of steps, read from its front.
-ghost use Rattle.std.specs.Prelude.{ℕ, ◌≡◌, ◌≤◌, ◌<◌, ◌+◌, List, [], ◌∷◌, length, take, drop, MatchOption};
-ghost use Rattle.json_text.specs.Marks.{Key};
+ghost use Rattle.std.specs.Prelude.{ℕ, ◌≡◌, ◌≤◌, ◌<◌, ◌+◌, List, [], ◌∷◌, length, take, drop, None, IsTrue, MatchOption};
+ghost use Rattle.json_text.specs.Marks.{Key, Opens, Step};
+ghost use Rattle.json_text.specs.declared.mode.Bracket.TheVariants.{Curly};
 ghost use Rattle.json_text.specs.Steps.{step_for};
 ghost use Rattle.map_elements.specs.Steps.{content_in, steps_in, AreWithin};
-ghost use Rattle.map_elements.specs.Entries.{depth_after};
-ghost use Rattle.map_elements.specs.Cut.{BeginsWith, IsBefore, size_of, ends_in, has_none, is_close, IsNoKey};
+ghost use Rattle.map_elements.specs.Entries.{depth_after, members_of};
+ghost use Rattle.map_elements.specs.Front.{EndsPlain, IsPlain};
+ghost use Rattle.map_elements.specs.Cut.{BeginsWith, IsBefore, IsNumberBefore, size_of, ends_in, has_none, is_close, IsNoKey};
 
 use crate::steps::Row;
 use json_text::JsonStep;
@@ -105,6 +107,58 @@ impl<'a> Part<'a> {
         }
     }
 
+    /// Takes the first step away as a part of its own.
+    pub(crate) fn take_one(&mut self) -> Part<'a>
+        ensures value { (step : Step) (steps : List Step) → self.old ≡ step ∷ steps →
+            (result ≡ step ∷ []) × (self.new ≡ steps) }
+    {
+        if self.len() == 0 {
+            return self.again();
+        }
+        let (front, back) = self.split(1);
+        *self = back;
+        front
+    }
+
+    /// Takes the first step away as a part of its own if it is a number.
+    pub(crate) fn take_number(&mut self) -> Option<Part<'a>>
+        ensures value { MatchOption result
+            (self.new ≡ self.old)
+            (λ value. IsNumberBefore value self.old self.new) }
+    {
+        match self.first_step() {
+            Some(JsonStep::Number) => Some(self.take_one()),
+            _ => None,
+        }
+    }
+
+    /// Whether there is a text or a number behind so many steps, and nothing else.
+    pub(crate) fn ends_plain(&self, before: usize) -> bool
+        ensures value { IsTrue result → EndsPlain before self.now }
+    {
+        if self.len() == 0 || self.len() - 1 != before {
+            return false;
+        }
+        let (_, back) = self.split(before);
+        match back.first_step() {
+            None => false,
+            Some(step) => is_plain(step),
+        }
+    }
+
+    /// The steps behind the bracket of an object.
+    pub(crate) fn behind_open(&self) -> Option<Part<'a>>
+        ensures value { MatchOption result
+            (members_of self.now ≡ None)
+            (λ left. self.now ≡ Opens Curly ∷ left) }
+    {
+        let mut behind = self.again();
+        match behind.take_first() {
+            Some((JsonStep::Open, _)) => Some(behind),
+            _ => None,
+        }
+    }
+
     /// Takes the first step away if it is the name of a member.
     pub(crate) fn take_key(&mut self) -> Option<&'a [u8]>
         ensures value { MatchOption result
@@ -195,6 +249,16 @@ fn depth_behind(depth: usize, step: JsonStep) -> usize
         JsonStep::Open | JsonStep::ListOpen => depth + 1,
         JsonStep::Close | JsonStep::ListClose => { if depth == 0 { 0 } else { depth - 1 } }
         _ => depth,
+    }
+}
+
+/// Whether a step is a text or a number.
+fn is_plain(step: JsonStep) -> bool
+    ensures value { (text : List ℕ) → IsTrue result → IsPlain (step_for step text) }
+{
+    match step {
+        JsonStep::Text | JsonStep::Number => true,
+        _ => false,
     }
 }
 

@@ -8,4 +8,4 @@ abbrev pub invariant-items : goal.invariant-items
 invariant-items l = ReadsOn whole_numbers_of (values_of l.fn.items) l.numbers (values_of l.left)
 
 abbrev pub decreases-items : goal.decreases-items
-decreases-items l = length l.left
+decreases-items l = length (values_of l.left)
