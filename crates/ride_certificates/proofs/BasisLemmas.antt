@@ -104,7 +104,7 @@ module _ (question : Question) (world : WorldValue) (ready : Ready) (same : worl
     over = ready-setting question world ready same is;
     beyond = λ link past.
         ap (facts_if ready.bound.ways.items ready.bound.nodes.items)
-        (slice_get_past ready.bound.rows.items link (omega (arith, is.count, past)));
+        (slice_get_past ready.bound.rows link (omega (arith, is.count, past)));
   }
 
   -- so a request that is made ready by it is so for the question

@@ -5,6 +5,7 @@ pub mod Facts
 pub mod Refusals
 pub mod Classes
 pub mod Parts
+pub mod Rows
 pub mod Bound
 pub mod Lows
 pub mod Links

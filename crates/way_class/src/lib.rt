@@ -13,6 +13,7 @@ mod heights;
 mod lookups;
 mod lows;
 mod nodes;
+mod paired;
 mod row;
 mod rows;
 mod side;
