@@ -82,9 +82,10 @@ impl<'a, S: Space> Space for Endless<'a, S> {
         self.space.covers(a, ca, b, cb)
     }
 
-    // Where both have one bound, ranks are compared by costs in the space itself too.
+    // Where both have one bound, ranks are compared by costs in the space itself too. That is looked
+    // up last, since most labels of a front aren't superseded.
     fn supersedes(&self, a: &S::State, ca: u128, b: &S::State, cb: u128) -> bool {
-        are_one(self.space.low(a), self.space.low(b)) && self.space.supersedes(a, ca, b, cb)
+        self.space.supersedes(a, ca, b, cb) && are_one(self.space.low(a), self.space.low(b))
     }
 
     fn low(&self, _state: &S::State) -> Option<u128> {
