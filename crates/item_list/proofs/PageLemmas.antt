@@ -151,14 +151,19 @@ none-in : {X : Type 0} → (xs : List X) → length xs ≡ 0 → xs ≡ []
 none-in [] is = refl
 none-in (x ∷ xs) is = absurd (omega (arith, is))
 
+-- a page without numbers
+pub page-empty : {X : Type 0} → (pages : List (Vec X Global)) (page : ℕ) (v : Vec X Global) → page < length pages → v ≡ get_or pages page v →
+    length v.items ≡ 0 → page_at (numbers_of pages) page ≡ []
+page-empty {X} pages page v within read none = page-read pages page v within read ∙ none-in v.items none
+
 -- a page is made where it wasn't
 pub opens-one :
-    {X : Type 0} → (rest : X) (page : ℕ) (pages : List (Vec X Global)) (v w : Vec X Global) → page < length pages → v ≡ get_or pages page v →
-    length v.items ≡ 0 → w.items ≡ replicate 1024 rest → Opens rest page (numbers_of pages) (numbers_of (set pages page w))
-opens-one {X} rest page pages v w within read none fresh = record {
+    {X : Type 0} → (rest : X) (page : ℕ) (pages : List (Vec X Global)) (w : Vec X Global) → page < length pages →
+    page_at (numbers_of pages) page ≡ [] → w.items ≡ replicate 1024 rest →
+    Opens rest page (numbers_of pages) (numbers_of (set pages page w))
+opens-one {X} rest page pages w within none fresh = record {
   counted = put-length pages page w;
-  here = put-same pages page w within ∙ fresh
-      ∙ sym (ap (opened rest) (page-read pages page v within read ∙ none-in v.items none));
+  here = put-same pages page w within ∙ fresh ∙ sym (ap (opened rest) none);
   others = λ other apart. put-other pages page other w apart;
 }
 

@@ -1,7 +1,7 @@
 //! Numbers by place, all of them one number at first, in pages that are made where one is set.
 
 ghost use Rattle.std.specs.Prelude.{◌≡◌, ◌<◌, [], IfOk, OnErr, OnOk, length, get_or, replicate, set};
-ghost use Rattle.item_list.specs.Pages.{Opens, numbers_of};
+ghost use Rattle.item_list.specs.Pages.{Opens, numbers_of, page_at};
 
 use std::alloc::{AllocError, Global};
 use std::marker::Model;
@@ -90,7 +90,9 @@ impl<T: Copy + Drop> Paged<T> {
         if at < page.len() { page[at] } else { self.rest }
     }
 
-    /// Sets the number at a place. Nothing changes where memory runs out.
+    /// Sets the number at a place. Nothing changes where memory runs out. What a search sets for each
+    /// label is put in place there.
+    #[inline(always)]
     pub fn set(&mut self, place: usize, number: T) -> Result<(), AllocError>
         requires in_range { place < length self.old }
         ensures value { OnOk result (self.new ≡ set self.old place number) }
@@ -104,6 +106,7 @@ impl<T: Copy + Drop> Paged<T> {
 }
 
 /// Makes a page where it isn't.
+#[inline(always)]
 fn open_page<T: Copy + Drop>(
     alloc: Global,
     pages: &mut Vec<Vec<T>>,
@@ -116,8 +119,27 @@ fn open_page<T: Copy + Drop>(
     ensures kept { OnErr result (pages.new.items ≡ pages.old.items) }
 {
     if pages[page].is_empty() {
-        pages[page] = fresh_page(alloc, rest)?;
+        make_page(alloc, pages, page, rest)?;
     }
+    Ok(())
+}
+
+/// Makes a page that isn't there. That comes to pass seldom, so it stands apart.
+#[cold]
+#[inline(never)]
+fn make_page<T: Copy + Drop>(
+    alloc: Global,
+    pages: &mut Vec<Vec<T>>,
+    page: usize,
+    rest: T,
+) -> Result<(), AllocError>
+    requires in_range { page < length pages.old.items }
+    requires none { page_at (numbers_of pages.old.items) page ≡ [] }
+    ensures value { OnOk result
+        (Opens rest page (numbers_of pages.old.items) (numbers_of pages.new.items)) }
+    ensures kept { OnErr result (pages.new.items ≡ pages.old.items) }
+{
+    pages[page] = fresh_page(alloc, rest)?;
     Ok(())
 }
 
