@@ -17,8 +17,21 @@ pub(crate) fn along(length: u64, rate: i64) -> i128
     if rate <= 90_000_000_000 {
         (length * rate as u64 / 1000) as i128
     } else {
-        length as i128 * rate as i128 / 1000
+        along_wide(length, rate)
     }
+}
+
+/// What a rate for a metre comes to along so many millimetres, by products of 128 bits. It is asked
+/// for seldom, so it stands apart.
+#[cold]
+#[inline(never)]
+fn along_wide(length: u64, rate: i64) -> i128
+    requires length { length ≤ 100000000 }
+    requires low { pos 0 ≤ℤ rate }
+    requires high { rate ≤ℤ pos 3000000000000000 }
+    ensures exact { result ≡ per_metre length rate }
+{
+    length as i128 * rate as i128 / 1000
 }
 
 /// The factor of the distance by the weights of both buffers.

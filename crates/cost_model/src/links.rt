@@ -179,12 +179,23 @@ fn priced(turncost: i64, cosine: i64) -> i128
     requires cosine { unsigned_abs cosine ≤ 1000000 }
     ensures exact { result ≡ turn_price turncost cosine }
 {
-    let share = 1_000_000 - cosine;
     if turncost <= 4_000_000_000_000 {
-        (turncost as u64 * share as u64 / 1_000_000) as i128
+        (turncost as u64 * (1_000_000 - cosine) as u64 / 1_000_000) as i128
     } else {
-        (turncost as i128 * share as i128).div_euclid(1_000_000)
+        priced_wide(turncost, cosine)
     }
+}
+
+/// The price of a turn of this cosine, by products of 128 bits. It is asked for seldom, so it stands
+/// apart.
+#[cold]
+#[inline(never)]
+fn priced_wide(turncost: i64, cosine: i64) -> i128
+    requires turncost { IsCost turncost }
+    requires cosine { unsigned_abs cosine ≤ 1000000 }
+    ensures exact { result ≡ turn_price turncost cosine }
+{
+    (turncost as i128 * (1_000_000 - cosine) as i128).div_euclid(1_000_000)
 }
 
 /// The initial part: that of the way that is entered, where the classifier changes.

@@ -6,3 +6,4 @@ pub mod TestLemmas
 pub mod SlotLemmas
 pub mod NewerLemmas
 pub mod WholeLemmas
+pub mod AllLemmas

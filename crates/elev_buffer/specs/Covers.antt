@@ -68,6 +68,10 @@ pub record CoversLabel (by : Terms) (a b : Label) : Type 0 where
   pub down : IsInOrder by.modes.down a.buffers.down b.buffers.down
   pub up : IsInOrder by.modes.up a.buffers.up b.buffers.up
 
+-- the label makes each needless that costs as much as this or more, whatever its buffers
+abbrev pub CoversAll : Terms → Label → ℤ → Type 0
+CoversAll by a cost = (pair : Pair) (other : ℤ) → IsPair pair → cost ≤ℤ other → CoversLabel by a (label pair other)
+
 -- whether two buffers have the order that they must have where money cannot make up for it
 abbrev pub is_in_order : Mode → ℤ → ℤ → Bool
 is_in_order Compensated first second = true

@@ -10,6 +10,6 @@ mod steps;
 
 pub use labels::{Mode, Modes, Pair};
 pub use newer::supersedes;
-pub use orders::covers;
+pub use orders::{covers, covers_all};
 pub use slots::{slot_of, slots_of};
 pub use steps::{Limits, Stepped, step};

@@ -1,10 +1,11 @@
 //! When a label makes another of the same link needless.
 
 ghost use Rattle.std.specs.Prelude.{◌≡◌, ◌<◌, ◌≤◌, ◌^◌, ◌↔◌, ℕ, ℤ, pos, ◌+ℤ◌, IsTrue};
-ghost use Rattle.elev_buffer.specs.Covers.{CoversLabel, IsBelowInSums, IsBuffer, IsInOrder, IsKept, IsPair, Label, covers_label, label, price, terms};
+ghost use Rattle.elev_buffer.specs.Covers.{CoversAll, CoversLabel, IsBelowInSums, IsBuffer, IsInOrder, IsKept, IsPair, Label, covers_label, label, price, terms};
 ghost use Rattle.elev_buffer.specs.Slots.{slot_of};
 
 use crate::labels::{Mode, Modes, Pair};
+use crate::slots::asks_equal;
 
 /// Whether the label of the buffers `a` and the cost `ca` makes that of `b` and `cb` needless,
 /// where `kd` and `ku` are the prices of a micrometre of descent and of climb in millionths.
@@ -41,6 +42,24 @@ pub fn covers(a: &Pair, ca: u128, b: &Pair, cb: u128, kd: i64, ku: i64, modes: &
         IsBelowInSums (terms modes.now kd ku) (label a.now (pos ca)) (label b.now (pos cb))) }
 {
     is_covered(a, ca, b, cb, kd, ku, modes)
+}
+
+/// Whether the label of the buffers `a` and the cost `ca` makes each needless that costs `cost` or
+/// more, whatever its buffers: where none must be equal, it does so where it makes that of empty
+/// buffers and this cost needless. A search asks this for each step, so it is put in place there.
+#[inline(always)]
+pub fn covers_all(a: &Pair, ca: u128, cost: u128, kd: i64, ku: i64, modes: &Modes) -> bool
+    requires first { IsPair a.now }
+    requires first_cost { ca < 2 ^ 126 }
+    requires down_rate { IsBuffer kd }
+    requires up_rate { IsBuffer ku }
+    ensures exact { IsTrue result ↔
+        CoversAll (terms modes.now kd ku) (label a.now (pos ca)) (pos cost) }
+{
+    if asks_equal(modes) {
+        return false;
+    }
+    is_covered(a, ca, &Pair { down: 0, up: 0 }, cost, kd, ku, modes)
 }
 
 /// The test of the definition: first the order, then the cost.

@@ -50,7 +50,7 @@ fn mixed(slots: u32, modes: &Modes, link: u32, pair: &Pair) -> u32
 }
 
 /// Whether one of the buffers must be equal.
-fn asks_equal(modes: &Modes) -> bool
+pub(crate) fn asks_equal(modes: &Modes) -> bool
     ensures exact { result ≡ asks_equal modes.now }
 {
     is_equal(modes.down) || is_equal(modes.up)

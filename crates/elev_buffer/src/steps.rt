@@ -108,6 +108,18 @@ fn share(part: i64, whole: i64) -> i64
     if part <= 9_000_000_000_000 {
         1_000_000 * part / whole
     } else {
-        (1_000_000 * part as i128 / whole as i128) as i64
+        share_wide(part, whole)
     }
+}
+
+/// A part in millionths, rounded down, by products of 128 bits. It is asked for seldom, so it stands
+/// apart.
+#[cold]
+#[inline(never)]
+fn share_wide(part: i64, whole: i64) -> i64
+    requires part { pos 0 ≤ℤ part }
+    requires less { part <ℤ whole }
+    ensures exact { result ≡ int_div_euclid (pos 1000000 *ℤ part) whole }
+{
+    (1_000_000 * part as i128 / whole as i128) as i64
 }
