@@ -1,8 +1,11 @@
 -- A space without goals keeps the laws, and has the runs of the space that it is made of.
-use Rattle.std.proofs.Common.{◌≡◌, ℕ, ◌+◌, List, IsTrue, refl, sym, ◌∙◌, arith}
+use Rattle.std.proofs.Common.{◌≡◌, ℕ, ◌+◌, inl, inr, List, IsTrue, refl, sym, ◌∙◌, arith}
+use Rattle.space_search.specs.Known.{AreKnown, LeavesKnown}
 use Rattle.space_search.specs.Laws.{HasEvenBound, IsBlind, IsSpace, Supersedes}
 use Rattle.space_search.specs.Rules.{Rules}
 use Rattle.space_search.specs.Runs.{IsRun, Walks, rests, starts, steps}
+use Rattle.space_search.specs.declared.known.Known.{Known}
+use Rattle.space_search.specs.declared.step.Step.{Step}
 use Rattle.cost_table.specs.Endless.{AreOne, endless}
 
 -- its lower bound says nothing
@@ -93,3 +96,24 @@ pub run-endless :
     IsRun rules choices end cost
 run-endless rules (starts {numbers = numbers} within is rest) =
     starts {numbers = numbers} within is (walks-endless rules rest)
+
+-- what is known over it is known over the space that it is made of
+pub known-endless : {S : Type 0} (rules : Rules S) (known : Known S) → AreKnown (endless rules) known → AreKnown rules known
+known-endless rules known are = record {
+  fronts = are.fronts;
+  slots = are.slots;
+  fits = λ one is. let fits = are.fits one is in record { valid = fits.valid; small = fits.small };
+}
+
+-- and what a list leaves out there may be left out over it
+pub leaves-endless :
+    {S : Type 0} (rules : Rules S) (known : Known S) (cost : ℕ) (all listed : List (Step S)) → LeavesKnown rules known cost all listed →
+    LeavesKnown (endless rules) known cost all listed
+leaves-endless rules known cost all listed leaves = record {
+  from = leaves.from;
+  rest = λ one there.
+      elim (leaves.rest one there) [
+        | inl has ↦ inl has
+        | inr k ↦ inr (record { one = k.one; is = k.is; covers = k.covers })
+      ];
+}

@@ -4,7 +4,7 @@ ghost use Rattle.std.specs.Prelude.{◌≡◌, IsTrue};
 ghost use Rattle.space_search.specs.Laws.{HasEvenBound, IsSpace};
 ghost use Rattle.cost_table.specs.Endless.{AreOne, endless};
 
-use space_search::{Space, Steps};
+use space_search::{Known, Space, Steps};
 use std::alloc::AllocError;
 
 /// A space as one without goals, in which ranks are costs: a search over it settles whatever is
@@ -70,8 +70,14 @@ impl<'a, S: Space> Space for Endless<'a, S> {
         self.space.step(state, number)
     }
 
-    fn list_steps(&self, state: &S::State, found: &mut Steps<S::State>) -> Result<(), AllocError> {
-        self.space.list_steps(state, found)
+    fn list_steps(
+        &self,
+        state: &S::State,
+        cost: u128,
+        known: &Known<S::State>,
+        found: &mut Steps<S::State>,
+    ) -> Result<(), AllocError> {
+        self.space.list_steps(state, cost, known, found)
     }
 
     fn goal(&self, _state: &S::State) -> bool {

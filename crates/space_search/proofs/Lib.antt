@@ -7,6 +7,7 @@ pub mod FrontLemmas
 pub mod GrowLemmas
 pub mod HeadLemmas
 pub mod JoinLemmas
+pub mod KnownLemmas
 pub mod LeastLemmas
 pub mod LimitLemmas
 pub mod ListedLemmas

@@ -1,13 +1,12 @@
 -- The list of a state's permitted steps has each of them, and nothing else.
 use native.Mathlib.Numerals.{unary_clauses}
-use Rattle.std.proofs.Common.{◌≡◌, ℕ, zero, suc, ◌<◌, ◌+◌, ◌++◌, get_or, length, inl, inr, List, [], Option, Some, None, refl, arith, ap, sym, ◌∙◌, subst}
+use Rattle.std.proofs.Common.{◌≡◌, ℕ, zero, suc, ◌<◌, ◌+◌, ◌++◌, inl, inr, List, [], Option, Some, None, refl, arith, ap, sym, ◌∙◌, subst}
 use Rattle.std.specs.List.{Contains}
 use Rattle.std.proofs.lemmas.List.{append-nil}
-use Rattle.std.proofs.lemmas.List.Elements.{Contains-get_or, Contains-append_left, Contains-append_right, Contains-append_cases}
+use Rattle.std.proofs.lemmas.List.Elements.{Contains-append_left, Contains-append_right, Contains-append_cases}
 use Rattle.item_list.proofs.ListLemmas.{Contains-none, Contains-first, Contains-cons_cases}
 use Rattle.item_list.proofs.TestLemmas.{below-next}
-use Rattle.space_search.specs.Listed.{listed, listed_below, steps_of}
-use Rattle.space_search.specs.Rules.{Rules}
+use Rattle.space_search.specs.Listed.{listed, listed_below}
 use Rattle.space_search.specs.declared.step.Step.{Step}
 
 module _ {S : Type 0} (step : ℕ → Option (S × ℕ)) where
@@ -41,7 +40,7 @@ module _ {S : Type 0} (step : ℕ → Option (S × ℕ)) where
       ∙ sym (listed-next number)
 
   -- what is listed of one number is its step
-  of-listed :
+  pub of-listed :
       (number : ℕ) (found : Option (S × ℕ)) (one : Step S) → Contains (listed number found) one →
       (one.choice ≡ number) × (found ≡ Some (one.state, one.cost))
   of-listed number None one there = absurd (Contains-none one there)
@@ -55,7 +54,7 @@ module _ {S : Type 0} (step : ℕ → Option (S × ℕ)) where
       ]
 
   -- what is listed is a permitted step below the number
-  is-step :
+  pub is-step :
       (upto : ℕ) (one : Step S) → Contains (listed_below step upto) one →
       (one.choice < upto) × (step one.choice ≡ Some (one.state, one.cost))
   unfolding listed_below
@@ -85,19 +84,3 @@ module _ {S : Type 0} (step : ℕ → Option (S × ℕ)) where
             (subst (λ n. Contains (listed n (step n)) one) at
             (subst (λ f. Contains (listed number f) one) (sym is) (Contains-first one [])))
       ]
-
-  -- what stands at a place of the list is in it
-  listed-at :
-      (upto : ℕ) (items : List (Step S)) (place : ℕ) (one : Step S) → items ≡ listed_below step upto →
-      place < length items → one ≡ get_or items place one → Contains (listed_below step upto) one
-  listed-at upto items place one are within is =
-      subst (λ l. Contains l one) are (subst (Contains items) (sym is) (Contains-get_or items place one within))
-
--- what stands at a place of the list of a state's steps is a permitted one
-pub step-at :
-    {S : Type 0} (rules : Rules S) (state : S) (items : List (Step S)) (place : ℕ) (one : Step S) →
-    items ≡ steps_of rules state → place < length items → one ≡ get_or items place one →
-    (one.choice < rules.steps state) × (rules.step state one.choice ≡ Some (one.state, one.cost))
-step-at rules state items place one are within is =
-    is-step (rules.step state) (rules.steps state) one
-    (listed-at (rules.step state) (rules.steps state) items place one are within is)

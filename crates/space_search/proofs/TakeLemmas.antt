@@ -6,13 +6,11 @@ use Rattle.std.specs.List.Sorted.{IsPermutation}
 use Rattle.std.proofs.lemmas.List.Sorted.{Contains-permutation, IsPermutation-sym}
 use Rattle.space_search.specs.Books.{Books, IsLabel, IsSettled, IsCovered, IsAccounted, by_label, by_queue, by_bound, HasStarts, HasSteps, HasStepsBelow, IsSearch, IsClosed, Extends, KeepsLabels, Leaves}
 use Rattle.space_search.specs.Queues.{Entry}
-use Rattle.space_search.specs.Listed.{steps_of}
 use Rattle.space_search.specs.Rules.{Rules}
 use Rattle.space_search.specs.declared.label.Label.{Label}
 use Rattle.space_search.specs.declared.step.Step.{Step}
 use Rattle.item_list.proofs.ListLemmas.{slice_get-same, Contains-cons_cases, Contains-rest}
 use Rattle.item_list.proofs.TestLemmas.{below-next}
-use Rattle.space_search.proofs.ListedLemmas.{has-step}
 use Rattle.space_search.proofs.SameLemmas.{settled-unique, settled-within, keeps-back}
 use Rattle.std.proofs.lemmas.Bool.{cases_eq}
 
@@ -167,17 +165,3 @@ leaves-extended rules before between after more leaves =
       stands = leaves.stands;
       keeps = λ place label s. leaves.keeps place label (to-settled rules before between more place label s);
     }
-
--- once all that is listed of a label's steps is taken care of, all its steps are
-pub all-offered :
-    {S : Type 0} (rules : Rules S) (kept : Books S) (label : Label S) (items : List (Step S)) →
-    items ≡ steps_of rules label.state →
-    ((place : ℕ) (one : Step S) → place < length items → slice_get items place ≡ Some one →
-    IsAccounted rules kept one.state (label.cost + one.cost)) →
-    HasSteps rules kept label (rules.steps label.state)
-all-offered {S} rules kept label items are offered number state cost below is =
-    let one : Step S = record { choice = number; state = state; cost = cost } in
-    let there : Contains items one =
-    subst (λ l. Contains l one) (sym are)
-    (has-step (rules.step label.state) (rules.steps label.state) number state cost below is) in
-    offered there.0 one there.1 (slice_get-get_or items there.0 one there.1 ∙ ap Some there.2)

@@ -1,6 +1,7 @@
 pub mod Books
 pub mod Ends
 pub mod Fronts
+pub mod Known
 pub mod Laws
 pub mod Limits
 pub mod Listed

@@ -27,7 +27,7 @@ pub struct Member<T> {
 /// all are, is named by its number and takes no memory of its own.
 pub struct Fronts<T> {
     /// For each slot a number that says its head.
-    pub(crate) heads: Paged<u64>,
+    pub(crate) heads: Paged<u32>,
     pub(crate) many: Vec<Vec<Member<T>>>,
     pub(crate) alloc: Global,
 }

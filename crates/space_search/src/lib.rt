@@ -7,6 +7,7 @@ mod finding;
 mod fronts;
 mod heads;
 mod join;
+mod known;
 mod label;
 mod lists;
 mod next;
@@ -22,6 +23,7 @@ mod take;
 mod turns;
 
 pub use finding::least;
+pub use known::Known;
 pub use outcome::{Outcome, Run};
 pub use phase::Phase;
 pub use search::Search;

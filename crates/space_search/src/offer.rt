@@ -72,6 +72,8 @@ fn is_covered_by_front<T: Copy + Drop, S: Space<State = T>>(
 }
 
 /// Puts a new label into the queue, unless no goal is reached from it or a settled label covers it.
+/// A search does this for each step, so it is put in place there.
+#[inline(always)]
 pub(crate) fn offer<T: Copy + Drop, S: Space<State = T>>(
     space: &S,
     lists: &mut Lists<T>,

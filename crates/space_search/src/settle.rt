@@ -5,6 +5,7 @@ ghost use Rattle.space_search.specs.Books.{books, IsSearch, IsClosed, IsCovered,
 ghost use Rattle.space_search.specs.Moves.{IsNext, Drops, Settles, Advances};
 
 use crate::join::join;
+use crate::known::Known;
 use crate::label::Label;
 use crate::lists::Lists;
 use crate::offer::offer;
@@ -34,28 +35,21 @@ pub(crate) fn settle_next<T: Copy + Drop, S: Space<State = T>>(
     space: &S,
     lists: &mut Lists<T>,
     number: u32,
-    label: Label<T>,
+    label: &Label<T>,
 ) -> Result<(), AllocError>
     requires kept { IsSearch (S.rules space.now) (books lists.old) }
     requires closed { IsClosed (S.rules space.now) (books lists.old) }
-    requires next { IsNext (S.rules space.now) (books lists.old) number label }
-    requires no_goal { (S.rules space.now).is_goal label.state ≡ false }
-    requires uncovered { IsUncovered (S.rules space.now) (books lists.old) label.state label.cost }
+    requires next { IsNext (S.rules space.now) (books lists.old) number label.now }
+    requires no_goal { (S.rules space.now).is_goal label.now.state ≡ false }
+    requires uncovered { IsUncovered (S.rules space.now) (books lists.old) label.now.state label.now.cost }
     requires room { length (books lists.old).settled + 1 < 2 ^ 32 }
     ensures settles { OnOk result (Settles (S.rules space.now) (books lists.old)
-        (books lists.new) number label) }
+        (books lists.new) number label.now) }
     ensures leaves { Leaves (S.rules space.now) (books lists.old) (books lists.new) }
     ensures most { length (books lists.new).settled ≤ length (books lists.old).settled + 1 }
 {
     let slot = space.slot(&label.state) as usize;
-    join(
-        space,
-        &lists.labels,
-        &mut lists.fronts,
-        slot,
-        number,
-        &label,
-    )?;
+    join(space, &lists.labels, &mut lists.fronts, slot, number, label)?;
     match lists.settled.push(number) {
         Ok(()) => {}
         Err(_) => return Err(AllocError),
@@ -64,25 +58,30 @@ pub(crate) fn settle_next<T: Copy + Drop, S: Space<State = T>>(
     Ok(())
 }
 
-/// Offers what the steps of the newest settled label give, which are put down in a list for that.
+/// Offers what the steps of the newest settled label give, which are put down in a list for that,
+/// but for some that settled labels cover.
 pub(crate) fn advance<T: Copy + Drop, S: Space<State = T>>(
     space: &S,
     lists: &mut Lists<T>,
     steps: &mut Steps<T>,
-    label: Label<T>,
+    label: &Label<T>,
 ) -> Result<(), AllocError>
     requires kept { IsSearch (S.rules space.now) (books lists.old) }
     requires starts { HasStarts (S.rules space.now) (books lists.old) (S.rules space.now).starts }
     requires steps { HasStepsBelow (S.rules space.now) (books lists.old)
         (length (books lists.old).settled - 1) }
-    requires now { IsSettled (books lists.old) (length (books lists.old).settled - 1) label }
+    requires now { IsSettled (books lists.old) (length (books lists.old).settled - 1) label.now }
     ensures advances { OnOk result
         (Advances (S.rules space.now) (books lists.old) (books lists.new)) }
     ensures leaves { Leaves (S.rules space.now) (books lists.old) (books lists.new) }
     ensures settled { (books lists.new).settled ≡ (books lists.old).settled }
 {
     let parent = lists.settled.len() as u32;
-    space.list_steps(&label.state, steps)?;
+    let known = Known {
+        labels: &lists.labels,
+        fronts: &lists.fronts,
+    };
+    space.list_steps(&label.state, label.cost, &known, steps)?;
     'steps: for step in steps.as_slice() {
         let reached = Label {
             cost: label.cost + step.cost,

@@ -1,10 +1,12 @@
 //! The interface of everything that is searched.
 
 ghost use Rattle.std.specs.Prelude.{◌≡◌, ◌<◌, IsTrue, OnOk};
+ghost use Rattle.space_search.specs.Known.{AreKnown, LeavesKnown};
 ghost use Rattle.space_search.specs.Listed.{steps_of};
 ghost use Rattle.space_search.specs.Rules.{Rules, LOW_BOUND};
 ghost use Rattle.space_search.specs.Laws.{IsSpace, Supersedes};
 
+use crate::known::Known;
 use crate::step::{Step, Steps};
 use std::alloc::AllocError;
 
@@ -51,16 +53,22 @@ pub trait Space {
         requires within { number < (rules self.now).steps state.now }
         ensures value { result ≡ (rules self.now).step state.now number };
 
-    /// Lists the permitted steps of a state in the order of their numbers, in place of what the list
-    /// held. A search asks for all steps of a state at once, so that a space can look up once what
-    /// they share; one in which they share nothing needs no body for it.
+    /// Lists the permitted steps of a state that is reached at a cost, in place of what the list held.
+    /// What a known label covers may be left out, as far as that is found with little work: a search
+    /// would drop it. A search asks for all steps of a state at once, so that a space can look up
+    /// once what they share; one in which they share nothing needs no body for it, and lists all.
     fn list_steps(
         &self,
         state: &Self::State,
+        _cost: u128,
+        _known: &Known<Self::State>,
         found: &mut Steps<Self::State>,
     ) -> Result<(), AllocError>
         requires valid { IsTrue ((rules self.now).is_valid state.now) }
-        ensures value { OnOk result (found.new ≡ steps_of (rules self.now) state.now) }
+        requires small { _cost < LOW_BOUND }
+        requires known { AreKnown (rules self.now) _known.now }
+        ensures lists { OnOk result (LeavesKnown (rules self.now) _known.now _cost
+            (steps_of (rules self.now) state.now) found.new) }
     {
         found.clear();
         'steps: for choice in 0..self.steps(state) {

@@ -61,8 +61,8 @@ pub(crate) fn take<T: Copy + Drop, S: Space<State = T>>(
     if lists.settled.len() as u64 == limit {
         return Ok(Taken::Spent);
     }
-    settle_next(space, lists, number, label)?;
-    advance(space, lists, steps, label)?;
+    settle_next(space, lists, number, &label)?;
+    advance(space, lists, steps, &label)?;
     Ok(Taken::Settled)
 }
 

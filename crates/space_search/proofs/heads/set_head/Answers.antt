@@ -7,6 +7,6 @@ returns c =
     record {
       value =
           on_ok_weaker c.set.result
-          (λ value. heads-set c.args.heads.now c.set.new.self c.args.slot c.pack.result c.args.head value c.pack.ensures.value)
+          (λ value. heads-set c.args.heads.now c.set.new.self c.args.slot c.in_ok-pack.field-0 c.args.head value c.in_ok-pack.ensures.value)
           c.set.ensures.value;
     }

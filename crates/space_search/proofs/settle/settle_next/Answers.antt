@@ -12,14 +12,14 @@ join-requires-clause-within g c =
     omega (
       arith,
       c.slot-slot.ensures.value,
-      (g.met.S.Space.keeps_laws c.args.space.now).moves.slot c.args.label.state
-          (c.requires.kept.follows c.args.number c.args.label c.requires.next.there).valid,
+      (g.met.S.Space.keeps_laws c.args.space.now).moves.slot c.args.label.now.state
+          (c.requires.kept.follows c.args.number c.args.label.now c.requires.next.there).valid,
       c.requires.kept.index.slots,
     )
 
 pub join-requires-clause-fits : goal.join-requires-clause-fits
 join-requires-clause-fits g c =
-    let f = c.requires.kept.follows c.args.number c.args.label c.requires.next.there in
+    let f = c.requires.kept.follows c.args.number c.args.label.now c.requires.next.there in
     record { valid = f.valid; small = omega (arith, f.bounded, c.requires.room) }
 
 pub join-requires-clause-each : goal.join-requires-clause-each
@@ -34,7 +34,7 @@ pub returns : goal.returns
 returns g c =
     let rules = g.S.Space.rules c.args.space.now in
     let laws = g.met.S.Space.keeps_laws c.args.space.now in
-    let w : Writes rules (books c.args.lists.now) c.args.number c.args.label _ =
+    let w : Writes rules (books c.args.lists.now) c.args.number c.args.label.now _ =
     record {
       leaving =
           record {
@@ -53,7 +53,7 @@ returns g c =
       joins =
           subst
           (λ n. Joins rules (asked c.args.lists.now.labels.items c.args.lists.now.fronts)
-          (asked c.args.lists.now.labels.items c.join.new.fronts) n (member_of c.args.label))
+          (asked c.args.lists.now.labels.items c.join.new.fronts) n (member_of c.args.label.now))
           c.slot-slot.ensures.value c.in_ok-join.ensures.joins;
     } in
     record {

@@ -1,0 +1,37 @@
+//! What a search knows of its settled labels while the steps of one are listed.
+
+ghost use Rattle.std.specs.Prelude.{◌≡◌, ◌<◌, IfSome, length};
+ghost use Rattle.space_search.specs.Fronts.{IsAsked, heads_of};
+ghost use Rattle.space_search.specs.Known.{HaveKnown, known_fronts};
+
+use crate::fronts::{Fronts, Head};
+use crate::heads::head_at;
+use crate::label::Label;
+
+/// The settled labels that the covering test asks, by slot. A space may leave out of its list a step
+/// that one of them covers: offering it would do nothing.
+#[derive(Clone, Copy)]
+pub struct Known<'a, T> {
+    pub(crate) labels: &'a Vec<Label<T>>,
+    pub(crate) fronts: &'a Fronts<T>,
+}
+
+impl<'a, T> Known<'a, T> {
+    /// The state of a slot's label and what it costs, where the slot has one alone; most have none.
+    /// A space asks this for each step, so it is put in place there.
+    #[inline(always)]
+    pub fn only(&self, slot: u32) -> Option<(&T, u128)>
+        requires have { HaveKnown self.now }
+        requires within { slot < length (heads_of self.now.fronts.now.heads) }
+        ensures known { IfSome result (λ found.
+            IsAsked (known_fronts self.now) slot (record { cost = found.1; state = found.0.now })) }
+    {
+        match head_at(&self.fronts.heads, slot as usize) {
+            Head::One(number) => {
+                let label = &self.labels[number as usize];
+                Some((&label.state, label.cost))
+            }
+            _ => None,
+        }
+    }
+}
