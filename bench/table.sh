@@ -6,7 +6,9 @@
 #   YARDSTICK=FOLDER bench/table.sh [LINKS..]
 # FOLDER is a Cargo project of that program, and has gen_city.py, which writes city.json, N49E008.hgt and queries.txt; the first ends of its
 # lines 2 to 11 are the places. CITIES is a folder in which cities stay, PROGRAM the program where not the one that `./build` makes; the other
-# program isn't built where PLAIN names it. TURNS says how often each is run, where not 5, the run of middle length being told.
+# program isn't built where PLAIN names it. TURNS says how often each is run, where not 5, one after the other in turn; of the runs of each that of
+# middle length and the least are told. Before each of them the same program searches from the first place, uncounted, since both begin with what the other
+# left of the caches.
 set -e
 [ -n "$YARDSTICK" ] || { echo "usage: YARDSTICK=FOLDER bench/table.sh [LINKS..]"; exit 1; }
 yardstick=$(realpath "$YARDSTICK")
@@ -59,8 +61,22 @@ def ask(server, target):
     return reply.split(b'\r\n\r\n', 1)[1], processor() - begun
 
 
-def served(places):
-    """The table of places by a server of this city, and its milliseconds."""
+def plain(lines):
+    """The milliseconds of the plain program's searches, and what they cost in all. The first line is searched before them, apart."""
+    with open(f'{FOLDER}/lines', 'w', encoding='ascii') as file:
+        file.write(f'{lines[0]}\n' + ''.join(f'{line}\n' for line in lines))
+    told = subprocess.run([PLAIN, 'bench', *FILES, f'queries={FOLDER}/lines', 'low=zero'], capture_output=True, text=True, check=True).stderr
+    return float(re.search(r'many_search_ms (\S+)', told)[1]), re.search(r'many_cost_sum (\S+)', told)[1]
+
+
+def dearest(places, costs):
+    """A line for each place, to the one that is dearest to come to."""
+    far = [max((float(cost), to) for to, cost in enumerate(row) if cost is not None)[1] for row in costs]
+    return [f'{place}|{places[to]}' for place, to in zip(places, far)]
+
+
+def in_turn(places):
+    """The table of places by a server of this city, the milliseconds of both programs in each turn, and what theirs cost in all."""
     server = subprocess.Popen([PROGRAM, 'serve', *FILES, f'listen=127.0.0.1:{PORT}'])
     try:
         for _ in range(600):
@@ -70,24 +86,17 @@ def served(places):
             except OSError:
                 time.sleep(0.1)
         target = f'/brouter/table?lonlats={"%7C".join(places)}&profile={PROFILE}'
-        told = [ask(server.pid, target) for _ in range(TURNS)]
-        return json.loads(told[0][0])['costs'], middle([ms for _, ms in told])
+        costs = json.loads(ask(server.pid, target)[0])['costs']
+        lines = dearest(places, costs)
+        first = f'/brouter/table?lonlats={lines[0].replace("|", "%7C")}&profile={PROFILE}'
+        turns = []
+        for _ in range(TURNS):
+            ask(server.pid, first)
+            turns.append((ask(server.pid, target)[1], *plain(lines)))
+        return costs, [ours for ours, _, _ in turns], [theirs for _, theirs, _ in turns], turns[0][2]
     finally:
         server.kill()
         server.wait()
-
-
-def plain(places, costs):
-    """The milliseconds of the plain program's searches from each place to its dearest, and what they cost in all."""
-    with open(f'{FOLDER}/lines', 'w', encoding='ascii') as file:
-        for place, row in [(places[0], costs[0]), *zip(places, costs)]:
-            far = max((float(cost), to) for to, cost in enumerate(row) if cost is not None)[1]
-            file.write(f'{place}|{places[far]}\n')
-    runs = []
-    for _ in range(TURNS):
-        told = subprocess.run([PLAIN, 'bench', *FILES, f'queries={FOLDER}/lines', 'low=zero'], capture_output=True, text=True, check=True).stderr
-        runs.append((float(re.search(r'many_search_ms (\S+)', told)[1]), re.search(r'many_cost_sum (\S+)', told)[1]))
-    return middle([ms for ms, _ in runs]), runs[0][1]
 
 
 def within(places, cost):
@@ -105,11 +114,11 @@ def within(places, cost):
 
 with open(f'{CITY}/queries.txt', encoding='ascii') as file:
     places = [line.split('|')[0] for line in file.read().split('\n')[1:11]]
-costs, ours = served(places)
-theirs, total = plain(places, costs)
-dearest = sum(max(float(cost) for cost in row if cost is not None) for row in costs)
-print(f'{PROFILE}: a table of ten places {ours:.0f} ms, the plain program {theirs:.0f} ms, {ours / theirs:.2f} times'
-      f'{"" if abs(dearest - float(total)) < 1e-6 else f"; DIFFERENT: {dearest:.6f} and {total}"}')
+costs, ours, theirs, total = in_turn(places)
+cost = sum(max(float(cost) for cost in row if cost is not None) for row in costs)
+print(f'{PROFILE}: a table of ten places {middle(ours):.0f} ms, the plain program {middle(theirs):.0f} ms, {middle(ours) / middle(theirs):.2f} times; '
+      f'the least {min(ours):.0f} and {min(theirs):.0f} ms, {min(ours) / min(theirs):.2f} times'
+      f'{"" if abs(cost - float(total)) < 1e-6 else f"; DIFFERENT: {cost:.6f} and {total}"}')
 none, _ = within(places, 0)
 near, lines = within(places, 1000)
 print(f'{PROFILE}: within a cost of 1000 of a place, twice: {near - none:.0f} ms more than within 0 ({none:.0f} ms), {lines // 2} nodes', flush=True)
