@@ -5,7 +5,7 @@ ghost use Rattle.elev_buffer.specs.Covers.{IsPair};
 
 use crate::texts::{NO_CALL, OUTSIDE, truth};
 use case_rows::{Case, place_of};
-use elev_buffer::{Limits, Mode, Modes, Pair, covers, step, supersedes};
+use elev_buffer::{Limits, Mode, Modes, Pair, covers, step, sums_of, supersedes};
 use std::alloc::{AllocError, Global};
 
 const MOST: i64 = 1_000_000_000_000_000;
@@ -13,7 +13,7 @@ const MOST: i64 = 1_000_000_000_000_000;
 const FAR: i64 = 2_000_000_000_000_000_000;
 
 /// The calls on buffers.
-pub(crate) const CALLS: [&str; 3] = ["step", "covers", "supersedes"];
+pub(crate) const CALLS: [&str; 4] = ["step", "covers", "supersedes", "sums"];
 
 /// The answer to a case on buffers.
 pub(crate) fn answer(alloc: Global, case: &Case) -> Result<String, AllocError> {
@@ -21,6 +21,7 @@ pub(crate) fn answer(alloc: Global, case: &Case) -> Result<String, AllocError> {
         0 => stepped(alloc, case),
         1 => comparing(alloc, case, false),
         2 => comparing(alloc, case, true),
+        3 => summed(alloc, case),
         _ => String::from_str(alloc, NO_CALL),
     }
 }
@@ -90,4 +91,21 @@ fn comparing(alloc: Global, case: &Case, superseding: bool) -> Result<String, Al
             covers(&a, first_cost, &b, second_cost, kd, ku, &modes),
         )
     }
+}
+
+/// The three numbers of a label: its buffers and its cost, the two rates, the two modes.
+fn summed(alloc: Global, case: &Case) -> Result<String, AllocError> {
+    let Some(pair) = pair_of(case.signed(1), case.signed(2)) else {
+        return String::from_str(alloc, OUTSIDE);
+    };
+    let (cost, kd, ku) = (case.size(3), case.signed(4), case.signed(5));
+    if cost >= 1 << 126 || kd < 0 || kd > MOST || ku < 0 || ku > MOST {
+        return String::from_str(alloc, OUTSIDE);
+    }
+    let modes = Modes {
+        down: mode_of(case.word(6)),
+        up: mode_of(case.word(7)),
+    };
+    let sums = sums_of(&pair, cost, kd, ku, &modes);
+    format!(in alloc; "{} {} {}", sums.down, sums.up, sums.both)
 }

@@ -7,3 +7,4 @@ pub mod SlotLemmas
 pub mod NewerLemmas
 pub mod WholeLemmas
 pub mod AllLemmas
+pub mod SumsLemmas

@@ -27,7 +27,7 @@ rate-positive Ordered k h = omega (arith, ints)
 rate-positive Equal k h = omega (arith, ints)
 
 -- so what a buffer has more costs the difference of both prices, or nothing
-price-split : (mode : Mode) (k x y : ℤ) → pos 0 ≤ℤ k →
+pub price-split : (mode : Mode) (k x y : ℤ) → pos 0 ≤ℤ k →
     price mode k x y ≡ int_max (rate_by mode k *ℤ x -ℤ rate_by mode k *ℤ y) (pos 0)
 price-split mode k x y positive =
     price-by mode k x y ∙ price-excess (rate_by mode k) x y (rate-positive mode k positive)

@@ -1,3 +1,4 @@
 pub mod Step
 pub mod Covers
 pub mod Slots
+pub mod Sums

@@ -59,7 +59,7 @@ fn is_below(asked: bool, first: u128, second: u128) -> bool
 }
 
 /// The price of a buffer at a rate for a micrometre.
-fn price(rate: i64, buffer: i64) -> u128
+pub(crate) fn price(rate: i64, buffer: i64) -> u128
     requires rate { IsBuffer rate }
     requires buffer { IsBuffer buffer }
     ensures exact { pos result ≡ rate *ℤ buffer }
@@ -69,7 +69,7 @@ fn price(rate: i64, buffer: i64) -> u128
 }
 
 /// The price of a micrometre of a buffer, and nothing where money can't make up for it.
-fn rate(mode: Mode, rate: i64) -> i64
+pub(crate) fn rate(mode: Mode, rate: i64) -> i64
     requires rate { IsBuffer rate }
     ensures exact { result ≡ rate_by mode rate }
     ensures within { IsBuffer result }

@@ -1,0 +1,49 @@
+-- What covers a label has none of the three numbers greater, for prices that are not below 0.
+use Rattle.std.proofs.Common.{◌≡◌, ◌<◌, ◌+◌, ◌^◌, ℕ, ℤ, pos, ◌+ℤ◌, ◌-ℤ◌, ◌*ℤ◌, ◌≤ℤ◌, to_z, refl, ◌∙◌, arith}
+use Rattle.std.specs.Int.{w128}
+use Rattle.std.proofs.lemmas.Int.{ints, clamps, to_z_pos}
+use Rattle.elev_buffer.specs.Covers.{Terms, Label, CoversLabel, IsInOrder, rate_by}
+use Rattle.elev_buffer.specs.Sums.{IsNoMoreInSums, sum_by, sums_of}
+use Rattle.elev_buffer.specs.declared.labels.Mode.{Mode}
+use Rattle.elev_buffer.specs.declared.labels.Mode.TheVariants.{Compensated, Ordered, Equal}
+use Rattle.elev_buffer.specs.declared.sums.Sums.{Sums}
+use Rattle.elev_buffer.proofs.NewerLemmas.{price-split}
+
+-- where the cost with what the first buffer has more is within another cost, its number is no more
+sum-within : (mode : Mode) (k x y ca cb : ℤ) → IsInOrder mode x y → (ca +ℤ (rate_by mode k *ℤ x -ℤ rate_by mode k *ℤ y)) ≤ℤ cb →
+    sum_by mode k ca x ≤ℤ sum_by mode k cb y
+sum-within Compensated k x y ca cb order within = omega (arith, ints)
+sum-within Ordered k x y ca cb order within = order
+sum-within Equal k x y ca cb order within = omega (arith, ints, order)
+
+-- what covers has none of the three numbers greater
+pub covers-below : (by : Terms) (a b : Label) → pos 0 ≤ℤ by.down_rate → pos 0 ≤ℤ by.up_rate → CoversLabel by a b →
+    IsNoMoreInSums (sums_of by a) (sums_of by b)
+unfolding sums_of
+covers-below by a b d u covers =
+    let p = price-split by.modes.down by.down_rate a.buffers.down b.buffers.down d in
+    let q = price-split by.modes.up by.up_rate a.buffers.up b.buffers.up u in
+    let cost = covers.cost in
+    record {
+      down = sum-within by.modes.down by.down_rate _ _ _ _ covers.down (omega (arith, ints, clamps));
+      up = sum-within by.modes.up by.up_rate _ _ _ _ covers.up (omega (arith, ints, clamps));
+      both = omega (arith, ints, clamps);
+    }
+
+-- the three numbers as they are computed: the sums of each buffer, and the cost with both prices
+pub record AreComputed (by : Terms) (a : Label) (down up both : ℤ) : Type 0 where
+  pub down_is : down ≡ sum_by by.modes.down by.down_rate a.cost a.buffers.down
+  pub up_is : up ≡ sum_by by.modes.up by.up_rate a.cost a.buffers.up
+  pub both_is : both ≡ (a.cost +ℤ rate_by by.modes.down by.down_rate *ℤ a.buffers.down
+      +ℤ rate_by by.modes.up by.up_rate *ℤ a.buffers.up)
+
+-- are those of the definition
+pub sums-computed : (by : Terms) (a : Label) (down up both : ℤ) → AreComputed by a down up both →
+    ◌≡◌ {A = Sums} (record { down = down; up = up; both = both }) (sums_of by a)
+unfolding sums_of
+sums-computed by a down up both is = rw (is.down_is, is.up_is, is.both_is) refl
+
+-- a cost with two prices stays within 128 bits
+pub wide-sum : (cost m n : ℕ) (x y : ℤ) → cost < 2 ^ 126 → m < 2 ^ 100 → n < 2 ^ 100 → pos m ≡ x → pos n ≡ y →
+    to_z w128 (cost + m + n) ≡ pos cost +ℤ x +ℤ y
+wide-sum cost m n x y low first second e f = to_z_pos w128 (cost + m + n) (omega arith) ∙ omega (arith, ints)

@@ -1,0 +1,27 @@
+-- Three numbers of a label, of which none is more where it makes another needless (this project's own rule).
+use Rattle.std.specs.Prelude.{ℤ, ◌+ℤ◌, ◌*ℤ◌, ◌≤ℤ◌}
+use Rattle.elev_buffer.specs.Covers.{Label, Terms, rate_by}
+use Rattle.elev_buffer.specs.declared.labels.Mode.{Mode}
+use Rattle.elev_buffer.specs.declared.labels.Mode.TheVariants.{Compensated, Ordered, Equal}
+use Rattle.elev_buffer.specs.declared.sums.Sums.{Sums}
+
+-- the cost with the price of a buffer, and the buffer itself where money cannot make up for it
+abbrev pub sum_by : Mode → ℤ → ℤ → ℤ → ℤ
+sum_by Compensated rate cost buffer = cost +ℤ rate *ℤ buffer
+sum_by Ordered rate cost buffer = buffer
+sum_by Equal rate cost buffer = buffer
+
+-- the three numbers of a label: with the price of its descent, of its climb, and of both
+unfoldable pub sums_of : Terms → Label → Sums
+sums_of by a = record {
+  down = sum_by by.modes.down by.down_rate a.cost a.buffers.down;
+  up = sum_by by.modes.up by.up_rate a.cost a.buffers.up;
+  both = a.cost +ℤ rate_by by.modes.down by.down_rate *ℤ a.buffers.down +ℤ
+      rate_by by.modes.up by.up_rate *ℤ a.buffers.up;
+}
+
+-- none of the first three numbers is more than the second's
+pub record IsNoMoreInSums (a b : Sums) : Type 0 where
+  pub down : a.down ≤ℤ b.down
+  pub up : a.up ≤ℤ b.up
+  pub both : a.both ≤ℤ b.both
