@@ -4,15 +4,20 @@ use Rattle.std.proofs.lemmas.Option.{slice_get_read, slice_get_within, slice_get
 use Rattle.std.specs.Bool.{IsTrue}
 use Rattle.std.specs.List.{slice_get, Contains}
 use Rattle.space_search.specs.Books.{Books, IsSettled, IsCovered, IsUncovered, IsLater, IsCoveredAfter, IsSearch, asked_of}
-use Rattle.space_search.specs.Fronts.{Asked, IsAsked, IsHead, FitsTest, alone, front_at, member_of}
+use Rattle.space_search.specs.Blocks.{members_of, IsFloor}
+use Rattle.space_search.specs.Fronts.{Asked, IsAsked, IsHead, FitTest, FitsTest, alone, front_at, member_of}
 use Rattle.space_search.specs.Laws.{IsSpace}
-use Rattle.space_search.specs.Rules.{Rules, LOW_BOUND}
+use Rattle.space_search.specs.Rules.{IsUnder, LOW_BOUND, Rules}
+use Rattle.space_search.specs.declared.fronts.Block.{Block}
 use Rattle.space_search.specs.declared.fronts.Head.{Head}
 use Rattle.space_search.specs.declared.fronts.Head.TheVariants.{One}
 use Rattle.space_search.specs.declared.fronts.Member.{Member}
 use Rattle.space_search.specs.declared.label.Label.{Label}
+use Rattle.space_search.specs.declared.point.Point.{Point}
 use Rattle.item_list.proofs.ListLemmas.{slice_get-same, Contains-none, Contains-first, Contains-cons_cases}
 use Rattle.item_list.proofs.TestLemmas.{below-next}
+use Rattle.space_search.proofs.BlockLemmas.{of-blocks}
+use Rattle.space_search.proofs.PointLemmas.{under-under}
 use Rattle.space_search.proofs.SameLemmas.{settled-within}
 
 -- a test that isn't true is false
@@ -80,6 +85,48 @@ module _ {S : Type 0} (rules : Rules S) (front : List (Member S)) (state : S) (c
       Contains front one → rules.covers one.state one.cost state cost ≡ false
   tested-all index tested whole one h =
       tested h.0 one (omega (arith, h.1, whole)) (slice_get-get_or front h.0 one h.1 ∙ ap Some h.2)
+
+-- no label of the first blocks of a front, so many of them, covers the state at this cost
+abbrev pub IsPassedBelow : {S : Type 0} → Rules S → List (Block S) → S → ℕ → ℕ → Type 0
+IsPassedBelow {S} rules blocks state cost index =
+    (place : ℕ) (block : Block S) → place < index → slice_get blocks place ≡ Some block →
+    (one : Member S) → Contains block.members.items one → rules.covers one.state one.cost state cost ≡ false
+
+module _ {S : Type 0} (rules : Rules S) (blocks : List (Block S)) (state : S) (cost : ℕ) where
+  -- a block in whose turn none does
+  pub passed-more :
+      (index : ℕ) (last : Block S) → IsPassedBelow rules blocks state cost index → slice_get blocks index ≡ Some last →
+      ((one : Member S) → Contains last.members.items one → rules.covers one.state one.cost state cost ≡ false) →
+      IsPassedBelow rules blocks state cost (index + 1)
+  passed-more index last passed there none place block below at =
+      elim (below-next place index below) [
+        | inl earlier ↦ passed place block earlier at
+        | inr here ↦
+            let same : last ≡ block =
+            slice_get-same blocks index last block there (subst (λ n. slice_get blocks n ≡ Some block) here at) in
+            subst (λ (b : Block S). (one : Member S) → Contains b.members.items one → rules.covers one.state one.cost state cost ≡ false)
+            same none
+      ]
+
+  -- so none of all does
+  pub passed-all :
+      (index : ℕ) → IsPassedBelow rules blocks state cost index → length blocks ≤ index → (one : Member S) →
+      Contains (members_of blocks) one → rules.covers one.state one.cost state cost ≡ false
+  passed-all index passed whole one h =
+      let s = of-blocks blocks one h in
+      passed s.place s.block (omega (arith, whole, slice_get_within blocks s.place s.block s.at)) s.at one s.there
+
+-- a block doesn't cover what its lower point doesn't lie under
+pub passed-over :
+    {S : Type 0} (rules : Rules S) (laws : IsSpace rules) (low : Point) (members : List (Member S)) (state : S) (cost : ℕ) →
+    IsFloor rules low members → FitTest rules members → IsTrue (rules.is_valid state) →
+    (IsUnder low (rules.point state cost) → ⊥) → (one : Member S) → Contains members one →
+    rules.covers one.state one.cost state cost ≡ false
+passed-over rules laws low members state cost floor fits valid apart one h =
+    false-from_not (rules.covers one.state one.cost state cost)
+    (λ covers.
+    apart (under-under low (rules.point one.state one.cost) (rules.point state cost) (floor one h)
+    (laws.covering.under one.state state one.cost cost (fits one h).valid valid covers)))
 
 module _ {S : Type 0} (rules : Rules S) (laws : IsSpace rules) (kept : Books S) (search : IsSearch rules kept) where
   -- what a settled label costs is small enough to be compared

@@ -5,15 +5,15 @@ use Rattle.space_search.specs.Fronts.{IsAsked, Joins, member_of}
 use Rattle.space_search.specs.Laws.{Supersedes}
 use Rattle.space_search.specs.Queues.{Entry}
 use Rattle.space_search.specs.Rules.{Rules}
+use Rattle.space_search.specs.declared.fronts.Block.{Block}
 use Rattle.space_search.specs.declared.fronts.Head.{Head}
-use Rattle.space_search.specs.declared.fronts.Member.{Member}
 use Rattle.space_search.specs.declared.label.Label.{Label}
 use Rattle.space_search.proofs.DropLemmas.{Leaving}
 use Rattle.item_list.proofs.ListLemmas.{slice_get-append, slice_get-pushed, slice_get-push_cases, slice_get-same}
 use Rattle.space_search.proofs.SameLemmas.{settled-within, needless-moved}
 
 -- the lists once the front entry's label was settled
-abbrev pub settled_books : {S : Type 0} → Books S → List Entry → List ℕ → List Head → List (List (Member S)) → Books S
+abbrev pub settled_books : {S : Type 0} → Books S → List Entry → List ℕ → List Head → List (List (Block S)) → Books S
 settled_books kept rest settled heads many =
     record { labels = kept.labels; queue = rest; settled = settled; heads = heads; many = many }
 
@@ -26,7 +26,7 @@ pub record Writes {S : Type 0} (rules : Rules S) (kept : Books S) (number : ℕ)
   pub room : length kept.settled + 1 < 2 ^ 32
   pub settled : List ℕ
   pub heads : List Head
-  pub many : List (List (Member S))
+  pub many : List (List (Block S))
   pub is_settled : settled ≡ kept.settled ++ number ∷ []
   pub joins :
       Joins rules (asked_of kept) (record { labels = kept.labels; heads = heads; many = many }) (rules.slot label.state) (member_of label)
@@ -87,6 +87,7 @@ module _ {S : Type 0} (rules : Rules S) (kept : Books S) (number : ℕ) (label :
       record {
         slots = w.joins.slots ∙ w.leaving.search.index.slots;
         fronts = w.joins.fronts;
+        floors = w.joins.floors;
         inside = λ slot one is.
             elim (w.joins.from slot one is) [
               | inl old ↦

@@ -1,12 +1,13 @@
 -- What a search knows while steps are listed, and that what a list leaves out is taken care of.
-use Rattle.std.proofs.Common.{◌≡◌, ℕ, ◌<◌, ◌+◌, ◌++◌, inl, inr, List, [], length, get_or, Option, Some, None, ap, sym, ◌∙◌, subst}
+use Rattle.std.proofs.Common.{◌≡◌, ℕ, ◌<◌, ◌+◌, ◌++◌, inl, inr, List, [], ◌∷◌, length, get_or, Option, Some, None, unwrap_or, arith, ap, sym, ◌∙◌, subst}
 use Rattle.std.specs.Bool.{IsTrue}
 use Rattle.std.specs.List.{Contains, slice_get}
-use Rattle.std.proofs.lemmas.Option.{slice_get-get_or}
+use Rattle.std.proofs.lemmas.Option.{none-some, slice_get-get_or, slice_get_within, unwrap_or-slice_get}
 use Rattle.std.proofs.lemmas.List.Elements.{Contains-get_or, Contains-append_left, Contains-append_right, Contains-append_cases}
+use Rattle.item_list.proofs.ListLemmas.{slice_get-push_cases, Contains-none}
 use Rattle.space_search.specs.Books.{Books, IsAccounted, by_label, HasSteps, IsSearch, asked_of}
 use Rattle.space_search.specs.Fronts.{Asked, AreFronts, IsAsked}
-use Rattle.space_search.specs.Known.{AreKnown, IsKnown, LeavesKnown, known_fronts}
+use Rattle.space_search.specs.Known.{AreKnown, AreRising, IsKnown, LeavesKnown, known_fronts}
 use Rattle.space_search.specs.Laws.{IsSpace}
 use Rattle.space_search.specs.Listed.{listed, listed_below, steps_of}
 use Rattle.space_search.specs.Rules.{Rules}
@@ -41,15 +42,32 @@ module _ {S : Type 0} (rules : Rules S) (kept : Books S) (search : IsSearch rule
       }
       )
 
--- a list of all steps leaves out none
-pub leaves-none-out :
-    {S : Type 0} (rules : Rules S) (known : Known S) (cost : ℕ) (all items : List (Step S)) → items ≡ all →
-    LeavesKnown rules known cost all items
-leaves-none-out {S} rules known cost all items same =
-    record {
-      from = λ one there. subst (λ (l : List (Step S)). Contains l one) same there;
-      rest = λ one there. inl (subst (λ (l : List (Step S)). Contains l one) (sym same) there);
-    }
+-- what stands at a place is one of the list
+at-contains : {X : Type 0} (items : List X) (place : ℕ) (one : X) → slice_get items place ≡ Some one → Contains items one
+at-contains items place one at =
+    (place, slice_get_within items place one at, sym (unwrap_or-slice_get items place one) ∙ ap (λ o. unwrap_or o one) at)
+
+-- no steps stand in order
+none-rise : {S : Type 0} → AreRising {S = S} []
+none-rise a b first second below is-first is-second = absurd (none-some first is-first)
+
+-- steps stand in order still where one whose number is above theirs comes to the end
+adds-rise :
+    {S : Type 0} (before : List (Step S)) (last : Step S) → AreRising before →
+    ((one : Step S) → Contains before one → one.choice < last.choice) → AreRising (before ++ last ∷ [])
+adds-rise before last rise above a b first second below is-first is-second =
+    elim (slice_get-push_cases before last b second is-second) [
+      | inl b-there ↦
+          elim (slice_get-push_cases before last a first is-first) [
+            | inl a-there ↦ rise a b first second below a-there b-there
+            | inr a-last ↦ absurd (omega (arith, a-last.0, below, slice_get_within before b second b-there))
+          ]
+      | inr b-last ↦
+          elim (slice_get-push_cases before last a first is-first) [
+            | inl a-there ↦ rw (← b-last.1) (above first (at-contains before a first a-there))
+            | inr a-last ↦ absurd (omega (arith, a-last.0, b-last.0, below))
+          ]
+    ]
 
 -- none is no item
 none-is : {X : Type 0} (found : Option X) (x : X) → found ≡ None → found ≡ Some x → ⊥
@@ -59,7 +77,12 @@ none-is found x none some = cc
 module _ {S : Type 0} (rules : Rules S) (known : Known S) (cost : ℕ) (step : ℕ → Option (S × ℕ)) where
   -- nothing is listed of none
   pub leaves-none : (items : List (Step S)) → items ≡ [] → LeavesKnown rules known cost (listed_below step 0) items
-  leaves-none items none = leaves-none-out rules known cost (listed_below step 0) items (none ∙ sym (listed-none step))
+  leaves-none items none =
+      record {
+        from = λ one there. absurd (Contains-none one (subst (λ (l : List (Step S)). Contains l one) none there));
+        rising = subst (λ (l : List (Step S)). AreRising l) (sym none) none-rise;
+        rest = λ one there. absurd (Contains-none one (subst (λ (l : List (Step S)). Contains l one) (listed-none step) there));
+      }
 
   -- a step that is listed comes to the end
   pub leaves-adds :
@@ -78,6 +101,9 @@ module _ {S : Type 0} (rules : Rules S) (known : Known S) (cost : ℕ) (step : �
               | inl earlier ↦ Contains-append_left (listed_below step number) (listed number (step number)) one (so_far.from one earlier)
               | inr now ↦ Contains-append_right (listed_below step number) (listed number (step number)) one now
             ]);
+        rising = subst (λ (l : List (Step S)). AreRising l) (sym adds)
+            (adds-rise before (record { choice = number; state = found.0; cost = found.1 }) so_far.rising
+            (λ one there. (is-step step number one (so_far.from one there)).0));
         rest = λ one there.
             elim (Contains-append_cases (listed_below step number) (listed number (step number)) one
             (subst (λ (l : List (Step S)). Contains l one) next there)) [
@@ -105,6 +131,7 @@ module _ {S : Type 0} (rules : Rules S) (known : Known S) (cost : ℕ) (step : �
         from = λ one there.
             subst (λ (l : List (Step S)). Contains l one) (sym next)
             (Contains-append_left (listed_below step number) (listed number (step number)) one (so_far.from one there));
+        rising = so_far.rising;
         rest = λ one there.
             elim (Contains-append_cases (listed_below step number) (listed number (step number)) one
             (subst (λ (l : List (Step S)). Contains l one) next there)) [

@@ -1,3 +1,4 @@
+pub mod BlockLemmas
 pub mod CallerLemmas
 pub mod ChoiceLemmas
 pub mod DoneLemmas
@@ -11,9 +12,11 @@ pub mod KnownLemmas
 pub mod LeastLemmas
 pub mod LimitLemmas
 pub mod ListedLemmas
+pub mod ManyLemmas
 pub mod NextLemmas
 pub mod OfferLemmas
 pub mod OrderLemmas
+pub mod PointLemmas
 pub mod QueueLemmas
 pub mod ReachLemmas
 pub mod ReadLemmas
@@ -22,6 +25,8 @@ pub mod SameLemmas
 pub mod SettleLemmas
 pub mod ShownLemmas
 pub mod SpentLemmas
+pub mod SplitLemmas
 pub mod TakeLemmas
+pub mod ThinLemmas
 pub mod TurnLemmas
 pub mod TurnsLemmas

@@ -3,8 +3,10 @@ use Rattle.std.proofs.Common.{◌≡◌, ℕ, ◌<◌, ◌≤◌, inl, inr, List
 use Rattle.std.proofs.lemmas.Option.{slice_get_within}
 use Rattle.std.specs.List.{slice_get, Contains}
 use Rattle.space_search.specs.Rules.{Rules}
+use Rattle.space_search.specs.Blocks.{members_of, AreFloors}
 use Rattle.space_search.specs.Books.{Books, IsLabel, IsSettled, CameFrom, from_start, from_label, Follows, IsLater, IsNeedless, IsIndex, Reads, IsRising, Stands, KeepsLabels, IsSearch, Leaves, asked_of}
 use Rattle.space_search.specs.Fronts.{Asked, AreFronts, IsAsked, IsHead, alone, front_at, member_of}
+use Rattle.space_search.specs.declared.fronts.Block.{Block}
 use Rattle.space_search.specs.declared.fronts.Head.{Head}
 use Rattle.space_search.specs.declared.fronts.Head.TheVariants.{Empty, One, Many}
 use Rattle.space_search.specs.declared.fronts.Member.{Member}
@@ -75,7 +77,7 @@ module _ {S : Type 0} (before after : Asked S)
   front-same : (head : Head) → IsHead before head → front_at after head ≡ front_at before head
   front-same Empty h = refl
   front-same (One number) h = ap alone (more number h.0 h.1 ∙ sym h.1)
-  front-same (Many place) h = ap (λ m. get_or m place []) many
+  front-same (Many place) h = ap (λ m. members_of (get_or m place [])) many
 
   -- and there still is one
   head-same : (head : Head) → IsHead before head → IsHead after head
@@ -166,6 +168,7 @@ module _ {S : Type 0} (rules : Rules S) (before after : Books S)
       record {
         slots = ap length heads ∙ i.slots;
         fronts = fronts-same (asked_of before) (asked_of after) more heads many i.fronts;
+        floors = subst (λ (m : List (List (Block S))). AreFloors rules m) (sym many) i.floors;
         inside = λ slot one is.
             let s = i.inside slot one (asked-back (asked_of before) (asked_of after) more heads many i.fronts slot one is) in
             record {
@@ -187,7 +190,7 @@ module _ {S : Type 0} (rules : Rules S) (before after : Books S)
 -- where memory ran out before the label was settled, nothing that is read has changed
 pub leaves-failed :
     {S : Type 0} (rules : Rules S) (kept : Books S) (settled : List ℕ) (heads : List Head)
-    (many : List (List (Member S))) → IsSearch rules kept →
+    (many : List (List (Block S))) → IsSearch rules kept →
     settled ≡ kept.settled →
     Leaves rules kept
     (record { labels = kept.labels; queue = kept.queue; settled = settled; heads = heads; many = many })

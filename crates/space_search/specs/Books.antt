@@ -4,10 +4,12 @@ use Rattle.std.specs.Bool.{IsTrue}
 use Rattle.std.specs.List.{slice_get, Contains}
 use Rattle.std.specs.Prelude.{ℕ, ◌≡◌, ◌<◌, ◌≤◌, ◌+◌, ◌*◌, ◌-◌, ◌^◌, ◌⊎◌, false, Some, None, List, [], length}
 use Rattle.item_list.specs.Pages.{numbers_of}
+use Rattle.space_search.specs.Blocks.{AreFloors}
 use Rattle.space_search.specs.Fronts.{Asked, AreFronts, IsAsked, heads_of, member_of}
 use Rattle.space_search.specs.Laws.{HasRank}
 use Rattle.space_search.specs.Queues.{Entry}
 use Rattle.space_search.specs.Rules.{Rules, COST_BOUND}
+use Rattle.space_search.specs.declared.fronts.Block.{Block}
 use Rattle.space_search.specs.declared.fronts.Head.{Head}
 use Rattle.space_search.specs.declared.fronts.Member.{Member}
 use Rattle.space_search.specs.declared.label.Label.{Label}
@@ -24,7 +26,7 @@ pub record Books (S : Type 0) : Type 0 where
   -- where the front of each slot stands
   pub heads : List Head
   -- the fronts of several labels
-  pub many : List (List (Member S))
+  pub many : List (List (Block S))
 
 -- the lists of a search, as contracts see them
 abbrev pub books : {S : Type 0} → Lists S → Books S
@@ -168,6 +170,7 @@ pub record IsOfSlot {S : Type 0} (rules : Rules S) (kept : Books S) (slot : ℕ)
 pub record IsIndex {S : Type 0} (rules : Rules S) (kept : Books S) : Type 0 where
   pub slots : length kept.heads ≡ rules.slots
   pub fronts : AreFronts (asked_of kept)
+  pub floors : AreFloors rules kept.many
   pub inside :
       (slot : ℕ) (one : Member S) → IsAsked (asked_of kept) slot one → IsOfSlot rules kept slot one
   pub last :

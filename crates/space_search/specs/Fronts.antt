@@ -3,8 +3,10 @@ use Rattle.std.specs.Bool.{IsTrue}
 use Rattle.std.specs.List.{slice_get, Contains}
 use Rattle.std.specs.Prelude.{ℕ, ◌≡◌, ◌<◌, ◌⊎◌, ◌-◌, ◌/◌, ◌%◌, ◌^◌, Bool, true, false, nat_eq, map, Option, Some, None, List, [], ◌∷◌, length, get_or}
 use Rattle.item_list.specs.Pages.{numbers_of}
+use Rattle.space_search.specs.Blocks.{members_of, AreFloors}
 use Rattle.space_search.specs.Laws.{Supersedes}
 use Rattle.space_search.specs.Rules.{Rules, LOW_BOUND}
+use Rattle.space_search.specs.declared.fronts.Block.{Block}
 use Rattle.space_search.specs.declared.fronts.Fronts.{Fronts}
 use Rattle.space_search.specs.declared.fronts.Head.{Head}
 use Rattle.space_search.specs.declared.fronts.Head.TheVariants.{Empty, One, Many}
@@ -16,7 +18,7 @@ use Rattle.space_search.specs.declared.label.Label.{Label}
 pub record Asked (S : Type 0) : Type 0 where
   pub labels : List (Label S)
   pub heads : List Head
-  pub many : List (List (Member S))
+  pub many : List (List (Block S))
 
 -- the head that these say of a number: whether it is 0, whether it is odd, and its half
 abbrev pub head_by : Bool → Bool → ℕ → Head
@@ -50,7 +52,7 @@ alone (Some label) = member_of label ∷ []
 abbrev pub front_at : {S : Type 0} → Asked S → Head → List (Member S)
 front_at asked Empty = []
 front_at asked (One number) = alone (slice_get asked.labels number)
-front_at asked (Many place) = get_or asked.many place []
+front_at asked (Many place) = members_of (get_or asked.many place [])
 
 -- there is such a front
 abbrev pub IsHead : {S : Type 0} → Asked S → Head → Type 0
@@ -99,6 +101,7 @@ pub record Gains {S : Type 0} (rules : Rules S) (one : Member S) (before after :
 pub record Joins {S : Type 0} (rules : Rules S) (before after : Asked S) (slot : ℕ) (one : Member S) : Type 0 where
   pub slots : length after.heads ≡ length before.heads
   pub fronts : AreFronts after
+  pub floors : AreFloors rules after.many
   pub from :
       (other_slot : ℕ) (other : Member S) → IsAsked after other_slot other →
       IsAsked before other_slot other ⊎ ((other_slot ≡ slot) × (one ≡ other))

@@ -2,7 +2,7 @@
 -- This project's own rule.
 use Rattle.std.specs.Prelude.{ℕ, ◌≡◌, ◌<◌, ◌≤◌, ◌+◌, IsTrue, Some, None, List}
 use Rattle.std.specs.Option.{is_some}
-use Rattle.space_search.specs.Rules.{Rules, COST_BOUND, LOW_BOUND}
+use Rattle.space_search.specs.Rules.{Rules, COST_BOUND, IsUnder, LOW_BOUND}
 use Rattle.space_search.specs.Runs.{Walks}
 
 -- a state that a start or step may give: it is valid, and what it costs stays below the bound
@@ -22,8 +22,8 @@ pub record HasMoves {S : Type 0} (rules : Rules S) : Type 0 where
   pub cell : (state : S) → IsTrue (rules.is_valid state) → rules.cell state < rules.cells
   pub slot : (state : S) → IsTrue (rules.is_valid state) → rules.slot state < rules.slots
 
--- second group: covering holds only in one slot, is reflexive and transitive, and what covers costs no
--- more
+-- second group: covering holds only in one slot, is reflexive and transitive, what covers costs no more, and
+-- its point lies under that of what it covers
 pub record HasCovering {S : Type 0} (rules : Rules S) : Type 0 where
   pub one_slot :
       (a b : S) (ca cb : ℕ) → IsTrue (rules.is_valid a) → IsTrue (rules.is_valid b) →
@@ -36,6 +36,9 @@ pub record HasCovering {S : Type 0} (rules : Rules S) : Type 0 where
   pub cheaper :
       (a b : S) (ca cb : ℕ) → IsTrue (rules.is_valid a) → IsTrue (rules.is_valid b) →
       IsTrue (rules.covers a ca b cb) → ca ≤ cb
+  pub under :
+      (a b : S) (ca cb : ℕ) → IsTrue (rules.is_valid a) → IsTrue (rules.is_valid b) →
+      IsTrue (rules.covers a ca b cb) → IsUnder (rules.point a ca) (rules.point b cb)
 
 -- third group: covering is kept by every step
 abbrev pub KeepsCovering : {S : Type 0} → Rules S → Type 0

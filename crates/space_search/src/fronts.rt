@@ -2,6 +2,7 @@
 
 ghost use Rattle.std.specs.Prelude.{◌≡◌, []};
 
+use crate::point::Point;
 use item_list::Paged;
 use std::alloc::Global;
 
@@ -23,12 +24,53 @@ pub struct Member<T> {
     pub(crate) state: T,
 }
 
-/// The fronts of all slots. The labels of one stand side by side; a front of one label, as nearly
-/// all are, is named by its number and takes no memory of its own.
+/// A part of a front, whose labels lie near each other.
+pub struct Block<T> {
+    /// Lies under the points of all its labels, so that none of them covers what it doesn't lie
+    /// under.
+    pub(crate) low: Point,
+    /// The points of all its labels lie under this one. It saves time alone.
+    pub(crate) high: Point,
+    pub(crate) members: Vec<Member<T>>,
+}
+
+impl<T: Drop> Drop for Block<T> {
+    fn drop(self) {
+        let Block {
+            low: _,
+            high: _,
+            members: _,
+        } = self;
+    }
+}
+
+impl<T> Block<T> {
+    /// No labels. Its lower point is above all and its upper one below all.
+    pub(crate) fn new(alloc: Global) -> Self
+        ensures none { result.members.items ≡ [] }
+    {
+        Block {
+            low: Point {
+                x: i128::MAX,
+                y: i128::MAX,
+                z: i128::MAX,
+            },
+            high: Point {
+                x: i128::MIN,
+                y: i128::MIN,
+                z: i128::MIN,
+            },
+            members: Vec::new(alloc),
+        }
+    }
+}
+
+/// The fronts of all slots. The labels of one stand side by side, in blocks; a front of one label,
+/// as nearly all are, is named by its number and takes no memory of its own.
 pub struct Fronts<T> {
     /// For each slot a number that says its head.
     pub(crate) heads: Paged<u32>,
-    pub(crate) many: Vec<Vec<Member<T>>>,
+    pub(crate) many: Vec<Vec<Block<T>>>,
     pub(crate) alloc: Global,
 }
 

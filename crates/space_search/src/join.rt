@@ -1,12 +1,15 @@
 //! A newly settled label joins the front of its slot, and what it supersedes leaves that.
 
-ghost use Rattle.std.specs.Prelude.{◌≡◌, ◌<◌, [], ◌∷◌, ◌++◌, IfOk, OnOk, Some, length};
+ghost use Rattle.std.specs.Prelude.{◌≡◌, ◌<◌, IfOk, OnOk, Some, length};
 ghost use Rattle.std.specs.List.{slice_get};
+ghost use Rattle.item_list.specs.Pages.{numbers_of};
+ghost use Rattle.space_search.specs.Blocks.{members_of, AreFloors, HaveFloors, IsPair};
 ghost use Rattle.space_search.specs.Fronts.{asked, heads_of, member_of, AreFronts, IsAsked, FitsTest, FitTest, Thins, Gains, Joins};
 ghost use Rattle.space_search.specs.declared.fronts.Head.TheVariants as heads;
 ghost use Rattle.space_search.specs.declared.fronts.Member.{Member};
 
-use crate::fronts::{Fronts, Head, Member};
+use crate::blocks::put_into;
+use crate::fronts::{Block, Fronts, Head, Member};
 use crate::heads::{head_at, set_head};
 use crate::label::Label;
 use crate::space::Space;
@@ -25,6 +28,7 @@ pub(crate) fn join<T: Copy + Drop, S: Space<State = T>>(
 ) -> Result<(), AllocError>
     requires within { slot < length (heads_of fronts.old.heads) }
     requires fronts { AreFronts (asked labels.now.items fronts.old) }
+    requires floors { AreFloors (S.rules space.now) (numbers_of fronts.old.many.items) }
     requires there { slice_get labels.now.items number ≡ Some label.now }
     requires fits { FitsTest (S.rules space.now) (member_of label.now) }
     requires each { (one : Member T) → IsAsked (asked labels.now.items fronts.old) slot one →
@@ -38,7 +42,15 @@ pub(crate) fn join<T: Copy + Drop, S: Space<State = T>>(
             let old = labels[other as usize];
             join_one(space, labels, fronts, slot, number, label, other, &old)
         }
-        Head::Many(front) => join_many(space, &mut fronts.many[front as usize], label),
+        Head::Many(front) => {
+            let alloc = fronts.alloc;
+            join_many(
+                space,
+                alloc,
+                &mut fronts.many[front as usize],
+                &label.member(),
+            )
+        }
     }
 }
 
@@ -55,6 +67,7 @@ fn join_one<T: Copy + Drop, S: Space<State = T>>(
 ) -> Result<(), AllocError>
     requires within { slot < length (heads_of fronts.old.heads) }
     requires fronts { AreFronts (asked _labels.now.items fronts.old) }
+    requires floors { AreFloors (S.rules space.now) (numbers_of fronts.old.many.items) }
     requires there { slice_get _labels.now.items number ≡ Some label.now }
     requires old { slice_get _labels.now.items _other ≡ Some old.now }
     requires head { slice_get (heads_of fronts.old.heads) slot ≡ Some (heads.One _other) }
@@ -69,7 +82,7 @@ fn join_one<T: Copy + Drop, S: Space<State = T>>(
         return set_head(&mut fronts.heads, slot, Head::One(number));
     }
     let place = next_number(fronts.many.len())?;
-    let front = pair(fronts.alloc, old, label)?;
+    let front = pair(space, fronts.alloc, &old.member(), &label.member())?;
     match fronts.many.push(front) {
         Ok(()) => {}
         Err(_) => return Err(AllocError),
@@ -78,72 +91,85 @@ fn join_one<T: Copy + Drop, S: Space<State = T>>(
 }
 
 /// A front of two labels.
-fn pair<T: Copy + Drop>(
+fn pair<T: Copy + Drop, S: Space<State = T>>(
+    space: &S,
     alloc: Global,
-    first: &Label<T>,
-    second: &Label<T>,
-) -> Result<Vec<Member<T>>, AllocError>
-    ensures value { IfOk result (λ front.
-        front.items ≡ member_of first.now ∷ member_of second.now ∷ []) }
+    first: &Member<T>,
+    second: &Member<T>,
+) -> Result<Vec<Block<T>>, AllocError>
+    requires first { FitsTest (S.rules space.now) first.now }
+    requires second { FitsTest (S.rules space.now) second.now }
+    ensures pair { IfOk result (λ front. IsPair first.now second.now (members_of front.items)) }
+    ensures floors { IfOk result (λ front. HaveFloors (S.rules space.now) front.items) }
 {
-    let mut front: Vec<Member<T>> = Vec::new(alloc);
-    add_member(&mut front, first)?;
-    add_member(&mut front, second)?;
+    let mut front: Vec<Block<T>> = Vec::new(alloc);
+    put_into(space, alloc, &mut front, first)?;
+    put_into(space, alloc, &mut front, second)?;
     Ok(front)
 }
 
 /// Puts a label into a front, and takes out of that what it supersedes.
 fn join_many<T: Copy + Drop, S: Space<State = T>>(
     space: &S,
-    front: &mut Vec<Member<T>>,
-    label: &Label<T>,
+    alloc: Global,
+    front: &mut Vec<Block<T>>,
+    one: &Member<T>,
 ) -> Result<(), AllocError>
-    requires fits { FitsTest (S.rules space.now) (member_of label.now) }
-    requires each { FitTest (S.rules space.now) front.old.items }
-    ensures gains { OnOk result (Gains (S.rules space.now) (member_of label.now)
-        front.old.items front.new.items) }
+    requires fits { FitsTest (S.rules space.now) one.now }
+    requires each { FitTest (S.rules space.now) (members_of front.old.items) }
+    requires floors { HaveFloors (S.rules space.now) front.old.items }
+    ensures gains { OnOk result (Gains (S.rules space.now) one.now
+        (members_of front.old.items) (members_of front.new.items)) }
+    ensures floors { OnOk result (HaveFloors (S.rules space.now) front.new.items) }
 {
-    thin(space, front, label);
-    add_member(front, label)
+    thin_front(space, front, one);
+    put_into(space, alloc, front, one)
 }
 
-/// Takes out of a front what a label supersedes, unless it doesn't supersede itself.
-fn thin<T: Copy + Drop, S: Space<State = T>>(
+/// Takes out of a front what a label supersedes, unless it doesn't supersede itself. Blocks that
+/// have nothing above it are passed over.
+fn thin_front<T: Copy + Drop, S: Space<State = T>>(
     space: &S,
-    front: &mut Vec<Member<T>>,
-    label: &Label<T>,
+    front: &mut Vec<Block<T>>,
+    one: &Member<T>,
 )
-    requires fits { FitsTest (S.rules space.now) (member_of label.now) }
-    requires each { FitTest (S.rules space.now) front.old.items }
-    ensures thins { Thins (S.rules space.now) (member_of label.now) front.old.items front.new.items }
+    requires fits { FitsTest (S.rules space.now) one.now }
+    requires each { FitTest (S.rules space.now) (members_of front.old.items) }
+    requires floors { HaveFloors (S.rules space.now) front.old.items }
+    ensures thins { Thins (S.rules space.now) one.now
+        (members_of front.old.items) (members_of front.new.items) }
+    ensures floors { HaveFloors (S.rules space.now) front.new.items }
 {
-    if !space.supersedes(&label.state, label.cost, &label.state, label.cost) {
+    if !space.supersedes(&one.state, one.cost, &one.state, one.cost) {
         return;
     }
+    let point = space.point(&one.state, one.cost);
     let mut at = 0;
-    'front: while at < front.len() {
-        let other = front[at];
-        if space.supersedes(&label.state, label.cost, &other.state, other.cost) {
-            let _gone = front.swap_remove(at);
+    'parts: while at < front.len() {
+        if point.is_under(&front[at].high) {
+            thin(space, &mut front[at].members, one);
+        }
+        at += 1;
+    }
+}
+
+/// Takes out of a list what a label supersedes.
+fn thin<T: Copy + Drop, S: Space<State = T>>(
+    space: &S,
+    members: &mut Vec<Member<T>>,
+    one: &Member<T>,
+)
+    requires fits { FitsTest (S.rules space.now) one.now }
+    requires each { FitTest (S.rules space.now) members.old.items }
+    ensures thins { Thins (S.rules space.now) one.now members.old.items members.new.items }
+{
+    let mut at = 0;
+    'members: while at < members.len() {
+        let other = members[at];
+        if space.supersedes(&one.state, one.cost, &other.state, other.cost) {
+            let _gone = members.swap_remove(at);
         } else {
             at += 1;
         }
-    }
-}
-
-/// Puts a label at the end of a front.
-fn add_member<T: Copy + Drop>(
-    front: &mut Vec<Member<T>>,
-    label: &Label<T>,
-) -> Result<(), AllocError>
-    ensures value { OnOk result (front.new.items ≡ front.old.items ++ member_of label.now ∷ []) }
-{
-    let one = Member {
-        cost: label.cost,
-        state: label.state,
-    };
-    match front.push(one) {
-        Ok(()) => Ok(()),
-        Err(_) => Err(AllocError),
     }
 }

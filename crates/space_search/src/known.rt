@@ -1,8 +1,8 @@
 //! What a search knows of its settled labels while the steps of one are listed.
 
-ghost use Rattle.std.specs.Prelude.{◌≡◌, ◌<◌, IfSome, length};
+ghost use Rattle.std.specs.Prelude.{◌≡◌, ◌<◌, Some, None, IfSome, MatchOption, length};
 ghost use Rattle.space_search.specs.Fronts.{IsAsked, heads_of};
-ghost use Rattle.space_search.specs.Known.{HaveKnown, known_fronts};
+ghost use Rattle.space_search.specs.Known.{HaveKnown, known_fronts, only_of};
 
 use crate::fronts::{Fronts, Head};
 use crate::heads::head_at;
@@ -17,12 +17,16 @@ pub struct Known<'a, T> {
 }
 
 impl<'a, T> Known<'a, T> {
-    /// The state of a slot's label and what it costs, where the slot has one alone; most have none.
-    /// A space asks this for each step, so it is put in place there.
+    /// The state of a slot's only label and what it costs; `None` where the slot has none, as most
+    /// do, and where it has several or once had. A space asks this for each step, so it is put in
+    /// place there.
     #[inline(always)]
     pub fn only(&self, slot: u32) -> Option<(&T, u128)>
         requires have { HaveKnown self.now }
         requires within { slot < length (heads_of self.now.fronts.now.heads) }
+        ensures value { MatchOption result (only_of (known_fronts self.now) slot ≡ None) (λ found.
+            only_of (known_fronts self.now) slot
+            ≡ Some (record { cost = found.1; state = found.0.now })) }
         ensures known { IfSome result (λ found.
             IsAsked (known_fronts self.now) slot (record { cost = found.1; state = found.0.now })) }
     {

@@ -2,6 +2,7 @@
 #![tactic(auto)]
 
 mod begin;
+mod blocks;
 mod choices;
 mod finding;
 mod fronts;
@@ -14,6 +15,7 @@ mod next;
 mod offer;
 mod outcome;
 mod phase;
+mod point;
 mod queue;
 mod search;
 mod settle;
@@ -26,6 +28,7 @@ pub use finding::least;
 pub use known::Known;
 pub use outcome::{Outcome, Run};
 pub use phase::Phase;
+pub use point::Point;
 pub use search::Search;
 pub use space::Space;
 pub use step::{Step, Steps};

@@ -1,6 +1,7 @@
 //! A new label is queued, unless that is needless.
 
 ghost use Rattle.std.specs.Prelude.{◌≡◌, ◌<◌, [], ◌∷◌, ◌++◌, IsTrue, OnErr, OnOk, false, length};
+ghost use Rattle.space_search.specs.Blocks.{members_of, HaveFloors};
 ghost use Rattle.space_search.specs.Books.{books, IsSearch, Follows, IsCovered, IsUncovered, IsLater, RanksAbove, Leaves};
 ghost use Rattle.space_search.specs.Fronts.{FitTest};
 ghost use Rattle.space_search.specs.Moves.{Offers};
@@ -9,7 +10,7 @@ ghost use Rattle.space_search.specs.Rules.{LOW_BOUND};
 ghost use Rattle.space_search.specs.declared.fronts.Member.{Member};
 ghost use Rattle.std.specs.List.{Contains};
 
-use crate::fronts::{Head, Member};
+use crate::fronts::{Block, Head, Member};
 use crate::heads::head_at;
 use crate::label::Label;
 use crate::lists::Lists;
@@ -48,22 +49,50 @@ pub(crate) fn is_covered<T: Copy + Drop, S: Space<State = T>>(
     }
 }
 
-/// Whether a label of a front covers the state at this cost.
+/// Whether a label of a front covers the state at this cost. Blocks in which none can are passed
+/// over.
 fn is_covered_by_front<T: Copy + Drop, S: Space<State = T>>(
     space: &S,
-    front: &Vec<Member<T>>,
+    front: &Vec<Block<T>>,
     state: &T,
     cost: u128,
 ) -> bool
     requires valid { IsTrue ((S.rules space.now).is_valid state.now) }
     requires small { cost < LOW_BOUND }
-    requires each { FitTest (S.rules space.now) front.now.items }
-    ensures covered { IsTrue result → (one : Member T) × Contains front.now.items one ×
+    requires each { FitTest (S.rules space.now) (members_of front.now.items) }
+    requires floors { HaveFloors (S.rules space.now) front.now.items }
+    ensures covered { IsTrue result →
+        (one : Member T) × Contains (members_of front.now.items) one ×
         IsTrue ((S.rules space.now).covers one.state one.cost state.now cost) }
-    ensures uncovered { result ≡ false → (one : Member T) → Contains front.now.items one →
+    ensures uncovered { result ≡ false →
+        (one : Member T) → Contains (members_of front.now.items) one →
         (S.rules space.now).covers one.state one.cost state.now cost ≡ false }
 {
-    'front: for one in front.as_slice() {
+    let point = space.point(state, cost);
+    'parts: for block in front.as_slice() {
+        if block.low.is_under(&point) && is_covered_by_block(space, &block.members, state, cost) {
+            return true;
+        }
+    }
+    false
+}
+
+/// Whether one of these labels covers the state at this cost.
+fn is_covered_by_block<T: Copy + Drop, S: Space<State = T>>(
+    space: &S,
+    members: &Vec<Member<T>>,
+    state: &T,
+    cost: u128,
+) -> bool
+    requires valid { IsTrue ((S.rules space.now).is_valid state.now) }
+    requires small { cost < LOW_BOUND }
+    requires each { FitTest (S.rules space.now) members.now.items }
+    ensures covered { IsTrue result → (one : Member T) × Contains members.now.items one ×
+        IsTrue ((S.rules space.now).covers one.state one.cost state.now cost) }
+    ensures uncovered { result ≡ false → (one : Member T) → Contains members.now.items one →
+        (S.rules space.now).covers one.state one.cost state.now cost ≡ false }
+{
+    'members: for one in members.as_slice() {
         if space.covers(&one.state, one.cost, state, cost) {
             return true;
         }

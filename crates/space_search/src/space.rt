@@ -7,6 +7,7 @@ ghost use Rattle.space_search.specs.Rules.{Rules, LOW_BOUND};
 ghost use Rattle.space_search.specs.Laws.{IsSpace, Supersedes};
 
 use crate::known::Known;
+use crate::point::Point;
 use crate::step::{Step, Steps};
 use std::alloc::AllocError;
 
@@ -53,10 +54,11 @@ pub trait Space {
         requires within { number < (rules self.now).steps state.now }
         ensures value { result ≡ (rules self.now).step state.now number };
 
-    /// Lists the permitted steps of a state that is reached at a cost, in place of what the list held.
-    /// What a known label covers may be left out, as far as that is found with little work: a search
-    /// would drop it. A search asks for all steps of a state at once, so that a space can look up
-    /// once what they share; one in which they share nothing needs no body for it, and lists all.
+    /// Lists the permitted steps of a state that is reached at a cost, in the order of their
+    /// numbers, in place of what the list held. What a known label covers may be left out, as far as
+    /// that is found with little work: a search would drop it. A search asks for all steps of a
+    /// state at once, so that a space can look up once what they share; one in which they share
+    /// nothing needs no body for it, and lists all.
     fn list_steps(
         &self,
         state: &Self::State,
@@ -95,6 +97,14 @@ pub trait Space {
         requires small_a { ca < LOW_BOUND }
         requires small_b { cb < LOW_BOUND }
         ensures value { result ≡ (rules self.now).covers a.now ca b.now cb };
+
+    /// The point of a state at a cost: where a state covers another, its point lies under the
+    /// other's. The covering test passes over settled labels by it where a slot has many; a space
+    /// that says one point of all is right, and then each of them is asked.
+    fn point(&self, state: &Self::State, cost: u128) -> Point
+        requires valid { IsTrue ((rules self.now).is_valid state.now) }
+        requires small { cost < LOW_BOUND }
+        ensures value { result ≡ (rules self.now).point state.now cost };
 
     /// Whether a settled label makes an older one needless in the covering test: for all that comes
     /// and ranks no less than the first, the first covers what the second covers. A space may

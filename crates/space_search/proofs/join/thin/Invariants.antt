@@ -1,9 +1,9 @@
 use Rattle.std.proofs.Common.{◌-◌, length}
-use Rattle.space_search.specs.Fronts.{Thins, member_of}
+use Rattle.space_search.specs.Fronts.{Thins}
 use Rattle.space_search.proofs.join.thin.Given as goal
 
-abbrev pub invariant-front : goal.invariant-front
-invariant-front g l = Thins (g.S.Space.rules l.space) (member_of l.label) l.initial.front.items l.front.items
+abbrev pub invariant-members : goal.invariant-members
+invariant-members g l = Thins (g.S.Space.rules l.space) l.one l.initial.members.items l.members.items
 
-abbrev pub decreases-front : goal.decreases-front
-decreases-front g l = length l.front.items - l.at
+abbrev pub decreases-members : goal.decreases-members
+decreases-members g l = length l.members.items - l.at

@@ -1,13 +1,15 @@
 use Rattle.std.proofs.Common.{◌≡◌, List, false, arith, sym, ◌∙◌, subst}
 use Rattle.std.proofs.lemmas.Option.{slice_get_within}
 use Rattle.std.specs.List.{Contains}
+use Rattle.space_search.specs.Blocks.{members_of}
 use Rattle.space_search.specs.Books.{books}
 use Rattle.space_search.specs.Fronts.{member_of}
+use Rattle.space_search.specs.declared.fronts.Block.{Block}
 use Rattle.space_search.specs.declared.fronts.Head.TheVariants.{Empty, One, Many}
 use Rattle.space_search.specs.declared.fronts.Member.{Member}
 use Rattle.item_list.proofs.ListLemmas.{Contains-none}
 use Rattle.space_search.proofs.FrontLemmas.{alone-here, alone-is, head-is, front-fits, front-covered, front-uncovered, number-there}
-use Rattle.space_search.proofs.JoinLemmas.{many-read, many-within}
+use Rattle.space_search.proofs.ManyLemmas.{many-read, many-there, many-within}
 use Rattle.space_search.proofs.offer.is_covered.Goals as goal
 
 pub index-label-requires : goal.index-label-requires
@@ -60,7 +62,7 @@ is_covered_by_front-requires-clause-each g c one in_front =
     front-fits (g.S.Space.rules c.args.space.now) (g.met.S.Space.keeps_laws c.args.space.now) (books c.args.lists.now) c.requires.kept
     c.args.state.now c.args.cost c.requires.later c.slot-slot.result c.slot-slot.ensures.value c.head_at.result c.head_at.ensures.value
     (Many c.in-Many.front) c.in-Many.is one
-    (subst (λ (l : List (Member g.row.T.Denot)). Contains l one) (sym read) in_front)
+    (subst (λ (l : List (Block g.row.T.Denot)). Contains (members_of l) one) (sym read) in_front)
 
 pub returns-in-Empty-clause-uncovered : goal.returns-in-Empty-clause-uncovered
 returns-in-Empty-clause-uncovered g c same =
@@ -107,7 +109,7 @@ returns-in-Many-clause-covered g c covers =
     front-covered (g.S.Space.rules c.args.space.now) (g.met.S.Space.keeps_laws c.args.space.now) (books c.args.lists.now) c.requires.kept
     c.args.state.now c.args.cost c.requires.later c.slot-slot.result c.slot-slot.ensures.value c.head_at.result c.head_at.ensures.value
     (Many c.in-Many.front) c.in-Many.is one.0
-    (subst (λ (l : List (Member g.row.T.Denot)). Contains l one.0) (sym read) one.1) one.2
+    (subst (λ (l : List (Block g.row.T.Denot)). Contains (members_of l) one.0) (sym read) one.1) one.2
 
 pub returns-in-Many-clause-uncovered : goal.returns-in-Many-clause-uncovered
 returns-in-Many-clause-uncovered g c uncovers =
@@ -123,4 +125,14 @@ returns-in-Many-clause-uncovered g c uncovers =
     (Many c.in-Many.front) c.in-Many.is
     (λ one in_front.
     c.is_covered_by_front.ensures.uncovered uncovers one
-    (subst (λ (l : List (Member g.row.T.Denot)). Contains l one) read in_front))
+    (subst (λ (l : List (Block g.row.T.Denot)). Contains (members_of l) one) read in_front))
+
+pub is_covered_by_front-requires-clause-floors : goal.is_covered_by_front-requires-clause-floors
+is_covered_by_front-requires-clause-floors g c =
+    let h =
+    head-is (g.S.Space.rules c.args.space.now) (g.met.S.Space.keeps_laws c.args.space.now) (books c.args.lists.now) c.requires.kept
+    c.args.state.now c.args.cost c.requires.later c.slot-slot.result c.slot-slot.ensures.value c.head_at.result c.head_at.ensures.value
+    (Many c.in-Many.front) c.in-Many.is in
+    c.requires.kept.index.floors c.in-Many.front c.index.result.now.items
+    (many-there c.args.lists.now.fronts.many.items c.in-Many.front c.index.result.now
+    (many-within c.args.lists.now.fronts.many.items c.in-Many.front h) c.index.ensures)

@@ -1,5 +1,5 @@
-use Rattle.space_search.proofs.FrontLemmas.{IsTestedBelow}
+use Rattle.space_search.proofs.FrontLemmas.{IsPassedBelow}
 use Rattle.space_search.proofs.offer.is_covered_by_front.Given as goal
 
-abbrev pub invariant-front : goal.invariant-front
-invariant-front g l = IsTestedBelow (g.S.Space.rules l.space) l.one-items l.state l.cost l.one-index
+abbrev pub invariant-parts : goal.invariant-parts
+invariant-parts g l = IsPassedBelow (g.S.Space.rules l.space) l.block-items l.state l.cost l.block-index
