@@ -8,14 +8,15 @@ use Rattle.elev_buffer.specs.Slots.{slot_of}
 use Rattle.elev_buffer.specs.declared.labels.Pair.{Pair}
 use Rattle.cost_model.specs.Labels.{label_of}
 use Rattle.cost_model.specs.Parts.{IsHeld}
-use Rattle.cost_model.specs.Prices.{Prices}
+use Rattle.cost_model.specs.Prices.{IsPrices, Prices}
 use Rattle.cost_model.specs.Walks.{pair_of}
 use Rattle.cost_model.specs.declared.parts.Carry.{Carry}
-use Rattle.elev_buffer.proofs.CallerLemmas.{covers-test, slot-covered, slot-within, slots-enough}
+use Rattle.elev_buffer.proofs.CallerLemmas.{covers-below, covers-test, slot-covered, slot-within, slots-enough}
 use Rattle.overpass_graph.proofs.CallerLemmas.{out-sound}
 use Rattle.cost_model.specs.Rides.{Leg}
+use Rattle.space_search.specs.Rules.{IsUnder}
 use Rattle.bike_space.specs.Spent.{terms_of}
-use Rattle.bike_space.specs.Tasks.{Task, chosen, covers_carry, entered, is_carried, is_within, may_take, rules_of, slot_on, slots_on}
+use Rattle.bike_space.specs.Tasks.{Task, chosen, covers_carry, entered, is_carried, is_within, may_take, point_on, rules_of, slot_on, slots_on}
 use Rattle.std.proofs.lemmas.Option.{cond_some}
 
 -- ---- What is carried
@@ -92,6 +93,14 @@ covered-slot leg a b ca cb h =
     ap (λ (link : ℕ). slot_of (slots_on leg) (terms_of leg).modes link (pair_of a)) parts.0
     ∙ slot-covered (terms_of leg) (label_of a ca) (label_of b cb) (slots_on leg) b.link
     ((covers-test (terms_of leg) (label_of a ca) (label_of b cb)).0 parts.1)
+
+-- the point of what covers lies under that of what it covers
+pub covered-under : (leg : Leg) (a b : Carry) (ca cb : ℕ) → IsPrices leg.ride.prices → IsTrue (covers_carry leg a ca b cb) →
+    IsUnder (point_on leg a ca) (point_on leg b cb)
+covered-under leg a b ca cb prices h =
+    let below = covers-below (terms_of leg) (label_of a ca) (label_of b cb) prices.down_rate.low prices.up_rate.low
+    ((covers-test _ _ _).0 (covers-parts leg a b ca cb h).1) in
+    record { x = below.down; y = below.up; z = below.both }
 
 -- a label of the same link that covers another is what covers
 pub parts-cover : (leg : Leg) (a b : Carry) (ca cb : ℕ) → a.link ≡ b.link →

@@ -22,7 +22,7 @@ use Rattle.bike_space.specs.Remaining.{IsRemainingUpTo, rest_price}
 use Rattle.bike_space.specs.Tasks.{Task, chosen, covers_carry, entered, is_carried, may_take, rules_of}
 use Rattle.bike_space.specs.Lawful.{IsTask}
 use Rattle.bike_space.proofs.WalkLemmas.{take-follows}
-use Rattle.bike_space.proofs.CarryLemmas.{carried-is, is-carried, covered-slot, covers-parts, parts-cover, slot-one_of, some-is, step-is}
+use Rattle.bike_space.proofs.CarryLemmas.{carried-is, is-carried, covered-slot, covered-under, covers-parts, parts-cover, slot-one_of, some-is, step-is}
 use Rattle.std.proofs.lemmas.Option.{cond_some}
 
 module _ (task : Task) (lawful : IsTask task) where
@@ -91,6 +91,7 @@ module _ (task : Task) (lawful : IsTask task) where
         (label-through task.leg.ride.prices _ a b c ca cb cost lawful.prices first.1 second.1);
     cheaper = λ a b ca cb va vb h. label-cheaper task.leg.ride.prices _ a b ca cb lawful.prices
         (covers-parts task.leg a b ca cb h).1;
+    under = λ a b ca cb va vb h. covered-under task.leg a b ca cb lawful.prices h;
   }
 
   -- the modes of the leg allow the facts of each of its links

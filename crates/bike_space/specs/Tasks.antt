@@ -9,9 +9,12 @@ use Rattle.cost_model.specs.declared.facts.LinkFacts.{LinkFacts}
 use Rattle.cost_model.specs.declared.parts.Carry.{Carry}
 use Rattle.elev_buffer.specs.Covers.{covers_label}
 use Rattle.elev_buffer.specs.Slots.{slot_of, slots_of}
+use Rattle.elev_buffer.specs.Sums.{sums_of}
 use Rattle.elev_buffer.specs.declared.labels.Pair.{Pair}
+use Rattle.elev_buffer.specs.declared.sums.Sums.{Sums}
 use Rattle.overpass_graph.specs.Roads.{Roads, out_links}
 use Rattle.space_search.specs.Rules.{Rules}
+use Rattle.space_search.specs.declared.point.Point.{Point}
 use Rattle.cost_model.specs.Rides.{Leg}
 use Rattle.bike_space.specs.Spent.{terms_of}
 
@@ -88,6 +91,14 @@ slots_on leg = slots_of (terms_of leg).modes leg.ride.roads.links
 abbrev pub slot_on : Leg → Carry → ℕ
 slot_on leg carry = slot_of (slots_on leg) (terms_of leg).modes carry.link (pair_of carry)
 
+-- the point of three numbers of a label
+abbrev pub point_of : Sums → Point
+point_of sums = record { x = sums.down; y = sums.up; z = sums.both }
+
+-- the point of what is carried at a cost: the three numbers of its label
+abbrev pub point_on : Leg → Carry → ℕ → Point
+point_on leg carry cost = point_of (sums_of (terms_of leg) (label_of carry cost))
+
 -- the space that is searched
 abbrev pub rules_of : Task → Rules Carry
 rules_of task = record {
@@ -103,5 +114,6 @@ rules_of task = record {
       choice);
   is_goal = λ carry. nat_eq (task.leg.ride.roads.to carry.link) task.leg.target;
   covers = covers_carry task.leg;
+  point = point_on task.leg;
   low = λ carry. task.low (task.leg.ride.roads.to carry.link);
 }

@@ -21,9 +21,11 @@ only-requires-clause-within g c =
 pub covers_all-requires-clause-first : goal.covers_all-requires-clause-first
 covers_all-requires-clause-first g c =
     let state = c.in-Some.state.now in
+    let fits =
+    c.requires.known.fits (record { cost = c.in-Some.paid; state = state })
+    (record { slot = c.args.link; asked = c.in-Some.ensures.known }) in
     subst IsPair (sym c.pair.ensures.value)
-    (held-pair _ (pair_of state) c.args.self.now.wakes.lawful.prices
-    (carried-is _ state (c.requires.known.fits (record { cost = c.in-Some.paid; state = state }) (record { slot = c.args.link; asked = c.in-Some.ensures.known })).valid).1)
+    (held-pair _ (pair_of state) c.args.self.now.wakes.lawful.prices (carried-is _ state fits.valid).1)
 
 pub returns-then-state-link : goal.returns-then-state-link
 returns-then-state-link g c =
