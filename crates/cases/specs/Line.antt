@@ -1,7 +1,7 @@
 -- The line of cells that is searched: a state is a cell and what is due there, and a step leads to the cell
 -- ahead or to the one behind. This project's own rule.
 use Rattle.std.specs.Prelude.{ℕ, ◌+◌, ◌-◌, cond, ◌==◌, nat_lt, Option, Some, None}
-use Rattle.cases.specs.Due.{due_covers}
+use Rattle.cases.specs.Due.{due_covers, due_point}
 use Rattle.space_search.specs.Rules.{Rules}
 
 -- the cell ahead, where there is one
@@ -37,5 +37,6 @@ line_rules cells goal starts steps =
       step = λ state number. step_to state.1 number (neighbour cells number state.0);
       is_goal = λ state. state.0 == goal;
       covers = due_covers;
+      point = due_point;
       low = λ state. Some 0;
     }

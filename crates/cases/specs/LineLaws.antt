@@ -6,7 +6,7 @@ use Rattle.std.specs.Option.{is_some}
 use Rattle.space_search.specs.Laws.{IsMove, IsSpace, Supersedes}
 use Rattle.space_search.specs.Rules.{Rules}
 use Rattle.cases.specs.Due.{due_covers}
-use Rattle.cases.specs.DueLaws.{same-place, no-more_due, no-more, covers-these}
+use Rattle.cases.specs.DueLaws.{same-place, no-more_due, no-more, point-under, covers-these}
 use Rattle.cases.specs.Line.{ahead, back, neighbour, step_to, line_rules}
 
 -- a cell ahead lies on the line
@@ -125,6 +125,7 @@ module _ (cells goal starts steps : ℕ) (some : 0 < cells) (starts_small : star
                   (omega (arith, no-more_due a b ca cb h, no-more_due b c cb cc k))
                   (omega (arith, no-more a b ca cb h, no-more b c cb cc k));
               cheaper = λ a b ca cb va vb h. no-more a b ca cb h;
+              under = λ a b ca cb va vb h. point-under a b ca cb h;
             };
         kept = λ a b ca cb va vb h number within first second more other is is'.
             along a.1 b.1 number ca cb (neighbour cells number b.0) first second more other

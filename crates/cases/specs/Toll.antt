@@ -1,7 +1,7 @@
 -- The tolls that are searched: a state is a place and what is due at its next step. Three steps lead from the
 -- place 0 to the place 1, and leave more or less due there; one leads on to the goal 2.
 use Rattle.std.specs.Prelude.{ℕ, ◌+◌, Bool, false, cond, ◌==◌, nat_lt, Option, Some, None}
-use Rattle.cases.specs.Due.{due_covers}
+use Rattle.cases.specs.Due.{due_covers, due_point}
 use Rattle.space_search.specs.Rules.{Rules}
 
 -- where a step leads, and what it costs with what is due
@@ -31,5 +31,6 @@ toll_rules bounded =
       step = toll_step;
       is_goal = λ state. state.0 == 2;
       covers = due_covers;
+      point = due_point;
       low = toll_low bounded;
     }

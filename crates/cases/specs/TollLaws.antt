@@ -6,7 +6,7 @@ use Rattle.std.specs.Option.{is_some}
 use Rattle.space_search.specs.Laws.{IsMove, IsSpace}
 use Rattle.space_search.specs.Rules.{LOW_BOUND}
 use Rattle.cases.specs.Due.{due_covers}
-use Rattle.cases.specs.DueLaws.{same-place, no-more_due, no-more, covers-these}
+use Rattle.cases.specs.DueLaws.{same-place, no-more_due, no-more, point-under, covers-these}
 use Rattle.cases.specs.Toll.{toll_rules, toll_step, toll_low}
 
 -- a step leads to a state of the space
@@ -109,6 +109,7 @@ toll-keeps_laws bounded =
                 (omega (arith, no-more_due a b ca cb h, no-more_due b c cb cc k))
                 (omega (arith, no-more a b ca cb h, no-more b c cb cc k));
             cheaper = λ a b ca cb va vb h. no-more a b ca cb h;
+            under = λ a b ca cb va vb h. point-under a b ca cb h;
           };
       kept = λ a b ca cb va vb h number within first second more other is is'.
           let same : (first ≡ second) × (more ≤ other) =

@@ -3,7 +3,7 @@
 ghost use Rattle.std.specs.Prelude.{◌≡◌, ◌<◌, ◌^◌};
 ghost use Rattle.cases.specs.Line.{neighbour};
 
-use space_search::Space;
+use space_search::{Point, Space};
 use std::cell::Cell;
 
 /// Cells one behind the other, each with so many steps: 0 leads a cell ahead, any other a cell
@@ -118,6 +118,14 @@ impl Space for Line {
 
     fn covers(&self, a: &(u32, u32), ca: u128, b: &(u32, u32), cb: u128) -> bool {
         a.0 == b.0 && a.1 <= b.1 && ca <= cb
+    }
+
+    fn point(&self, state: &(u32, u32), cost: u128) -> Point {
+        Point {
+            x: state.1 as i128,
+            y: cost as i128,
+            z: 0,
+        }
     }
 
     fn supersedes(&self, a: &(u32, u32), _ca: u128, b: &(u32, u32), _cb: u128) -> bool {

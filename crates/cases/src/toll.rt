@@ -1,6 +1,6 @@
 //! A space that is searched: a state is a place and what is due at its next step.
 
-use space_search::Space;
+use space_search::{Point, Space};
 
 /// Three steps lead from the place 0 to the place 1, and leave more or less due there; one leads on
 /// to the goal 2. With a bound the space says what is still to pay at the place 1.
@@ -68,6 +68,14 @@ impl Space for Toll {
 
     fn covers(&self, a: &(u32, u32), ca: u128, b: &(u32, u32), cb: u128) -> bool {
         a.0 == b.0 && a.1 <= b.1 && ca <= cb
+    }
+
+    fn point(&self, state: &(u32, u32), cost: u128) -> Point {
+        Point {
+            x: state.1 as i128,
+            y: cost as i128,
+            z: 0,
+        }
     }
 
     fn low(&self, state: &(u32, u32)) -> Option<u128> {

@@ -36,6 +36,7 @@ endless-laws rules laws = record {
     itself = laws.covering.itself;
     through = laws.covering.through;
     cheaper = laws.covering.cheaper;
+    under = laws.covering.under;
   };
   kept = laws.kept;
   alike = record {
@@ -111,6 +112,7 @@ pub leaves-endless :
     LeavesKnown (endless rules) known cost all listed
 leaves-endless rules known cost all listed leaves = record {
   from = leaves.from;
+  rising = leaves.rising;
   rest = λ one there.
       elim (leaves.rest one there) [
         | inl has ↦ inl has

@@ -4,7 +4,7 @@ ghost use Rattle.std.specs.Prelude.{◌≡◌, IsTrue};
 ghost use Rattle.space_search.specs.Laws.{HasEvenBound, IsSpace};
 ghost use Rattle.cost_table.specs.Endless.{AreOne, endless};
 
-use space_search::{Known, Space, Steps};
+use space_search::{Known, Point, Space, Steps};
 use std::alloc::AllocError;
 
 /// A space as one without goals, in which ranks are costs: a search over it settles whatever is
@@ -86,6 +86,10 @@ impl<'a, S: Space> Space for Endless<'a, S> {
 
     fn covers(&self, a: &S::State, ca: u128, b: &S::State, cb: u128) -> bool {
         self.space.covers(a, ca, b, cb)
+    }
+
+    fn point(&self, state: &S::State, cost: u128) -> Point {
+        self.space.point(state, cost)
     }
 
     // Where both have one bound, ranks are compared by costs in the space itself too. That is looked

@@ -1,6 +1,7 @@
 -- The space of a grid keeps the laws of a space.
 use Rattle.std.proofs.Common.{ℕ, ◌≡◌, ◌<◌, ◌≤◌, ◌+◌, List, [], ◌∷◌, Option, Some, false, nat_eq, nat_le, ◌&&◌, refl, ap, sym, ◌∙◌, subst, arith}
 use Rattle.std.proofs.lemmas.Bool.{lt-ltb, ltb-true}
+use Rattle.std.proofs.lemmas.Int.{ints}
 use Rattle.space_search.specs.Laws.{IsSpace, IsMove}
 use Rattle.space_search.specs.Limits.{HasFewPerCell}
 use Rattle.std.proofs.lemmas.Bool.Decides.{nat_tests}
@@ -58,6 +59,8 @@ module _ (plan : Plan) (forward backward : List (Option ℕ)) (from to : ℕ) (l
               let second = covers-from b c cb cc_ q in
               covers-to a c ca cc_ (first.0 ∙ second.0) (omega (arith, first.1, second.1));
           cheaper = λ a b ca cb va vb h. (covers-from a b ca cb h).1;
+          under = λ a b ca cb va vb h.
+              record { x = omega (arith, ints); y = omega (arith, ints); z = omega (arith, ints) };
         };
         kept = λ a b ca cb va vb h number below first second more other p q.
             let both = covers-from a b ca cb h in

@@ -1,5 +1,5 @@
 -- The search space of a grid's cells, and what its runs are (this project's own rule).
-use Rattle.std.specs.Prelude.{ℕ, ◌≡◌, ◌+◌, ◌-◌, ◌*◌, List, [], ◌∷◌, Option, Some, None, cond, nat_eq, nat_lt, nat_le, ◌&&◌}
+use Rattle.std.specs.Prelude.{ℕ, ◌≡◌, ◌+◌, ◌-◌, ◌*◌, List, [], ◌∷◌, Option, Some, None, pos, cond, nat_eq, nat_lt, nat_le, ◌&&◌}
 use Rattle.space_search.specs.Rules.{Rules}
 use Rattle.space_search.specs.Runs.{IsRun, IsLeastRun, IsUnreachable}
 use Rattle.grid_map.specs.declared.plan.Plan.{Plan}
@@ -45,6 +45,7 @@ grid_rules plan costs from to =
       step = step_of plan costs;
       is_goal = λ cell. nat_eq cell to;
       covers = λ a ca b cb. nat_eq a b && nat_le ca cb;
+      point = λ cell cost. record { x = pos 0; y = pos 0; z = pos 0 };
       low = λ _. Some 0;
     }
 

@@ -8,7 +8,7 @@ ghost use Rattle.grid_map.specs.Costs.{AreCheap, cost_at, listed_costs};
 ghost use Rattle.grid_map.specs.Space.{grid_rules, step_forward, step_backward};
 
 use crate::grid::Grid;
-use space_search::Space;
+use space_search::{Point, Space};
 
 /// The cells of a grid, each a state with a cell and a slot of its own, and a step to each neighbour
 /// that a segment joins.
@@ -139,6 +139,10 @@ impl<'a> Space for GridSpace<'a> {
 
     fn covers(&self, a: &u32, ca: u128, b: &u32, cb: u128) -> bool {
         *a == *b && ca <= cb
+    }
+
+    fn point(&self, _state: &u32, _cost: u128) -> Point {
+        Point { x: 0, y: 0, z: 0 }
     }
 
     fn low(&self, _state: &u32) -> Option<u128> {

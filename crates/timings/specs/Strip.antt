@@ -1,7 +1,8 @@
 -- The strip of cells that is searched: a state is a cell and what is due there, and four steps lead to the
 -- neighbours of a cell. This project's own rule.
-use Rattle.std.specs.Prelude.{ℕ, ◌+◌, ◌-◌, Bool, true, false, cond, ◌==◌, nat_lt, Option, Some, None}
+use Rattle.std.specs.Prelude.{ℕ, pos, ◌+◌, ◌-◌, Bool, true, false, cond, ◌==◌, nat_lt, Option, Some, None}
 use Rattle.space_search.specs.Rules.{Rules}
+use Rattle.space_search.specs.declared.point.Point.{Point}
 
 -- the cell so many cells ahead, where the strip goes so far
 abbrev pub ahead : ℕ → ℕ → ℕ → Option ℕ
@@ -27,6 +28,10 @@ abbrev pub strip_covers : ℕ × ℕ → ℕ → ℕ × ℕ → ℕ → Bool
 strip_covers a ca b cb =
     cond (a.0 == b.0) (cond (nat_lt b.1 a.1) false (cond (nat_lt cb ca) false true)) false
 
+-- the point of a state at a cost: what is due, and the cost
+abbrev pub strip_point : ℕ × ℕ → ℕ → Point
+strip_point state cost = record { x = pos state.1; y = pos cost; z = pos 0 }
+
 -- the space of so many cells, in rows of a width, with so many starts in the first cell and so many steps
 -- of a state. The more is due at a start the less it costs, so that no start covers another. Nothing is a
 -- goal
@@ -44,5 +49,6 @@ strip_rules cells width starts steps =
       step = λ state number. step_to state.1 number (neighbour cells width number state.0);
       is_goal = λ state. false;
       covers = strip_covers;
+      point = strip_point;
       low = λ state. Some 0;
     }

@@ -1,11 +1,12 @@
 -- The strip of cells keeps the laws of a search space.
 use Rattle.std.proofs.Common.{◌≡◌, ℕ, zero, suc, ◌<◌, ◌≤◌, ◌+◌, ◌^◌, Option, Some, None, refl, ap, arith, sym, ◌∙◌, subst}
 use Rattle.std.proofs.lemmas.Bool.Decides.{nat_tests}
+use Rattle.std.proofs.lemmas.Int.{ints}
 use Rattle.std.specs.Bool.{IsTrue}
 use Rattle.std.specs.Option.{is_some}
 use Rattle.space_search.specs.Laws.{IsMove, IsSpace, Supersedes}
-use Rattle.space_search.specs.Rules.{Rules}
-use Rattle.timings.specs.Strip.{ahead, back, neighbour, step_to, strip_covers, strip_rules}
+use Rattle.space_search.specs.Rules.{IsUnder, Rules}
+use Rattle.timings.specs.Strip.{ahead, back, neighbour, step_to, strip_covers, strip_point, strip_rules}
 
 -- what covers stands in the same cell
 same-place : (a b : ℕ × ℕ) (ca cb : ℕ) → IsTrue (strip_covers a ca b cb) → a.0 ≡ b.0
@@ -18,6 +19,16 @@ no-more_due (p, d) (p', d') ca cb covers = grind (arith, nat_tests)
 -- and costs no more
 no-more : (a b : ℕ × ℕ) (ca cb : ℕ) → IsTrue (strip_covers a ca b cb) → ca ≤ cb
 no-more (p, d) (p', d') ca cb covers = grind (arith, nat_tests)
+
+-- so its point lies under that of what it covers
+point-under : (a b : ℕ × ℕ) (ca cb : ℕ) → IsTrue (strip_covers a ca b cb) →
+    IsUnder (strip_point a ca) (strip_point b cb)
+point-under a b ca cb covers =
+    record {
+      x = omega (arith, ints, no-more_due a b ca cb covers);
+      y = omega (arith, ints, no-more a b ca cb covers);
+      z = omega (arith, ints);
+    }
 
 -- and each that stands so covers
 covers-these : (a b : ℕ × ℕ) (ca cb : ℕ) → a.0 ≡ b.0 → a.1 ≤ b.1 → ca ≤ cb → IsTrue (strip_covers a ca b cb)
@@ -142,6 +153,7 @@ module _ (cells width starts steps : ℕ) (some : 0 < cells) (starts_small : sta
                   (omega (arith, no-more_due a b ca cb h, no-more_due b c cb cc k))
                   (omega (arith, no-more a b ca cb h, no-more b c cb cc k));
               cheaper = λ a b ca cb va vb h. no-more a b ca cb h;
+              under = λ a b ca cb va vb h. point-under a b ca cb h;
             };
         kept = λ a b ca cb va vb h number within first second more other is is'.
             along a.1 b.1 number ca cb (neighbour cells width number b.0) first second more other

@@ -3,7 +3,7 @@
 ghost use Rattle.std.specs.Prelude.{◌≡◌, ◌<◌, ◌≤◌, ◌^◌};
 ghost use Rattle.timings.specs.Strip.{ahead, back, neighbour};
 
-use space_search::Space;
+use space_search::{Point, Space};
 
 /// Cells in rows of one width, one row behind the other. So many starts lie in the first cell, each
 /// with more due and at less cost than the one before, and each cell has so many steps: 0 goes a
@@ -115,6 +115,14 @@ impl Space for Strip {
 
     fn covers(&self, a: &(u32, u32), ca: u128, b: &(u32, u32), cb: u128) -> bool {
         a.0 == b.0 && a.1 <= b.1 && ca <= cb
+    }
+
+    fn point(&self, state: &(u32, u32), cost: u128) -> Point {
+        Point {
+            x: state.1 as i128,
+            y: cost as i128,
+            z: 0,
+        }
     }
 
     fn supersedes(&self, a: &(u32, u32), _ca: u128, b: &(u32, u32), _cb: u128) -> bool {
