@@ -28,7 +28,7 @@ timed() {
 
 # The text of a constant of the crate of sample texts.
 sample() {
-  sed -n "/^pub const $1: /,/^\";/p" crates/sample_texts/src/lib.rt | sed '1s/^[^"]*"//; $d'
+  sed -n "/^pub const $1: /,/^\";/p" crates/case_rows/src/samples.rt | sed '1s/^[^"]*"//; $d'
 }
 sample TREK > "$folder/trek.brf"
 sample LOOK > "$folder/look.dat"

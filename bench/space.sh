@@ -27,7 +27,7 @@ seconds() {
 
 # The text of a constant of the crate of sample texts.
 sample() {
-  sed -n "/^pub const $1: /,/^\";/p" crates/sample_texts/src/lib.rt | sed '1s/^[^"]*"//; $d'
+  sed -n "/^pub const $1: /,/^\";/p" crates/case_rows/src/samples.rt | sed '1s/^[^"]*"//; $d'
 }
 
 # The pairs that were searched, as the other program reads them.

@@ -5,9 +5,11 @@ mod case;
 mod escape;
 mod places;
 mod report;
+mod samples;
 mod table;
 
 pub use case::Case;
 pub use places::place_of;
 pub use report::Report;
+pub use samples::{GATE, LOOK, NAMED, TREK};
 pub use table::Table;

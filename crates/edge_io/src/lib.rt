@@ -7,8 +7,6 @@ mod failed;
 mod files;
 mod follow;
 mod hub;
-#[cfg(test)]
-mod hub_tests;
 mod leaving;
 mod peers;
 mod replies;
@@ -17,8 +15,6 @@ mod sink;
 mod sockets;
 mod system_files;
 mod tcp_hub;
-#[cfg(test)]
-mod tests;
 mod turns;
 mod whole;
 mod whole_error;

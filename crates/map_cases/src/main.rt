@@ -14,8 +14,7 @@ mod space;
 mod sums;
 mod track;
 
-use case_rows::{Report, Table};
-use sample_texts::NAMED;
+use case_rows::{NAMED, Report, Table};
 use std::io;
 
 fn main(rt: HostRuntime) -> io::Result<()> {

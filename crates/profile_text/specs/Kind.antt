@@ -1,6 +1,7 @@
 -- What a token is. The words are those of the routing profiles of the developers guide; names, looks and
 -- literals are this project's own rule.
-use Rattle.std.specs.Prelude.{ℕ, Bool, false, not, ◌&&◌, ◌||◌, List, [], ◌∷◌, length, nat_eq, ◌==◌, if◌then◌else◌, Option, Some, None, ℤ, Result, Ok, Err, codes, bytes_eq}
+use Rattle.std.specs.Prelude.{ℕ, Bool, false, not, ◌&&◌, ◌||◌, List, [], ◌∷◌, map, length, nat_eq, ◌==◌, if◌then◌else◌, Option, Some, None, ℤ, Result, Ok, Err, codes, bytes_eq}
+use Rattle.std.specs.Borrow.{Bor}
 use Rattle.std.specs.Char.{is_ascii_digit, is_ascii_alphanumeric}
 use Rattle.std.specs.List.{prefix_len, starts_with}
 use Rattle.fixed_num.specs.declared.literal.NumError.{NumError}
@@ -13,43 +14,55 @@ use Rattle.profile_text.specs.declared.kind.Kind.{Kind}
 use Rattle.profile_text.specs.declared.kind.Kind.TheVariants.{Open, Close, Opens, Assign, Equals, Then, Else, True, False, Not, Switch, If, Two, Number, BadNumber, Look, Name, Other}
 use Rattle.profile_text.specs.Look.{is_look}
 
+-- what stands beside a text in a list of words, where it is one of them
+abbrev pub beside : {A : Type 0} → List (List ℕ × A) → List ℕ → Option A
+beside [] text = None
+beside ((word, it) ∷ rows) text = if bytes_eq text word then Some it else beside rows text
+
+-- the words of a table, each with what stands beside it
+abbrev pub words_in : {A : Type 0} → List (Bor (List ℕ) × A) → List (List ℕ × A)
+words_in rows = map (λ row. (row.0.now, row.1)) rows
+
 -- the quoted word that a token is, but for the operators of two operands and the sections
 unfoldable pub word_of : List ℕ → Option Kind
-word_of text =
-    if bytes_eq text (codes "(") then Some Open
-    else (if bytes_eq text (codes ")") then Some Close
-    else (if bytes_eq text (codes "assign") then Some Assign
-    else (if bytes_eq text (codes "=") then Some Equals
-    else (if bytes_eq text (codes "then") then Some Then
-    else (if bytes_eq text (codes "else") then Some Else
-    else (if bytes_eq text (codes "true") then Some True
-    else (if bytes_eq text (codes "false") then Some False
-    else (if bytes_eq text (codes "not") then Some Not
-    else (if bytes_eq text (codes "switch") then Some Switch
-    else (if bytes_eq text (codes "if") then Some If else None))))))))))
+word_of = beside (
+    (codes "(", Open) ∷
+    (codes ")", Close) ∷
+    (codes "assign", Assign) ∷
+    (codes "=", Equals) ∷
+    (codes "then", Then) ∷
+    (codes "else", Else) ∷
+    (codes "true", True) ∷
+    (codes "false", False) ∷
+    (codes "not", Not) ∷
+    (codes "switch", Switch) ∷
+    (codes "if", If) ∷ []
+    )
 
 -- the operator of two operands that a token is
 unfoldable pub op_of : List ℕ → Option Op
-op_of text =
-    if bytes_eq text (codes "or") then Some Or
-    else (if bytes_eq text (codes "and") then Some And
-    else (if bytes_eq text (codes "xor") then Some Xor
-    else (if bytes_eq text (codes "multiply") then Some Multiply
-    else (if bytes_eq text (codes "divide") then Some Divide
-    else (if bytes_eq text (codes "add") then Some Add
-    else (if bytes_eq text (codes "sub") then Some Sub
-    else (if bytes_eq text (codes "max") then Some Max
-    else (if bytes_eq text (codes "min") then Some Min
-    else (if bytes_eq text (codes "equal") then Some Equal
-    else (if bytes_eq text (codes "greater") then Some Greater
-    else (if bytes_eq text (codes "lesser") then Some Lesser else None)))))))))))
+op_of = beside (
+    (codes "or", Or) ∷
+    (codes "and", And) ∷
+    (codes "xor", Xor) ∷
+    (codes "multiply", Multiply) ∷
+    (codes "divide", Divide) ∷
+    (codes "add", Add) ∷
+    (codes "sub", Sub) ∷
+    (codes "max", Max) ∷
+    (codes "min", Min) ∷
+    (codes "equal", Equal) ∷
+    (codes "greater", Greater) ∷
+    (codes "lesser", Lesser) ∷ []
+    )
 
 -- the section that a token opens
 unfoldable pub section_of : List ℕ → Option Section
-section_of text =
-    if bytes_eq text (codes "---context:global") then Some Global
-    else (if bytes_eq text (codes "---context:way") then Some Way
-    else (if bytes_eq text (codes "---context:node") then Some Node else None))
+section_of = beside (
+    (codes "---context:global", Global) ∷
+    (codes "---context:way", Way) ∷
+    (codes "---context:node", Node) ∷ []
+    )
 
 -- the token begins with three dashes
 abbrev pub has_dashes : List ℕ → Bool

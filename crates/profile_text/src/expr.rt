@@ -33,7 +33,6 @@ pub enum Op {
 }
 
 /// An expression.
-#[derive(Drop)]
 pub enum Expr {
     /// A number.
     Number(Num),
@@ -54,4 +53,21 @@ pub enum Expr {
     Two(Op, Box<Expr>, Box<Expr>),
     /// The second operand where the first is nonzero, else the third.
     Pick(Box<Expr>, Box<Expr>, Box<Expr>),
+}
+
+impl Drop for Expr {
+    fn drop(self) {
+        match self {
+            Expr::Number(_) => {}
+            Expr::Var { name: _, line: _ } => {}
+            Expr::Look {
+                tag: _,
+                values: _,
+                line: _,
+            } => {}
+            Expr::Not(_) => {}
+            Expr::Two(_, _, _) => {}
+            Expr::Pick(_, _, _) => {}
+        }
+    }
 }

@@ -1,7 +1,7 @@
 //! What a token is.
 ghost use Rattle.std.specs.Prelude.{◌≡◌, Option, None, Some};
 ghost use Rattle.std.specs.List.{prefix_len};
-ghost use Rattle.profile_text.specs.Kind.{kind_of, op_of, word_of, section_of, plain_kind, literal_kind, must_be_literal, has_dashes, is_name, is_name_byte};
+ghost use Rattle.profile_text.specs.Kind.{beside, words_in, kind_of, op_of, word_of, section_of, plain_kind, literal_kind, must_be_literal, has_dashes, is_name, is_name_byte};
 
 use crate::error::TextKind;
 use crate::expr::Op;
@@ -56,36 +56,63 @@ pub(crate) fn kind_of(text: &[u8]) -> Kind
     }
 }
 
+/// The quoted words, but for the operators of two operands and the sections.
+const WORDS: [(&str, Kind); 11] = [
+    ("(", Kind::Open),
+    (")", Kind::Close),
+    ("assign", Kind::Assign),
+    ("=", Kind::Equals),
+    ("then", Kind::Then),
+    ("else", Kind::Else),
+    ("true", Kind::True),
+    ("false", Kind::False),
+    ("not", Kind::Not),
+    ("switch", Kind::Switch),
+    ("if", Kind::If),
+];
+
+/// The operators of two operands.
+const OPERATORS: [(&str, Op); 12] = [
+    ("or", Op::Or),
+    ("and", Op::And),
+    ("xor", Op::Xor),
+    ("multiply", Op::Multiply),
+    ("divide", Op::Divide),
+    ("add", Op::Add),
+    ("sub", Op::Sub),
+    ("max", Op::Max),
+    ("min", Op::Min),
+    ("equal", Op::Equal),
+    ("greater", Op::Greater),
+    ("lesser", Op::Lesser),
+];
+
+/// The words that open a section.
+const SECTIONS: [(&str, Section); 3] = [
+    ("---context:global", Section::Global),
+    ("---context:way", Section::Way),
+    ("---context:node", Section::Node),
+];
+
+/// What stands beside a text in a list of words, where it is one of them.
+fn beside<T: Copy>(rows: &[(&str, T)], text: &[u8]) -> Option<T>
+    ensures value { result ≡ beside (words_in rows.now) text.now }
+{
+    'rows: for place in 0..rows.len() {
+        let (word, it) = rows[place];
+        if text == word.as_bytes() {
+            return Some(it);
+        }
+    }
+    None
+}
+
 /// The quoted word that a token is, but for the operators of two operands and the sections.
 #[tactic(auto, unfolding(crate::specs::Kind::word_of))]
 fn word_of(text: &[u8]) -> Option<Kind>
     ensures value { result ≡ word_of text.now }
 {
-    if text == b"(".as_slice() {
-        Some(Kind::Open)
-    } else if text == b")".as_slice() {
-        Some(Kind::Close)
-    } else if text == b"assign".as_slice() {
-        Some(Kind::Assign)
-    } else if text == b"=".as_slice() {
-        Some(Kind::Equals)
-    } else if text == b"then".as_slice() {
-        Some(Kind::Then)
-    } else if text == b"else".as_slice() {
-        Some(Kind::Else)
-    } else if text == b"true".as_slice() {
-        Some(Kind::True)
-    } else if text == b"false".as_slice() {
-        Some(Kind::False)
-    } else if text == b"not".as_slice() {
-        Some(Kind::Not)
-    } else if text == b"switch".as_slice() {
-        Some(Kind::Switch)
-    } else if text == b"if".as_slice() {
-        Some(Kind::If)
-    } else {
-        None
-    }
+    beside(&WORDS, text)
 }
 
 /// The operator of two operands that a token is.
@@ -93,33 +120,7 @@ fn word_of(text: &[u8]) -> Option<Kind>
 fn op_of(text: &[u8]) -> Option<Op>
     ensures value { result ≡ op_of text.now }
 {
-    if text == b"or".as_slice() {
-        Some(Op::Or)
-    } else if text == b"and".as_slice() {
-        Some(Op::And)
-    } else if text == b"xor".as_slice() {
-        Some(Op::Xor)
-    } else if text == b"multiply".as_slice() {
-        Some(Op::Multiply)
-    } else if text == b"divide".as_slice() {
-        Some(Op::Divide)
-    } else if text == b"add".as_slice() {
-        Some(Op::Add)
-    } else if text == b"sub".as_slice() {
-        Some(Op::Sub)
-    } else if text == b"max".as_slice() {
-        Some(Op::Max)
-    } else if text == b"min".as_slice() {
-        Some(Op::Min)
-    } else if text == b"equal".as_slice() {
-        Some(Op::Equal)
-    } else if text == b"greater".as_slice() {
-        Some(Op::Greater)
-    } else if text == b"lesser".as_slice() {
-        Some(Op::Lesser)
-    } else {
-        None
-    }
+    beside(&OPERATORS, text)
 }
 
 /// The section that a token opens.
@@ -127,15 +128,7 @@ fn op_of(text: &[u8]) -> Option<Op>
 fn section_of(text: &[u8]) -> Option<Section>
     ensures value { result ≡ section_of text.now }
 {
-    if text == b"---context:global".as_slice() {
-        Some(Section::Global)
-    } else if text == b"---context:way".as_slice() {
-        Some(Section::Way)
-    } else if text == b"---context:node".as_slice() {
-        Some(Section::Node)
-    } else {
-        None
-    }
+    beside(&SECTIONS, text)
 }
 
 /// What a token is that is no quoted word.

@@ -16,7 +16,7 @@ use item_list::Items;
 use lookup_table::Table;
 use overpass_graph::Map;
 use profile_code::Code;
-use sample_texts::{LOOK, TREK};
+use case_rows::{LOOK, TREK};
 use std::alloc::{AllocError, Global};
 use std::io;
 use way_class::{Bound, bind};

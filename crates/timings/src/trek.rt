@@ -8,7 +8,7 @@ use crate::ways::TAGS;
 use case_inputs::{code_of, table_of};
 use lookup_table::{Part, Table};
 use profile_code::Code;
-use sample_texts::{LOOK, TREK};
+use case_rows::{LOOK, TREK};
 use std::alloc::Global;
 
 /// The profile's code, for ways with so many tags as the table has.

@@ -4,6 +4,7 @@
 mod check;
 mod costs;
 mod row;
+mod sums;
 mod terrain_facts;
 mod track;
 mod walks;
@@ -11,4 +12,5 @@ mod walks;
 pub use check::{is_walk_at, recheck};
 pub use costs::cost_along;
 pub use row::{Row, rows};
+pub use sums::{total_cost, total_rank};
 pub use track::{Leg, Track};

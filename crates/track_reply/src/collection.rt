@@ -16,14 +16,14 @@ use crate::positions::append_positions;
 use crate::rows::{append_row, header, row_at};
 use crate::shown::Shown;
 use crate::style::Style;
-use crate::sums::{total_cost, total_length, total_rank};
+use crate::sums::total_length;
 use cost_model::FactsOf;
 use geo_int::mm3;
 use hgt_tiles::Tiles;
 use item_list::{Name, append_number};
 use overpass_graph::Map;
 use std::alloc::{AllocError, Global};
-use track_legs::{Leg, Row, Track, rows};
+use track_legs::{Leg, Row, Track, rows, total_cost, total_rank};
 
 /// A track as GeoJSON on one line: its length, cost and rank, a row for each link, the walks of its
 /// legs and of those of earlier alternatives, and its positions.

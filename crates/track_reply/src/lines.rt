@@ -15,12 +15,11 @@ use crate::rows::{append_row, header, row_at};
 use crate::shown::Shown;
 use crate::steps::append_fields;
 use crate::style::Style;
-use crate::sums::{total_cost, total_rank};
 use cost_model::FactsOf;
 use item_list::{Items, append_number};
 use overpass_graph::Map;
 use std::alloc::{AllocError, Global};
-use track_legs::{Leg, Row, Track, rows};
+use track_legs::{Leg, Row, Track, rows, total_cost, total_rank};
 
 /// A track as lines of fields: a header, a row for each link, the cost, the rank, and the walks of
 /// its legs and of those of earlier alternatives.

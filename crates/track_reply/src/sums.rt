@@ -1,13 +1,12 @@
-//! What lengths, costs and ranks add up to.
+//! What lengths add up to.
 
 ghost use Rattle.std.specs.Prelude.{◌≡◌, ◌<◌, ◌^◌};
 ghost use Rattle.track_reply.specs.Showable.{AreRowsBelow};
-ghost use Rattle.track_legs.specs.Sums.{total_cost, total_rank};
 ghost use Rattle.track_reply.specs.Sums.{total_length};
 
 use crate::rows::row_at;
 use cost_model::FactsOf;
-use track_legs::{Leg, Row};
+use track_legs::Row;
 
 /// The lengths of the links of all rows, in millimetres.
 #[tactic(auto, unfolding(crate::specs::Sums::total_length))]
@@ -30,30 +29,4 @@ fn length_of<F: FactsOf>(facts: &F, link: u32) -> u128
 {
     let found = facts.facts(link);
     u128::from(found.arrow.len)
-}
-
-/// The costs of all legs, in millionths.
-#[tactic(auto, unfolding(track_legs::specs::Sums::total_cost))]
-pub(crate) fn total_cost(legs: &[Leg]) -> u128
-    requires fits { total_cost legs.now < 2 ^ 127 }
-    ensures exact { result ≡ total_cost legs.now }
-{
-    let mut sum = 0;
-    'legs: for place in 0..legs.len() {
-        sum += legs[place].cost;
-    }
-    sum
-}
-
-/// The ranks of all legs, in millionths.
-#[tactic(auto, unfolding(track_legs::specs::Sums::total_rank))]
-pub(crate) fn total_rank(legs: &[Leg]) -> u128
-    requires fits { total_rank legs.now < 2 ^ 127 }
-    ensures exact { result ≡ total_rank legs.now }
-{
-    let mut sum = 0;
-    'legs: for place in 0..legs.len() {
-        sum += legs[place].rank;
-    }
-    sum
 }

@@ -1,6 +1,6 @@
 //! The adapters over real files, and the standard output.
 
-use super::*;
+use edge_io::{DirFiles, Files, StdSink, WholeError, WriteSink, read_whole, send_all};
 use std::alloc::{AllocError, Global};
 use std::fs;
 use std::fs::File;

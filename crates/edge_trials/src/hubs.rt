@@ -1,6 +1,6 @@
 //! The network over the loopback, in one thread.
 
-use super::*;
+use edge_io::{Event, Failed, Hub, TcpHub};
 use std::alloc::Global;
 use std::io::{Read, Write};
 use std::net::{Net, Shutdown, TcpStream};

@@ -1,5 +1,4 @@
 //! A tag table and profiles that the case tables and the timed programs share.
-#![tactic(auto)]
 
 /// A tag table of six way tags and three node tags.
 pub const LOOK: &str = "---lookupversion:10
