@@ -15,6 +15,7 @@ use std::alloc::{AllocError, Global};
 
 /// The command `grid`: the grid of a seed with `w` cells in a row and `h` rows, two places in it,
 /// and the files of a profile, if it is to go by one.
+#[derive(Drop)]
 pub struct GridCommand<'a> {
     pub from: Place,
     pub to: Place,
@@ -22,19 +23,6 @@ pub struct GridCommand<'a> {
     pub w: u64,
     pub h: u64,
     pub files: Option<CodeCommand<'a>>,
-}
-
-impl<'a> Drop for GridCommand<'a> {
-    fn drop(self) {
-        let GridCommand {
-            from: _,
-            to: _,
-            seed: _,
-            w: _,
-            h: _,
-            files: _,
-        } = self;
-    }
 }
 
 /// The command `make`: the grid of a seed with `w` cells in a row and `h` rows, and what is made of
@@ -56,6 +44,7 @@ pub struct CodeCommand<'a> {
 
 /// The commands `route`, `certify` and `table`: the files of the tag table, of the profile, of the map and of
 /// the tiles, and a query.
+#[derive(Drop)]
 pub struct RouteCommand<'a> {
     pub lookups: FileWord<'a>,
     pub profile: FileWord<'a>,
@@ -64,43 +53,18 @@ pub struct RouteCommand<'a> {
     pub tiles: Items<FileWord<'a>>,
 }
 
-impl<'a> Drop for RouteCommand<'a> {
-    fn drop(self) {
-        let RouteCommand {
-            lookups: _,
-            profile: _,
-            map: _,
-            query: _,
-            tiles: _,
-        } = self;
-    }
-}
-
 /// The command `check`: what the command `route` is given, and the file of a certificate.
+#[derive(Drop)]
 pub struct CheckCommand<'a> {
     pub route: RouteCommand<'a>,
     pub certificate: FileWord<'a>,
 }
 
-impl<'a> Drop for CheckCommand<'a> {
-    fn drop(self) {
-        let CheckCommand {
-            route: _,
-            certificate: _,
-        } = self;
-    }
-}
-
 /// The command `within`: what the command `route` is given, and a cost in millionths.
+#[derive(Drop)]
 pub struct WithinCommand<'a> {
     pub route: RouteCommand<'a>,
     pub cost: u64,
-}
-
-impl<'a> Drop for WithinCommand<'a> {
-    fn drop(self) {
-        let WithinCommand { route: _, cost: _ } = self;
-    }
 }
 
 /// The command `hills`: the hilly grid of a seed with `w` cells in a row and `h` rows.
@@ -152,6 +116,7 @@ impl<'a> ServeCommand<'a> {
 }
 
 /// What the words ask for.
+#[derive(Drop)]
 pub enum Command<'a> {
     Grid(GridCommand<'a>),
     Make(MakeCommand),
@@ -163,23 +128,6 @@ pub enum Command<'a> {
     Within(WithinCommand<'a>),
     Hills(HillsCommand),
     Serve(ServeCommand<'a>),
-}
-
-impl<'a> Drop for Command<'a> {
-    fn drop(self) {
-        match self {
-            Command::Grid(_) => {}
-            Command::Make(_) => {}
-            Command::Code(_) => {}
-            Command::Route(_) => {}
-            Command::Certify(_) => {}
-            Command::Check(_) => {}
-            Command::Table(_) => {}
-            Command::Within(_) => {}
-            Command::Hills(_) => {}
-            Command::Serve(_) => {}
-        }
-    }
 }
 
 /// The command of the words; `Usage` with the place of the first word at fault.
