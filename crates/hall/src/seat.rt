@@ -3,13 +3,22 @@
 use session_answers::{Received, Search};
 
 /// A frame that is sent: one of the two that were made before, or one of its own.
-#[derive(Drop)]
 pub(crate) enum Frame {
     /// That of want of memory.
     Memory,
     /// That of a connection that is turned away.
     Full,
     Own(Vec<u8>),
+}
+
+impl Drop for Frame {
+    fn drop(self) {
+        match self {
+            Frame::Memory => {}
+            Frame::Full => {}
+            Frame::Own(_) => {}
+        }
+    }
 }
 
 /// How far a connection is.

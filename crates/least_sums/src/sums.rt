@@ -18,9 +18,14 @@ pub(crate) enum Kept {
 
 /// The least sum of each node of a map, or none; or up to a radius alone, which then stands for
 /// every sum that is no less.
-#[derive(Drop)]
 pub struct Sums {
     pub(crate) kept: Kept,
+}
+
+impl Drop for Sums {
+    fn drop(self) {
+        let Sums { kept: _ } = self;
+    }
 }
 
 impl Model for Sums {
