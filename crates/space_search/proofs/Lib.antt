@@ -27,6 +27,7 @@ pub mod ShownLemmas
 pub mod SpentLemmas
 pub mod SplitLemmas
 pub mod TakeLemmas
+pub mod TakenLemmas
 pub mod ThinLemmas
 pub mod TurnLemmas
 pub mod TurnsLemmas

@@ -1,6 +1,7 @@
 -- What the front of the queue says of the next label.
 use Rattle.std.proofs.Common.{◌≡◌, ℕ, List, [], length, get_or, Option, Some, None, MatchOption, refl, arith, subst}
 use Rattle.std.proofs.lemmas.Option.{slice_get_read, slice_get_within, get_or_from_slice_get}
+use Rattle.std.specs.Bool.{IsTrue}
 use Rattle.std.specs.List.{slice_get, Contains}
 use Rattle.space_search.specs.Rules.{Rules}
 use Rattle.space_search.specs.Books.{Books, IsLater, IsSearch}
@@ -42,6 +43,13 @@ next-read rules kept number label read next is =
     (slice_get-same kept.labels number label read next.there
     (slice_get_read kept.labels (length kept.labels) number read refl within is))
     next
+
+-- the next label's state is valid
+pub valid-next :
+    {S : Type 0} (rules : Rules S) (kept : Books S) → IsSearch rules kept → (number : ℕ) (label read : Label S) →
+    IsNext rules kept number label → read ≡ get_or kept.labels number read → IsTrue (rules.is_valid read.state)
+valid-next rules kept search number label read next is =
+    (search.follows number read (next-read rules kept number label read next is).there).valid
 
 -- the next label ranks no less than any settled one
 pub later-next :

@@ -1,16 +1,73 @@
 -- What a part of a turn says where it comes to an end.
-use Rattle.std.proofs.Common.{◌≡◌, ℕ, ◌<◌, ◌+◌, length, arith, sym, subst}
+use Rattle.std.proofs.Common.{◌≡◌, ℕ, ◌<◌, ◌≤◌, ◌+◌, length, arith, sym, subst, ◌∙◌}
 use Rattle.item_list.specs.declared.turn.Turn.TheVariants.{More, Done}
-use Rattle.space_search.specs.Books.{Books, Follows, IsSearch, IsClosed}
+use Rattle.space_search.specs.Books.{Books, Follows, IsSearch, IsClosed, KeepsLabels, Leaves, work_left}
 use Rattle.space_search.specs.Laws.{IsSpace}
 use Rattle.space_search.specs.Moves.{Takes, WhatTaken}
 use Rattle.space_search.specs.Rules.{Rules}
 use Rattle.space_search.specs.Searches.{Turns, held_after}
 use Rattle.space_search.specs.declared.outcome.Outcome.TheVariants.{Found, NoWay, Budget}
 use Rattle.space_search.specs.declared.take.Taken.{Taken}
-use Rattle.space_search.specs.declared.take.Taken.TheVariants.{Goal, Empty, Spent}
+use Rattle.space_search.specs.declared.take.Taken.TheVariants.{Dropped, Settled, Goal, Empty, Spent}
 use Rattle.space_search.proofs.EndLemmas.{ends-more, ends-no_way, ends-found}
 use Rattle.space_search.proofs.SpentLemmas.{ends-spent}
+
+-- before the first label nothing is counted
+pub counted-none : (settled : ℕ) → settled ≡ settled + 0
+counted-none settled = omega arith
+
+-- nothing is within each quota
+pub none-within : (quota : ℕ) → 0 ≤ quota
+none-within quota = omega arith
+
+-- one more label is within the quota
+pub one-within : (count quota : ℕ) → count < quota → count + 1 ≤ quota
+one-within count quota some = omega arith
+
+module _ {S : Type 0} (rules : Rules S) (before between : Books S) (keeps : KeepsLabels before between) where
+  -- what the labels taken so far leave
+  pub leaves-taken : IsSearch rules between → Leaves rules before between
+  leaves-taken search = record { stands = search.stands; keeps = keeps }
+
+  module _ (after : Books S) where
+    -- what is left where memory runs out at one more
+    pub leaves-more : Leaves rules between after → Leaves rules before after
+    leaves-more leaves = record { stands = leaves.stands; keeps = λ place label s. leaves.keeps place label (keeps place label s) }
+
+    module _ (limit : ℕ) (taken : Taken) (takes : Takes rules limit between after taken) where
+      -- the settled labels keep their places as one more is taken
+      pub keeps-more : KeepsLabels before after
+      keeps-more = λ place label s. takes.keeps place label (keeps place label s)
+
+      -- what one more leaves
+      pub leaves-last : Leaves rules before after
+      leaves-last = record { stands = takes.kept.stands; keeps = keeps-more }
+
+module _ {S : Type 0} (rules : Rules S) (limit : ℕ) (between after : Books S) (taken : Taken)
+    (takes : Takes rules limit between after taken) where
+  -- a dropped label isn't counted
+  pub counted-dropped :
+      (settled count : ℕ) → taken ≡ Dropped → length between.settled ≡ settled + count →
+      length after.settled ≡ settled + count
+  counted-dropped settled count is counted =
+      (subst (λ t. WhatTaken rules limit between after t) is takes.what).0 ∙ counted
+
+  -- less is left to do
+  pub less-dropped : taken ≡ Dropped → work_left after < work_left between
+  less-dropped is = (subst (λ t. WhatTaken rules limit between after t) is takes.what).1
+
+  -- a settled label is counted
+  pub counted-settled :
+      (settled count : ℕ) → taken ≡ Settled → length between.settled ≡ settled + count →
+      length after.settled ≡ settled + (count + 1)
+  counted-settled settled count is counted =
+      let more : length after.settled ≡ length between.settled + 1 =
+      (subst (λ t. WhatTaken rules limit between after t) is takes.what).0 in
+      omega (arith, more, counted)
+
+  -- less is left to do
+  pub less-settled : taken ≡ Settled → work_left after < work_left between
+  less-settled is = (subst (λ t. WhatTaken rules limit between after t) is takes.what).1
 
 module _ {S : Type 0} (rules : Rules S) (laws : IsSpace rules) (limit quota count : ℕ) (before between : Books S)
     (counted : length between.settled ≡ length before.settled + count) where

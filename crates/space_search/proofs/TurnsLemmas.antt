@@ -1,22 +1,25 @@
 -- What the calls of a search say, from its phase.
-use Rattle.std.proofs.Common.{◌≡◌, ℕ, ◌≤◌, ◌+◌, ◌*◌, List, [], ◌++◌, length, Option, Some, refl, ap, arith, sym, ◌∙◌, subst}
+use Rattle.std.proofs.Common.{◌≡◌, ℕ, ◌<◌, ◌≤◌, ◌+◌, ◌*◌, ◌^◌, ◌⊎◌, inl, inr, List, [], ◌++◌, length, Option, Some, refl, ap, arith, sym, ◌∙◌, subst}
 use Rattle.std.specs.List.{slice_get}
 use Rattle.item_list.proofs.SaysLemmas.{says-map}
 use Rattle.item_list.specs.Turns.{Says, Settles}
 use Rattle.item_list.specs.declared.turn.Turn.{Turn}
+use Rattle.item_list.specs.declared.turn.Turn.TheVariants.{More, Done}
 use Rattle.space_search.specs.Books.{Books, books, Reads, Leaves}
 use Rattle.space_search.specs.Laws.{IsSpace}
 use Rattle.space_search.specs.Limits.{HasFewPerCell, IsUnspent, IsUnspentTurn}
 use Rattle.space_search.specs.Rules.{Rules}
 use Rattle.space_search.specs.Runs.{IsRun, IsLeastRun}
-use Rattle.space_search.specs.Searches.{IsPhase, IsSearchOf, Turns}
+use Rattle.space_search.specs.Searches.{IsPhase, IsSearchOf, Turns, held_after}
 use Rattle.space_search.specs.Turns.{EndsFound, EndsSearch, GoesOn, IsClosedSoFar}
-use Rattle.space_search.specs.View.{Reached, View, Held, held, view, view_of, shown_from, pick, settled_of, listed, labels_of, IsShown}
+use Rattle.space_search.specs.View.{Reached, View, Held, held, view, view_of, shown_from, pick, settled_of, listed, labels_of, IsShown, phase_after}
+use Rattle.space_search.specs.declared.lists.Lists.{Lists}
 use Rattle.space_search.specs.declared.outcome.Outcome.{Outcome}
 use Rattle.space_search.specs.declared.outcome.Outcome.TheVariants.{Found, NoWay, Budget}
 use Rattle.space_search.specs.declared.phase.Phase.{Phase}
-use Rattle.space_search.specs.declared.phase.Phase.TheVariants.{Ended}
+use Rattle.space_search.specs.declared.phase.Phase.TheVariants.{New, Running, Ended, Failed}
 use Rattle.space_search.specs.declared.search.Search.{Search}
+use Rattle.space_search.specs.declared.step.Steps.{Steps}
 use Rattle.space_search.proofs.LimitLemmas.{never-spent}
 use Rattle.item_list.proofs.ListLemmas.{slice_get-pushed}
 use Rattle.space_search.proofs.OrderLemmas.{in-order}
@@ -39,6 +42,81 @@ pub goes-same : {S : Type 0} (rules : Rules S) (search : Search S) → IsSearchO
 goes-same rules search of =
     goes-on rules (held search) (held search) of.stands.reads
     (record { stands = of.stands; keeps = λ place label s. s }) refl of.within
+
+-- what a search in this phase is
+pub phase-is :
+    {S : Type 0} (rules : Rules S) (search : Search S) (phase : Phase) → IsSearchOf rules search → search.phase ≡ phase →
+    IsPhase rules (held search) phase
+phase-is rules search phase of is = subst (λ p. IsPhase rules (held search) p) is of.is_phase
+
+-- a search that is new or goes on isn't at its end
+pub not-ended :
+    {A : Type 0} (phase : Phase) → (phase ≡ New) ⊎ (phase ≡ Running) → (end : Outcome ℕ) → phase ≡ Ended end → A
+not-ended phase (inl new) end is = cc
+not-ended phase (inr running) end is = cc
+
+-- and met no want of memory
+pub not-failed : {A : Type 0} (phase : Phase) → (phase ≡ New) ⊎ (phase ≡ Running) → phase ≡ Failed → A
+not-failed phase (inl new) is = cc
+not-failed phase (inr running) is = cc
+
+-- a search is at one end
+pub one-end : (phase : Phase) (first second : Outcome ℕ) → phase ≡ Ended first → phase ≡ Ended second → first ≡ second
+one-end phase first second is other = cc
+
+-- a turn that settles nothing settles fewer labels than its quota
+pub below-quota : (settled quota : ℕ) → 1 ≤ quota → settled < settled + quota
+below-quota settled quota some = omega arith
+
+-- where nothing is settled the limit is kept
+pub none-settled : (settled limit : ℕ) → settled ≡ 0 → settled ≤ limit
+none-settled settled limit none = omega arith
+
+-- after want of memory a search still is one
+pub of-failed :
+    {S : Type 0} (rules : Rules S) (before : Books S) (search : Search S) → search.limit < 2 ^ 32 →
+    length search.lists.settled.items ≤ search.limit → Leaves rules before (books search.lists) → search.phase ≡ Failed →
+    IsSearchOf rules search
+of-failed rules before search small within leaves is =
+    record {
+      small = small;
+      within = within;
+      stands = leaves.stands;
+      is_phase = subst (λ p. IsPhase rules (held search) p) (sym is) tt;
+    }
+
+module _ {S : Type 0} (rules : Rules S) (quota : ℕ) (before : Books S) (lists : Lists S) (limit found : ℕ) where
+  -- what a turn said of its end holds of what the search shows
+  pub ends-turned :
+      (turn : Turn (Unit {0}) (Outcome ℕ)) (phase : Phase) → phase ≡ phase_after turn →
+      Turns rules quota before (held_after limit (books lists) (turn, found)) turn →
+      Says (λ _. IsClosedSoFar rules (view_of (record { limit = limit; kept = books lists; found = found; phase = phase })))
+      (EndsSearch rules (view_of (record { limit = limit; kept = books lists; found = found; phase = phase }))) turn
+  ends-turned turn phase is turns =
+      subst
+      (λ (p : Phase).
+      Says (λ _. IsClosedSoFar rules (view_of (record { limit = limit; kept = books lists; found = found; phase = p })))
+      (EndsSearch rules (view_of (record { limit = limit; kept = books lists; found = found; phase = p }))) turn)
+      (sym is) turns.ends
+
+  module _ (steps : Steps S) (small : limit < 2 ^ 32) (within : length lists.settled.items ≤ limit) where
+    -- what holds of a search's phase after a turn
+    phase-turned :
+        (turn : Turn (Unit {0}) (Outcome ℕ)) → Turns rules quota before (held_after limit (books lists) (turn, found)) turn →
+        IsPhase rules (held_after limit (books lists) (turn, found)) (phase_after turn)
+    phase-turned (More next) turns = (turns.kept, turns.closed)
+    phase-turned (Done end) turns = (turns.ends, turns.goal)
+
+    -- after a turn a search still is one
+    pub of-turned :
+        (turn : Turn (Unit {0}) (Outcome ℕ)) (phase : Phase) → phase ≡ phase_after turn →
+        Turns rules quota before (held_after limit (books lists) (turn, found)) turn →
+        IsSearchOf rules (record { lists = lists; steps = steps; limit = limit; found = found; phase = phase })
+    of-turned turn phase is turns =
+        subst
+        (λ (p : Phase). IsSearchOf rules (record { lists = lists; steps = steps; limit = limit; found = found; phase = p }))
+        (sym is)
+        (record { small = small; within = within; stands = turns.kept.stands; is_phase = phase-turned turn turns })
 
 -- what is between a search and its last part of a turn
 pub record Between {S : Type 0} (rules : Rules S) (before after : Search S) : Type 0 where
