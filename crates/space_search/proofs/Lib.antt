@@ -4,6 +4,7 @@ pub mod ChoiceLemmas
 pub mod DoneLemmas
 pub mod DropLemmas
 pub mod EndLemmas
+pub mod FreshLemmas
 pub mod FrontLemmas
 pub mod GrowLemmas
 pub mod HeadLemmas

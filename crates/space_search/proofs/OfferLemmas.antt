@@ -3,7 +3,7 @@ use Rattle.std.proofs.Common.{◌≡◌, ℕ, ◌<◌, ◌≤◌, ◌+◌, ◌�
 use Rattle.std.specs.List.{slice_get, Contains}
 use Rattle.std.specs.List.Sorted.{IsPermutation}
 use Rattle.std.proofs.lemmas.List.Sorted.{Contains-permutation, IsPermutation-sym, length_permutation}
-use Rattle.space_search.specs.Books.{Books, IsLabel, IsSettled, Follows, IsSearch, IsAccounted, by_queue, RanksAbove, Extends, Leaves, KeepsLabels}
+use Rattle.space_search.specs.Books.{Books, IsLabel, IsSettled, Follows, IsSearch, IsAccounted, by_queue, RanksAbove, Extends, Leaves, KeepsLabels, work_left}
 use Rattle.space_search.specs.Queues.{Entry}
 use Rattle.space_search.specs.Laws.{HasRank}
 use Rattle.space_search.specs.Moves.{Offers}
@@ -15,6 +15,10 @@ use Rattle.space_search.proofs.SameLemmas.{follows-moved, keeps-same, keeps-back
 -- nothing changes in no step
 pub extends-refl : {S : Type 0} (kept : Books S) → Extends kept kept
 extends-refl kept = record { labels = λ n l h. h; queue = λ e h. h; settled = refl }
+
+-- nor in what is left to do
+pub work-same : {S : Type 0} (kept : Books S) → work_left kept ≤ work_left kept
+work-same kept = omega arith
 
 -- nothing changes where the label needn't wait
 pub offers-accounted :

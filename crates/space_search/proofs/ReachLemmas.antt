@@ -1,8 +1,9 @@
 -- A new label follows from a start or from a settled label, and ranks no less than what is settled.
-use Rattle.std.proofs.Common.{◌≡◌, ℕ, ◌<◌, ◌≤◌, ◌+◌, ◌^◌, length, Option, Some, refl, arith, sym, subst}
+use Rattle.std.proofs.Common.{◌≡◌, ℕ, ◌<◌, ◌≤◌, ◌+◌, ◌*◌, ◌^◌, length, Option, Some, refl, arith, sym, subst}
+use Rattle.std.specs.Bool.{IsTrue}
 use Rattle.space_search.specs.Books.{Books, IsSettled, Follows, from_start, from_label, RanksAbove, IsSearch}
 use Rattle.space_search.specs.Laws.{IsSpace, IsMove}
-use Rattle.space_search.specs.Rules.{Rules}
+use Rattle.space_search.specs.Rules.{Rules, COST_BOUND, LOW_BOUND}
 use Rattle.space_search.specs.declared.label.Label.{Label}
 use Rattle.space_search.proofs.SameLemmas.{settled-within}
 
@@ -14,6 +15,22 @@ pub this-one :
 this-one {S} P r found is holds state cost same =
     let one : found ≡ (state, cost) = cc in
     subst (λ (p : S × ℕ). P p.0 p.1) one holds
+
+-- what follows from a settled label costs little
+pub small-cost : (cost settled : ℕ) → cost < (settled + 1) * COST_BOUND → settled < 2 ^ 32 → cost < LOW_BOUND
+small-cost cost settled bounded few = omega arith
+
+module _ {S : Type 0} (rules : Rules S) (kept : Books S) (search : IsSearch rules kept) (place : ℕ) (label : Label S)
+    (settled : IsSettled kept place label) where
+  -- the state of a settled label is valid
+  pub settled-valid : IsTrue (rules.is_valid label.state)
+  settled-valid = (search.stands.reads.settled_follows place label settled).valid
+
+  -- and what it costs is small
+  pub settled-small : label.cost < LOW_BOUND
+  settled-small =
+      small-cost label.cost place (search.stands.reads.settled_follows place label settled).bounded
+      (omega (arith, settled-within kept place label settled, search.stands.reads.few_settled))
 
 module _ {S : Type 0} (rules : Rules S) (laws : IsSpace rules) (kept : Books S) where
   -- a label that a permitted start gives

@@ -3,8 +3,10 @@ use Rattle.std.proofs.Common.{◌≡◌, ℕ, ◌<◌, ◌≤◌, ◌+◌, ◌�
 use Rattle.std.proofs.lemmas.List.Elements.{Contains-append_left}
 use Rattle.std.proofs.lemmas.Option.{slice_get_within, slice_get-get_or}
 use Rattle.std.specs.List.{slice_get, Contains}
-use Rattle.space_search.specs.Blocks.{Splits}
+use Rattle.space_search.specs.Blocks.{IsFloor, Splits}
+use Rattle.space_search.specs.Rules.{Rules}
 use Rattle.space_search.specs.declared.fronts.Member.{Member}
+use Rattle.space_search.specs.declared.point.Point.{Point}
 use Rattle.item_list.proofs.ListLemmas.{slice_get-same}
 use Rattle.item_list.proofs.TestLemmas.{below-next}
 use Rattle.space_search.proofs.BlockLemmas.{Contains-push_cases, Contains-pushed}
@@ -16,6 +18,24 @@ pub record IsSplitBelow {S : Type 0} (whole near far : List (Member S)) (index :
   pub all :
       (place : ℕ) (other : Member S) → place < index → slice_get whole place ≡ Some other →
       Contains near other ⊎ Contains far other
+
+-- nothing is in a list that is empty
+pub none-in : {X A : Type 0} (xs : List X) (x : X) → xs ≡ [] → Contains xs x → A
+none-in xs x none there = absurd (omega (arith, there.1, ap length none))
+
+-- before the first label both parts are empty
+pub split-none :
+    {S : Type 0} (whole near far : List (Member S)) → near ≡ [] → far ≡ [] → IsSplitBelow whole near far 0
+split-none whole near far no_near no_far =
+    record {
+      of_near = λ other h. none-in near other no_near h;
+      of_far = λ other h. none-in far other no_far h;
+      all = λ place other below is. absurd (omega (arith, below));
+    }
+
+-- each point lies under those of no labels
+pub floor-none : {S : Type 0} (rules : Rules S) (low : Point) (front : List (Member S)) → front ≡ [] → IsFloor rules low front
+floor-none rules low front none one h = none-in front one none h
 
 module _ {S : Type 0} (whole near far : List (Member S)) (index : ℕ) (last : Member S)
     (so_far : IsSplitBelow whole near far index) (at : slice_get whole index ≡ Some last) where

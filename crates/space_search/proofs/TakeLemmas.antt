@@ -23,6 +23,12 @@ extends-trans a b c p q =
       settled = q.settled ∙ p.settled;
     }
 
+-- before the first of the listed steps none is to be taken care of
+pub none-offered :
+    {S : Type 0} (rules : Rules S) (kept : Books S) (label : Label S) (items : List (Step S)) (place : ℕ) (one : Step S) →
+    place < 0 → slice_get items place ≡ Some one → IsAccounted rules kept one.state (label.cost + one.cost)
+none-offered rules kept label items place one below is = absurd (omega (arith, below))
+
 -- what was taken care of still is where everything stays
 module _ {S : Type 0} (rules : Rules S) (before after : Books S) (more : Extends before after) where
   -- each settled label keeps its place

@@ -1,18 +1,13 @@
 -- What taking one label says where it ends.
-use Rattle.std.proofs.Common.{◌≡◌, ◌≢◌, ℕ, ◌<◌, ◌≤◌, ◌+◌, ◌^◌, ◌*◌, length, ap, refl, arith, sym, subst, Some, ◌-◌, ◌∙◌, List, []}
+use Rattle.std.proofs.Common.{◌≡◌, ◌≢◌, ℕ, ◌<◌, ◌≤◌, ◌+◌, ◌^◌, length, ap, refl, arith, sym, subst, Some, ◌-◌, ◌∙◌, List, []}
 use Rattle.std.specs.List.{slice_get}
 use Rattle.space_search.specs.Books.{Books, IsLabel, IsSettled, IsSearch, IsClosed, HasStepsBelow, KeepsLabels, Leaves}
 use Rattle.space_search.specs.Moves.{Takes, Drops, Settles, Advances}
-use Rattle.space_search.specs.Rules.{Rules, COST_BOUND, LOW_BOUND}
+use Rattle.space_search.specs.Rules.{Rules}
 use Rattle.space_search.specs.declared.label.Label.{Label}
 use Rattle.space_search.specs.declared.take.Taken.TheVariants.{Dropped, Settled, Empty}
 use Rattle.space_search.proofs.SameLemmas.{keeps-same}
 use Rattle.space_search.proofs.TakeLemmas.{settled-extended}
-
--- what the next label costs is small
-pub small-next :
-    (cost settled limit : ℕ) → cost < (settled + 1) * COST_BOUND → limit < 2 ^ 32 → settled ≤ limit → cost < LOW_BOUND
-small-next cost settled limit bounded small within = omega arith
 
 -- where as many labels as the limit allows aren't settled, fewer are
 pub below-limit : (settled read limit : ℕ) → settled ≡ read → read ≢ limit → settled ≤ limit → settled < limit
@@ -39,10 +34,6 @@ less-work : (after between before : ℕ) → after ≤ between → between < bef
 less-work after between before no_more less = omega arith
 
 module _ {S : Type 0} (rules : Rules S) (limit : ℕ) (before : Books S) (search : IsSearch rules before) where
-  -- where nothing is done
-  pub leaves-still : Leaves rules before before
-  leaves-still = record { stands = search.stands; keeps = λ place label s. s }
-
   -- nothing waits
   pub takes-empty :
       IsClosed rules before → length before.settled ≤ limit → before.queue ≡ [] → Takes rules limit before before Empty

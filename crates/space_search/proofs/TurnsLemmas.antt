@@ -1,5 +1,6 @@
 -- What the calls of a search say, from its phase.
 use Rattle.std.proofs.Common.{◌≡◌, ℕ, ◌<◌, ◌≤◌, ◌+◌, ◌*◌, ◌^◌, ◌⊎◌, inl, inr, List, [], ◌++◌, length, Option, Some, refl, ap, arith, sym, ◌∙◌, subst}
+use Rattle.std.proofs.lemmas.Option.{slice_get_within}
 use Rattle.std.specs.List.{slice_get}
 use Rattle.item_list.proofs.SaysLemmas.{says-map}
 use Rattle.item_list.specs.Turns.{Says, Settles}
@@ -10,7 +11,7 @@ use Rattle.space_search.specs.Laws.{IsSpace}
 use Rattle.space_search.specs.Limits.{HasFewPerCell, IsUnspent, IsUnspentTurn}
 use Rattle.space_search.specs.Rules.{Rules}
 use Rattle.space_search.specs.Runs.{IsRun, IsLeastRun}
-use Rattle.space_search.specs.Searches.{IsPhase, IsSearchOf, Turns, held_after}
+use Rattle.space_search.specs.Searches.{IsPhase, IsReadable, IsSearchOf, Turns, held_after}
 use Rattle.space_search.specs.Turns.{EndsFound, EndsSearch, GoesOn, IsClosedSoFar}
 use Rattle.space_search.specs.View.{Reached, View, Held, held, view, view_of, shown_from, pick, settled_of, listed, labels_of, IsShown, phase_after}
 use Rattle.space_search.specs.declared.lists.Lists.{Lists}
@@ -162,6 +163,11 @@ module _ {S : Type 0} (rules : Rules S) (search : Search S) (of : IsSearchOf rul
       (subst (λ (g : Option (Reached S)). slice_get ((view search).settled ++ listed g) (length (view search).settled) ≡ Some e.goal)
       (sym e.there) (slice_get-pushed (view search).settled e.goal))
 
+  -- so its number is one that can be read
+  pub found-readable : IsReadable search number
+  found-readable =
+      record { rules = rules; of = of; within = slice_get_within (labels_of (view search)) number e.goal goal-there }
+
   -- a search that found a goal shows a least run to it
   pub least-run :
       (choices : List ℕ) (cost : ℕ) → ((one : Reached S) → IsShown (view search) number one → choices ≡ one.choices) →
@@ -185,6 +191,13 @@ module _ {S : Type 0} (rules : Rules S) (search : Search S) (of : IsSearchOf rul
             omega (arith, e.least.run.short, e.numbered, of.within, shown-count rules (books search.lists) of.stands.reads)
             ),
       )
+
+-- the goal that a search ended with can be read
+pub readable-found :
+    {S : Type 0} (search : Search S) (end : Outcome ℕ) (label : ℕ) → end ≡ Found label →
+    ((rules : Rules S) × IsSearchOf rules search × EndsSearch rules (view search) end) → IsReadable search label
+readable-found search end label is ends =
+    found-readable ends.0 search ends.1 label (subst (EndsSearch ends.0 (view search)) is ends.2)
 
 -- where no cell can keep more than the limit divides into, a search doesn't end with a spent limit
 pub unspent :

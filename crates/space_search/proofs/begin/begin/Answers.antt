@@ -1,5 +1,8 @@
-use Rattle.std.proofs.Common.{arith, ◌∙◌}
-use Rattle.space_search.specs.Books.{books, IsAccounted}
+use Rattle.std.proofs.Common.{◌≡◌, ◌<◌, ◌≤◌, replicate, arith, sym, subst, ◌∙◌}
+use Rattle.space_search.specs.Books.{books, Books, IsAccounted, IsFresh}
+use Rattle.space_search.specs.Fronts.{heads_of}
+use Rattle.space_search.specs.declared.fronts.Head.TheVariants.{Empty}
+use Rattle.space_search.proofs.FreshLemmas.{above-none, stands-none, leaves-none, begins-all, search-fresh, starts-none}
 use Rattle.space_search.proofs.ReachLemmas.{follows-start, this-one}
 use Rattle.space_search.proofs.TakeLemmas.{has_starts-more}
 use Rattle.space_search.proofs.OfferLemmas.{extends-refl}
@@ -41,3 +44,53 @@ starts-preserved g c =
           }
           )
     ]
+
+pub returns-in_err-renew_heads-clause-leaves : goal.returns-in_err-renew_heads-clause-leaves
+returns-in_err-renew_heads-clause-leaves g c =
+    let none = c.requires.fresh.settled in
+    leaves-none (g.S.Space.rules c.args.space.now) (books c.args.lists.now) none _ (stands-none (g.S.Space.rules c.args.space.now) _ none)
+
+pub starts-init : goal.starts-init
+starts-init g c =
+    let old = c.requires.fresh in
+    let heads : heads_of c.renew_heads.new.heads ≡ replicate (g.S.Space.rules c.args.space.now).slots Empty =
+    subst (λ n. heads_of c.renew_heads.new.heads ≡ replicate n Empty) c.slots.ensures.value c.in_ok-renew_heads.ensures.value in
+    let fresh_books : Books g.row.T.Denot =
+    record (books c.args.lists.now) { heads = heads_of c.renew_heads.new.heads } in
+    let fresh : IsFresh fresh_books =
+    record { labels = old.labels; queue = old.queue; settled = old.settled; many = old.many } in
+    record {
+      kept = search-fresh (g.S.Space.rules c.args.space.now) fresh_books fresh heads;
+      starts = starts-none (g.S.Space.rules c.args.space.now) fresh_books fresh heads;
+      none_settled = old.settled;
+    }
+
+pub start-requires : goal.start-requires
+start-requires g c = record { within = subst (λ n. c.starts.choice < n) c.starts-choice-end.ensures.value c.starts-test.true }
+
+pub offer-requires-clause-kept : goal.offer-requires-clause-kept
+offer-requires-clause-kept g c = c.starts.invariant.kept
+
+pub offer-requires-clause-above : goal.offer-requires-clause-above
+offer-requires-clause-above g c =
+    above-none (g.S.Space.rules c.args.space.now) (books c.starts.lists) c.starts.invariant.none_settled c.in-Some.found.0 c.in-Some.found.1
+
+pub returns-in_err-offer-clause-leaves : goal.returns-in_err-offer-clause-leaves
+returns-in_err-offer-clause-leaves g c =
+    leaves-none (g.S.Space.rules c.args.space.now) (books c.args.lists.now) c.requires.fresh.settled (books c.offer.new.lists) c.in_err-offer.ensures.leaves.stands
+
+pub returns-in_err-offer-clause-settled : goal.returns-in_err-offer-clause-settled
+returns-in_err-offer-clause-settled g c =
+    c.in_err-offer.ensures.settled ∙ c.starts.invariant.none_settled ∙ sym c.requires.fresh.settled
+
+pub returns-clause-begins : goal.returns-clause-begins
+returns-clause-begins g c =
+    begins-all (g.S.Space.rules c.args.space.now) (books c.starts.lists) c.starts.invariant.none_settled c.starts.choice c.starts.invariant.kept
+    c.starts.invariant.starts (subst (λ n. n ≤ c.starts.choice) c.starts-choice-end.ensures.value c.starts-test.false)
+
+pub returns-clause-leaves : goal.returns-clause-leaves
+returns-clause-leaves g c =
+    leaves-none (g.S.Space.rules c.args.space.now) (books c.args.lists.now) c.requires.fresh.settled (books c.starts.lists) c.starts.invariant.kept.stands
+
+pub returns-clause-settled : goal.returns-clause-settled
+returns-clause-settled g c = c.starts.invariant.none_settled ∙ sym c.requires.fresh.settled

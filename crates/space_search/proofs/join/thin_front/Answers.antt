@@ -3,7 +3,7 @@ use Rattle.std.proofs.lemmas.Option.{slice_get_read}
 use Rattle.std.specs.List.{slice_get}
 use Rattle.space_search.specs.Blocks.{members_of}
 use Rattle.space_search.proofs.BlockLemmas.{in-block, floors-put, thins-put}
-use Rattle.space_search.proofs.ThinLemmas.{thins-thins}
+use Rattle.space_search.proofs.ThinLemmas.{thins-none, thins-thins}
 use Rattle.space_search.proofs.join.thin_front.Goals.{then-is_under, else-is_under}
 use Rattle.space_search.proofs.join.thin_front.Goals as goal
 
@@ -32,3 +32,21 @@ parts-preserved g c =
                 (λ one h. c.parts.invariant.1 c.parts.at w.index_mut.result.now there one (w.thin.ensures.thins.from one h)),
           )
     ]
+
+pub returns-then-not-supersedes-clause-thins : goal.returns-then-not-supersedes-clause-thins
+returns-then-not-supersedes-clause-thins g c = thins-none (g.S.Space.rules c.args.space.now) c.args.one.now (members_of c.args.front.now.items)
+
+pub returns-then-not-supersedes-clause-floors : goal.returns-then-not-supersedes-clause-floors
+returns-then-not-supersedes-clause-floors g c = c.requires.floors
+
+pub parts-init : goal.parts-init
+parts-init g c = (thins-none (g.S.Space.rules c.args.space.now) c.args.one.now (members_of c.args.front.now.items), c.requires.floors)
+
+pub thin-requires-clause-fits : goal.thin-requires-clause-fits
+thin-requires-clause-fits g c = c.requires.fits
+
+pub returns-clause-thins : goal.returns-clause-thins
+returns-clause-thins g c = c.parts.invariant.0
+
+pub returns-clause-floors : goal.returns-clause-floors
+returns-clause-floors g c = c.parts.invariant.1

@@ -1,9 +1,10 @@
-use Rattle.std.proofs.Common.{arith, ap, refl, sym, ◌≡◌, ◌+◌, ◌-◌, length}
+use Rattle.std.proofs.Common.{arith, ap, refl, sym, ◌≡◌, ◌+◌, ◌-◌, ◌∙◌, length}
 use Rattle.space_search.specs.Books.{books}
 use Rattle.space_search.proofs.KnownLemmas.{all-offered, known-accounted, known-fit, step-at}
-use Rattle.space_search.proofs.ReachLemmas.{step-fits, follows-step, above-step}
+use Rattle.space_search.proofs.OfferLemmas.{extends-refl, leaves-same, work-same}
+use Rattle.space_search.proofs.ReachLemmas.{settled-valid, settled-small, step-fits, follows-step, above-step}
 use Rattle.space_search.proofs.SameLemmas.{settled-within}
-use Rattle.space_search.proofs.TakeLemmas.{accounted-extended, offered-more, extends-trans, closed-advanced, settled-extended, leaves-extended}
+use Rattle.space_search.proofs.TakeLemmas.{none-offered, accounted-extended, offered-more, extends-trans, closed-advanced, settled-extended, leaves-extended}
 use Rattle.space_search.proofs.settle.advance.Goals as goal
 
 pub overflow_add-reached : goal.overflow_add-reached
@@ -105,3 +106,30 @@ returns-clause-leaves g c =
           settled-extended (g.S.Space.rules c.args.space.now) (books c.args.lists.now) (books c.steps.lists)
           c.steps.invariant.extends;
     }
+
+pub list_steps-requires-clause-valid : goal.list_steps-requires-clause-valid
+list_steps-requires-clause-valid g c = settled-valid (g.S.Space.rules c.args.space.now) (books c.args.lists.now) c.requires.kept _ c.args.label.now c.requires.now
+
+pub list_steps-requires-clause-small : goal.list_steps-requires-clause-small
+list_steps-requires-clause-small g c = settled-small (g.S.Space.rules c.args.space.now) (books c.args.lists.now) c.requires.kept _ c.args.label.now c.requires.now
+
+pub returns-in_err-list_steps-clause-leaves : goal.returns-in_err-list_steps-clause-leaves
+returns-in_err-list_steps-clause-leaves g c = leaves-same (g.S.Space.rules c.args.space.now) (books c.args.lists.now) c.requires.kept
+
+pub steps-init : goal.steps-init
+steps-init g c =
+    record {
+      kept = c.requires.kept;
+      extends = extends-refl (books c.args.lists.now);
+      offered = none-offered (g.S.Space.rules c.args.space.now) (books c.args.lists.now) c.args.label.now c.as_slice-step-items.result.now;
+      work = work-same (books c.args.lists.now);
+    }
+
+pub offer-requires-clause-kept : goal.offer-requires-clause-kept
+offer-requires-clause-kept g c = c.steps.invariant.kept
+
+pub returns-in_err-offer-clause-settled : goal.returns-in_err-offer-clause-settled
+returns-in_err-offer-clause-settled g c = c.in_err-offer.ensures.settled ∙ c.steps.invariant.extends.settled
+
+pub returns-clause-settled : goal.returns-clause-settled
+returns-clause-settled g c = c.steps.invariant.extends.settled

@@ -2,7 +2,9 @@ use Rattle.std.proofs.Common.{◌<◌, refl, sym, subst, ◌∙◌}
 use Rattle.std.proofs.lemmas.Option.{slice_get_within}
 use Rattle.space_search.specs.Books.{books}
 use Rattle.space_search.proofs.NextLemmas.{later-next, next-read, valid-next}
-use Rattle.space_search.proofs.TakenLemmas.{small-next, below-limit, room-below, within-more, leaves-still, takes-empty, takes-dropped, leaves-dropped, leaves-offered, now-newest, steps-newest, within-settled, takes-settled}
+use Rattle.space_search.proofs.OfferLemmas.{leaves-same}
+use Rattle.space_search.proofs.ReachLemmas.{small-cost}
+use Rattle.space_search.proofs.TakenLemmas.{below-limit, room-below, within-more, takes-empty, takes-dropped, leaves-dropped, leaves-offered, now-newest, steps-newest, within-settled, takes-settled}
 use Rattle.space_search.proofs.take.take.Goals as goal
 
 pub returns-then-goal-clause-takes : goal.returns-then-goal-clause-takes
@@ -33,8 +35,8 @@ pub is_covered-requires-clause-small : goal.is_covered-requires-clause-small
 is_covered-requires-clause-small g c =
     let next = c.in-Some.ensures.next in
     let read = next-read (g.S.Space.rules c.args.space.now) (books c.args.lists.now) c.in-Some.number next.0 c.index.result.now next.1 c.index.ensures in
-    small-next _ _ c.args.limit (c.requires.kept.follows c.in-Some.number c.index.result.now read.there).bounded c.requires.small
-    c.requires.within
+    small-cost _ _ (c.requires.kept.follows c.in-Some.number c.index.result.now read.there).bounded
+    c.requires.kept.stands.reads.few_settled
 
 pub drop_next-requires-clause-next : goal.drop_next-requires-clause-next
 drop_next-requires-clause-next g c =
@@ -83,7 +85,7 @@ returns-in_default-clause-takes g c =
     takes-empty (g.S.Space.rules c.args.space.now) c.args.limit (books c.args.lists.now) c.requires.kept c.requires.closed c.requires.within c.in_default.ensures.next
 
 pub returns-in_default-clause-leaves : goal.returns-in_default-clause-leaves
-returns-in_default-clause-leaves g c = leaves-still (g.S.Space.rules c.args.space.now) c.args.limit (books c.args.lists.now) c.requires.kept
+returns-in_default-clause-leaves g c = leaves-same (g.S.Space.rules c.args.space.now) (books c.args.lists.now) c.requires.kept
 
 pub returns-in_default-clause-fits : goal.returns-in_default-clause-fits
 returns-in_default-clause-fits g c = c.requires.within
@@ -102,7 +104,7 @@ index-requires g c =
     (slice_get_within c.args.lists.now.labels.items c.in-Some.number next.0 next.1.there)
 
 pub returns-then-goal-clause-leaves : goal.returns-then-goal-clause-leaves
-returns-then-goal-clause-leaves g c = leaves-still (g.S.Space.rules c.args.space.now) c.args.limit (books c.args.lists.now) c.requires.kept
+returns-then-goal-clause-leaves g c = leaves-same (g.S.Space.rules c.args.space.now) (books c.args.lists.now) c.requires.kept
 
 pub returns-then-goal-clause-fits : goal.returns-then-goal-clause-fits
 returns-then-goal-clause-fits g c = c.requires.within
@@ -131,7 +133,7 @@ returns-then-is_covered-clause-fits g c =
     (takes-dropped (g.S.Space.rules c.args.space.now) c.args.limit (books c.args.lists.now) c.requires.kept (books c.drop_next.new.lists) c.drop_next.ensures.drops c.requires.within).within
 
 pub returns-then-len-limit-clause-leaves : goal.returns-then-len-limit-clause-leaves
-returns-then-len-limit-clause-leaves g c = leaves-still (g.S.Space.rules c.args.space.now) c.args.limit (books c.args.lists.now) c.requires.kept
+returns-then-len-limit-clause-leaves g c = leaves-same (g.S.Space.rules c.args.space.now) (books c.args.lists.now) c.requires.kept
 
 pub returns-then-len-limit-clause-fits : goal.returns-then-len-limit-clause-fits
 returns-then-len-limit-clause-fits g c = c.requires.within
