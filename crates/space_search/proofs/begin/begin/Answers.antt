@@ -77,7 +77,8 @@ offer-requires-clause-above g c =
 
 pub returns-in_err-offer-clause-leaves : goal.returns-in_err-offer-clause-leaves
 returns-in_err-offer-clause-leaves g c =
-    leaves-none (g.S.Space.rules c.args.space.now) (books c.args.lists.now) c.requires.fresh.settled (books c.offer.new.lists) c.in_err-offer.ensures.leaves.stands
+    leaves-none (g.S.Space.rules c.args.space.now) (books c.args.lists.now) c.requires.fresh.settled (books c.offer.new.lists)
+    c.in_err-offer.ensures.leaves.stands
 
 pub returns-in_err-offer-clause-settled : goal.returns-in_err-offer-clause-settled
 returns-in_err-offer-clause-settled g c =
@@ -85,12 +86,14 @@ returns-in_err-offer-clause-settled g c =
 
 pub returns-clause-begins : goal.returns-clause-begins
 returns-clause-begins g c =
-    begins-all (g.S.Space.rules c.args.space.now) (books c.starts.lists) c.starts.invariant.none_settled c.starts.choice c.starts.invariant.kept
+    begins-all (g.S.Space.rules c.args.space.now) (books c.starts.lists) c.starts.invariant.none_settled c.starts.choice
+    c.starts.invariant.kept
     c.starts.invariant.starts (subst (λ n. n ≤ c.starts.choice) c.starts-choice-end.ensures.value c.starts-test.false)
 
 pub returns-clause-leaves : goal.returns-clause-leaves
 returns-clause-leaves g c =
-    leaves-none (g.S.Space.rules c.args.space.now) (books c.args.lists.now) c.requires.fresh.settled (books c.starts.lists) c.starts.invariant.kept.stands
+    leaves-none (g.S.Space.rules c.args.space.now) (books c.args.lists.now) c.requires.fresh.settled (books c.starts.lists)
+    c.starts.invariant.kept.stands
 
 pub returns-clause-settled : goal.returns-clause-settled
 returns-clause-settled g c = c.starts.invariant.none_settled ∙ sym c.requires.fresh.settled

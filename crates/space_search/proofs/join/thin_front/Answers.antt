@@ -34,7 +34,8 @@ parts-preserved g c =
     ]
 
 pub returns-then-not-supersedes-clause-thins : goal.returns-then-not-supersedes-clause-thins
-returns-then-not-supersedes-clause-thins g c = thins-none (g.S.Space.rules c.args.space.now) c.args.one.now (members_of c.args.front.now.items)
+returns-then-not-supersedes-clause-thins g c =
+    thins-none (g.S.Space.rules c.args.space.now) c.args.one.now (members_of c.args.front.now.items)
 
 pub returns-then-not-supersedes-clause-floors : goal.returns-then-not-supersedes-clause-floors
 returns-then-not-supersedes-clause-floors g c = c.requires.floors

@@ -18,7 +18,8 @@ low-requires g c = record { valid = c.requires.follows.valid }
 
 pub returns-in_default-clause-offers : goal.returns-in_default-clause-offers
 returns-in_default-clause-offers g c =
-    offers-accounted (g.S.Space.rules c.args.space.now) (books c.args.lists.now) c.args.label c.requires.kept (by_bound (sym c.low.ensures.value ∙ c.in_default.is))
+    offers-accounted (g.S.Space.rules c.args.space.now) (books c.args.lists.now) c.args.label c.requires.kept
+    (by_bound (sym c.low.ensures.value ∙ c.in_default.is))
 
 pub returns-in_default-clause-leaves : goal.returns-in_default-clause-leaves
 returns-in_default-clause-leaves g c = leaves-same (g.S.Space.rules c.args.space.now) (books c.args.lists.now) c.requires.kept

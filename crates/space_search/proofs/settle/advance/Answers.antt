@@ -12,7 +12,8 @@ overflow_add-reached g c =
     let n = length c.args.lists.now.settled.items in
     let one = c.step-item.result in
     let step =
-    step-at (g.S.Space.rules c.args.space.now) _ c.args.label.now.state c.args.label.now.cost c.as_slice-step-items.result.now c.steps.step-index
+    step-at (g.S.Space.rules c.args.space.now) _ c.args.label.now.state c.args.label.now.cost c.as_slice-step-items.result.now
+    c.steps.step-index
     c.step-item.result (rw (sym c.as_slice-step-items.ensures.value) at c.in_ok-list_steps.ensures.lists) c.steps-test.true
     c.step-item.is in
     omega (
@@ -32,7 +33,8 @@ pub offer-requires-clause-follows : goal.offer-requires-clause-follows
 offer-requires-clause-follows g c =
     let one = c.step-item.result in
     let step =
-    step-at (g.S.Space.rules c.args.space.now) _ c.args.label.now.state c.args.label.now.cost c.as_slice-step-items.result.now c.steps.step-index
+    step-at (g.S.Space.rules c.args.space.now) _ c.args.label.now.state c.args.label.now.cost c.as_slice-step-items.result.now
+    c.steps.step-index
     c.step-item.result (rw (sym c.as_slice-step-items.ensures.value) at c.in_ok-list_steps.ensures.lists) c.steps-test.true
     c.step-item.is in
     let counted : length c.steps.lists.settled.items ≡ (length c.args.lists.now.settled.items - 1) + 1 =
@@ -50,7 +52,8 @@ pub offer-requires-clause-above : goal.offer-requires-clause-above
 offer-requires-clause-above g c =
     let one = c.step-item.result in
     let step =
-    step-at (g.S.Space.rules c.args.space.now) _ c.args.label.now.state c.args.label.now.cost c.as_slice-step-items.result.now c.steps.step-index
+    step-at (g.S.Space.rules c.args.space.now) _ c.args.label.now.state c.args.label.now.cost c.as_slice-step-items.result.now
+    c.steps.step-index
     c.step-item.result (rw (sym c.as_slice-step-items.ensures.value) at c.in_ok-list_steps.ensures.lists) c.steps-test.true
     c.step-item.is in
     let counted : length c.steps.lists.settled.items ≡ (length c.args.lists.now.settled.items - 1) + 1 =
@@ -108,10 +111,12 @@ returns-clause-leaves g c =
     }
 
 pub list_steps-requires-clause-valid : goal.list_steps-requires-clause-valid
-list_steps-requires-clause-valid g c = settled-valid (g.S.Space.rules c.args.space.now) (books c.args.lists.now) c.requires.kept _ c.args.label.now c.requires.now
+list_steps-requires-clause-valid g c =
+    settled-valid (g.S.Space.rules c.args.space.now) (books c.args.lists.now) c.requires.kept _ c.args.label.now c.requires.now
 
 pub list_steps-requires-clause-small : goal.list_steps-requires-clause-small
-list_steps-requires-clause-small g c = settled-small (g.S.Space.rules c.args.space.now) (books c.args.lists.now) c.requires.kept _ c.args.label.now c.requires.now
+list_steps-requires-clause-small g c =
+    settled-small (g.S.Space.rules c.args.space.now) (books c.args.lists.now) c.requires.kept _ c.args.label.now c.requires.now
 
 pub returns-in_err-list_steps-clause-leaves : goal.returns-in_err-list_steps-clause-leaves
 returns-in_err-list_steps-clause-leaves g c = leaves-same (g.S.Space.rules c.args.space.now) (books c.args.lists.now) c.requires.kept

@@ -1,10 +1,10 @@
-use Rattle.std.proofs.Common.{◌<◌, refl, sym, subst, ◌∙◌}
+use Rattle.std.proofs.Common.{◌<◌, length, refl, ap, sym, subst, ◌∙◌}
 use Rattle.std.proofs.lemmas.Option.{slice_get_within}
 use Rattle.space_search.specs.Books.{books}
 use Rattle.space_search.proofs.NextLemmas.{later-next, next-read, valid-next}
 use Rattle.space_search.proofs.OfferLemmas.{leaves-same}
 use Rattle.space_search.proofs.ReachLemmas.{small-cost}
-use Rattle.space_search.proofs.TakenLemmas.{below-limit, room-below, within-more, takes-empty, takes-dropped, leaves-dropped, leaves-offered, now-newest, steps-newest, within-settled, takes-settled}
+use Rattle.space_search.proofs.TakenLemmas.{below-limit, room-below, within-more, within-same, takes-empty, takes-dropped, leaves-dropped, leaves-offered, now-newest, steps-newest, within-settled, takes-settled}
 use Rattle.space_search.proofs.take.take.Goals as goal
 
 pub returns-then-goal-clause-takes : goal.returns-then-goal-clause-takes
@@ -19,7 +19,8 @@ returns-then-goal-clause-takes g c =
         refl,
         (
           c.index.result.now,
-          next-read (g.S.Space.rules c.args.space.now) (books c.args.lists.now) c.in-Some.number next.0 c.index.result.now next.1 c.index.ensures,
+          next-read (g.S.Space.rules c.args.space.now) (books c.args.lists.now) c.in-Some.number next.0 c.index.result.now next.1
+              c.index.ensures,
           sym c.goal.ensures.value ∙ c.if-goal.true,
         ),
       );
@@ -29,12 +30,15 @@ pub is_covered-requires-clause-later : goal.is_covered-requires-clause-later
 is_covered-requires-clause-later g c =
     let next = c.in-Some.ensures.next in
     later-next _ _ c.requires.kept c.in-Some.number c.index.result.now
-    (next-read (g.S.Space.rules c.args.space.now) (books c.args.lists.now) c.in-Some.number next.0 c.index.result.now next.1 c.index.ensures)
+    (next-read (g.S.Space.rules c.args.space.now) (books c.args.lists.now) c.in-Some.number next.0 c.index.result.now next.1
+    c.index.ensures)
 
 pub is_covered-requires-clause-small : goal.is_covered-requires-clause-small
 is_covered-requires-clause-small g c =
     let next = c.in-Some.ensures.next in
-    let read = next-read (g.S.Space.rules c.args.space.now) (books c.args.lists.now) c.in-Some.number next.0 c.index.result.now next.1 c.index.ensures in
+    let read =
+    next-read (g.S.Space.rules c.args.space.now) (books c.args.lists.now) c.in-Some.number next.0 c.index.result.now next.1 c.index.ensures
+    in
     small-cost _ _ (c.requires.kept.follows c.in-Some.number c.index.result.now read.there).bounded
     c.requires.kept.stands.reads.few_settled
 
@@ -57,7 +61,8 @@ returns-then-len-limit-clause-takes g c =
         (
           c.in-Some.number,
           c.index.result.now,
-          next-read (g.S.Space.rules c.args.space.now) (books c.args.lists.now) c.in-Some.number next.0 c.index.result.now next.1 c.index.ensures,
+          next-read (g.S.Space.rules c.args.space.now) (books c.args.lists.now) c.in-Some.number next.0 c.index.result.now next.1
+              c.index.ensures,
           sym c.goal.ensures.value ∙ c.if-goal.false,
           c.is_covered.ensures.uncovered c.if-is_covered.false,
         ),
@@ -82,7 +87,8 @@ next-requires g c = record { kept = c.requires.kept }
 
 pub returns-in_default-clause-takes : goal.returns-in_default-clause-takes
 returns-in_default-clause-takes g c =
-    takes-empty (g.S.Space.rules c.args.space.now) c.args.limit (books c.args.lists.now) c.requires.kept c.requires.closed c.requires.within c.in_default.ensures.next
+    takes-empty (g.S.Space.rules c.args.space.now) c.args.limit (books c.args.lists.now) c.requires.kept c.requires.closed c.requires.within
+    c.in_default.ensures.next
 
 pub returns-in_default-clause-leaves : goal.returns-in_default-clause-leaves
 returns-in_default-clause-leaves g c = leaves-same (g.S.Space.rules c.args.space.now) (books c.args.lists.now) c.requires.kept
@@ -94,7 +100,8 @@ pub goal-requires : goal.goal-requires
 goal-requires g c =
     let next = c.in-Some.ensures.next in
     record {
-      valid = valid-next (g.S.Space.rules c.args.space.now) (books c.args.lists.now) c.requires.kept c.in-Some.number next.0 c.index.result.now next.1 c.index.ensures;
+      valid = valid-next (g.S.Space.rules c.args.space.now) (books c.args.lists.now) c.requires.kept c.in-Some.number next.0
+          c.index.result.now next.1 c.index.ensures;
     }
 
 pub index-requires : goal.index-requires
@@ -123,14 +130,17 @@ drop_next-requires-clause-covered g c = c.is_covered.ensures.covered c.if-is_cov
 
 pub returns-then-is_covered-clause-takes : goal.returns-then-is_covered-clause-takes
 returns-then-is_covered-clause-takes g c =
-    takes-dropped (g.S.Space.rules c.args.space.now) c.args.limit (books c.args.lists.now) c.requires.kept (books c.drop_next.new.lists) c.drop_next.ensures.drops c.requires.within
+    takes-dropped (g.S.Space.rules c.args.space.now) c.args.limit (books c.args.lists.now) c.requires.kept (books c.drop_next.new.lists)
+    c.drop_next.ensures.drops c.requires.within
 
 pub returns-then-is_covered-clause-leaves : goal.returns-then-is_covered-clause-leaves
-returns-then-is_covered-clause-leaves g c = leaves-dropped (g.S.Space.rules c.args.space.now) c.args.limit (books c.args.lists.now) c.requires.kept (books c.drop_next.new.lists) c.drop_next.ensures.drops
+returns-then-is_covered-clause-leaves g c =
+    leaves-dropped (g.S.Space.rules c.args.space.now) c.args.limit (books c.args.lists.now) c.requires.kept (books c.drop_next.new.lists)
+    c.drop_next.ensures.drops
 
 pub returns-then-is_covered-clause-fits : goal.returns-then-is_covered-clause-fits
 returns-then-is_covered-clause-fits g c =
-    (takes-dropped (g.S.Space.rules c.args.space.now) c.args.limit (books c.args.lists.now) c.requires.kept (books c.drop_next.new.lists) c.drop_next.ensures.drops c.requires.within).within
+    within-same _ _ c.args.limit (ap length c.drop_next.ensures.drops.settled) c.requires.within
 
 pub returns-then-len-limit-clause-leaves : goal.returns-then-len-limit-clause-leaves
 returns-then-len-limit-clause-leaves g c = leaves-same (g.S.Space.rules c.args.space.now) (books c.args.lists.now) c.requires.kept
@@ -181,7 +191,8 @@ returns-in_err-advance-clause-leaves g c =
 pub returns-in_err-advance-clause-fits : goal.returns-in_err-advance-clause-fits
 returns-in_err-advance-clause-fits g c =
     within-settled (g.S.Space.rules c.args.space.now) c.args.limit (books c.args.lists.now) c.requires.kept
-    (books c.settle_next.new.lists) c.in-Some.number c.index.result.now c.in_ok-settle_next.ensures.settles c.advance.new.lists.settled.items
+    (books c.settle_next.new.lists) c.in-Some.number c.index.result.now c.in_ok-settle_next.ensures.settles
+    c.advance.new.lists.settled.items
     (below-limit _ _ c.args.limit (sym c.args.lists.now.settled.ok.0 ∙ sym c.len.ensures) c.if-len-limit.false c.requires.within)
     c.in_err-advance.ensures.settled
 
@@ -195,11 +206,13 @@ returns-clause-takes g c =
 pub returns-clause-leaves : goal.returns-clause-leaves
 returns-clause-leaves g c =
     leaves-offered (g.S.Space.rules c.args.space.now) c.args.limit (books c.args.lists.now) c.requires.kept
-    (books c.settle_next.new.lists) c.in-Some.number c.index.result.now c.in_ok-settle_next.ensures.settles (books c.advance.new.lists) c.in_ok-advance.ensures.leaves
+    (books c.settle_next.new.lists) c.in-Some.number c.index.result.now c.in_ok-settle_next.ensures.settles (books c.advance.new.lists)
+    c.in_ok-advance.ensures.leaves
 
 pub returns-clause-fits : goal.returns-clause-fits
 returns-clause-fits g c =
     within-settled (g.S.Space.rules c.args.space.now) c.args.limit (books c.args.lists.now) c.requires.kept
-    (books c.settle_next.new.lists) c.in-Some.number c.index.result.now c.in_ok-settle_next.ensures.settles c.advance.new.lists.settled.items
+    (books c.settle_next.new.lists) c.in-Some.number c.index.result.now c.in_ok-settle_next.ensures.settles
+    c.advance.new.lists.settled.items
     (below-limit _ _ c.args.limit (sym c.args.lists.now.settled.ok.0 ∙ sym c.len.ensures) c.if-len-limit.false c.requires.within)
     c.in_ok-advance.ensures.settled

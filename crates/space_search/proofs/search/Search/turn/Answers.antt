@@ -89,7 +89,8 @@ pub returns-in-Ended-clause-of : goal.returns-in-Ended-clause-of
 returns-in-Ended-clause-of g c = c.requires.of
 
 pub returns-in-Ended-clause-ends : goal.returns-in-Ended-clause-ends
-returns-in-Ended-clause-ends g c = (phase-is (g.S.Space.rules c.args.space.now) c.args.self.now (Ended c.in-Ended.end) c.requires.of c.in-Ended.is).0
+returns-in-Ended-clause-ends g c =
+    (phase-is (g.S.Space.rules c.args.space.now) c.args.self.now (Ended c.in-Ended.end) c.requires.of c.in-Ended.is).0
 
 pub returns-in-Ended-clause-counts : goal.returns-in-Ended-clause-counts
 returns-in-Ended-clause-counts g c = below-quota (length (settled_of (books c.args.self.now.lists))) c.args.quota c.requires.some
@@ -109,7 +110,8 @@ begin-requires g c = record { fresh = phase-is (g.S.Space.rules c.args.space.now
 
 pub returns-in_err-begin-in-New-clause-of : goal.returns-in_err-begin-in-New-clause-of
 returns-in_err-begin-in-New-clause-of g c =
-    of-failed (g.S.Space.rules c.args.space.now) (books c.args.self.now.lists) (record c.args.self.now { lists = c.begin.new.lists; phase = Failed })
+    of-failed (g.S.Space.rules c.args.space.now) (books c.args.self.now.lists)
+    (record c.args.self.now { lists = c.begin.new.lists; phase = Failed })
     c.requires.of.small (within-same _ _ c.args.self.now.limit (ap length c.in_err-begin-in-New.ensures.settled) c.requires.of.within)
     c.in_err-begin-in-New.ensures.leaves refl
 
@@ -173,13 +175,15 @@ returns-clause-of g c =
       | in-New+in_ok-begin-in-New w ↦ rw w.self-is c.requires.of.small
       | in-Running w ↦ rw w.self-is c.requires.of.small
     ] in
-    of-turned (g.S.Space.rules c.args.space.now) c.args.quota (books c.match-phase.self.lists) c.take_many.new.lists c.match-phase.self.limit
+    of-turned (g.S.Space.rules c.args.space.now) c.args.quota (books c.match-phase.self.lists) c.take_many.new.lists
+    c.match-phase.self.limit
     c.in_ok-answer.answer.1 c.take_many.new.steps small c.in_ok-answer.ensures.fits c.in_ok-answer.answer.0
     c.after_turn-self.result c.after_turn-self.ensures.value c.in_ok-answer.ensures.turns
 
 pub returns-clause-ends : goal.returns-clause-ends
 returns-clause-ends g c =
-    ends-turned (g.S.Space.rules c.args.space.now) c.args.quota (books c.match-phase.self.lists) c.take_many.new.lists c.match-phase.self.limit
+    ends-turned (g.S.Space.rules c.args.space.now) c.args.quota (books c.match-phase.self.lists) c.take_many.new.lists
+    c.match-phase.self.limit
     c.in_ok-answer.answer.1 c.in_ok-answer.answer.0 c.after_turn-self.result c.after_turn-self.ensures.value
     c.in_ok-answer.ensures.turns
 
