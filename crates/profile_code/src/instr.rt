@@ -24,7 +24,6 @@ impl Drop for Look {
 }
 
 /// An operation. A jump says how many operations it passes.
-#[derive(Drop)]
 pub(crate) enum Instr {
     /// Pushes a number.
     Number(Num),
@@ -46,4 +45,21 @@ pub(crate) enum Instr {
     Jump(usize),
     /// Takes one, and sets the next variable of the section.
     Set,
+}
+
+impl Drop for Instr {
+    fn drop(self) {
+        match self {
+            Instr::Number(_) => {}
+            Instr::Own(_) => {}
+            Instr::Global(_) => {}
+            Instr::Look(_) => {}
+            Instr::Not => {}
+            Instr::Truth => {}
+            Instr::Two(_) => {}
+            Instr::JumpZero(_) => {}
+            Instr::Jump(_) => {}
+            Instr::Set => {}
+        }
+    }
 }

@@ -1,4 +1,4 @@
-use Rattle.std.proofs.Common.{◌∙◌, [], ap, max}
+use Rattle.std.proofs.Common.{◌∙◌, [], ap, max, refl}
 use Rattle.context_check.specs.Subject.{subject_of}
 use Rattle.profile_code.specs.Emit.{section_code}
 use Rattle.profile_code.specs.Flat.{FlatSection}
@@ -9,15 +9,14 @@ use Rattle.profile_code.proofs.compiler.parts_of.Goals as goal
 pub returns-clause-value : goal.returns-clause-value
 returns-clause-value c =
     let table = c.table-table.result.now in
-    let none = c.new-no_overrides.result in
-    let ways = c.as_slice.result.now in
-    let nodes = c.as_slice-2.result.now in
+    let ways = c.as_slice-ways.result.now in
+    let nodes = c.as_slice-nodes.result.now in
     let names = ap (λ (s : FlatSection). s.names) c.global.view_is in
     let parts : Parts = record {
       table = table;
       overrides = c.overrides.result.now;
-      none = none;
-      no_names = c.new-no_names.result;
+      none = [];
+      no_names = [];
       globals = c.as_slice-globals.result.now;
       ways = ways;
       nodes = nodes;
@@ -29,31 +28,31 @@ returns-clause-value c =
         node_tags = c.tags-2.result;
         room = c.max-2.result;
       };
-      global_height = c.in_ok-global.global_height;
-      way_height = c.in_ok-way.way_height;
-      node_height = c.in_ok-node.node_height;
+      global_height = c.in_ok-global.room;
+      way_height = c.in_ok-way.way_room;
+      node_height = c.in_ok-node.node_room;
     } in
     compiled (subject_of c.args.checked.now) c.profile-profile.result.now parts (record {
       sections = c.profile-profile.ensures.value;
       table = c.table-table.ensures.value;
       overrides = c.overrides.ensures.value;
-      none = c.new-no_overrides.ensures.value;
-      no_names = c.new-no_names.ensures.value;
+      none = refl;
+      no_names = refl;
       globals = c.as_slice-globals.ensures.value;
-      ways = c.as_slice.ensures.value;
-      nodes = c.as_slice-2.ensures.value;
+      ways = c.as_slice-ways.ensures.value;
+      nodes = c.as_slice-nodes.ensures.value;
       of_global = record { code = c.in_ok-global.ensures.value; named = c.in_ok-global.ensures.same; high = c.in_ok-global.ensures.exact };
       of_way = record {
-        code = c.in_ok-way.ensures.value ∙ ap (λ g. section_code table.way g [] (under none ways)) names;
+        code = c.in_ok-way.ensures.value ∙ ap (λ g. section_code table.way g [] (under [] ways)) names;
         named = c.in_ok-way.ensures.same;
         high = c.in_ok-way.ensures.exact;
       };
       of_node = record {
-        code = c.in_ok-node.ensures.value ∙ ap (λ g. section_code table.node g [] (under none nodes)) names;
+        code = c.in_ok-node.ensures.value ∙ ap (λ g. section_code table.node g [] (under [] nodes)) names;
         named = c.in_ok-node.ensures.same;
         high = c.in_ok-node.ensures.exact;
       };
       way_tags = c.tags.ensures.value;
       node_tags = c.tags-2.ensures.value;
-      room = c.max-2.ensures ∙ ap (max c.in_ok-global.global_height) c.max.ensures;
+      room = c.max-2.ensures ∙ ap (max c.in_ok-global.room) c.max.ensures;
     })
