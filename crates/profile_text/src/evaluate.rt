@@ -1,5 +1,5 @@
 //! The value of an expression.
-ghost use Rattle.std.specs.Prelude.{◌≡◌, Ok};
+ghost use Rattle.std.specs.Prelude.{◌≡◌, not, Ok};
 ghost use Rattle.profile_text.specs.Expr.{tree_of};
 ghost use Rattle.profile_text.specs.Meaning.{and_then, arithmetic, known};
 ghost use Rattle.profile_text.specs.Meaning as meaning;
@@ -22,18 +22,12 @@ pub(crate) fn evaluate(expr: &Expr, scope: &Scope) -> Result<Num, Fault>
         Expr::Look { tag, values, line } => {
             known_truth(*line, scope.look(tag.as_slice(), values.as_slice()))
         }
-        Expr::Not(operand) => {
-            let number = evaluate(operand, scope)?;
-            Ok(truth(!is_true(number)))
-        }
+        Expr::Not(operand) => negated(evaluate(operand, scope)),
         Expr::Two(op, first, second) => {
             let number = evaluate(first, scope)?;
             match decided_by(*op, number) {
                 Some(decided) => Ok(decided),
-                None => {
-                    let other = evaluate(second, scope)?;
-                    applied(*op, number, other)
-                }
+                None => applied(*op, number, evaluate(second, scope)),
             }
         }
         Expr::Pick(test, chosen, other) => {
@@ -68,11 +62,22 @@ fn known_truth(line: u32, value: Option<bool>) -> Result<Num, Fault>
     }
 }
 
-/// What an operator makes of two operands.
-fn applied(op: Op, first: Num, second: Num) -> Result<Num, Fault>
-    ensures value { outcome_in result ≡ arithmetic (meaning.result_of op first second) }
+/// The negation of an operand, where it has a value.
+fn negated(operand: Result<Num, Fault>) -> Result<Num, Fault>
+    ensures value { outcome_in result
+        ≡ and_then (outcome_in operand) (λ n. Ok (meaning.truth (not (meaning.is_true n)))) }
 {
-    match result_of(op, first, second) {
+    let number = operand?;
+    Ok(truth(!is_true(number)))
+}
+
+/// What an operator makes of two operands, where the second has a value.
+fn applied(op: Op, first: Num, second: Result<Num, Fault>) -> Result<Num, Fault>
+    ensures value { outcome_in result
+        ≡ and_then (outcome_in second) (λ n. arithmetic (meaning.result_of op first n)) }
+{
+    let other = second?;
+    match result_of(op, first, other) {
         Ok(number) => Ok(number),
         Err(kind) => Err(Fault::Faulty(kind)),
     }

@@ -1,13 +1,17 @@
 //! Expressions made of what was read.
-ghost use Rattle.std.specs.Prelude.{◌≡◌, ◌*◌, pos, if◌then◌else◌, IfOk};
+ghost use Rattle.std.specs.Prelude.{◌≡◌, ◌*◌, pos, if◌then◌else◌, Ok};
+ghost use Rattle.item_list.specs.Answer.{Answers};
+ghost use Rattle.profile_text.specs.declared.error.TextError.TheVariants.{NoMemory};
 ghost use Rattle.profile_text.specs.Expr.{tree_of};
 ghost use Rattle.profile_text.specs.Look.{tag_of, values_of};
-ghost use Rattle.profile_text.specs.Tree.{Choice, TagLook};
+ghost use Rattle.profile_text.specs.Tree.{Choice, Negation, Operation, TagLook, Variable};
 
-use crate::expr::Expr;
-use crate::look::{tag_of, values_of};
+use crate::error::TextError;
+use crate::expr::{Expr, Op};
+use crate::look::{copied, tag_of, values_of};
+use crate::source::Token;
 use fixed_num::Num;
-use std::alloc::{AllocError, Global};
+use std::alloc::Global;
 
 /// The number of `true` or `false`.
 pub(crate) fn truth(holds: bool) -> Num
@@ -20,14 +24,54 @@ pub(crate) fn truth(holds: bool) -> Num
     }
 }
 
-/// The look that a token spells.
-pub(crate) fn look_of(alloc: Global, text: &[u8], line: u32) -> Result<Expr, AllocError>
-    ensures value { IfOk result
-        (λ e. tree_of e ≡ TagLook (tag_of text.now) (values_of text.now) line) }
+/// The variable that a token names.
+pub(crate) fn variable_of(alloc: Global, token: Token) -> Result<Expr, TextError>
+    ensures exact { let variable = Variable token.entry.bytes.now token.entry.line in
+        Answers tree_of (Ok variable) NoMemory result }
 {
-    let tag = tag_of(alloc, text)?;
-    let values = values_of(alloc, text)?;
-    Ok(Expr::Look { tag, values, line })
+    let name = copied(alloc, token.bytes)?;
+    Ok(Expr::Var {
+        name,
+        line: token.line,
+    })
+}
+
+/// The look that a token spells.
+pub(crate) fn look_of(alloc: Global, token: Token) -> Result<Expr, TextError>
+    ensures exact { let text = token.entry.bytes.now in
+        let look = TagLook (tag_of text) (values_of text) token.entry.line in
+        Answers tree_of (Ok look) NoMemory result }
+{
+    let tag = tag_of(alloc, token.bytes)?;
+    let values = values_of(alloc, token.bytes)?;
+    Ok(Expr::Look {
+        tag,
+        values,
+        line: token.line,
+    })
+}
+
+/// The negation of an expression.
+pub(crate) fn negation_of(alloc: Global, operand: Expr) -> Result<Expr, TextError>
+    ensures exact { Answers tree_of (Ok (Negation (tree_of operand))) NoMemory result }
+{
+    let operand = Box::new(alloc, operand)?;
+    Ok(Expr::Not(operand))
+}
+
+/// An operator with its two operands.
+pub(crate) fn operation_of(
+    alloc: Global,
+    op: Op,
+    first: Expr,
+    second: Expr,
+) -> Result<Expr, TextError>
+    ensures exact { let operation = Operation op (tree_of first) (tree_of second) in
+        Answers tree_of (Ok operation) NoMemory result }
+{
+    let first = Box::new(alloc, first)?;
+    let second = Box::new(alloc, second)?;
+    Ok(Expr::Two(op, first, second))
 }
 
 /// The choice between two expressions.
@@ -36,9 +80,9 @@ pub(crate) fn choice_of(
     test: Expr,
     chosen: Expr,
     other: Expr,
-) -> Result<Expr, AllocError>
-    ensures value { let choice = Choice (tree_of test) (tree_of chosen) (tree_of other) in
-        IfOk result (λ e. tree_of e ≡ choice) }
+) -> Result<Expr, TextError>
+    ensures exact { let choice = Choice (tree_of test) (tree_of chosen) (tree_of other) in
+        Answers tree_of (Ok choice) NoMemory result }
 {
     let test = Box::new(alloc, test)?;
     let chosen = Box::new(alloc, chosen)?;

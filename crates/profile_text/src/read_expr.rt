@@ -1,15 +1,14 @@
 //! Reading an expression.
 ghost use Rattle.std.specs.Prelude.{◌≡◌};
 ghost use Rattle.profile_text.specs.Expr.{tree_of};
-ghost use Rattle.profile_text.specs.Read.{expr_of, form_of, not_of, two_of, switch_of, if_of, bracket_of};
+ghost use Rattle.profile_text.specs.Read.{and_then, taken, expr_of, form_of, not_of, two_of, switch_of, if_of, bracket_of};
 ghost use Rattle.profile_text.specs.Source.{Reads, token_of};
 
 use crate::error::{TextError, TextKind};
 use crate::expected::Expected;
 use crate::expr::{Expr, Op};
 use crate::kind::{Kind, kind_of};
-use crate::look::copied;
-use crate::parts::{choice_of, look_of, truth};
+use crate::parts::{choice_of, look_of, negation_of, operation_of, truth, variable_of};
 use crate::source::{Reader, Token};
 use crate::take::taken;
 use std::alloc::Global;
@@ -46,17 +45,8 @@ fn read_form(
         Kind::Number(number) => Ok(Expr::Number(number)),
         Kind::True => Ok(Expr::Number(truth(true))),
         Kind::False => Ok(Expr::Number(truth(false))),
-        Kind::Name => {
-            let name = copied(alloc, token.bytes)?;
-            Ok(Expr::Var {
-                name,
-                line: token.line,
-            })
-        }
-        Kind::Look => {
-            let look = look_of(alloc, token.bytes, token.line)?;
-            Ok(look)
-        }
+        Kind::Name => variable_of(alloc, token),
+        Kind::Look => look_of(alloc, token),
         Kind::Not => read_not(alloc, room, reader),
         Kind::Two(op) => read_two(alloc, room, op, reader),
         Kind::Switch => read_switch(alloc, room, reader),
@@ -75,8 +65,7 @@ fn read_not(alloc: Global, room: u32, reader: &mut Reader) -> Result<Expr, TextE
     ensures exact { Reads tree_of (not_of (expr_of room) reader.old) reader.new result }
 {
     let operand = read_expr(alloc, room, reader)?;
-    let operand = Box::new(alloc, operand)?;
-    Ok(Expr::Not(operand))
+    negation_of(alloc, operand)
 }
 
 /// Two operands.
@@ -86,9 +75,7 @@ fn read_two(alloc: Global, room: u32, op: Op, reader: &mut Reader) -> Result<Exp
 {
     let first = read_expr(alloc, room, reader)?;
     let second = read_expr(alloc, room, reader)?;
-    let first = Box::new(alloc, first)?;
-    let second = Box::new(alloc, second)?;
-    Ok(Expr::Two(op, first, second))
+    operation_of(alloc, op, first, second)
 }
 
 /// The three operands of `switch`.
@@ -99,8 +86,7 @@ fn read_switch(alloc: Global, room: u32, reader: &mut Reader) -> Result<Expr, Te
     let test = read_expr(alloc, room, reader)?;
     let chosen = read_expr(alloc, room, reader)?;
     let other = read_expr(alloc, room, reader)?;
-    let choice = choice_of(alloc, test, chosen, other)?;
-    Ok(choice)
+    choice_of(alloc, test, chosen, other)
 }
 
 /// The three operands of `if`, parted by `then` and `else`.
@@ -109,12 +95,24 @@ fn read_if(alloc: Global, room: u32, reader: &mut Reader) -> Result<Expr, TextEr
     ensures exact { Reads tree_of (if_of (expr_of room) reader.old) reader.new result }
 {
     let test = read_expr(alloc, room, reader)?;
-    taken(reader, Expected::ThenWord)?;
-    let chosen = read_expr(alloc, room, reader)?;
-    taken(reader, Expected::ElseWord)?;
-    let other = read_expr(alloc, room, reader)?;
-    let choice = choice_of(alloc, test, chosen, other)?;
-    Ok(choice)
+    let chosen = read_after(alloc, room, Expected::ThenWord, reader)?;
+    let other = read_after(alloc, room, Expected::ElseWord, reader)?;
+    choice_of(alloc, test, chosen, other)
+}
+
+/// The expression after a word.
+#[cycle(expression)]
+fn read_after(
+    alloc: Global,
+    room: u32,
+    word: Expected,
+    reader: &mut Reader,
+) -> Result<Expr, TextError>
+    ensures exact { let after = and_then (taken word reader.old) (λ _ p. expr_of room p) in
+        Reads tree_of after reader.new result }
+{
+    taken(reader, word)?;
+    read_expr(alloc, room, reader)
 }
 
 /// An expression and its closing bracket.

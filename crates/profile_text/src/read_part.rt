@@ -1,13 +1,16 @@
 //! Reading an assignment, or the line that opens a section.
-ghost use Rattle.std.specs.Prelude.{◌≡◌, ◌⊎◌, ◌<◌, ◌≤◌, length, IfOk, IfErr, MatchResult, OnOk, Some};
+ghost use Rattle.std.specs.Prelude.{◌≡◌, ◌⊎◌, ◌<◌, ◌≤◌, length, IfOk, IfErr, MatchResult, Ok, OnOk, Some};
+ghost use Rattle.item_list.specs.Answer.{Answers};
 ghost use Rattle.profile_text.specs.declared.error.TextError.TheVariants.{NoMemory};
-ghost use Rattle.profile_text.specs.Expr.{assignment_in, sections_in};
+ghost use Rattle.profile_text.specs.Expr.{assignment_in, sections_in, tree_of};
 ghost use Rattle.profile_text.specs.Part.{Stand, TakesPart, RefusesPart, joined};
 ghost use Rattle.profile_text.specs.Read.{assignment_of, front_fault, most_depth, no_sections, past_equals, put_first};
 ghost use Rattle.profile_text.specs.Source.{Reads, token_of};
+ghost use Rattle.profile_text.specs.Tree.{Assignment};
 
 use crate::error::{TextError, TextKind};
 use crate::expected::Expected;
+use crate::expr::Expr;
 use crate::kind::{Kind, Section, has_dashes, kind_of};
 use crate::look::copied;
 use crate::profile::{Assign, Profile};
@@ -45,8 +48,7 @@ pub(crate) fn read_part(
             }),
             Some(section) => {
                 let assign = read_assignment(alloc, reader)?;
-                push(profile, section, assign)?;
-                Ok(section)
+                push(profile, section, assign)
             }
         },
         kind => Err(TextError::At {
@@ -56,18 +58,22 @@ pub(crate) fn read_part(
     }
 }
 
-/// Puts an assignment at the end of a section.
-fn push(profile: &mut Profile, section: Section, assign: Assign) -> Result<(), TextError>
+/// Puts an assignment at the end of a section, and gives the section.
+fn push(profile: &mut Profile, section: Section, assign: Assign) -> Result<Section, TextError>
     ensures value { let one = put_first section (assignment_in assign) no_sections in
         OnOk result (sections_in profile.new ≡ joined (sections_in profile.old) one) }
+    ensures given { IfOk result (λ s. s ≡ section) }
     ensures refused { IfErr result (λ e. e ≡ NoMemory) }
 {
-    match section {
-        Section::Global => profile.global.push(assign)?,
-        Section::Way => profile.way.push(assign)?,
-        Section::Node => profile.node.push(assign)?,
+    let pushed = match section {
+        Section::Global => profile.global.push(assign),
+        Section::Way => profile.way.push(assign),
+        Section::Node => profile.node.push(assign),
+    };
+    match pushed {
+        Ok(()) => Ok(section),
+        Err(_) => Err(TextError::NoMemory),
     }
-    Ok(())
 }
 
 /// Why a token of this kind can't stand where an assignment or a section may.
@@ -90,6 +96,16 @@ fn read_assignment(alloc: Global, reader: &mut Reader) -> Result<Assign, TextErr
     let token = taken(reader, Expected::Variable)?;
     past_equals(reader);
     let value = read_expr(alloc, MOST_DEPTH, reader)?;
+    assign_of(alloc, token, value)
+}
+
+/// The assignment of a value to the name that a token is.
+fn assign_of(alloc: Global, token: Token, value: Expr) -> Result<Assign, TextError>
+    ensures exact { let t = token_of token.entry in
+        let assignment : Assignment =
+        record { name = t.text; line = t.line; value = tree_of value } in
+        Answers assignment_in (Ok assignment) NoMemory result }
+{
     let name = copied(alloc, token.bytes)?;
     Ok(Assign {
         name,

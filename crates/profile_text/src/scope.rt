@@ -11,11 +11,20 @@ use lookup_table::{Part, Table};
 use std::marker::Model;
 
 /// The tags of a part with the tag numbers of a way or a node.
-#[derive(Drop)]
 pub(crate) struct Tagged<'a> {
     table: &'a Table,
     part: Part,
     numbers: &'a [u16],
+}
+
+impl<'a> Drop for Tagged<'a> {
+    fn drop(self) {
+        let Tagged {
+            table: _,
+            part: _,
+            numbers: _,
+        } = self;
+    }
 }
 
 impl<'a> Model for Tagged<'a> {
@@ -87,7 +96,7 @@ impl<'a> Tagged<'a> {
 
 /// What an expression may name: the values of the global section, those of its own section so far,
 /// and, unless that is the global one, the tags of a part.
-#[derive(Drop)]
+#[derive(Clone, Copy)]
 pub(crate) struct Scope<'s, 't> {
     pub(crate) global: &'s Assigned,
     pub(crate) own: &'s Assigned,

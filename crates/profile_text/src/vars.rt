@@ -1,5 +1,5 @@
 //! The variables that assigned values leave.
-ghost use Rattle.std.specs.Prelude.{◌≡◌, ℕ, ℤ, List, ◌++◌, IfOk, OnOk};
+ghost use Rattle.std.specs.Prelude.{◌≡◌, ℕ, ℤ, List, [], ◌++◌, IfOk, OnOk};
 ghost use Rattle.profile_text.specs.Vars.{AreVars, by_bytes};
 
 use crate::assigned::Assigned;
@@ -17,9 +17,22 @@ pub(crate) fn vars_of(alloc: Global, global: &Assigned, own: &Assigned) -> Resul
     ensures value { IfOk result (λ vars. AreVars (global.now ++ own.now) vars) }
 {
     let mut index = IndexMap::new(alloc);
-    put_all(alloc, &mut index, global)?;
-    put_all(alloc, &mut index, own)?;
-    listed(alloc, &index)
+    gathered(alloc, &mut index, global, own)
+}
+
+/// The variables of the values of two sections, gathered in an empty index.
+fn gathered(
+    alloc: Global,
+    index: &mut IndexMap<Vec<u8>, Num>,
+    global: &Assigned,
+    own: &Assigned,
+) -> Result<Vars, AllocError>
+    requires empty { index.now.entries ≡ [] }
+    ensures value { IfOk result (λ vars. AreVars (global.now ++ own.now) vars) }
+{
+    put_all(alloc, index, global)?;
+    put_all(alloc, index, own)?;
+    listed(alloc, index)
 }
 
 /// Puts values into an index one after the other.
