@@ -6,9 +6,9 @@ ghost use Rattle.profile_code.specs.Flat.{tags_of};
 
 use crate::ways::TAGS;
 use case_inputs::{code_of, table_of};
+use case_rows::{LOOK, TREK};
 use lookup_table::{Part, Table};
 use profile_code::Code;
-use case_rows::{LOOK, TREK};
 use std::alloc::Global;
 
 /// The profile's code, for ways with so many tags as the table has.
