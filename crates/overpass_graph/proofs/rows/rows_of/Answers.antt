@@ -1,5 +1,5 @@
 -- One node after the other.
-use Rattle.std.proofs.Common.{◌≡◌, ℕ, ℤ, ◌+◌, ◌<◌, inl, inr, List, [], ◌∷◌, ◌++◌, length, sym, ap, subst, ◌∙◌, arith, rules}
+use Rattle.std.proofs.Common.{◌≡◌, ℕ, ℤ, ◌+◌, ◌<◌, inl, inr, List, [], ◌∷◌, ◌++◌, length, sym, ap, subst, ◌∙◌, arith}
 use mir.Val.{SFits}
 use mir.Syntax.{w64}
 use Rattle.std.proofs.lemmas.Int.{to_z-of_z}
@@ -41,7 +41,7 @@ node_id-id-requires c = record { fits = subst (λ n. c.nodes.node < n) c.nodes-c
 
 pub nodes-preserved : goal.nodes-preserved
 nodes-preserved c =
-    let fits : SFits w64 c.node_id-id.result = search rules in
+    let fits : SFits w64 c.node_id-id.result = record { sfits = c.node_id-id.type_inv } in
     rows-more c.args.tables.now.draft.nodes _ _ _ c.nodes.node c.nodes.invariant
     (to_z-of_z w64 c.node_id-id.result fits
     ∙ c.node_id-id.ensures.value _

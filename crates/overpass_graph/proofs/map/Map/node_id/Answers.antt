@@ -1,4 +1,4 @@
-use Rattle.std.proofs.Common.{◌∙◌, arith, rules}
+use Rattle.std.proofs.Common.{◌∙◌, arith}
 use mir.Val.{SFits}
 use mir.Syntax.{w64}
 use Rattle.std.proofs.lemmas.Int.{to_z-of_z}
@@ -19,5 +19,5 @@ pub returns : goal.returns
 returns c =
     let at = node-place _ _ _ _ _ _ c.args.self.now c.self.invariant c.self.view_is c.args.node c.index.result.now c.requires.in_range
     c.index.ensures in
-    let fits : SFits w64 c.node_id.result = search rules in
+    let fits : SFits w64 c.node_id.result = record { sfits = c.node_id.type_inv } in
     record { value = to_z-of_z w64 c.node_id.result fits ∙ c.node_id.ensures.value _ at.there }
