@@ -26,7 +26,7 @@ timed() {
   /usr/bin/time -f '%U %M' "$timings" bind "$1" $tile < "$text" 2>&1 > "$folder/told" | tail -1
 }
 
-# The text of a constant of the crate of sample texts.
+# The text of a constant of the sample texts.
 sample() {
   sed -n "/^pub const $1: /,/^\";/p" crates/case_rows/src/samples.rt | sed '1s/^[^"]*"//; $d'
 }

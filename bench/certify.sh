@@ -17,7 +17,7 @@ cd "$(dirname "$0")/.."
 ours=${OURS:-crates/route_serve/out/route_serve}
 [ -x "$ours" ] || ./build > /dev/null
 
-# The text of a constant of the crate of sample texts.
+# The text of a constant of the sample texts.
 sample() {
   sed -n "/^pub const $1: /,/^\";/p" crates/case_rows/src/samples.rt | sed '1s/^[^"]*"//; $d'
 }

@@ -21,7 +21,7 @@ if [ -z "$PLAIN" ]; then
   PLAIN=$(find "$folder/target/release" -maxdepth 1 -type f -perm -u+x | head -1)
 fi
 
-# The text of a constant of the crate of sample texts.
+# The text of a constant of the sample texts.
 sample() {
   sed -n "/^pub const $1: /,/^\";/p" crates/case_rows/src/samples.rt | sed '1s/^[^"]*"//; $d'
 }

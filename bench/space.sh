@@ -25,7 +25,7 @@ seconds() {
   /usr/bin/time -f '%U' "$timings" space "$1" "$2" "$3" "$4" $tile < "$text" 2>&1 > "$folder/told"
 }
 
-# The text of a constant of the crate of sample texts.
+# The text of a constant of the sample texts.
 sample() {
   sed -n "/^pub const $1: /,/^\";/p" crates/case_rows/src/samples.rt | sed '1s/^[^"]*"//; $d'
 }
