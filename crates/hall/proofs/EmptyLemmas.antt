@@ -1,12 +1,12 @@
 -- A hall without connections.
 use Rattle.std.proofs.Common.{◌≡◌, ℕ, zero, suc, Bool, List, [], length, get_or, replicate, Option, Some, None, refl, sym, ◌∙◌, ap, subst, arith}
 use Rattle.std.proofs.lemmas.List.{length-replicate}
-use Rattle.hall.specs.Parts.{AreReadied, IsHeld, count_of, seat_count, seats_of, state_in}
-use Rattle.hall.specs.Sound.{AreWaiting}
-use Rattle.hall.specs.State.{empty_hall}
-use Rattle.hall.specs.View.{Seated, known_at}
-use Rattle.hall.specs.declared.room.Room.{Room}
-use Rattle.hall.specs.declared.seat.Seat.{Seat}
+use Rattle.hall_seats.specs.Parts.{AreReadied, IsHeld, count_of, seat_count, seats_of, state_in}
+use Rattle.hall_seats.specs.Sound.{AreWaiting}
+use Rattle.hall_seats.specs.State.{empty_hall}
+use Rattle.hall_seats.specs.Seats.{Seated, known_at}
+use Rattle.hall_seats.specs.declared.room.Room.{Room}
+use Rattle.hall_seats.specs.declared.seat.Seat.{Seat}
 use Rattle.session_answers.specs.Profiles.{stored_of}
 use Rattle.session_answers.specs.Stored.{Stored}
 

@@ -1,21 +1,21 @@
 -- What a room comes to by the turn of the search that waited longest.
 use Rattle.std.proofs.Common.{◌≡◌, ℕ, List, [], ◌∷◌, get_or, Option, Some, None, inl, refl, sym, ◌∙◌, ap, subst}
 use Rattle.std.specs.Option.{IsSome}
-use Rattle.hall.proofs.RoomLemmas.{Becomes, IsReplaced, made_state, made_becomes, lifted_known, found_is}
-use Rattle.hall.proofs.SeatLemmas.{known_none}
-use Rattle.hall.proofs.SoundLemmas.{sound_works}
-use Rattle.hall.specs.Held.{IsAmong}
-use Rattle.hall.specs.Parts.{HasTurn, IsHeld, IsSeatOf, IsWaitingIn, Makes, connection_of, phase_in, seats_of, service_at, service_in, state_in}
-use Rattle.hall.specs.Sound.{IsWaiting}
-use Rattle.hall.specs.State.{Connection, Service, Waits, changed}
-use Rattle.hall.specs.Steps as steps
-use Rattle.hall.specs.Steps.{GoesOn, Works}
-use Rattle.hall.specs.View.{Seated}
-use Rattle.hall.specs.declared.desk.Desk.{Desk}
-use Rattle.hall.specs.declared.room.Room.{Room}
-use Rattle.hall.specs.declared.seat.Phase.TheVariants as phases
-use Rattle.hall.specs.declared.seat.Phase.{Phase as Kept}
-use Rattle.hall.specs.declared.seat.Seat.{Seat}
+use Rattle.hall_seats.proofs.RoomLemmas.{Becomes, IsReplaced, made_state, made_becomes, lifted_known, found_is}
+use Rattle.hall_seats.proofs.SeatLemmas.{known_none}
+use Rattle.hall_seats.proofs.SoundLemmas.{sound_works}
+use Rattle.hall_seats.specs.Held.{IsAmong}
+use Rattle.hall_seats.specs.Parts.{HasTurn, IsHeld, IsSeatOf, IsWaitingIn, Makes, connection_of, phase_in, seats_of, service_at, service_in, state_in}
+use Rattle.hall_seats.specs.Sound.{IsWaiting}
+use Rattle.hall_seats.specs.State.{Connection, Service, Waits, changed}
+use Rattle.hall_seats.specs.Steps as steps
+use Rattle.hall_seats.specs.Steps.{GoesOn, Works}
+use Rattle.hall_seats.specs.Seats.{Seated}
+use Rattle.hall_seats.specs.declared.desk.Desk.{Desk}
+use Rattle.hall_seats.specs.declared.room.Room.{Room}
+use Rattle.hall_seats.specs.declared.seat.Phase.TheVariants as phases
+use Rattle.hall_seats.specs.declared.seat.Phase.{Phase as Kept}
+use Rattle.hall_seats.specs.declared.seat.Seat.{Seat}
 use Rattle.session_answers.specs.Profiles.{stored_of}
 use Rattle.session_answers.specs.declared.profiles.Profiles.{Profiles}
 

@@ -1,22 +1,22 @@
 -- What a room comes to by a connection that opens.
 use Rattle.std.proofs.Common.{◌≡◌, ◌<◌, ◌≤◌, ◌+◌, ℕ, Bool, true, false, cond, List, [], get_or, Option, Some, None, option_map, refl, sym, ◌∙◌, ap, subst, arith, append-nil}
 use Rattle.std.specs.Bool.{beq}
-use Rattle.hall.proofs.RoomLemmas.{Places, state_now, count_now, held_now, Becomes}
-use Rattle.hall.proofs.SeatCountLemmas.{counts}
-use Rattle.hall.proofs.SeatLemmas.{IsFor, known_seat, seats_get}
-use Rattle.hall.proofs.SoundLemmas.{sound_opens}
-use Rattle.hall.specs.Held.{HasRoom, IsFull, count_at, most_sessions}
-use Rattle.hall.specs.Parts.{AreReadied, IsHeld, IsPlaced, IsSearchAt, IsSearchIn, connection_of, count_of, known_of, phase_in, seated_of, seats_of, service_at, service_in, state_in}
-use Rattle.hall.specs.Sound.{IsSound}
-use Rattle.hall.specs.State.{Connection, State, Waits, put}
-use Rattle.hall.specs.Steps as steps
-use Rattle.hall.specs.Steps.{Opens, session, turned_away}
-use Rattle.hall.specs.View.{Seated}
-use Rattle.hall.specs.declared.desk.Desk.{Desk}
-use Rattle.hall.specs.declared.room.Room.{Room}
-use Rattle.hall.specs.declared.seat.Phase.TheVariants as phases
-use Rattle.hall.specs.declared.seat.Phase.{Phase as Kept}
-use Rattle.hall.specs.declared.seat.Seat.{Seat}
+use Rattle.hall_seats.proofs.RoomLemmas.{Places, state_now, count_now, held_now, Becomes}
+use Rattle.hall_seats.proofs.SeatCountLemmas.{counts}
+use Rattle.hall_seats.proofs.SeatLemmas.{IsFor, known_seat, seats_get}
+use Rattle.hall_seats.proofs.SoundLemmas.{sound_opens}
+use Rattle.hall_seats.specs.Held.{HasRoom, IsFull, count_at, most_sessions}
+use Rattle.hall_seats.specs.Parts.{AreReadied, IsHeld, IsPlaced, IsSearchAt, IsSearchIn, connection_of, count_of, known_of, phase_in, seated_of, seats_of, service_at, service_in, state_in}
+use Rattle.hall_seats.specs.Sound.{IsSound}
+use Rattle.hall_seats.specs.State.{Connection, State, Waits, put}
+use Rattle.hall_seats.specs.Steps as steps
+use Rattle.hall_seats.specs.Steps.{Opens, session, turned_away}
+use Rattle.hall_seats.specs.Seats.{Seated}
+use Rattle.hall_seats.specs.declared.desk.Desk.{Desk}
+use Rattle.hall_seats.specs.declared.room.Room.{Room}
+use Rattle.hall_seats.specs.declared.seat.Phase.TheVariants as phases
+use Rattle.hall_seats.specs.declared.seat.Phase.{Phase as Kept}
+use Rattle.hall_seats.specs.declared.seat.Seat.{Seat}
 use Rattle.route_ready.specs.World.{world_of}
 use Rattle.route_ready.specs.Worlds.{WorldValue}
 use Rattle.session_answers.specs.Profiles.{stored_of}

@@ -1,17 +1,17 @@
 -- What a session is given that is read.
 use Rattle.std.proofs.Common.{◌≡◌, ℕ, false, get_or, Some, None, refl, sym, ◌∙◌, ap, subst}
-use Rattle.hall.proofs.RoomLemmas.{Becomes, IsReplaced, made_state, made_becomes, lifted_known, found_is}
-use Rattle.hall.proofs.SoundInLemmas.{read_sound}
-use Rattle.hall.proofs.SoundLemmas.{sound_hears, IsHearing}
-use Rattle.hall.specs.Parts.{IsHeld, IsReaderOf, Settles, connection_of, phase_in, seats_of, service_in, state_in}
-use Rattle.hall.specs.State.{Connection, Reading}
-use Rattle.hall.specs.Steps as steps
-use Rattle.hall.specs.Steps.{Hears}
-use Rattle.hall.specs.View.{Seated}
-use Rattle.hall.specs.declared.room.Room.{Room}
-use Rattle.hall.specs.declared.seat.Phase.TheVariants as phases
-use Rattle.hall.specs.declared.seat.Phase.{Phase as Kept}
-use Rattle.hall.specs.declared.seat.Seat.{Seat}
+use Rattle.hall_seats.proofs.RoomLemmas.{Becomes, IsReplaced, made_state, made_becomes, lifted_known, found_is}
+use Rattle.hall_seats.proofs.SoundInLemmas.{read_sound}
+use Rattle.hall_seats.proofs.SoundLemmas.{sound_hears, IsHearing}
+use Rattle.hall_seats.specs.Parts.{IsHeld, IsReaderOf, Settles, connection_of, phase_in, seats_of, service_in, state_in}
+use Rattle.hall_seats.specs.State.{Connection, Reading}
+use Rattle.hall_seats.specs.Steps as steps
+use Rattle.hall_seats.specs.Steps.{Hears}
+use Rattle.hall_seats.specs.Seats.{Seated}
+use Rattle.hall_seats.specs.declared.room.Room.{Room}
+use Rattle.hall_seats.specs.declared.seat.Phase.TheVariants as phases
+use Rattle.hall_seats.specs.declared.seat.Phase.{Phase as Kept}
+use Rattle.hall_seats.specs.declared.seat.Seat.{Seat}
 
 read_in : (p : Kept) → phase_in p ≡ Reading → p ≡ phases.Reading
 read_in phases.Reading is = refl

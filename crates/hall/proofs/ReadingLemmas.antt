@@ -1,16 +1,16 @@
 -- What a session is given by what is fixed for it.
 use Rattle.std.proofs.Common.{◌≡◌, ◌≢◌, ◌⊎◌, ℕ, Bool, true, false, List, [], ◌++◌, length, Some, inl, inr, refl, sym, ◌∙◌, ap, subst, arith, append-nil}
-use Rattle.hall.proofs.VerdictLemmas.{silent_by}
-use Rattle.hall.specs.Parts.{AreReadied, IsSearchAt, IsSearchIn, Joins, Settles, answered_by, connection_of, frame_in, last, none, phase_in, service_at, waiting_by}
-use Rattle.hall.specs.State.{Connection, Silent, Waits, waits_as, with_frame}
-use Rattle.hall.specs.Steps.{Takes, memory_frame, uploaded, whole_in}
-use Rattle.hall.specs.Steps as steps
-use Rattle.hall.specs.declared.desk.Desk.{Desk}
-use Rattle.hall.specs.declared.seat.Frame.{Frame}
-use Rattle.hall.specs.declared.seat.Frame.TheVariants as frames
-use Rattle.hall.specs.declared.seat.Phase.{Phase as Kept}
-use Rattle.hall.specs.declared.seat.Phase.TheVariants as phases
-use Rattle.hall.specs.declared.seat.Seat.{Seat}
+use Rattle.hall_seats.proofs.VerdictLemmas.{silent_by}
+use Rattle.hall_seats.specs.Parts.{AreReadied, IsSearchAt, IsSearchIn, Joins, Settles, answered_by, connection_of, frame_in, last, none, phase_in, service_at, waiting_by}
+use Rattle.hall_seats.specs.State.{Connection, Silent, Waits, waits_as, with_frame}
+use Rattle.hall_seats.specs.Steps.{Takes, memory_frame, uploaded, whole_in}
+use Rattle.hall_seats.specs.Steps as steps
+use Rattle.hall_seats.specs.declared.desk.Desk.{Desk}
+use Rattle.hall_seats.specs.declared.seat.Frame.{Frame}
+use Rattle.hall_seats.specs.declared.seat.Frame.TheVariants as frames
+use Rattle.hall_seats.specs.declared.seat.Phase.{Phase as Kept}
+use Rattle.hall_seats.specs.declared.seat.Phase.TheVariants as phases
+use Rattle.hall_seats.specs.declared.seat.Seat.{Seat}
 use Rattle.session_answers.specs.declared.kept.KeptProfiles.{KeptProfiles}
 use Rattle.route_http.specs.declared.span.Span.{Span}
 use Rattle.route_ready.specs.World.{world_of}

@@ -1,11 +1,11 @@
 -- What looks at seats find.
 use Rattle.std.proofs.Common.{◌≡◌, ◌≢◌, ◌<◌, ℕ, true, false, List, length, get_or, Option, Some, None, option_map, refl, sym, ◌∙◌, ap, subst, arith, eq-eqb, eqb-true}
 use Rattle.std.proofs.lemmas.Bool.{false≢true}
-use Rattle.hall.proofs.SeatLemmas.{seats_read, seats_long, known_none, known_seat}
-use Rattle.hall.specs.Parts.{HasId, HaveOneSeat, IsFreeOne, IsReadOne, IsReaderOf, IsSeatOf, seated_of, seats_of}
-use Rattle.hall.specs.State.{Connection, Reading}
-use Rattle.hall.specs.View.{Seated, known_at}
-use Rattle.hall.specs.declared.seat.Seat.{Seat}
+use Rattle.hall_seats.proofs.SeatLemmas.{seats_read, seats_long, known_none, known_seat}
+use Rattle.hall_seats.specs.Parts.{HasId, HaveOneSeat, IsFreeOne, IsReadOne, IsReaderOf, IsSeatOf, seated_of, seats_of}
+use Rattle.hall_seats.specs.State.{Connection, Reading}
+use Rattle.hall_seats.specs.Seats.{Seated, known_at}
+use Rattle.hall_seats.specs.declared.seat.Seat.{Seat}
 
 has_by : (seats : List (Option Seated)) (k : ℕ) (x : Option Seated) (id : ℕ) → k < length seats → get_or seats k None ≡ x →
     HasId x id true → IsSeatOf seats id (Some k)

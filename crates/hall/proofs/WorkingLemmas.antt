@@ -1,15 +1,15 @@
 -- What a turn of a search changes.
 use Rattle.std.proofs.Common.{◌≡◌, ℕ, ◌+◌, ◌≤◌, List, [], ◌∷◌, ◌++◌, length, take, drop, refl, sym, ◌∙◌, ap, subst, arith, append-nil, length-drop}
-use Rattle.hall.specs.Parts.{AreReadied, HasTurn, IsSearchAt, IsSearchOf, Joins, Makes, answered_by, connection_of, frame_in, last, none, seats_of, service_at, service_in, state_in, waiting_by, waiting_for}
-use Rattle.hall.specs.State.{Connection, with_frame}
-use Rattle.hall.specs.Steps.{AskedBy, AsksFor, GoesOn, Works, memory_frame, work_quota}
-use Rattle.hall.specs.Steps as steps
-use Rattle.hall.specs.View.{known_at}
-use Rattle.hall.specs.declared.desk.Desk.{Desk}
-use Rattle.hall.specs.declared.room.Room.{Room}
-use Rattle.hall.specs.declared.seat.Frame.{Frame}
-use Rattle.hall.specs.declared.seat.Frame.TheVariants as frames
-use Rattle.hall.specs.declared.seat.Seat.{Seat}
+use Rattle.hall_seats.specs.Parts.{AreReadied, HasTurn, IsSearchAt, IsSearchOf, Joins, Makes, answered_by, connection_of, frame_in, last, none, seats_of, service_at, service_in, state_in, waiting_by, waiting_for}
+use Rattle.hall_seats.specs.State.{Connection, with_frame}
+use Rattle.hall_seats.specs.Steps.{AskedBy, AsksFor, GoesOn, Works, memory_frame, work_quota}
+use Rattle.hall_seats.specs.Steps as steps
+use Rattle.hall_seats.specs.Seats.{known_at}
+use Rattle.hall_seats.specs.declared.desk.Desk.{Desk}
+use Rattle.hall_seats.specs.declared.room.Room.{Room}
+use Rattle.hall_seats.specs.declared.seat.Frame.{Frame}
+use Rattle.hall_seats.specs.declared.seat.Frame.TheVariants as frames
+use Rattle.hall_seats.specs.declared.seat.Seat.{Seat}
 use Rattle.route_ready.specs.World.{world_of}
 use Rattle.session_answers.specs.Aims.{most_for}
 use Rattle.session_answers.specs.Jobs.{IsJobOf}

@@ -1,7 +1,7 @@
 -- What the fields of a hall stand for, and what is true of them, for the parts alone (this project's own
 -- rule).
 use Rattle.hall.specs.View.{HallValue}
-use Rattle.hall.specs.Parts.{IsHeld, seats_of}
+use Rattle.hall_seats.specs.Parts.{IsHeld, seats_of}
 use Rattle.hall.specs.declared.hall.Hall.TheInside.{Inside}
 
 -- what is seen of a hall

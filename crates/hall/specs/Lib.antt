@@ -1,14 +1,7 @@
-pub mod Allowed
 pub mod Causes
-pub mod Held
 pub mod Inside
 pub mod Law
-pub mod Parts
-pub mod Sends
 pub mod Served
-pub mod Sound
-pub mod State
-pub mod Steps
 pub mod Turns
 pub mod Uploads
 pub mod View

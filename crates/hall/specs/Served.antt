@@ -5,25 +5,16 @@ use Rattle.edge_io.specs.Faults.{CountRose}
 use Rattle.edge_io.specs.Hub.{HubSeen, IsFresh, IsLive, Tells}
 use Rattle.edge_io.specs.declared.event.Event.{Event}
 use Rattle.edge_io.specs.declared.event.Event.TheVariants as events
-use Rattle.hall.specs.Held.{AreAll}
-use Rattle.hall.specs.Sends.{Closes, Sends, Serves}
-use Rattle.hall.specs.State.{Connection, Service, State, left_as}
-use Rattle.hall.specs.Steps.{Step}
-use Rattle.hall.specs.Turns.{Run, ServesEach, Turn, Turns, shut}
-use Rattle.hall.specs.View.{Seated}
+use Rattle.hall_seats.specs.Held.{AreAll}
+use Rattle.hall_seats.specs.Sends.{Closes, Sends, Serves, ServesEach}
+use Rattle.hall_seats.specs.State.{Connection, Service, State, left_as}
+use Rattle.hall_seats.specs.Steps.{Step}
+use Rattle.hall.specs.Turns.{Run, Turn, Turns, shut}
+use Rattle.hall_seats.specs.Seats.{Seated}
 use Rattle.hall.specs.declared.serve_end.ServeEnd.{ServeEnd}
 use Rattle.hall.specs.declared.serve_end.ServeEnd.TheVariants as why
 
 -- ---- What the hub holds and tells
-
--- each connection that the hall holds is held by the hub, where its acts are told
-abbrev pub AreLive : State → HubSeen → Type 0
-AreLive s seen = (id : ℕ) (c : Connection) → s.known id ≡ Some c → IsLive seen.acts id
-
--- the hub told these acts, and no event failed
-pub record Goes (old new : HubSeen) (acts : List Act) : Type 0 where
-  pub tells : Tells old.acts new.acts acts
-  pub faults : new.faults ≡ old.faults
 
 -- no connection is opened twice, where acts are told
 abbrev pub OpenOnceIn : Option (List Act) → List Act → Type 0
@@ -52,49 +43,6 @@ pub record Served (service : Service) (turns : ℕ) (s : State) (old : HubSeen) 
   pub ends : EndsBy end turns n over old new
 
 -- ---- Its parts
-
--- a connection sent its piece, where it had one, and the hub told it
-pub record SentPiece (id : ℕ) (c : Connection) (old : HubSeen) (left : Option Connection) (new : HubSeen) :
-    Type 0 where
-  pub acts : List Act
-  pub sends : Sends id c acts left
-  pub goes : Goes old new acts
-
--- a connection was closed where it was done, and the hub told it
-pub record ClosedDone (id : ℕ) (c : Connection) (old : HubSeen) (left : Option Connection) (new : HubSeen) :
-    Type 0 where
-  pub acts : List Act
-  pub closes : Closes id (Some c) acts left
-  pub goes : Goes old new acts
-
--- a connection was served
-pub record ServedOne (id : ℕ) (c : Connection) (old : HubSeen) (left : Option Connection) (new : HubSeen) :
-    Type 0 where
-  pub acts : List Act
-  pub serves : Serves id c acts left
-  pub goes : Goes old new acts
-
--- so was that of a seat, where the seat has one
-pub record ServedSeated (x : Seated) (s : State) (old : HubSeen) (left : State) (new : HubSeen) : Type 0 where
-  pub known : s.known x.id ≡ Some x.known
-  pub rest : Option Connection
-  pub one : ServedOne x.id x.known old rest new
-  pub left_is : left ≡ left_as s x.id rest
-
-abbrev pub ServedSeat : Option Seated → (s : State) (old : HubSeen) (left : State) (new : HubSeen) → Type 0
-ServedSeat None s old left new = (left ≡ s) × Goes old new []
-ServedSeat (Some x) s old left new = ServedSeated x s old left new
-
--- these connections were served, and each one that was held
-pub record ServedEach (s : State) (old : HubSeen) (ids : List ℕ) (left : State) (new : HubSeen) : Type 0 where
-  pub acts : List Act
-  pub serves : ServesEach s ids acts left
-  pub goes : Goes old new acts
-
-pub record ServedAll (s : State) (old : HubSeen) (left : State) (new : HubSeen) : Type 0 where
-  pub order : List ℕ
-  pub all : AreAll s order
-  pub each : ServedEach s old order left new
 
 -- an event was heard that the hall doesn't know yet: the hub holds whom it opened, and all that it held but
 -- whom it ended

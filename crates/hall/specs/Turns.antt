@@ -4,21 +4,12 @@ use Rattle.std.specs.Prelude.{◌≡◌, ◌≢◌, ◌⊎◌, ℕ, suc, Bool, t
 use Rattle.edge_io.specs.Acts.{Act, Gave, Closed}
 use Rattle.edge_io.specs.declared.event.Event.{Event}
 use Rattle.edge_io.specs.declared.event.Event.TheVariants.{Over}
-use Rattle.hall.specs.Held.{AreAll}
-use Rattle.hall.specs.Sends.{Serves}
-use Rattle.hall.specs.State.{Connection, Service, State, left_as}
-use Rattle.hall.specs.Steps.{Step, Works}
+use Rattle.hall_seats.specs.Held.{AreAll}
+use Rattle.hall_seats.specs.Sends.{Serves}
+use Rattle.hall_seats.specs.State.{Connection, Service, State, left_as}
+use Rattle.hall_seats.specs.Steps.{Step, Works}
 
 -- ---- A turn
-
--- these connections are served, one after the other
-pub data ServesEach (s : State) : List ℕ → List Act → State → Type 0 where
-  none : ServesEach s [] [] s
-  more :
-      {ids : List ℕ} {id : ℕ} {acts own : List Act} {between : State} {c : Connection} {left :
-      Option Connection} →
-      ServesEach s ids acts between → between.known id ≡ Some c → Serves id c own left →
-      ServesEach s (ids ++ id ∷ []) (acts ++ own) (left_as between id left)
 
 -- the acts of closing whom there is no room for
 abbrev pub shut : Option ℕ → List Act

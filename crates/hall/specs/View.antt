@@ -1,21 +1,11 @@
 -- What a hall stands for (this project's own rule).
-use Rattle.std.specs.Prelude.{ℕ, ◌==◌, List, [], ◌∷◌, if◌then◌else◌, Option, Some, None}
-use Rattle.hall.specs.State.{Connection, Service, State}
+use Rattle.std.specs.Prelude.{ℕ, List, Option}
+use Rattle.hall_seats.specs.State.{Service, State}
+use Rattle.hall_seats.specs.Seats.{Seated, known_at}
 use Rattle.route_ready.specs.World.{world_of}
 use Rattle.route_ready.specs.declared.world.World.{World}
 use Rattle.session_answers.specs.Profiles.{given_of, stored_of}
 use Rattle.session_answers.specs.declared.profiles.Profiles.{Profiles}
-
--- a connection that has a seat, with its id
-pub record Seated : Type 0 where
-  pub id : ℕ
-  pub known : Connection
-
--- what is known of a connection, by the seats
-abbrev pub known_at : List (Option Seated) → ℕ → Option Connection
-known_at [] id = None
-known_at (None ∷ seats) id = known_at seats id
-known_at (Some x ∷ seats) id = if x.id == id then Some x.known else known_at seats id
 
 -- what is seen of a hall: the world, the stored profiles, the connections whose searches wait, and the seats
 pub record HallValue : Type 0 where

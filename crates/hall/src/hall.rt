@@ -1,16 +1,13 @@
 //! All connections of a server.
 
 ghost use Rattle.std.specs.Prelude.{◌≡◌, replicate, IfOk, None};
-ghost use Rattle.hall.specs.Parts.{seat_count};
+ghost use Rattle.hall_seats.specs.Parts.{seat_count};
 
-use crate::desk::Desk;
-use crate::ready_frames::ReadyFrames;
-use crate::room::{MOST_SESSIONS, Room, SEATS};
-use crate::seat::Seat;
-use crate::serving::serve_seats;
+use crate::opening::MOST_SESSIONS;
 use crate::stepping::step;
 use crate::working::work;
 use edge_io::{Event, Hub};
+use hall_seats::{Desk, ReadyFrames, Room, SEATS, Seat, serve_seats};
 use route_ready::{Shelf, World};
 use session_answers::{KeptProfiles, Profiles, make_ready};
 use std::alloc::{AllocError, Global};
@@ -31,7 +28,7 @@ impl Drop for Hall {
 
 impl Model for Hall {
     ghost use Rattle.std.specs.Coded.{codes};
-    ghost use Rattle.hall.specs.View.{HallValue};
+    ghost use Rattle.hall.specs.View.{HallValue, service_of, state_of};
     ghost use Rattle.route_ready.specs.contracts.world.World as world;
     ghost use Rattle.session_answers.specs.contracts.profiles.Profiles as profiles;
 
@@ -48,13 +45,12 @@ impl Model for Hall {
 
 impl Hall {
     ghost use Rattle.std.specs.Prelude.{◌≡◌, Bool, length, nat_lt, IfOk};
-    ghost use Rattle.hall.specs.Allowed.{AreAllowed};
-    ghost use Rattle.hall.specs.Held.{AreFew};
-    ghost use Rattle.hall.specs.Served.{AreLive, ServedAll};
-    ghost use Rattle.hall.specs.Sound.{IsSound};
-    ghost use Rattle.hall.specs.State.{empty_hall};
-    ghost use Rattle.hall.specs.Steps.{Step, Works};
-    ghost use Rattle.hall.specs.View.{service_of, state_of};
+    ghost use Rattle.hall_seats.specs.Allowed.{AreAllowed};
+    ghost use Rattle.hall_seats.specs.Held.{AreFew};
+    ghost use Rattle.hall_seats.specs.Served.{AreLive, ServedAll};
+    ghost use Rattle.hall_seats.specs.Sound.{IsSound};
+    ghost use Rattle.hall_seats.specs.State.{empty_hall};
+    ghost use Rattle.hall_seats.specs.Steps.{Step, Works};
     ghost use Rattle.route_ready.specs.Entries.{names_of};
     ghost use Rattle.route_ready.specs.Shelves.{shelf_of};
     ghost use Rattle.route_ready.specs.World.{world_of};

@@ -2,20 +2,14 @@
 //! the laws of its runs.
 #![tactic(auto)]
 
-mod desk;
 mod hall;
 mod law;
 mod opening;
-mod pieces;
 mod queue;
 mod reading;
-mod ready_frames;
-mod room;
-mod seat;
 mod seating;
 mod seats;
 mod serve_end;
-mod serving;
 mod stepping;
 mod turn;
 mod waiting;

@@ -1,14 +1,15 @@
 //! Connections that open, and those that are lost.
 
 ghost use Rattle.std.specs.Prelude.{◌≡◌, ◌<◌, ◌+◌, None, false, length, true};
-ghost use Rattle.hall.specs.Parts.{IsHeld, IsPlaced, count_of, seats_of, service_in, state_in};
-ghost use Rattle.hall.specs.Steps.{Loses, Opens};
+ghost use Rattle.hall_seats.specs.Parts.{IsHeld, IsPlaced, count_of, seats_of, service_in, state_in};
+ghost use Rattle.hall_seats.specs.Steps.{Loses, Opens};
 
-use crate::queue::left;
-use crate::room::{MOST_SESSIONS, Room};
-use crate::seat::Seat;
 use crate::seating::{session, turned_away};
-use crate::seats::{count, free_seat, put, seat_of};
+use crate::seats::{count, free_seat, seat_of};
+use hall_seats::{Room, Seat, left, put};
+
+/// How many sessions are held at most, and how many connections are turned away at most.
+pub(crate) const MOST_SESSIONS: usize = 64;
 
 /// Takes in a connection that opened, where there is room for it. One that is to be closed at once
 /// is answered.

@@ -1,11 +1,11 @@
 //! The connections whose searches wait.
 
 ghost use Rattle.std.specs.Prelude.{◌≡◌};
-ghost use Rattle.hall.specs.Parts.{Joins};
-ghost use Rattle.hall.specs.State.{without};
+ghost use Rattle.hall_seats.specs.Parts.{Joins};
+ghost use Rattle.hall_seats.specs.State.{without};
 
-use crate::seat::{Frame, Seat};
 use crate::seating::{answered, waits};
+use hall_seats::{Frame, Seat};
 use session_answers::Search;
 use std::collections::VecDeque;
 
@@ -18,11 +18,4 @@ pub(crate) fn joined(queue: &mut VecDeque<u64>, seat: Seat, place: u32, pending:
         Ok(()) => waits(seat, pending, place),
         Err(_) => answered(seat, Frame::Memory),
     }
-}
-
-/// Takes a connection out, where it waits.
-pub(crate) fn left(queue: &mut VecDeque<u64>, id: u64)
-    ensures value { queue.new.items ≡ without id queue.old.items }
-{
-    queue.retain(|waiting| *waiting != id);
 }

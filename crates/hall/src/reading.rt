@@ -1,22 +1,20 @@
 //! Sessions that are read.
 
 ghost use Rattle.std.specs.Prelude.{◌≡◌, ◌⊎◌, false};
-ghost use Rattle.hall.specs.Parts.{AreReadied, IsHeld, Settles, answered_by, connection_of, frame_in, service_in, state_in};
-ghost use Rattle.hall.specs.State.{Connection};
-ghost use Rattle.hall.specs.Steps.{Hears, memory_frame, with_bytes, with_end};
-ghost use Rattle.hall.specs.declared.seat.Frame.{Frame};
-ghost use Rattle.hall.specs.declared.seat.Phase.TheVariants as phases;
+ghost use Rattle.hall_seats.specs.Parts.{AreReadied, IsHeld, Settles, answered_by, connection_of, frame_in, service_in, state_in};
+ghost use Rattle.hall_seats.specs.State.{Connection};
+ghost use Rattle.hall_seats.specs.Steps.{Hears, memory_frame, with_bytes, with_end};
+ghost use Rattle.hall_seats.specs.declared.seat.Frame.{Frame};
+ghost use Rattle.hall_seats.specs.declared.seat.Phase.TheVariants as phases;
 ghost use Rattle.session_answers.specs.Frames.{refusal_frame};
 ghost use Rattle.session_answers.specs.Received.{received_of};
 ghost use Rattle.session_answers.specs.Verdicts.{IsVerdict, IsVerdictIn};
 ghost use Rattle.session_answers.specs.declared.verdict.Verdict.TheVariants.{Query, Upload};
 
-use crate::desk::Desk;
 use crate::queue::joined;
-use crate::room::Room;
-use crate::seat::{Frame, Seat};
 use crate::seating::{answered, silent, whole};
-use crate::seats::{lifted, put, reader_of};
+use crate::seats::reader_of;
+use hall_seats::{Desk, Frame, Room, Seat, lifted, put};
 use route_http::Span;
 use session_answers::{Aim, Begun, Refusal, Verdict, begin, refusal_frame, upload};
 use std::alloc::Global;

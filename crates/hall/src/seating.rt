@@ -1,11 +1,11 @@
 //! What changes of one connection.
 
 ghost use Rattle.std.specs.Prelude.{◌≡◌, Some};
-ghost use Rattle.hall.specs.Parts.{answered_by, seated_of, waiting_by};
-ghost use Rattle.hall.specs.Steps.{session, turned_away};
-ghost use Rattle.hall.specs.declared.seat.Phase.TheVariants as phases;
+ghost use Rattle.hall_seats.specs.Parts.{answered_by, seated_of, waiting_by};
+ghost use Rattle.hall_seats.specs.Steps.{session, turned_away};
+ghost use Rattle.hall_seats.specs.declared.seat.Phase.TheVariants as phases;
 
-use crate::seat::{Frame, Phase, Seat};
+use hall_seats::{Frame, Phase, Seat};
 use session_answers::{Received, Search};
 use std::alloc::Global;
 

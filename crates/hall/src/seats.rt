@@ -2,9 +2,9 @@
 
 ghost use Rattle.std.specs.Option.{IsSome};
 ghost use Rattle.std.specs.Prelude.{◌≡◌, ◌<◌, None, Some, length, get_or, set, option_map};
-ghost use Rattle.hall.specs.Parts.{CountsOne, HasId, HaveOneSeat, IsFreeOne, IsFreeSeat, IsReadOne, IsReaderOf, IsSeatOf, count_of, seated_of, seats_of};
+ghost use Rattle.hall_seats.specs.Parts.{CountsOne, HasId, HaveOneSeat, IsFreeOne, IsFreeSeat, IsReadOne, IsReaderOf, IsSeatOf, count_of, seated_of, seats_of};
 
-use crate::seat::{Phase, Seat};
+use hall_seats::{Phase, Seat};
 
 /// The seat of a connection, where it has one.
 pub(crate) fn seat_of(seats: &[Option<Seat>], id: u64) -> Option<usize>
@@ -65,16 +65,6 @@ pub(crate) fn free_seat(seats: &[Option<Seat>]) -> Option<usize>
     None
 }
 
-/// Whether a seat is free.
-pub(crate) fn is_free(seat: &Option<Seat>) -> bool
-    ensures exact { IsFreeOne (option_map seated_of seat.now) result }
-{
-    match seat {
-        Some(_) => false,
-        None => true,
-    }
-}
-
 /// How many connections are turned away, or how many sessions are held.
 pub(crate) fn count(seats: &[Option<Seat>], away: bool) -> usize
     ensures exact { result ≡ count_of (seats_of seats.now) away }
@@ -96,23 +86,4 @@ fn is_of(seat: &Option<Seat>, away: bool) -> bool
         Some(seat) => seat.away == away,
         None => false,
     }
-}
-
-/// Lifts the connection of a seat out of it.
-pub(crate) fn lifted(seats: &mut Vec<Option<Seat>>, k: usize) -> Seat
-    requires within { k < length seats.old.items }
-    requires taken { IsSome (get_or seats.old.items k None) }
-    ensures exact { get_or seats.old.items k None ≡ Some result }
-    ensures left { seats.new.items ≡ set seats.old.items k None }
-{
-    let seat = seats[k].take();
-    seat.unwrap()
-}
-
-/// Puts a connection in a seat, or leaves the seat free.
-pub(crate) fn put(seats: &mut Vec<Option<Seat>>, k: usize, seat: Option<Seat>)
-    requires within { k < length seats.old.items }
-    ensures value { seats.new.items ≡ set seats.old.items k seat }
-{
-    seats[k] = seat;
 }

@@ -1,19 +1,17 @@
 //! Turns of searches.
 
 ghost use Rattle.std.specs.Prelude.{◌≡◌};
-ghost use Rattle.hall.specs.Parts.{AreReadied, HasTurn, IsHeld, IsSearchAt, IsSearchOf, IsWaitingIn, Makes, connection_of, service_in, state_in, waiting_for};
-ghost use Rattle.hall.specs.Steps.{Works};
+ghost use Rattle.hall_seats.specs.Parts.{AreReadied, HasTurn, IsHeld, IsSearchAt, IsSearchOf, IsWaitingIn, Makes, connection_of, service_in, state_in, waiting_for};
+ghost use Rattle.hall_seats.specs.Steps.{Works};
 ghost use Rattle.route_ready.specs.World.{world_of};
 ghost use Rattle.session_answers.specs.Profiles.{stored_of};
 ghost use Rattle.session_answers.specs.Received.{received_of};
 ghost use Rattle.session_answers.specs.Searches.{settled_by};
 
-use crate::desk::Desk;
 use crate::queue::joined;
-use crate::room::Room;
-use crate::seat::{Frame, Phase, Seat};
 use crate::seating::answered;
-use crate::seats::{lifted, put, seat_of};
+use crate::seats::seat_of;
+use hall_seats::{Desk, Frame, Phase, Room, Seat, lifted, put};
 use item_list::Turn;
 use session_answers::{Search, turn};
 use std::mem::replace;

@@ -1,11 +1,11 @@
 use Rattle.std.proofs.Common.{List, None, Option, Some, refl, subst}
-use Rattle.hall.proofs.GoneLemmas.{loses_by}
-use Rattle.hall.proofs.SeatLemmas.{known_none}
+use Rattle.hall_seats.proofs.GoneLemmas.{loses_by}
+use Rattle.hall_seats.proofs.SeatLemmas.{known_none}
 use Rattle.hall.proofs.opening.lost.Goals as goal
-use Rattle.hall.specs.Parts.{IsSeatOf, seats_of}
-use Rattle.hall.specs.Steps.{stranger}
-use Rattle.hall.specs.declared.room.Room.{Room}
-use Rattle.hall.specs.declared.seat.Seat.{Seat}
+use Rattle.hall_seats.specs.Parts.{IsSeatOf, seats_of}
+use Rattle.hall_seats.specs.Steps.{stranger}
+use Rattle.hall_seats.specs.declared.room.Room.{Room}
+use Rattle.hall_seats.specs.declared.seat.Seat.{Seat}
 
 pub returns-in-None-clause-loses : goal.returns-in-None-clause-loses
 returns-in-None-clause-loses c =

@@ -1,10 +1,10 @@
 use Rattle.std.proofs.Common.{List, None, Option, Some, refl, subst}
-use Rattle.hall.proofs.GoneLemmas.{found_known}
-use Rattle.hall.proofs.SeatLemmas.{known_none}
+use Rattle.hall_seats.proofs.GoneLemmas.{found_known}
+use Rattle.hall_seats.proofs.SeatLemmas.{known_none}
 use Rattle.hall.proofs.opening.opened.Goals as goal
-use Rattle.hall.specs.Parts.{IsSeatOf, seats_of}
-use Rattle.hall.specs.Steps.{again}
-use Rattle.hall.specs.declared.seat.Seat.{Seat}
+use Rattle.hall_seats.specs.Parts.{IsSeatOf, seats_of}
+use Rattle.hall_seats.specs.Steps.{again}
+use Rattle.hall_seats.specs.declared.seat.Seat.{Seat}
 
 pub returns-in-Some : goal.returns-in-Some
 returns-in-Some c =

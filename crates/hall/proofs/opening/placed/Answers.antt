@@ -1,9 +1,9 @@
 use Rattle.std.proofs.Common.{List, Option, arith, subst}
-use Rattle.hall.proofs.SeatCountLemmas.{free_some, placed_in}
-use Rattle.hall.proofs.SeatLemmas.{seats_long}
+use Rattle.hall_seats.proofs.SeatCountLemmas.{free_some, placed_in}
+use Rattle.hall_seats.proofs.SeatLemmas.{seats_long}
 use Rattle.hall.proofs.opening.placed.Goals as goal
-use Rattle.hall.specs.Parts.{IsFreeSeat, seats_of}
-use Rattle.hall.specs.declared.seat.Seat.{Seat}
+use Rattle.hall_seats.specs.Parts.{IsFreeSeat, seats_of}
+use Rattle.hall_seats.specs.declared.seat.Seat.{Seat}
 
 pub unwrap-k-requires : goal.unwrap-k-requires
 unwrap-k-requires c =

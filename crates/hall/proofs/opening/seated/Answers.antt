@@ -1,11 +1,11 @@
 use Rattle.std.proofs.Common.{◌<◌, List, Option, arith, false, subst, true}
 use Rattle.hall.proofs.OpeningLemmas.{is_full, opens_away, opens_held}
 use Rattle.hall.proofs.opening.seated.Goals as goal
-use Rattle.hall.specs.Held.{most_sessions}
-use Rattle.hall.specs.Parts.{count_of, seats_of}
-use Rattle.hall.specs.Steps.{full}
-use Rattle.hall.specs.declared.room.Room.{Room}
-use Rattle.hall.specs.declared.seat.Seat.{Seat}
+use Rattle.hall_seats.specs.Held.{most_sessions}
+use Rattle.hall_seats.specs.Parts.{count_of, seats_of}
+use Rattle.hall_seats.specs.Steps.{full}
+use Rattle.hall_seats.specs.declared.room.Room.{Room}
+use Rattle.hall_seats.specs.declared.seat.Seat.{Seat}
 use Rattle.std.proofs.Common.{refl}
 
 pub returns-then-count-lt-MOST_SESSIONS : goal.returns-then-count-lt-MOST_SESSIONS

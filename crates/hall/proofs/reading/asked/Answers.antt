@@ -1,11 +1,11 @@
 use Rattle.std.proofs.Common.{List, ℕ, refl, subst, ap, ◌∙◌}
 use Rattle.hall.proofs.ReadingLemmas.{has_byte, settles_early, settles_frame, settles_search}
 use Rattle.std.proofs.Common.{inl, inr}
-use Rattle.hall.specs.Parts.{Joins, answered_by, connection_of}
-use Rattle.hall.specs.Steps.{gives_up}
-use Rattle.hall.specs.declared.desk.Desk.{Desk}
-use Rattle.hall.specs.declared.seat.Frame.TheVariants as frames
-use Rattle.hall.specs.declared.seat.Seat.{Seat}
+use Rattle.hall_seats.specs.Parts.{Joins, answered_by, connection_of}
+use Rattle.hall_seats.specs.Steps.{gives_up}
+use Rattle.hall_seats.specs.declared.desk.Desk.{Desk}
+use Rattle.hall_seats.specs.declared.seat.Frame.TheVariants as frames
+use Rattle.hall_seats.specs.declared.seat.Seat.{Seat}
 use Rattle.route_ready.specs.World.{world_of}
 use Rattle.session_answers.specs.Jobs.{Begins, IsBegun}
 use Rattle.session_answers.specs.Profiles.{stored_of}

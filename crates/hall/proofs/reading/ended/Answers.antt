@@ -1,12 +1,12 @@
 use Rattle.std.proofs.Common.{List, Option, Some, None, refl, subst, sym, arith}
 use Rattle.hall.proofs.ReaderLemmas.{hears_by, reader_is}
-use Rattle.hall.proofs.SeatLemmas.{seat_taken, seats_long}
-use Rattle.hall.specs.Parts.{HaveOneSeat, IsReaderOf, seats_of}
-use Rattle.hall.specs.Steps.{ignored, with_end}
-use Rattle.hall.specs.declared.room.Room.{Room}
-use Rattle.hall.specs.declared.seat.Seat.{Seat}
+use Rattle.hall_seats.proofs.SeatLemmas.{seat_taken, seats_long}
+use Rattle.hall_seats.specs.Parts.{HaveOneSeat, IsReaderOf, seats_of}
+use Rattle.hall_seats.specs.Steps.{ignored, with_end}
+use Rattle.hall_seats.specs.declared.room.Room.{Room}
+use Rattle.hall_seats.specs.declared.seat.Seat.{Seat}
 use Rattle.hall.proofs.reading.ended.Goals as goal
-use Rattle.hall.proofs.RoomLemmas.{IsReplaced, replaced}
+use Rattle.hall_seats.proofs.RoomLemmas.{IsReplaced, replaced}
 
 pub reader_of-requires : goal.reader_of-requires
 reader_of-requires c = record {

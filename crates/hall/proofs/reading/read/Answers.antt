@@ -1,10 +1,10 @@
 use Rattle.std.proofs.Common.{◌≡◌, inl, subst}
 use Rattle.hall.proofs.ReadingLemmas.{goes_on, settles_frame}
-use Rattle.hall.specs.Parts.{Settles, connection_of}
-use Rattle.hall.specs.State.{Connection}
-use Rattle.hall.specs.Steps.{gives_up, with_bytes}
-use Rattle.hall.specs.declared.seat.Frame.TheVariants as frames
-use Rattle.hall.specs.declared.seat.Seat.{Seat}
+use Rattle.hall_seats.specs.Parts.{Settles, connection_of}
+use Rattle.hall_seats.specs.State.{Connection}
+use Rattle.hall_seats.specs.Steps.{gives_up, with_bytes}
+use Rattle.hall_seats.specs.declared.seat.Frame.TheVariants as frames
+use Rattle.hall_seats.specs.declared.seat.Seat.{Seat}
 use Rattle.std.proofs.Common.{refl}
 use Rattle.hall.proofs.reading.read.Goals as goal
 

@@ -1,4 +1,4 @@
-use Rattle.hall.specs.Parts.{connection_of}
+use Rattle.hall_seats.specs.Parts.{connection_of}
 use Rattle.hall.proofs.reading.read_to_end.Goals as goal
 
 pub returns : goal.returns

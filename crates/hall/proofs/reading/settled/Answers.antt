@@ -1,7 +1,7 @@
 use Rattle.std.proofs.Common.{refl, subst}
 use Rattle.hall.proofs.ReadingLemmas.{settles_refused, settles_silent, settles_undecided}
-use Rattle.hall.specs.Parts.{connection_of}
-use Rattle.hall.specs.Steps.{silent, undecided}
+use Rattle.hall_seats.specs.Parts.{connection_of}
+use Rattle.hall_seats.specs.Steps.{silent, undecided}
 use Rattle.session_answers.specs.Received.{received_of}
 use Rattle.session_answers.specs.Verdicts.{IsVerdict}
 use Rattle.hall.proofs.reading.settled.Goals as goal

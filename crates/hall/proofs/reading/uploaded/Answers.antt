@@ -1,8 +1,8 @@
 use Rattle.std.proofs.Common.{◌≡◌, ap, ◌∙◌}
 use Rattle.hall.proofs.ReadingLemmas.{settles_no_upload, settles_upload}
-use Rattle.hall.specs.Parts.{answered_by}
-use Rattle.hall.specs.declared.seat.Frame.TheVariants as frames
-use Rattle.hall.specs.declared.seat.Seat.{Seat}
+use Rattle.hall_seats.specs.Parts.{answered_by}
+use Rattle.hall_seats.specs.declared.seat.Frame.TheVariants as frames
+use Rattle.hall_seats.specs.declared.seat.Seat.{Seat}
 use Rattle.route_ready.specs.World.{world_of}
 use Rattle.session_answers.specs.Profiles.{uploads_of}
 use Rattle.session_answers.specs.Received.{received_of}

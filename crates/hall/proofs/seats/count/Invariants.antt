@@ -1,5 +1,5 @@
 use Rattle.std.proofs.Common.{◌≡◌, ◌+◌, ◌≤◌, drop}
-use Rattle.hall.specs.Parts.{count_of, seats_of}
+use Rattle.hall_seats.specs.Parts.{count_of, seats_of}
 use Rattle.hall.proofs.seats.count.Given as goal
 
 abbrev pub invariant-seats : goal.invariant-seats

@@ -1,6 +1,6 @@
 use Rattle.std.proofs.Common.{◌≢◌, ℕ, get_or, None, below_more}
 use Rattle.hall.proofs.SeatFindLemmas.{seat_not_free}
-use Rattle.hall.specs.Parts.{seats_of}
+use Rattle.hall_seats.specs.Parts.{seats_of}
 use Rattle.hall.proofs.seats.free_seat.Goals as goal
 
 pub seats-preserved : goal.seats-preserved

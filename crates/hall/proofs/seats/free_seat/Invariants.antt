@@ -1,5 +1,5 @@
 use Rattle.std.proofs.Common.{◌≢◌, ℕ, ◌<◌, get_or, None}
-use Rattle.hall.specs.Parts.{seats_of}
+use Rattle.hall_seats.specs.Parts.{seats_of}
 use Rattle.hall.proofs.seats.free_seat.Given as goal
 
 abbrev pub invariant-seats : goal.invariant-seats

@@ -1,8 +1,8 @@
 use Rattle.std.proofs.Common.{arith}
 use Rattle.hall.proofs.SeatFindLemmas.{reader_none, reader_unread}
-use Rattle.hall.proofs.SeatLemmas.{seats_long}
+use Rattle.hall_seats.proofs.SeatLemmas.{seats_long}
 use Rattle.hall.proofs.seats.reader_of.Goals as goal
-use Rattle.hall.specs.Parts.{seats_of}
+use Rattle.hall_seats.specs.Parts.{seats_of}
 
 pub returns-in-None : goal.returns-in-None
 returns-in-None c = record { exact = reader_none (seats_of c.args.seats.now) c.args.id c.in-None.ensures.exact }

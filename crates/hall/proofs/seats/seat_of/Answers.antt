@@ -1,7 +1,7 @@
 use Rattle.std.proofs.Common.{◌≡◌, ◌≢◌, ℕ, get_or, Some, None, below_more}
 use Rattle.hall.proofs.SeatFindLemmas.{seat_has, seat_misses}
-use Rattle.hall.specs.Parts.{seats_of}
-use Rattle.hall.specs.View.{Seated}
+use Rattle.hall_seats.specs.Parts.{seats_of}
+use Rattle.hall_seats.specs.Seats.{Seated}
 use Rattle.hall.proofs.seats.seat_of.Goals as goal
 
 pub returns-then-has_id : goal.returns-then-has_id

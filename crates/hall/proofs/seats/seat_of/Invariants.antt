@@ -1,6 +1,6 @@
 use Rattle.std.proofs.Common.{◌≡◌, ◌≢◌, ℕ, ◌<◌, get_or, Some, None}
-use Rattle.hall.specs.Parts.{seats_of}
-use Rattle.hall.specs.View.{Seated}
+use Rattle.hall_seats.specs.Parts.{seats_of}
+use Rattle.hall_seats.specs.Seats.{Seated}
 use Rattle.hall.proofs.seats.seat_of.Given as goal
 
 abbrev pub invariant-seats : goal.invariant-seats

@@ -1,7 +1,8 @@
 -- So many turns are taken.
 use Rattle.std.proofs.Common.{◌≡◌, length}
 use Rattle.hall.specs.View.{service_of, state_of}
-use Rattle.hall.specs.Served.{AreLive, TookTurns}
+use Rattle.hall_seats.specs.Served.{AreLive}
+use Rattle.hall.specs.Served.{TookTurns}
 use Rattle.hall.proofs.turn.take_turns.Given as goal
 
 abbrev pub invariant-turns : goal.invariant-turns

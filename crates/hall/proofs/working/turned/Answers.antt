@@ -1,9 +1,9 @@
 use Rattle.std.proofs.Common.{refl, subst, take}
 use Rattle.hall.proofs.WorkingLemmas.{works_frame, works_memory, works_more}
 use Rattle.hall.proofs.working.turned.Goals as goal
-use Rattle.hall.specs.Steps.{work_quota}
-use Rattle.hall.specs.declared.desk.Desk.{Desk}
-use Rattle.hall.specs.declared.seat.Frame.TheVariants as frames
+use Rattle.hall_seats.specs.Steps.{work_quota}
+use Rattle.hall_seats.specs.declared.desk.Desk.{Desk}
+use Rattle.hall_seats.specs.declared.seat.Frame.TheVariants as frames
 use Rattle.profile_text.specs.Expr.{sections_in}
 use Rattle.route_ready.specs.World.{world_of}
 use Rattle.session_answers.proofs.CallerLemmas.{job_place, job_profile}

@@ -1,13 +1,13 @@
 use Rattle.std.proofs.Common.{List, Option, arith, refl, subst, Some}
 use Rattle.hall.proofs.FrontLemmas.{front_seat, front_waits, works_by}
-use Rattle.hall.proofs.SeatLemmas.{seat_taken, seats_long}
+use Rattle.hall_seats.proofs.SeatLemmas.{seat_taken, seats_long}
 use Rattle.hall.proofs.WorkingLemmas.{works_idle}
 use Rattle.hall.proofs.working.work.Goals as goal
-use Rattle.hall.specs.Parts.{IsSeatOf, seats_of}
-use Rattle.hall.specs.declared.desk.Desk.{Desk}
-use Rattle.hall.specs.declared.room.Room.{Room}
-use Rattle.hall.specs.declared.seat.Seat.{Seat}
-use Rattle.hall.proofs.RoomLemmas.{IsReplaced, replaced}
+use Rattle.hall_seats.specs.Parts.{IsSeatOf, seats_of}
+use Rattle.hall_seats.specs.declared.desk.Desk.{Desk}
+use Rattle.hall_seats.specs.declared.room.Room.{Room}
+use Rattle.hall_seats.specs.declared.seat.Seat.{Seat}
+use Rattle.hall_seats.proofs.RoomLemmas.{IsReplaced, replaced}
 
 pub unwrap-k-requires : goal.unwrap-k-requires
 unwrap-k-requires c =

@@ -1,9 +1,9 @@
 use Rattle.std.proofs.Common.{refl}
 use Rattle.hall.proofs.EmptyLemmas.{held_empty, state_empty}
-use Rattle.hall.specs.Parts.{seat_count}
+use Rattle.hall_seats.specs.Parts.{seat_count}
 use Rattle.hall.specs.View.{service_of, state_of}
-use Rattle.hall.specs.declared.desk.Desk.{Desk}
-use Rattle.hall.specs.declared.room.Room.{Room}
+use Rattle.hall_seats.specs.declared.desk.Desk.{Desk}
+use Rattle.hall_seats.specs.declared.room.Room.{Room}
 use Rattle.route_ready.specs.Shelves.{shelf_of}
 use Rattle.route_ready.specs.Entries.{profiles_of}
 use Rattle.route_ready.specs.World.{world_of}

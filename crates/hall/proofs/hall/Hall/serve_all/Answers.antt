@@ -1,9 +1,9 @@
 use Rattle.std.proofs.Common.{ap, refl, subst, sym, ◌∙◌}
-use Rattle.hall.proofs.SeatCountLemmas.{counts}
-use Rattle.hall.proofs.SoundLemmas.{are_allowed}
+use Rattle.hall_seats.proofs.SeatCountLemmas.{counts}
+use Rattle.hall_seats.proofs.SoundLemmas.{are_allowed}
 use Rattle.hall.proofs.hall.Hall.serve_all.Goals as goal
-use Rattle.hall.specs.Parts.{count_of, seats_of, service_in, state_in}
-use Rattle.hall.specs.Served.{AreLive, ServedAll}
+use Rattle.hall_seats.specs.Parts.{count_of, seats_of, service_in, state_in}
+use Rattle.hall_seats.specs.Served.{AreLive, ServedAll}
 use Rattle.hall.specs.View.{HallValue, service_of, state_of}
 
 pub serve_seats-requires : goal.serve_seats-requires

@@ -1,0 +1,13 @@
+pub mod AllowedLemmas
+pub mod ChangeLemmas
+pub mod GoneLemmas
+pub mod IdLemmas
+pub mod LiveLemmas
+pub mod RoomLemmas
+pub mod SeatCountLemmas
+pub mod SeatLemmas
+pub mod ServedLemmas
+pub mod ServingLemmas
+pub mod SoundInLemmas
+pub mod SoundLemmas
+pub mod VerdictLemmas
