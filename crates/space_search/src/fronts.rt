@@ -1,10 +1,10 @@
 //! What the covering test asks: for each slot a front of settled labels.
 
-ghost use Rattle.std.specs.Prelude.{◌≡◌, []};
+ghost use Rattle.std.specs.Prelude.{◌≡◌, [], ⊤};
 
 use crate::point::Point;
 use item_list::Paged;
-use std::alloc::Global;
+use std::alloc::{AllocError, Global};
 
 /// Where the front of a slot stands.
 #[derive(Clone, Copy, Drop)]
@@ -18,11 +18,23 @@ pub enum Head {
 }
 
 /// A label of a front: what the covering test asks of it.
-#[derive(Clone, Copy)]
 pub struct Member<T> {
     pub(crate) cost: u128,
     pub(crate) state: T,
 }
+
+/// By hand, since what is derived for a type with parameters is dear to prove.
+impl<T: Copy> Clone for Member<T> {
+    ghost is_clone = { λ x y. y ≡ x };
+
+    ghost is_infallible = { λ _. ⊤ };
+
+    fn clone(&self) -> Result<Member<T>, AllocError> {
+        Ok(*self)
+    }
+}
+
+impl<T: Copy> Copy for Member<T> {}
 
 /// A part of a front, whose labels lie near each other.
 pub struct Block<T> {

@@ -1,20 +1,33 @@
 //! What a search knows of its settled labels while the steps of one are listed.
 
-ghost use Rattle.std.specs.Prelude.{◌≡◌, ◌<◌, Some, None, IfSome, MatchOption, length};
+ghost use Rattle.std.specs.Prelude.{◌≡◌, ◌<◌, Some, None, IfSome, MatchOption, length, ⊤};
 ghost use Rattle.space_search.specs.Fronts.{IsAsked, heads_of};
 ghost use Rattle.space_search.specs.Known.{HaveKnown, known_fronts, only_of};
 
 use crate::fronts::{Fronts, Head};
 use crate::heads::head_at;
 use crate::label::Label;
+use std::alloc::AllocError;
 
 /// The settled labels that the covering test asks, by slot. A space may leave out of its list a step
 /// that one of them covers: offering it would do nothing.
-#[derive(Clone, Copy)]
 pub struct Known<'a, T> {
     pub(crate) labels: &'a Vec<Label<T>>,
     pub(crate) fronts: &'a Fronts<T>,
 }
+
+/// By hand, since what is derived for a type with parameters is dear to prove.
+impl<'a, T> Clone for Known<'a, T> {
+    ghost is_clone = { λ x y. y ≡ x };
+
+    ghost is_infallible = { λ _. ⊤ };
+
+    fn clone(&self) -> Result<Known<'a, T>, AllocError> {
+        Ok(*self)
+    }
+}
+
+impl<'a, T> Copy for Known<'a, T> {}
 
 impl<'a, T> Known<'a, T> {
     /// The state of a slot's only label and what it costs; `None` where the slot has none, as most

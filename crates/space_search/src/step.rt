@@ -1,18 +1,30 @@
 //! The steps of a state as they are listed.
 
-ghost use Rattle.std.specs.Prelude.{◌≡◌, [], ◌∷◌, ◌++◌, OnOk, OnErr};
+ghost use Rattle.std.specs.Prelude.{◌≡◌, [], ◌∷◌, ◌++◌, OnOk, OnErr, ⊤};
 
 use std::alloc::{AllocError, Global};
 use std::marker::Model;
 
 /// A permitted step of a state: its number among the state's steps, the state that it reaches, and
 /// what it costs.
-#[derive(Clone, Copy)]
 pub struct Step<T> {
     pub choice: u32,
     pub state: T,
     pub cost: u128,
 }
+
+/// By hand, since what is derived for a type with parameters is dear to prove.
+impl<T: Copy> Clone for Step<T> {
+    ghost is_clone = { λ x y. y ≡ x };
+
+    ghost is_infallible = { λ _. ⊤ };
+
+    fn clone(&self) -> Result<Step<T>, AllocError> {
+        Ok(*self)
+    }
+}
+
+impl<T: Copy> Copy for Step<T> {}
 
 /// A list of steps that is filled anew for each state. Contracts see it as that list.
 ///
