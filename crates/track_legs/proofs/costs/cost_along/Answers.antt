@@ -1,7 +1,7 @@
 use Rattle.std.proofs.Common.{◌≡◌, ◌<◌, ◌≤◌, ◌*◌, ◌^◌, ◌∙◌, length, take, arith, ap, subst, sym, refl, IfSome, SomeIff}
 use Rattle.std.proofs.Math.Seq.{take-length}
 use Rattle.cost_model.specs.Walks.{walk_cost}
-use Rattle.track_legs.proofs.CostLemmas.{cost-beyond}
+use Rattle.track_legs.proofs.CostLemmas.{cost-beyond, cost-more, paid-more}
 use Rattle.track_legs.proofs.costs.cost_along.Goals as goal
 
 pub returns-in_err-cost : goal.returns-in_err-cost
@@ -33,3 +33,18 @@ returns g c =
       found = λ few. refl;
       below = subst (λ n. c.links.cost ≤ n * 2 ^ 81) end c.links.invariant.3;
     }
+
+pub links-preserved : goal.links-preserved
+links-preserved g c =
+    let facts = (g.F.FactsOf.links c.args.facts.now).facts in
+    let walk = c.args.walk.now in
+    let goes = c.go_on.ensures.along (take c.links.place walk) c.links.invariant.0.carried in
+    let more = cost-more c.args.rates.now facts walk c.links.place c.links-test.true c.go_on.result.0 c.go_on.result.1 c.go_on.ensures.link goes in
+    let is = c.in_ok-cost.ensures.1 in
+    (
+      paid-more c.args.rates.now facts walk c.links.place c.links-test.true c.go_on.result.0 c.go_on.result.1 c.go_on.ensures.link goes
+          (g.F.FactsOf.links c.args.facts.now).count c.go_on.ensures.kept,
+      omega (arith, more, c.links.invariant.1, c.price.ensures.exact, is),
+      omega (arith, is, c.in_ok-cost.ensures.0),
+      omega (arith, is, c.links.invariant.3, c.price.ensures.below),
+    )

@@ -1,7 +1,7 @@
-use Rattle.std.proofs.Common.{◌≡◌, ℕ, List, [], Option, ap, subst, sym}
+use Rattle.std.proofs.Common.{◌≡◌, ℕ, List, [], Option, IfSome, ap, subst, sym}
 use Rattle.cost_model.specs.Walks.{GoesOn}
 use Rattle.cost_model.specs.declared.parts.Carry.{Carry}
-use Rattle.track_legs.specs.Costs.{IsCarriedSoFar}
+use Rattle.track_legs.specs.Costs.{IsCarriedSoFar, IsKept}
 use Rattle.track_legs.proofs.costs.go_on.Goals as goal
 
 pub returns-in-None : goal.returns-in-None
@@ -36,3 +36,9 @@ returns-in-Some g c =
           c.enter.ensures.along facts walk (sym c.facts.ensures.value) (sym c.facts-taken.ensures.value)
           (subst (λ (carry : Option Carry). IsCarriedSoFar rates facts walk carry) c.in-Some.is so_far);
     }
+
+pub facts-requires : goal.facts-requires
+facts-requires g c =
+    let kept = subst (λ (carry : Option Carry). IfSome carry (λ last. IsKept c.args.rates.now (g.F.FactsOf.links c.args.facts.now).count last))
+        c.in-Some.is c.requires.kept in
+    record { within = kept.link }
