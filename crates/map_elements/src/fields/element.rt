@@ -5,6 +5,7 @@ ghost use Rattle.map_elements.specs.Entries.{Entry, entries_from, member};
 ghost use Rattle.map_elements.specs.Front.{Fits, behind};
 ghost use Rattle.map_elements.specs.Fields.{with_some, text_of, number_of, whole_number_of};
 ghost use Rattle.map_elements.specs.Noted.{Noted, Notes, NotesOne, noted};
+ghost use Rattle.map_elements.specs.declared.front.Front.TheVariants.{Id, Lat, Lon};
 ghost use lib.Chars.{codes};
 
 use crate::front::Front;
@@ -61,22 +62,46 @@ impl<'a> Slots<'a> {
         match front {
             Front::Bare | Front::Open => {}
             Front::Kind => self.note_named(left, b"type"),
-            Front::Id => {
-                self.note_plain(left, b"type");
-                self.note_named(left, b"id");
-            }
-            Front::Lat => {
-                self.note_plain(left, b"type");
-                self.note_plain(left, b"id");
-                self.note_named(left, b"lat");
-            }
-            Front::Lon => {
-                self.note_plain(left, b"type");
-                self.note_plain(left, b"id");
-                self.note_plain(left, b"lat");
-                self.note_named(left, b"lon");
-            }
+            Front::Id => self.note_id(left),
+            Front::Lat => self.note_lat(left),
+            Front::Lon => self.note_lon(left),
         }
+    }
+
+    /// Notes the members up to `id`, whose names are told, and takes their values away.
+    fn note_id(&mut self, left: &mut Part<'a>)
+        requires none { (all : List Entry) → Noted self.old all all }
+        requires fits { Fits Id left.old }
+        ensures value { Noted self.new (entries_from None [] zero (behind Id left.old))
+            (entries_from None [] zero left.new) }
+    {
+        self.note_plain(left, b"type");
+        self.note_named(left, b"id");
+    }
+
+    /// The same up to `lat`.
+    fn note_lat(&mut self, left: &mut Part<'a>)
+        requires none { (all : List Entry) → Noted self.old all all }
+        requires fits { Fits Lat left.old }
+        ensures value { Noted self.new (entries_from None [] zero (behind Lat left.old))
+            (entries_from None [] zero left.new) }
+    {
+        self.note_plain(left, b"type");
+        self.note_plain(left, b"id");
+        self.note_named(left, b"lat");
+    }
+
+    /// The same up to `lon`.
+    fn note_lon(&mut self, left: &mut Part<'a>)
+        requires none { (all : List Entry) → Noted self.old all all }
+        requires fits { Fits Lon left.old }
+        ensures value { Noted self.new (entries_from None [] zero (behind Lon left.old))
+            (entries_from None [] zero left.new) }
+    {
+        self.note_plain(left, b"type");
+        self.note_plain(left, b"id");
+        self.note_plain(left, b"lat");
+        self.note_named(left, b"lon");
     }
 
     /// Notes a member of this name whose value is the first step.
