@@ -5,4 +5,5 @@ pub mod EntryLemmas
 pub mod FitLemmas
 pub mod HelpLemmas
 pub mod KeyLemmas
+pub mod ReadLemmas
 pub mod ServeLemmas
