@@ -5,6 +5,7 @@ pub mod CoverLemmas
 pub mod TestLemmas
 pub mod SlotLemmas
 pub mod NewerLemmas
+mod WordLemmas
 pub mod WholeLemmas
 pub mod AllLemmas
 pub mod SumsLemmas

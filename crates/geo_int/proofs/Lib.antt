@@ -1,6 +1,8 @@
 pub mod CallerLemmas
 pub mod RootLemmas
 pub mod SquareLemmas
+mod StepLemmas
+mod PartLemmas
 pub mod QuotientLemmas
 pub mod ArrowLemmas
 pub mod ProductLemmas

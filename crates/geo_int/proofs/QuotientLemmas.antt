@@ -1,8 +1,8 @@
 -- Bounds of products and of quotients that are cut toward zero.
-use Rattle.std.proofs.Common.{◌≡◌, ℕ, zero, suc, ◌*◌, ◌/◌, ◌≤◌, ℤ, pos, negsuc, neg_ℤ, ◌*ℤ◌, int_div, unsigned_abs, FitsSigned, w64, refl, ap, ◌∙◌, arith}
+use Rattle.std.proofs.Common.{◌≡◌, ℕ, zero, suc, ◌*◌, ◌/◌, ◌≤◌, ℤ, pos, negsuc, neg_ℤ, ◌*ℤ◌, int_div, int_le, true, unsigned_abs, FitsSigned, w64, refl, ap, ◌∙◌, rules, arith}
 use Rattle.std.specs.Int.{w128}
 use Rattle.std.proofs.lemmas.Nat.{mul-le}
-use Rattle.std.proofs.lemmas.Int.{unsigned_abs-mul, fits_signed_from_abs}
+use Rattle.std.proofs.lemmas.Int.{ints, unsigned_abs-mul, fits_signed_from_abs, quot_fits}
 use Rattle.geo_int.specs.Arrow.{east_part}
 
 -- a number and its opposite have one magnitude
@@ -59,4 +59,24 @@ wide_fits degrees cosine d c =
       product = fits_signed_from_abs w128 _ (omega arith);
       quotient = fits_signed_from_abs w128 _ (omega arith);
       back = fits_signed_from_abs w64 _ (omega arith);
+    }
+
+-- what a product of 64 bits and its quotient stay within
+pub record SmallFits (degrees cosine : ℤ) : Type 0 where
+  pub part : FitsSigned w64 (degrees *ℤ pos 11132)
+  pub product : FitsSigned w64 (degrees *ℤ pos 11132 *ℤ cosine)
+  pub quotient : FitsSigned w64 (int_div (degrees *ℤ pos 11132 *ℤ cosine) (pos 100000000000))
+
+-- the product of a small difference in degrees and a cosine stays within 64 bits
+pub small_fits : (degrees cosine : ℤ) → int_le (negsuc 799999) degrees ≡ true → int_le degrees (pos 800000) ≡ true →
+    unsigned_abs cosine ≤ 1000000000 → SmallFits degrees cosine
+small_fits degrees cosine low high c =
+    let small : unsigned_abs degrees ≤ 800000 = omega (arith, ints, low, high) in
+    let whole : unsigned_abs (degrees *ℤ pos 11132) ≡ unsigned_abs degrees * 11132 = unsigned_abs-mul degrees (pos 11132) in
+    let all : unsigned_abs (degrees *ℤ pos 11132 *ℤ cosine) ≤ 800000 * 11132 * 1000000000 = east_product_le degrees cosine 800000 small c in
+    let product : FitsSigned w64 (degrees *ℤ pos 11132 *ℤ cosine) = fits_signed_from_abs w64 _ (omega (arith, all)) in
+    record {
+      part = fits_signed_from_abs w64 _ (omega (arith, whole, small));
+      product = product;
+      quotient = quot_fits w64 _ _ product (search rules);
     }

@@ -1,10 +1,10 @@
 -- What follows from the definition of a turn's cosine, and the bounds that it is computed in.
-use Rattle.std.proofs.Common.{◌≡◌, ℕ, ◌*◌, ◌≤◌, ◌<◌, ℤ, ◌/◌, ◌≢◌, ◌==◌, pos, ◌*ℤ◌, unsigned_abs, Bool, true, false, cond, refl, FitsSigned, w64, to_z, of_z, ap, ◌∙◌, sym, subst, arith}
+use Rattle.std.proofs.Common.{◌≡◌, ℕ, ◌*◌, ◌≤◌, ◌<◌, ℤ, ◌/◌, ◌≢◌, ◌==◌, pos, negsuc, ◌*ℤ◌, int_le, unsigned_abs, Bool, true, false, cond, refl, FitsSigned, w64, to_z, of_z, ap, ◌∙◌, sym, subst, arith}
 use Rattle.std.specs.Int.{w128}
 use Rattle.std.proofs.lemmas.Bool.{eqb-false, ne_eqb}
 use Rattle.std.proofs.Math.IntN.{*ℤ_comm}
 use Rattle.std.proofs.lemmas.Nat.{le-div, div_below, mul-le}
-use Rattle.std.proofs.lemmas.Int.{ints, clamps, to_z-of_z, unsigned_abs-mul, fits_signed_from_abs}
+use Rattle.std.proofs.lemmas.Int.{ints, clamps, to_z-of_z, to_z_pos, unsigned_abs-mul, fits_signed_from_abs, quot_fits}
 use Rattle.geo_int.specs.Turn.{turn_cosine, arrow_dot, held, quotient}
 use Rattle.geo_int.specs.Arrow.{IsArrow, length_of, square_sum}
 use Rattle.geo_int.specs.declared.offsets.Arrow.{Arrow}
@@ -90,6 +90,25 @@ divided_fits dot lengths some most within =
       product = fits_signed_from_abs w128 _ (omega arith);
       back = fits_signed_from_abs w64 _ (omega arith);
       whole = fits_signed_from_abs w128 _ (omega arith);
+    }
+
+-- the quotient in 64 bits
+pub record SmallDividedFits (dot : ℤ) (lengths : ℕ) : Type 0 where
+  pub lengths_is : to_z w64 lengths ≡ pos lengths
+  pub product : FitsSigned w64 (dot *ℤ pos 1000000)
+  pub quotient : FitsSigned w64 (quotient dot lengths)
+
+-- a small product by a million fits in 64 bits
+pub small_divided_fits : (dot : ℤ) (lengths : ℕ) → 0 < lengths → lengths ≤ 10000000000000000 →
+    int_le (negsuc 8999999999999) dot ≡ true → int_le dot (pos 9000000000000) ≡ true → SmallDividedFits dot lengths
+small_divided_fits dot lengths some most low high =
+    let small : unsigned_abs dot ≤ 9000000000000 = omega (arith, ints, low, high) in
+    let whole : unsigned_abs (dot *ℤ pos 1000000) ≡ unsigned_abs dot * 1000000 = unsigned_abs-mul dot (pos 1000000) in
+    let product : FitsSigned w64 (dot *ℤ pos 1000000) = fits_signed_from_abs w64 _ (omega (arith, whole, small)) in
+    record {
+      lengths_is = to_z_pos w64 _ (omega (arith, most));
+      product = product;
+      quotient = quot_fits w64 _ _ product (omega (arith, ints, some));
     }
 
 -- where one arrow has no length the turn goes straight on

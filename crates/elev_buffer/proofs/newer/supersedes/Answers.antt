@@ -3,6 +3,7 @@ use Rattle.std.proofs.lemmas.Int.{ints, to_z-of_z}
 use Rattle.elev_buffer.specs.Covers.{IsBelowWherePriced, label, terms}
 use Rattle.elev_buffer.proofs.NewerLemmas.{priced-test, supersedes-sound, supersedes-itself}
 use Rattle.elev_buffer.proofs.WholeLemmas.{supersedes-whole}
+use Rattle.elev_buffer.proofs.WordLemmas.{buffer-back}
 use Rattle.elev_buffer.proofs.newer.supersedes.Goals as goal
 
 -- the test is the definition's
@@ -33,3 +34,28 @@ returns-clause-whole c = λ h. (is c).1 (supersedes-whole _ _ _ h)
 
 pub returns-clause-reflexive : goal.returns-clause-reflexive
 returns-clause-reflexive c = λ same less. (is c).1 (supersedes-itself _ _ _ same (omega (arith, ints)))
+
+pub are_sums_below-requires-clause-down_rate : goal.are_sums_below-requires-clause-down_rate
+are_sums_below-requires-clause-down_rate c = buffer-back _ c.rate.ensures.within
+
+pub are_sums_below-requires-clause-up_rate : goal.are_sums_below-requires-clause-up_rate
+are_sums_below-requires-clause-up_rate c = buffer-back _ c.rate-2.ensures.within
+
+pub are_sums_below-requires-clause-first : goal.are_sums_below-requires-clause-first
+are_sums_below-requires-clause-first c = c.requires.first
+
+pub are_sums_below-requires-clause-second : goal.are_sums_below-requires-clause-second
+are_sums_below-requires-clause-second c = c.requires.second
+
+pub are_sums_below-requires-clause-first_cost : goal.are_sums_below-requires-clause-first_cost
+are_sums_below-requires-clause-first_cost c = c.requires.first_cost
+
+pub are_sums_below-requires-clause-second_cost : goal.are_sums_below-requires-clause-second_cost
+are_sums_below-requires-clause-second_cost c = c.requires.second_cost
+
+pub returns-then-not-are_in_order-clause-exact : goal.returns-then-not-are_in_order-clause-exact
+returns-then-not-are_in_order-clause-exact c =
+    (λ no. absurd (cc), λ is. c.if-not-are_in_order.ensures.exact.1 (is.down, is.up))
+
+pub returns-then-not-are_in_order-clause-sound : goal.returns-then-not-are_in_order-clause-sound
+returns-then-not-are_in_order-clause-sound c = λ no. absurd (cc)

@@ -5,6 +5,7 @@ use Rattle.elev_buffer.specs.Covers.{label, terms}
 use Rattle.elev_buffer.specs.Sums.{IsNoMoreInSums, sums_of}
 use Rattle.elev_buffer.proofs.NewerLemmas.{buffer-fits}
 use Rattle.elev_buffer.proofs.SumsLemmas.{covers-below, sums-computed, wide-sum}
+use Rattle.elev_buffer.proofs.WordLemmas.{buffer-back, one_price-fits, two_prices-fit, two_prices-signed}
 use Rattle.elev_buffer.proofs.sums.sums_of.Goals as goal
 
 pub returns : goal.returns
@@ -32,3 +33,42 @@ returns c =
       grows = λ other covers. subst (λ s. IsNoMoreInSums (sums_of by other) s) (sym made)
           (covers-below by other a c.requires.down_rate.low c.requires.up_rate.low covers);
     }
+
+pub overflow_add-result : goal.overflow_add-result
+overflow_add-result c = one_price-fits _ _ c.requires.first_cost c.price-down.ensures.within
+
+pub overflow_add-result-2 : goal.overflow_add-result-2
+overflow_add-result-2 c = two_prices-fit _ _ _ c.requires.first_cost c.price-down.ensures.within c.price-up.ensures.within
+
+pub overflow_cast-result : goal.overflow_cast-result
+overflow_cast-result c = two_prices-signed _ _ _ c.requires.first_cost c.price-down.ensures.within c.price-up.ensures.within
+
+pub price-down-requires-clause-buffer : goal.price-down-requires-clause-buffer
+price-down-requires-clause-buffer c = buffer-back _ c.requires.first.down
+
+pub price-down-requires-clause-rate : goal.price-down-requires-clause-rate
+price-down-requires-clause-rate c = buffer-back _ c.rate.ensures.within
+
+pub price-up-requires-clause-buffer : goal.price-up-requires-clause-buffer
+price-up-requires-clause-buffer c = buffer-back _ c.requires.first.up
+
+pub price-up-requires-clause-rate : goal.price-up-requires-clause-rate
+price-up-requires-clause-rate c = buffer-back _ c.rate-2.ensures.within
+
+pub sum_by-requires-clause-buffer : goal.sum_by-requires-clause-buffer
+sum_by-requires-clause-buffer c = buffer-back _ c.requires.first.down
+
+pub sum_by-requires-clause-rate : goal.sum_by-requires-clause-rate
+sum_by-requires-clause-rate c = buffer-back _ c.requires.down_rate
+
+pub sum_by-requires-clause-cost : goal.sum_by-requires-clause-cost
+sum_by-requires-clause-cost c = c.requires.first_cost
+
+pub sum_by-requires-2-clause-buffer : goal.sum_by-requires-2-clause-buffer
+sum_by-requires-2-clause-buffer c = buffer-back _ c.requires.first.up
+
+pub sum_by-requires-2-clause-rate : goal.sum_by-requires-2-clause-rate
+sum_by-requires-2-clause-rate c = buffer-back _ c.requires.up_rate
+
+pub sum_by-requires-2-clause-cost : goal.sum_by-requires-2-clause-cost
+sum_by-requires-2-clause-cost c = c.requires.first_cost

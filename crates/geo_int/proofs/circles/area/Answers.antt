@@ -20,3 +20,15 @@ returns-clause-within c =
     let p = two_products c.args.a.east c.args.b.north c.args.a.north c.args.b.east 300000000 300000000
     c.requires.a.east c.requires.b.north c.requires.a.north c.requires.b.east (lit≤ tt) (lit≤ tt) in
     simp (to_z-of_z, p.first, p.second, p.third, p.fourth, p.left, p.right, p.less) (p.less_le)
+
+pub overflow_mul-result : goal.overflow_mul-result
+overflow_mul-result c =
+    let p = two_products c.args.a.east c.args.b.north c.args.a.north c.args.b.east 300000000 300000000
+    c.requires.a.east c.requires.b.north c.requires.a.north c.requires.b.east (lit≤ tt) (lit≤ tt) in
+    simp (to_z-of_z, p.first, p.second) (p.left)
+
+pub overflow_mul-result-2 : goal.overflow_mul-result-2
+overflow_mul-result-2 c =
+    let p = two_products c.args.a.east c.args.b.north c.args.a.north c.args.b.east 300000000 300000000
+    c.requires.a.east c.requires.b.north c.requires.a.north c.requires.b.east (lit≤ tt) (lit≤ tt) in
+    simp (to_z-of_z, p.third, p.fourth) (p.right)
