@@ -6,7 +6,8 @@ use case_inputs::{profile_of, table_of};
 use case_rows::{Case, place_of};
 use fixed_num::Arith;
 use lookup_table::Table;
-use profile_text::{Names, Profile, ValueError, Vars, section_values};
+use profile_text::{Names, Profile};
+use profile_values::{ValueError, Vars, section_values};
 use std::alloc::{AllocError, Global};
 
 /// The calls on values.

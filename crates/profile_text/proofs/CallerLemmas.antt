@@ -4,8 +4,8 @@ use Rattle.std.specs.Option.{option_map}
 use Rattle.std.specs.Str.{bytes_eq}
 use Rattle.profile_text.specs.Meaning.{last_value, later_value}
 use Rattle.profile_text.specs.Names.{last_place, later_place}
--- the place of a name is within the names; tokens of bytes that are joined, and of one
-pub use Rattle.profile_text.proofs.NameLemmas.{last_place-lt}
+-- the place of a name is within the names; what is found in an index after a key was put in; tokens of bytes that are joined, and of one
+pub use Rattle.profile_text.proofs.NameLemmas.{last_place-lt, lookup-insert}
 pub use Rattle.profile_text.proofs.TokenLemmas.{joined_byte, one_byte, token_is, word_is_ink}
 
 -- the value that a name was given last is that at its last place

@@ -1,4 +1,3 @@
-mod AssignedLemmas
 mod AssignmentFaultLemmas
 pub mod CallerLemmas
 mod ExprFaultLemmas
@@ -12,7 +11,5 @@ mod PartLemmas
 mod ReadLemmas
 mod SectionFaultLemmas
 mod SectionLemmas
-mod SectionValueLemmas
 mod StopLemmas
 mod TokenLemmas
-mod VarLemmas

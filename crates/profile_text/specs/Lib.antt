@@ -1,4 +1,3 @@
-pub mod Evaluated
 pub mod Expr
 pub mod Fault
 pub mod Grammar
@@ -10,8 +9,6 @@ pub mod Names
 pub mod Numbered
 pub mod Part
 pub mod Read
-pub mod Scope
 pub mod Source
 pub mod Token
 pub mod Tree
-pub mod Vars

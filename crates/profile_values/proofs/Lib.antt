@@ -1,0 +1,3 @@
+mod AssignedLemmas
+mod SectionValueLemmas
+mod VarLemmas
