@@ -28,7 +28,7 @@ timed() {
 
 # The text of a constant of the sample texts.
 sample() {
-  sed -n "/^pub const $1: /,/^\";/p" crates/case_rows/src/samples.rt | sed '1s/^[^"]*"//; $d'
+  sed -n "/^pub const $1: /,/^\";/p" crates/case_inputs/src/samples.rt | sed '1s/^[^"]*"//; $d'
 }
 sample TREK > "$folder/trek.brf"
 sample LOOK > "$folder/look.dat"

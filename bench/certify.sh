@@ -19,7 +19,7 @@ ours=${OURS:-crates/route_serve/out/route_serve}
 
 # The text of a constant of the sample texts.
 sample() {
-  sed -n "/^pub const $1: /,/^\";/p" crates/case_rows/src/samples.rt | sed '1s/^[^"]*"//; $d'
+  sed -n "/^pub const $1: /,/^\";/p" crates/case_inputs/src/samples.rt | sed '1s/^[^"]*"//; $d'
 }
 sample LOOK > "$folder/look.dat"
 sample TREK > "$folder/trek.brf"

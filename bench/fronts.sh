@@ -26,7 +26,7 @@ random.seed(3)
 with open(sys.argv[1], "wb") as tile:
     tile.write(b"".join(struct.pack(">h", random.randrange(300)) for _ in range(1201 * 1201)))
 PYTHON
-sed -n '/^pub const LOOK: /,/^";/p' crates/case_rows/src/samples.rt | sed '1s/^[^"]*"//; $d' > "$folder/look.dat"
+sed -n '/^pub const LOOK: /,/^";/p' crates/case_inputs/src/samples.rt | sed '1s/^[^"]*"//; $d' > "$folder/look.dat"
 cat > "$folder/steep.brf" <<'PROFILE'
 ---context:global
 assign downhillcost 60

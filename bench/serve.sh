@@ -16,7 +16,7 @@ if [ -z "$PROGRAM" ]; then
   PROGRAM=crates/route_serve/out/route_serve
 fi
 sample() {
-  sed -n "/^pub const $1: /,/^\";/p" crates/case_rows/src/samples.rt | sed '1s/^[^"]*"//; $d'
+  sed -n "/^pub const $1: /,/^\";/p" crates/case_inputs/src/samples.rt | sed '1s/^[^"]*"//; $d'
 }
 sample LOOK > "$folder/look.dat"
 echo '---context:way assign costfactor 1' > "$folder/plain.brf"

@@ -27,7 +27,7 @@ seconds() {
 
 # The text of a constant of the sample texts.
 sample() {
-  sed -n "/^pub const $1: /,/^\";/p" crates/case_rows/src/samples.rt | sed '1s/^[^"]*"//; $d'
+  sed -n "/^pub const $1: /,/^\";/p" crates/case_inputs/src/samples.rt | sed '1s/^[^"]*"//; $d'
 }
 
 # The pairs that were searched, as the other program reads them.

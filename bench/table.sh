@@ -25,7 +25,7 @@ if [ -z "$PLAIN" ]; then
   PLAIN=$(find "$folder/target/release" -maxdepth 1 -type f -perm -u+x | head -1)
 fi
 sample() {
-  sed -n "/^pub const $1: /,/^\";/p" crates/case_rows/src/samples.rt | sed '1s/^[^"]*"//; $d'
+  sed -n "/^pub const $1: /,/^\";/p" crates/case_inputs/src/samples.rt | sed '1s/^[^"]*"//; $d'
 }
 sample LOOK > "$folder/look.dat"
 sample TREK > "$folder/trek.brf"

@@ -4,7 +4,7 @@ ghost use Rattle.std.specs.Prelude.{IfSome};
 ghost use Rattle.elev_buffer.specs.Covers.{IsPair};
 
 use crate::texts::{NO_CALL, OUTSIDE, truth};
-use case_rows::{Case, place_of};
+use case_inputs::{Case, place_of};
 use elev_buffer::{Limits, Mode, Modes, Pair, covers, step, sums_of, supersedes};
 use std::alloc::{AllocError, Global};
 

@@ -2,8 +2,7 @@
 
 use crate::inputs::overrides_from;
 use crate::texts::{NO_CALL, OUTSIDE};
-use case_inputs::{profile_of, table_of};
-use case_rows::{Case, place_of};
+use case_inputs::{Case, place_of, profile_of, table_of};
 use context_check::{CheckError, Overrides, check};
 use lookup_table::{Part, Table};
 use profile_text::Profile;

@@ -5,8 +5,7 @@ ghost use Rattle.way_class.specs.Parts.{HasTags};
 
 use crate::inputs::{numbers_from, overrides_from};
 use crate::texts::{NO_CALL, OUTSIDE, text_of};
-use case_inputs::{code_with, table_of};
-use case_rows::{Case, place_of};
+use case_inputs::{Case, code_with, place_of, table_of};
 use context_check::Overrides;
 use fixed_num::{Arith, Num};
 use lookup_table::{Part, Table};

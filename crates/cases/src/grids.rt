@@ -4,7 +4,7 @@ ghost use Rattle.std.specs.Prelude.{◌≡◌, ◌<◌};
 ghost use Rattle.grid_map.specs.Plan.{cells_of};
 
 use crate::texts::{NO_CALL, OUTSIDE};
-use case_rows::{Case, place_of};
+use case_inputs::{Case, place_of};
 use grid_map::{Grid, GridWalk, least_walk, shortest_walk};
 use std::alloc::{AllocError, Global};
 

@@ -1,7 +1,7 @@
 //! Cases on tiles of heights and the heights that they give.
 
 use crate::texts::{NO_CALL, perhaps};
-use case_rows::{Case, place_of};
+use case_inputs::{Case, place_of};
 use geo_int::Spot;
 use hgt_tiles::{Tile, TileError, Tiles};
 use std::alloc::{AllocError, Global};

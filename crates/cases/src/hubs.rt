@@ -1,7 +1,7 @@
 //! Cases on a hub in memory.
 
 use crate::texts::{OUTSIDE, shown};
-use case_rows::{Case, place_of};
+use case_inputs::{Case, place_of};
 use edge_io::{Event, Failed, Hub};
 use edge_memory::{MemHub, Script, can_play};
 use item_list::{Items, bytes_of};

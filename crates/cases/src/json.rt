@@ -4,7 +4,7 @@ ghost use Rattle.std.specs.Prelude.{◌≡◌, false, OnOk};
 ghost use Rattle.json_text.specs.Scanner.{fed, has_ended};
 
 use crate::texts::{NO_CALL, text_of};
-use case_rows::{Case, place_of};
+use case_inputs::{Case, place_of};
 use json_text::{JsonAnswer, JsonStep, Scanner, Verdict};
 use std::alloc::{AllocError, Global};
 

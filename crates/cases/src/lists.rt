@@ -1,7 +1,7 @@
 //! Cases on lists, names as keys, classes of bytes, and growing texts.
 
 use crate::texts::{NO_CALL, shown, text_of, truth};
-use case_rows::{Case, place_of};
+use case_inputs::{Case, place_of};
 use item_list::{
     Items, Name, TryClone, append_bytes, append_named, append_number, append_signed, append_wide,
     bytes_of, is_digit, is_space,

@@ -25,7 +25,7 @@ mod values;
 
 use crate::heights::Ground;
 use crate::texts::NO_CALL;
-use case_rows::{Case, NAMED, Report, Table, place_of};
+use case_inputs::{Case, NAMED, Report, Table, place_of};
 use std::alloc::{AllocError, Global};
 use std::io;
 

@@ -1,7 +1,7 @@
 //! Cases on fixed-point numbers, coordinates and six decimals.
 
 use crate::texts::{NO_CALL, OUTSIDE, perhaps, shown, text_of, truth};
-use case_rows::{Case, place_of};
+use case_inputs::{Case, place_of};
 use fixed_num::{Arith, CoordError, Num, NumError, SixDecimals, append_mil6, coord};
 use std::alloc::{AllocError, Global};
 

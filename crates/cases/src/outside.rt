@@ -1,7 +1,7 @@
 //! Cases on sinks and files in memory, sending, and files that are read whole.
 
 use crate::texts::{NO_CALL, OUTSIDE, shown};
-use case_rows::{Case, place_of};
+use case_inputs::{Case, place_of};
 use edge_io::{Failed, Files, WholeError, read_whole, send_all};
 use edge_memory::{MemFiles, MemSink};
 use item_list::{Items, Name, bytes_of};

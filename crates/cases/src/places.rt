@@ -3,7 +3,7 @@
 ghost use Rattle.std.specs.Prelude.{◌<◌};
 
 use crate::texts::{NO_CALL, OUTSIDE, perhaps, text_of, truth};
-use case_rows::{Case, place_of};
+use case_inputs::{Case, place_of};
 use geo_int::{Spot, arrow, cos_lat, ele, floor_root, mm3, touches, turn_cos};
 use std::alloc::{AllocError, Global};
 

@@ -4,7 +4,7 @@ ghost use Rattle.std.specs.Prelude.{IfSome};
 ghost use Rattle.cost_model.specs.Facts.{AreFacts};
 
 use crate::texts::{NO_CALL, OUTSIDE};
-use case_rows::{Case, place_of};
+use case_inputs::{Case, place_of};
 use cost_model::{LinkFacts, RateError, Rates, distance_part, enter, first, least_price};
 use fixed_num::Num;
 use geo_int::{Spot, arrow};

@@ -11,7 +11,7 @@ ghost use Rattle.space_search.specs.View.{view};
 use crate::line::Line;
 use crate::texts::{NO_CALL, yes_or_no};
 use crate::toll::Toll;
-use case_rows::{Case, place_of};
+use case_inputs::{Case, place_of};
 use item_list::Turn;
 use space_search::{Outcome, Search, least};
 use std::alloc::{AllocError, Global};

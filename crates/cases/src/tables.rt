@@ -4,8 +4,7 @@ ghost use Rattle.lookup_table.specs.First.{rows_of};
 ghost use Rattle.lookup_table.specs.Numbers.{AreNumbersOf};
 
 use crate::texts::{NO_CALL, OUTSIDE, part_of, perhaps, shown};
-use case_inputs::table_of;
-use case_rows::{Case, place_of};
+use case_inputs::{Case, place_of, table_of};
 use item_list::Items;
 use lookup_table::{Name, Part, Table, Tags};
 use std::alloc::{AllocError, Global};

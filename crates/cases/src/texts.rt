@@ -1,6 +1,6 @@
 //! Answers as text.
 
-use case_rows::place_of;
+use case_inputs::place_of;
 use lookup_table::Part;
 use std::alloc::{AllocError, Global};
 

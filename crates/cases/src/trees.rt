@@ -1,8 +1,7 @@
 //! Cases on the reader of profiles.
 
 use crate::texts::{NO_CALL, OUTSIDE, shown};
-use case_inputs::profile_of;
-use case_rows::{Case, place_of};
+use case_inputs::{Case, place_of, profile_of};
 use profile_text::{Assign, Expr, Op, Profile};
 use std::alloc::{AllocError, Global};
 

@@ -2,8 +2,7 @@
 
 use crate::inputs::numbers_from;
 use crate::texts::{NO_CALL, OUTSIDE, part_of, shown};
-use case_inputs::{profile_of, table_of};
-use case_rows::{Case, place_of};
+use case_inputs::{Case, place_of, profile_of, table_of};
 use fixed_num::Arith;
 use lookup_table::Table;
 use profile_text::{Names, Profile};

@@ -10,11 +10,11 @@ use Rattle.hgt_tiles.specs.Relief.{Relief}
 use Rattle.hgt_tiles.specs.Tiles.{relief_at}
 use Rattle.hgt_tiles.specs.declared.names.Corner.{Corner}
 use Rattle.hgt_tiles.specs.declared.tile_set.Tiles.{Tiles}
-use Rattle.made_maps.specs.Maps.{IsGridMap}
 use Rattle.made_routes.proofs.TellLemmas.{route-told, tells-by}
 use Rattle.made_routes.specs.Costs.{bound_links, costs_by, price_of, segment_prices}
 use Rattle.made_routes.specs.Errors.{route_error}
 use Rattle.made_routes.specs.Made.{HaveNoTile, IsMadeWorld, Makes, RefusesNothing}
+use Rattle.made_routes.specs.Maps.{IsGridMap}
 use Rattle.made_routes.specs.Walks.{ArePrices, IsBoundFor, IsProfileRefused, IsWalkAnswer, IsWalkBy, IsWalkOver, WalkQuestion}
 use Rattle.made_routes.specs.declared.error.MadeError.{MadeError}
 use Rattle.made_routes.specs.declared.priced.PricedWalk.{PricedWalk}

@@ -1,3 +1,6 @@
+pub mod Elements
+pub mod Maps
+pub mod Law
 pub mod Texts
 pub mod Errors
 pub mod Made

@@ -7,7 +7,7 @@ use Rattle.hgt_tiles.specs.Tiles.{relief_at}
 use Rattle.hgt_tiles.specs.declared.names.Corner.{Corner}
 use Rattle.hgt_tiles.specs.declared.tile_set.Tiles.{Tiles}
 use Rattle.lookup_table.specs.First.{TagTable}
-use Rattle.made_maps.specs.Maps.{IsGridMap}
+use Rattle.made_routes.specs.Maps.{IsGridMap}
 use Rattle.made_routes.specs.declared.error.MadeError.{MadeError}
 use Rattle.made_routes.specs.declared.error.MadeError.TheVariants.{Route, NoMemory}
 use Rattle.overpass_graph.specs.Builder.{IsMapOfText}

@@ -4,10 +4,10 @@ ghost use Rattle.std.specs.Prelude.{IfOk};
 ghost use Rattle.made_routes.specs.Made.{IsMadeWorld};
 ghost use Rattle.route_ready.specs.World.{world_of};
 
+use crate::making::made_map;
 use grid_map::Grid;
 use hgt_tiles::Tiles;
 use lookup_table::Table;
-use made_maps::made_map;
 use route_ready::World;
 use std::alloc::{AllocError, Global};
 

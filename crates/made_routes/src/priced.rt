@@ -3,9 +3,9 @@
 ghost use Rattle.std.specs.Prelude.{◌≡◌, ◌*◌, ◌<◌, ◌≤◌, [], Err, IfOk, length};
 ghost use Rattle.grid_map.specs.Plan.{cells_of};
 ghost use Rattle.grid_map.specs.Segments.{segments_of};
-ghost use Rattle.made_maps.specs.Maps.{IsGridMap};
 ghost use Rattle.made_routes.specs.Costs.{costs_by};
 ghost use Rattle.made_routes.specs.Made.{Makes, RefusesNothing};
+ghost use Rattle.made_routes.specs.Maps.{IsGridMap};
 ghost use Rattle.made_routes.specs.Walks.{IsProfileRefused, IsWalkAnswer, IsWalkBy, IsWalkOver, WalkQuestion};
 ghost use Rattle.profile_text.specs.Expr.{sections_in};
 ghost use Rattle.route_ready.specs.Readiness.{ready_of};

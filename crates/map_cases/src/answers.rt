@@ -7,8 +7,7 @@ use crate::map::shown::counts_of;
 use crate::near::nearest;
 use crate::sums::{all_sums, near_sums};
 use crate::{certificates, class, reaches, space, track};
-use case_inputs::map_of;
-use case_rows::{Case, place_of};
+use case_inputs::{Case, map_of, place_of};
 use overpass_graph::Map;
 use std::alloc::{AllocError, Global};
 

@@ -13,7 +13,7 @@ use crate::certificates::written::{certificate_of, tell_certificate};
 use crate::space::ways::given_by_ways;
 use crate::space::{marks, rates_of_case};
 use crate::track::legs::numbers;
-use case_rows::{Case, place_of};
+use case_inputs::{Case, place_of};
 use certificate_text::{Certificate, Proof};
 use cost_model::{FactsOf, PricedMap, TerrainOf, modes};
 use overpass_graph::Map;

@@ -3,8 +3,7 @@
 ghost use Rattle.way_class.specs.Parts.{HasTags};
 
 use crate::answers::OUTSIDE;
-use case_inputs::{code_of, map_of, table_of, tiles_of};
-use case_rows::{Case, place_of};
+use case_inputs::{Case, code_of, map_of, place_of, table_of, tiles_of};
 use cost_model::{FactsOf, LinkFacts};
 use fixed_num::Arith;
 use hgt_tiles::Tiles;

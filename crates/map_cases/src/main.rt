@@ -14,7 +14,7 @@ mod space;
 mod sums;
 mod track;
 
-use case_rows::{NAMED, Report, Table};
+use case_inputs::{NAMED, Report, Table};
 use std::io;
 
 fn main(rt: HostRuntime) -> io::Result<()> {

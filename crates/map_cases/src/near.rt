@@ -5,7 +5,7 @@ mod signs;
 ghost use Rattle.std.specs.Prelude.{◌<◌, IfSome, length};
 
 use crate::near::signs::Signs;
-use case_rows::Case;
+use case_inputs::Case;
 use geo_int::Spot;
 use nearest_node::NodeIndex;
 use overpass_graph::Map;

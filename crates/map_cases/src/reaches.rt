@@ -10,7 +10,7 @@ use crate::space::ways::given_by_ways;
 use crate::space::{marks, rates_of_case};
 use crate::track::legs::numbers;
 use bike_space::BikeSpace;
-use case_rows::{Case, place_of};
+use case_inputs::{Case, place_of};
 use cost_model::{FactsOf, PricedMap, TerrainOf, modes};
 use cost_table::{Reach, ReachTurn, Want};
 use overpass_graph::Map;

@@ -11,7 +11,7 @@ use crate::given::{Given, rates_of};
 use crate::space::ways::given_by_ways;
 use crate::space::woken::least_walk_woken;
 use bike_space::{BikeSpace, LegAsk, Walk, least_walk};
-use case_rows::{Case, place_of};
+use case_inputs::{Case, place_of};
 use cost_model::{FactsOf, PricedMap, Rates, TerrainOf, modes};
 use junction_runs::least_walk_by_runs;
 use overpass_graph::Map;

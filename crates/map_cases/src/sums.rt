@@ -6,7 +6,7 @@ ghost use Rattle.std.specs.Prelude.{◌≡◌, ◌<◌, ◌≤◌, length};
 
 use crate::answers::OUTSIDE;
 use crate::sums::tariff::Tariff;
-use case_rows::Case;
+use case_inputs::Case;
 use least_sums::{Sums, least_sums, least_sums_near};
 use overpass_graph::Map;
 use std::alloc::{AllocError, Global};

@@ -10,7 +10,7 @@ use crate::answers::OUTSIDE;
 use crate::given::{Given, rates_of};
 use crate::track::facts::{given_by_words, number};
 use crate::track::legs::{numbers, track};
-use case_rows::{Case, place_of};
+use case_inputs::{Case, place_of};
 use cost_model::{FactsOf, PricedMap, Rates, modes};
 use item_list::Items;
 use overpass_graph::Map;

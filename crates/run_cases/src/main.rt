@@ -12,7 +12,7 @@ mod told;
 mod worlds;
 
 use crate::run::World;
-use case_rows::{Case, NAMED, Report, Table, place_of};
+use case_inputs::{Case, NAMED, Report, Table, place_of};
 use std::alloc::{AllocError, Global};
 use std::io;
 

@@ -5,7 +5,7 @@ mod inputs;
 mod points;
 
 pub(crate) use answers::answer;
-use case_rows::{Case, place_of};
+use case_inputs::{Case, place_of};
 
 /// The calls of this part.
 pub(crate) const CALLS: [&str; 4] = ["prepare", "kept", "nodes", "nearest"];

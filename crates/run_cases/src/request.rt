@@ -4,7 +4,7 @@ mod heads;
 mod queries;
 
 use crate::told::unknown;
-use case_rows::{Case, place_of};
+use case_inputs::{Case, place_of};
 use std::alloc::{AllocError, Global};
 
 /// The calls of this part.

@@ -8,7 +8,7 @@ mod tables;
 mod tracks;
 mod turns;
 
-use case_rows::{Case, place_of};
+use case_inputs::{Case, place_of};
 use std::alloc::{AllocError, Global};
 
 /// The calls of this part.

@@ -10,7 +10,7 @@ mod world;
 
 use crate::run::peers::Told;
 use crate::run::tiles::tile;
-use case_rows::{Case, place_of};
+use case_inputs::{Case, place_of};
 use item_list::bytes_of;
 pub(crate) use peers::DEEDS;
 use std::alloc::{AllocError, Global};

@@ -21,7 +21,7 @@ mod ways;
 mod words;
 
 use crate::maps::read_map;
-use case_rows::place_of;
+use case_inputs::place_of;
 use overpass_graph::Map;
 use std::{env, io};
 

@@ -8,7 +8,7 @@ ghost use Rattle.profile_code.specs.Scratch.{HoldsGlobals};
 use crate::trek::trek_code;
 use crate::ways::{WAYS, ways};
 use crate::words::number_at;
-use case_rows::place_of;
+use case_inputs::place_of;
 use lookup_table::Part;
 use profile_code::{Code, Fault, Scratch, listing, run_global, run_way};
 use std::io;

@@ -5,8 +5,7 @@ ghost use Rattle.lookup_table.specs.First.{rows_of};
 ghost use Rattle.profile_code.specs.Flat.{tags_of};
 
 use crate::ways::TAGS;
-use case_inputs::{code_of, table_of};
-use case_rows::{LOOK, TREK};
+use case_inputs::{LOOK, TREK, code_of, table_of};
 use lookup_table::{Part, Table};
 use profile_code::Code;
 use std::alloc::Global;

@@ -1,6 +1,6 @@
 //! Which links circles cut.
 
-use case_rows::Case;
+use case_inputs::Case;
 use geo_int::Spot;
 use nogo_areas::{Circle, cut};
 use overpass_graph::Map;

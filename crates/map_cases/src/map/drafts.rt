@@ -1,7 +1,7 @@
 //! Readers with small limits.
 
 use crate::map::shown::fault_text;
-use case_rows::Case;
+use case_inputs::Case;
 use map_elements::DraftReader;
 use map_tables::{Limits, MapError, Tables};
 use std::alloc::{AllocError, Global};

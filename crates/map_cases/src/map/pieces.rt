@@ -4,8 +4,7 @@ ghost use Rattle.std.specs.Prelude.{◌≡◌, ◌≤◌, OnOk};
 ghost use Rattle.overpass_graph.specs.Builder.{fed};
 
 use crate::map::shown::{fault_text, map_text};
-use case_inputs::map_of;
-use case_rows::Case;
+use case_inputs::{Case, map_of};
 use overpass_graph::{Map, MapBuilder, MapError};
 use std::alloc::{AllocError, Global};
 

@@ -5,7 +5,7 @@ ghost use Rattle.geo_int.specs.Arrow.{IsArrow};
 ghost use Rattle.cost_model.specs.Facts.{AreFacts};
 
 use crate::given::{Given, MOST, MOST_RISE};
-use case_rows::Case;
+use case_inputs::Case;
 use cost_model::LinkFacts;
 use geo_int::{Arrow, arrow};
 use overpass_graph::{Link, Map};

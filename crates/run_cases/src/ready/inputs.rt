@@ -1,6 +1,6 @@
 //! What the words of a case stand for: overrides and waypoints.
 
-use case_rows::Case;
+use case_inputs::Case;
 use context_check::Overrides;
 use fixed_num::Num;
 use geo_int::Spot;

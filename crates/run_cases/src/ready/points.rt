@@ -7,7 +7,7 @@ ghost use Rattle.way_class.specs.Links.{links_of};
 
 use crate::ready::inputs::{spot_of, spots_of};
 use crate::told::outside;
-use case_rows::Case;
+use case_inputs::Case;
 use cost_model::Passages;
 use geo_int::Spot;
 use item_list::{append_bytes, append_signed};

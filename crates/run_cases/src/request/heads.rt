@@ -2,7 +2,7 @@
 ghost use Rattle.std.specs.Prelude.{IsTrue, IfSome};
 ghost use Rattle.route_http.specs.Frames.{is_status};
 
-use case_rows::Case;
+use case_inputs::Case;
 use item_list::{append_bytes, append_named, append_number, bytes_of};
 use route_http::{Head, Kind, Method, Span, frame, head, head_from};
 use std::alloc::{AllocError, Global};

@@ -1,6 +1,6 @@
 //! Cases on queries.
 
-use case_rows::Case;
+use case_inputs::Case;
 use context_check::Overrides;
 use geo_int::Spot;
 use item_list::{append_bytes, append_number, append_signed};

@@ -5,7 +5,7 @@ ghost use Rattle.route_engine.specs.Jobs.{IsWithin};
 ghost use Rattle.route_http.specs.Seen.{asked};
 
 use crate::route::call_of;
-use case_rows::Case;
+use case_inputs::Case;
 use route_http::Request;
 
 /// The word at a place, counted without the quota of a case that has one.

@@ -10,7 +10,7 @@ ghost use Rattle.way_class.specs.Links.{links_of};
 use crate::route::inputs::quota;
 use crate::route::turns::MOST_TURNS;
 use crate::told::outside;
-use case_rows::Case;
+use case_inputs::Case;
 use item_list::{Turn, append_bytes, append_number};
 use route_engine::Pending;
 use route_http::Request;

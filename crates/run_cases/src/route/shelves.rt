@@ -1,7 +1,6 @@
 //! Cases on shelves.
 
-use case_inputs::profile_of;
-use case_rows::Case;
+use case_inputs::{Case, profile_of};
 use item_list::{Items, append_bytes, append_named, append_number, bytes_of};
 use profile_text::Profile;
 use route_ready::Shelf;

@@ -12,7 +12,7 @@ use crate::route::replies::in_replies;
 use crate::route::tables::in_table;
 use crate::route::tracks::append_track;
 use crate::told::outside;
-use case_rows::Case;
+use case_inputs::Case;
 use item_list::{Turn, append_bytes, append_named};
 use overpass_graph::Map;
 use profile_text::Profile;

@@ -2,7 +2,7 @@
 
 use crate::run::ended::append_in_brackets;
 use crate::run::world::World;
-use case_rows::Case;
+use case_inputs::Case;
 use item_list::{append_bytes, append_named, append_number};
 use run_files::Status;
 use std::alloc::{AllocError, Global};

@@ -4,7 +4,7 @@ use crate::run::answers::append_run;
 use crate::run::ended::Ended;
 use crate::run::peers::{Told, append_served};
 use crate::run::world::World;
-use case_rows::Case;
+use case_inputs::Case;
 use item_list::{append_bytes, append_named, append_number};
 use std::alloc::{AllocError, Global};
 

@@ -3,7 +3,7 @@
 use crate::run::answers::append_sums;
 use crate::run::ended::append_in_brackets;
 use crate::run::world::World;
-use case_rows::{Case, place_of};
+use case_inputs::{Case, place_of};
 use edge_memory::{MemHub, Script};
 use item_list::{Items, append_bytes, append_named, append_number, bytes_of};
 use std::alloc::{AllocError, Global};

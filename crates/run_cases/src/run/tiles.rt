@@ -1,6 +1,6 @@
 //! Tiles of heights that a word names.
 
-use case_rows::place_of;
+use case_inputs::place_of;
 use std::alloc::{AllocError, Global};
 
 /// So many rows alike.

@@ -6,7 +6,7 @@ ghost use Rattle.std.specs.Prelude.{◌≤◌};
 use crate::run::ended::Ended;
 use crate::run::outside::Outside;
 use crate::run::peers::{add_deed, copy_of};
-use case_rows::Case;
+use case_inputs::Case;
 use edge_memory::{MemFiles, MemHub, MemSink, Script, can_play};
 use item_list::{Items, Name, bytes_of};
 use route_run::{edge, run};
