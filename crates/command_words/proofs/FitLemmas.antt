@@ -7,11 +7,11 @@ use Rattle.command_words.specs.Given.{Given, Named}
 use Rattle.command_words.specs.Rows.{keys_of, most_turns}
 use Rattle.command_words.specs.Value.{number_in, place_in, product_in}
 use Rattle.command_words.specs.Reader.{entry_with, entries_after, entries_of}
-use Rattle.command_words.specs.Command.{lies_in, files_with, grid_by, grid_over, grid_with, hills_with, complete, command_with, code_with, make_with, file_in, files_in, route_by, certify_by, check_by, table_by, within_by, ride_in, serve_with, turns_in}
+use Rattle.command_words.specs.Command.{lies_in, files_with, sizes_with, sizes_in, grid_by, grid_over, grid_with, hills_with, complete, command_with, code_with, make_with, file_in, files_in, check_by, within_by, ride_in, ride_over, serve_with, turns_in}
 use Rattle.command_words.proofs.AddressLemmas.{address-spelled}
 use Rattle.command_words.proofs.EntryLemmas.{AllFit, split, err-not_ok, after-fit, whole-read, with-fit}
 use Rattle.command_words.proofs.ServeLemmas.{after-once, profiles-fit}
-use Rattle.command_words.specs.Fit.{IsFit, AreProfileFiles, AreOnceAfter, most_cost}
+use Rattle.command_words.specs.Fit.{IsFit, IsSized, AreProfileFiles, AreOnceAfter, most_cost}
 use Rattle.command_words.specs.Refusals.{OnUsage}
 use Rattle.command_words.specs.declared.reader.Refusal.{Refusal}
 use Rattle.command_words.specs.declared.command.Command.{Command}
@@ -24,6 +24,7 @@ use Rattle.command_words.specs.declared.command.RouteCommand.{RouteCommand}
 use Rattle.command_words.specs.declared.command.CheckCommand.{CheckCommand}
 use Rattle.command_words.specs.declared.command.ServeCommand.{ServeCommand}
 use Rattle.command_words.specs.declared.command.WithinCommand.{WithinCommand}
+use Rattle.command_words.specs.declared.completing.Sizes.{Sizes}
 use Rattle.command_words.specs.declared.rows.CommandName.{CommandName}
 use Rattle.command_words.specs.declared.rows.CommandName.TheVariants as Name
 use Rattle.command_words.specs.declared.rows.Key.TheVariants.{Seed, Width, Height, From, To, What, Lookups, Profile, Map, Tile, Listen, Turns, Certificate, Cost}
@@ -32,90 +33,71 @@ use Rattle.command_words.specs.declared.value.Place.{Place}
 in_grid : (w h : ℕ) (place : Place) → lies_in w h place ≡ true → (place.x < w) × (place.y < h)
 in_grid w h place e = (grind (arith, nat_tests), grind (arith, nat_tests))
 
-grid_by-fit : (seed w h : ℕ) (from to : Given) (files : Option CodeCommand) (command : Command) →
-    (seed ≤ 65535) → ((1 ≤ w) × (w ≤ 1000)) → ((1 ≤ h) × (h ≤ 1000)) →
-    grid_by seed w h from to files ≡ Ok command → IsFit command
-grid_by-fit seed w h from to files command fit_seed fit_w fit_h e =
-    elim (split (lies_in w h (place_in from.value)) _ (Err from.word) (Ok command) e) [
+grid_by-fit : (sizes : Sizes) (from to : Given) (files : Option CodeCommand) (command : Command) →
+    IsSized sizes.seed sizes.w sizes.h → grid_by sizes from to files ≡ Ok command → IsFit command
+grid_by-fit sizes from to files command sized e =
+    elim (split (lies_in sizes.w sizes.h (place_in from.value)) _ (Err from.word) (Ok command) e) [
       | inr (out, f) ↦ cc
       | inl (inside_from, f) ↦
-          elim (split (lies_in w h (place_in to.value)) _ (Err to.word) (Ok command) f) [
+          elim (split (lies_in sizes.w sizes.h (place_in to.value)) _ (Err to.word) (Ok command) f) [
             | inr (out, f') ↦ cc
             | inl (inside_to, f') ↦
                 let made : GridCommand = record {
                   from = place_in from.value;
                   to = place_in to.value;
-                  seed = seed;
-                  w = w;
-                  h = h;
+                  seed = sizes.seed;
+                  w = sizes.w;
+                  h = sizes.h;
                   files =
                       files;
                 } in
                 let same : Form.TheVariants.Grid made ≡ command = cc in
-                let a = in_grid w h (place_in from.value) inside_from in
-                let b = in_grid w h (place_in to.value) inside_to in
-                subst IsFit same
-                (
-                record {
-                  sized =
-                      record {
-                        seeds = fit_seed;
-                        some_width = fit_w.0;
-                        width = fit_w.1;
-                        some_height = fit_h.0;
-                        height = fit_h.1;
-                      };
-                  from_x = a.0;
-                  from_y = a.1;
-                  to_x = b.0;
-                  to_y = b.1;
-                }
-                )
+                let a = in_grid sizes.w sizes.h (place_in from.value) inside_from in
+                let b = in_grid sizes.w sizes.h (place_in to.value) inside_to in
+                subst IsFit same (record { sized = sized; from_x = a.0; from_y = a.1; to_x = b.0; to_y = b.1 })
           ]
     ]
 
 -- a command whose files may be wanting
-grid_over-fit : (seed w h : ℕ) (from to : Given) (files : Result (Option CodeCommand) ℕ) (command : Command) →
-    (seed ≤ 65535) → ((1 ≤ w) × (w ≤ 1000)) → ((1 ≤ h) × (h ≤ 1000)) →
-    grid_over seed w h from to files ≡ Ok command → IsFit command
-grid_over-fit seed w h from to (Ok files) command fit_seed fit_w fit_h e = grid_by-fit seed w h from to files command fit_seed fit_w fit_h e
-grid_over-fit seed w h from to (Err word) command fit_seed fit_w fit_h e = absurd (err-not_ok word command e)
+grid_over-fit : (sizes : Sizes) (from to : Given) (files : Result (Option CodeCommand) ℕ) (command : Command) →
+    IsSized sizes.seed sizes.w sizes.h → grid_over sizes from to files ≡ Ok command → IsFit command
+grid_over-fit sizes from to (Ok files) command sized e = grid_by-fit sizes from to files command sized e
+grid_over-fit sizes from to (Err word) command sized e = absurd (err-not_ok word command e)
 
-grid_with-fit : (after : ℕ) (seed w h from to : Option Given) (files : Result (Option CodeCommand) ℕ) (command : Command) →
+-- the sizes that are read are within their limits
+abbrev AreSized : Option Sizes → Type 0
+AreSized None = Unit {0}
+AreSized (Some sizes) = IsSized sizes.seed sizes.w sizes.h
+
+sizes_with-fit : (seed w h : Option Given) →
     ((e : Given) → seed ≡ Some e → number_in e.value ≤ 65535) →
     ((e : Given) → w ≡ Some e → (1 ≤ number_in e.value) × (number_in e.value ≤ 1000)) →
     ((e : Given) → h ≡ Some e → (1 ≤ number_in e.value) × (number_in e.value ≤ 1000)) →
-    grid_with after seed w h from to files ≡ Ok command → IsFit command
-grid_with-fit after (Some seed) (Some w) (Some h) (Some from) (Some to) files command a b c e =
-    grid_over-fit (number_in seed.value) (number_in w.value) (number_in h.value) from to files command (a seed refl) (b w refl) (c h refl) e
-grid_with-fit after None w h from to files command a b c e = cc
-grid_with-fit after (Some seed) None h from to files command a b c e = cc
-grid_with-fit after (Some seed) (Some w) None from to files command a b c e = cc
-grid_with-fit after (Some seed) (Some w) (Some h) None to files command a b c e = cc
-grid_with-fit after (Some seed) (Some w) (Some h) (Some from) None files command a b c e = cc
-
--- what is made is made of a grid within its limits
-make_with-fit : (after : ℕ) (seed w h what : Option Given) (command : Command) →
-    ((e : Given) → seed ≡ Some e → number_in e.value ≤ 65535) →
-    ((e : Given) → w ≡ Some e → (1 ≤ number_in e.value) × (number_in e.value ≤ 1000)) →
-    ((e : Given) → h ≡ Some e → (1 ≤ number_in e.value) × (number_in e.value ≤ 1000)) →
-    make_with after seed w h what ≡ Ok command → IsFit command
-make_with-fit after (Some seed) (Some w) (Some h) (Some what) command a b c e =
-    let made : MakeCommand = record {
-      seed = number_in seed.value;
-      w = number_in w.value;
-      h = number_in h.value;
-      what =
-          product_in what.value;
-    } in
-    let same : Form.TheVariants.Make made ≡ command = cc in
+    AreSized (sizes_with seed w h)
+sizes_with-fit (Some seed) (Some w) (Some h) a b c =
     let wide = b w refl in
     let high = c h refl in
-    subst IsFit same (record { seeds = a seed refl; some_width = wide.0; width = wide.1; some_height = high.0; height = high.1 })
-make_with-fit after None w h what command a b c e = absurd (err-not_ok after command e)
-make_with-fit after (Some seed) None h what command a b c e = absurd (err-not_ok after command e)
-make_with-fit after (Some seed) (Some w) None what command a b c e = absurd (err-not_ok after command e)
-make_with-fit after (Some seed) (Some w) (Some h) None command a b c e = absurd (err-not_ok after command e)
+    record { seeds = a seed refl; some_width = wide.0; width = wide.1; some_height = high.0; height = high.1 }
+sizes_with-fit None w h a b c = tt
+sizes_with-fit (Some seed) None h a b c = tt
+sizes_with-fit (Some seed) (Some w) None a b c = tt
+
+grid_with-fit : (after : ℕ) (sizes : Option Sizes) (from to : Option Given) (files : Result (Option CodeCommand) ℕ) (command : Command) →
+    AreSized sizes → grid_with after sizes from to files ≡ Ok command → IsFit command
+grid_with-fit after (Some sizes) (Some from) (Some to) files command sized e = grid_over-fit sizes from to files command sized e
+grid_with-fit after None from to files command sized e = absurd (err-not_ok after command e)
+grid_with-fit after (Some sizes) None to files command sized e = absurd (err-not_ok after command e)
+grid_with-fit after (Some sizes) (Some from) None files command sized e = absurd (err-not_ok after command e)
+
+-- what is made is made of a grid within its limits
+make_with-fit : (after : ℕ) (sizes : Option Sizes) (what : Option Given) (command : Command) → AreSized sizes →
+    make_with after sizes what ≡ Ok command → IsFit command
+make_with-fit after (Some sizes) (Some what) command sized e =
+    let made : MakeCommand = record { seed = sizes.seed; w = sizes.w; h = sizes.h; what = product_in what.value } in
+    let same : Form.TheVariants.Make made ≡ command = cc in
+    subst IsFit same sized
+make_with-fit after None what command sized e = absurd (err-not_ok after command e)
+make_with-fit after (Some sizes) None command sized e = absurd (err-not_ok after command e)
 
 code_with-fit : (after : ℕ) (lookups profile : Option Given) (command : Command) → code_with after lookups profile ≡ Ok command →
     IsFit command
@@ -126,42 +108,55 @@ code_with-fit after (Some lookups) (Some profile) command e =
 code_with-fit after None profile command e = absurd (err-not_ok after command e)
 code_with-fit after (Some lookups) None command e = absurd (err-not_ok after command e)
 
-route_by-fit : (route : Result RouteCommand ℕ) (command : Command) → route_by route ≡ Ok command → IsFit command
-route_by-fit (Ok route) command e =
-    let same : Form.TheVariants.Route route ≡ command = cc in
-    subst IsFit same tt
-route_by-fit (Err word) command e = absurd (err-not_ok word command e)
-
-certify_by-fit : (route : Result RouteCommand ℕ) (command : Command) → certify_by route ≡ Ok command → IsFit command
-certify_by-fit (Ok route) command e =
-    let same : Form.TheVariants.Certify route ≡ command = cc in
-    subst IsFit same tt
-certify_by-fit (Err word) command e = absurd (err-not_ok word command e)
-
-check_by-fit : (after : ℕ) (route : Result RouteCommand ℕ) (certificate : Option Given) (command : Command) →
+check_by-fit : (after : ℕ) (route : RouteCommand) (certificate : Option Given) (command : Command) →
     check_by after route certificate ≡ Ok command → IsFit command
-check_by-fit after (Ok route) (Some certificate) command e =
+check_by-fit after route (Some certificate) command e =
     let made : CheckCommand = record { route = route; certificate = file_in certificate } in
     let same : Form.TheVariants.Check made ≡ command = cc in
     subst IsFit same tt
-check_by-fit after (Ok route) None command e = absurd (err-not_ok after command e)
-check_by-fit after (Err word) certificate command e = absurd (err-not_ok word command e)
-
-table_by-fit : (route : Result RouteCommand ℕ) (command : Command) → table_by route ≡ Ok command → IsFit command
-table_by-fit (Ok route) command e =
-    let same : Form.TheVariants.Table route ≡ command = cc in
-    subst IsFit same tt
-table_by-fit (Err word) command e = absurd (err-not_ok word command e)
+check_by-fit after route None command e = absurd (err-not_ok after command e)
 
 -- a cost that is told is within its limit
-within_by-fit : (after : ℕ) (route : Result RouteCommand ℕ) (cost : Option Given) (command : Command) →
+within_by-fit : (after : ℕ) (route : RouteCommand) (cost : Option Given) (command : Command) →
     ((e : Given) → cost ≡ Some e → number_in e.value ≤ most_cost) → within_by after route cost ≡ Ok command → IsFit command
-within_by-fit after (Ok route) (Some cost) command fit e =
+within_by-fit after route (Some cost) command fit e =
     let made : WithinCommand = record { route = route; cost = number_in cost.value } in
     let same : Form.TheVariants.Within made ≡ command = cc in
     subst IsFit same (fit cost refl)
-within_by-fit after (Ok route) None command fit e = absurd (err-not_ok after command e)
-within_by-fit after (Err word) cost command fit e = absurd (err-not_ok word command e)
+within_by-fit after route None command fit e = absurd (err-not_ok after command e)
+
+-- a command for a query has nothing that could be unfit but a cost
+route-fit : (after : ℕ) (route : Option RouteCommand) (entries : List Given) (command : Command) →
+    ride_over after Name.Route route entries ≡ Ok command → IsFit command
+route-fit after (Some route) entries command e =
+    let same : Form.TheVariants.Route route ≡ command = cc in
+    subst IsFit same tt
+route-fit after None entries command e = absurd (err-not_ok after command e)
+
+certify-fit : (after : ℕ) (route : Option RouteCommand) (entries : List Given) (command : Command) →
+    ride_over after Name.Certify route entries ≡ Ok command → IsFit command
+certify-fit after (Some route) entries command e =
+    let same : Form.TheVariants.Certify route ≡ command = cc in
+    subst IsFit same tt
+certify-fit after None entries command e = absurd (err-not_ok after command e)
+
+check-fit : (after : ℕ) (route : Option RouteCommand) (entries : List Given) (command : Command) →
+    ride_over after Name.Check route entries ≡ Ok command → IsFit command
+check-fit after (Some route) entries command e = check_by-fit after route (entry_with Certificate entries) command e
+check-fit after None entries command e = absurd (err-not_ok after command e)
+
+table-fit : (after : ℕ) (route : Option RouteCommand) (entries : List Given) (command : Command) →
+    ride_over after Name.Table route entries ≡ Ok command → IsFit command
+table-fit after (Some route) entries command e =
+    let same : Form.TheVariants.Table route ≡ command = cc in
+    subst IsFit same tt
+table-fit after None entries command e = absurd (err-not_ok after command e)
+
+within-fit : (after : ℕ) (route : Option RouteCommand) (entries : List Given) (command : Command) →
+    ((e : Given) → entry_with Cost entries ≡ Some e → number_in e.value ≤ most_cost) →
+    ride_over after Name.Within route entries ≡ Ok command → IsFit command
+within-fit after (Some route) entries command fit e = within_by-fit after route (entry_with Cost entries) command fit e
+within-fit after None entries command fit e = absurd (err-not_ok after command e)
 
 -- a server takes a number of events within its limits
 turns-fit : (turns : Option Given) → ((e : Given) → turns ≡ Some e → (1 ≤ number_in e.value) × (number_in e.value ≤ most_turns)) →
@@ -171,20 +166,13 @@ turns-fit None fit = (omega arith, omega arith)
 turns-fit (Some turns) fit = fit turns refl
 
 -- a hilly grid is within its limits
-hills_with-fit : (after : ℕ) (seed w h : Option Given) (command : Command) →
-    ((e : Given) → seed ≡ Some e → number_in e.value ≤ 65535) →
-    ((e : Given) → w ≡ Some e → (1 ≤ number_in e.value) × (number_in e.value ≤ 1000)) →
-    ((e : Given) → h ≡ Some e → (1 ≤ number_in e.value) × (number_in e.value ≤ 1000)) →
-    hills_with after seed w h ≡ Ok command → IsFit command
-hills_with-fit after (Some seed) (Some w) (Some h) command a b c e =
-    let made : HillsCommand = record { seed = number_in seed.value; w = number_in w.value; h = number_in h.value } in
+hills_with-fit : (after : ℕ) (sizes : Option Sizes) (command : Command) → AreSized sizes →
+    hills_with after sizes ≡ Ok command → IsFit command
+hills_with-fit after (Some sizes) command sized e =
+    let made : HillsCommand = record { seed = sizes.seed; w = sizes.w; h = sizes.h } in
     let same : Form.TheVariants.Hills made ≡ command = cc in
-    let wide = b w refl in
-    let high = c h refl in
-    subst IsFit same (record { seeds = a seed refl; some_width = wide.0; width = wide.1; some_height = high.0; height = high.1 })
-hills_with-fit after None w h command a b c e = absurd (err-not_ok after command e)
-hills_with-fit after (Some seed) None h command a b c e = absurd (err-not_ok after command e)
-hills_with-fit after (Some seed) (Some w) None command a b c e = absurd (err-not_ok after command e)
+    subst IsFit same sized
+hills_with-fit after None command sized e = absurd (err-not_ok after command e)
 
 -- where a server listens is an address
 listen-fit : (listen : Option Given) → ((e : Given) → listen ≡ Some e → is_address e.text ≡ true) → (word : Named) →
@@ -227,27 +215,29 @@ complete-fit : (name : CommandName) (entries : List Given) (after : ℕ) (comman
     AreOnceAfter [] (files_in Profile entries) → complete name entries after ≡ Ok command → IsFit command
 unfolding complete keys_of
 complete-fit Name.Grid entries after command all once e =
-    grid_with-fit after (entry_with Seed entries) (entry_with Width entries) (entry_with Height entries)
-    (entry_with From entries) (entry_with To entries) (files_with after (entry_with Lookups entries) (entry_with Profile entries)) command
+    grid_with-fit after (sizes_in entries) (entry_with From entries) (entry_with To entries)
+    (files_with after (entry_with Lookups entries) (entry_with Profile entries)) command
+    (sizes_with-fit (entry_with Seed entries) (entry_with Width entries) (entry_with Height entries)
     (λ x is. (with-fit (keys_of Name.Grid) Seed entries x all is).1) (λ x is. with-fit (keys_of Name.Grid) Width entries x all is)
-    (λ x is. with-fit (keys_of Name.Grid) Height entries x all is) e
+    (λ x is. with-fit (keys_of Name.Grid) Height entries x all is)) e
 complete-fit Name.Make entries after command all once e =
-    make_with-fit after (entry_with Seed entries) (entry_with Width entries) (entry_with Height entries) (entry_with What entries) command
+    make_with-fit after (sizes_in entries) (entry_with What entries) command
+    (sizes_with-fit (entry_with Seed entries) (entry_with Width entries) (entry_with Height entries)
     (λ x is. (with-fit (keys_of Name.Make) Seed entries x all is).1) (λ x is. with-fit (keys_of Name.Make) Width entries x all is)
-    (λ x is. with-fit (keys_of Name.Make) Height entries x all is) e
+    (λ x is. with-fit (keys_of Name.Make) Height entries x all is)) e
 complete-fit Name.Hills entries after command all once e =
-    hills_with-fit after (entry_with Seed entries) (entry_with Width entries) (entry_with Height entries) command
+    hills_with-fit after (sizes_in entries) command
+    (sizes_with-fit (entry_with Seed entries) (entry_with Width entries) (entry_with Height entries)
     (λ x is. (with-fit (keys_of Name.Hills) Seed entries x all is).1) (λ x is. with-fit (keys_of Name.Hills) Width entries x all is)
-    (λ x is. with-fit (keys_of Name.Hills) Height entries x all is) e
+    (λ x is. with-fit (keys_of Name.Hills) Height entries x all is)) e
 complete-fit Name.Code entries after command all once e =
     code_with-fit after (entry_with Lookups entries) (entry_with Profile entries) command e
-complete-fit Name.Route entries after command all once e = route_by-fit (ride_in entries after) command e
-complete-fit Name.Certify entries after command all once e = certify_by-fit (ride_in entries after) command e
-complete-fit Name.Check entries after command all once e =
-    check_by-fit after (ride_in entries after) (entry_with Certificate entries) command e
-complete-fit Name.Table entries after command all once e = table_by-fit (ride_in entries after) command e
+complete-fit Name.Route entries after command all once e = route-fit after (ride_in entries) entries command e
+complete-fit Name.Certify entries after command all once e = certify-fit after (ride_in entries) entries command e
+complete-fit Name.Check entries after command all once e = check-fit after (ride_in entries) entries command e
+complete-fit Name.Table entries after command all once e = table-fit after (ride_in entries) entries command e
 complete-fit Name.Within entries after command all once e =
-    within_by-fit after (ride_in entries after) (entry_with Cost entries) command
+    within-fit after (ride_in entries) entries command
     (λ x is. with-fit (keys_of Name.Within) Cost entries x all is) e
 complete-fit Name.Serve entries after command all once e =
     serve_with-fit after (entry_with Lookups entries) (entry_with Map entries) (files_in Profile entries) (files_in Tile entries)

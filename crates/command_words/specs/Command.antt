@@ -14,6 +14,7 @@ use Rattle.command_words.specs.declared.command.Command.{Command}
 use Rattle.command_words.specs.declared.command.Command as Form
 use Rattle.command_words.specs.declared.command.CodeCommand.{CodeCommand}
 use Rattle.command_words.specs.declared.command.RouteCommand.{RouteCommand}
+use Rattle.command_words.specs.declared.completing.Sizes.{Sizes}
 use Rattle.command_words.specs.declared.value.Place.{Place}
 
 -- a place lies in a grid of these sizes
@@ -32,19 +33,29 @@ files_with after (Some lookups) (Some profile) =
 files_with after None None = Ok None
 files_with after lookups profile = Err after
 
--- the command of a seed, sizes, two places with their words, and files, or the word of the first place
+-- the seed of a grid and its sizes, none where one is missing
+abbrev pub sizes_with : (seed w h : Option Given) → Option Sizes
+sizes_with (Some seed) (Some w) (Some h) =
+    Some (record { seed = number_in seed.value; w = number_in w.value; h = number_in h.value })
+sizes_with seed w h = None
+
+-- the seed and the sizes that entries give
+abbrev pub sizes_in : List Given → Option Sizes
+sizes_in entries = sizes_with (entry_with Seed entries) (entry_with Width entries) (entry_with Height entries)
+
+-- the command of a seed with sizes, two places with their words, and files, or the word of the first place
 -- outside the grid
-abbrev pub grid_by : (seed w h : ℕ) (from to : Given) (files : Option CodeCommand) → Result Command ℕ
-grid_by seed w h from to files =
-    cond (lies_in w h (place_in from.value))
-    (cond (lies_in w h (place_in to.value))
+abbrev pub grid_by : (sizes : Sizes) (from to : Given) (files : Option CodeCommand) → Result Command ℕ
+grid_by sizes from to files =
+    cond (lies_in sizes.w sizes.h (place_in from.value))
+    (cond (lies_in sizes.w sizes.h (place_in to.value))
     (Ok (Form.TheVariants.Grid
     (record {
       from = place_in from.value;
       to = place_in to.value;
-      seed = seed;
-      w = w;
-      h = h;
+      seed = sizes.seed;
+      w = sizes.w;
+      h = sizes.h;
       files =
           files;
     })))
@@ -52,28 +63,27 @@ grid_by seed w h from to files =
     (Err from.word)
 
 -- the same where the files may be wanting
-abbrev pub grid_over : (seed w h : ℕ) (from to : Given) (files : Result (Option CodeCommand) ℕ)
+abbrev pub grid_over : (sizes : Sizes) (from to : Given) (files : Result (Option CodeCommand) ℕ)
     → Result Command ℕ
-grid_over seed w h from to (Ok files) = grid_by seed w h from to files
-grid_over seed w h from to (Err word) = Err word
+grid_over sizes from to (Ok files) = grid_by sizes from to files
+grid_over sizes from to (Err word) = Err word
 
 -- the command of the entries that are there, or the place after the last word where one is missing
-abbrev pub grid_with : (after : ℕ) (seed w h from to : Option Given)
+abbrev pub grid_with : (after : ℕ) (sizes : Option Sizes) (from to : Option Given)
     (files : Result (Option CodeCommand) ℕ) → Result Command ℕ
-grid_with after (Some seed) (Some w) (Some h) (Some from) (Some to) files =
-    grid_over (number_in seed.value) (number_in w.value) (number_in h.value) from to files
-grid_with after seed w h from to files = Err after
+grid_with after (Some sizes) (Some from) (Some to) files = grid_over sizes from to files
+grid_with after sizes from to files = Err after
 
 -- the command of what is to be made of a grid, or the place after the last word where one is missing
-abbrev pub make_with : (after : ℕ) (seed w h what : Option Given) → Result Command ℕ
-make_with after (Some seed) (Some w) (Some h) (Some what) =
+abbrev pub make_with : (after : ℕ) (sizes : Option Sizes) (what : Option Given) → Result Command ℕ
+make_with after (Some sizes) (Some what) =
     Ok (Form.TheVariants.Make (record {
-      seed = number_in seed.value;
-      w = number_in w.value;
-      h = number_in h.value;
+      seed = sizes.seed;
+      w = sizes.w;
+      h = sizes.h;
       what = product_in what.value;
     }))
-make_with after seed w h what = Err after
+make_with after sizes what = Err after
 
 -- the command of the two files, or the place after the last word where one is missing
 abbrev pub code_with : ℕ → Option Given → Option Given → Result Command ℕ
@@ -85,61 +95,56 @@ code_with after lookups profile = Err after
 abbrev pub files_in : Key → List Given → List Named
 files_in key entries = map file_in (entries_with key entries)
 
--- a query and the files that it is answered over, or the place after the last word where one is missing
-abbrev pub ride_with : (after : ℕ) (lookups profile roads query : Option Given) (tiles : List Named)
-    → Result RouteCommand ℕ
-ride_with after (Some lookups) (Some profile) (Some roads) (Some query) tiles =
-    Ok (record {
+-- a query and the files that it is answered over, none where one is missing
+abbrev pub ride_with : (lookups profile roads query : Option Given) (tiles : List Named) → Option RouteCommand
+ride_with (Some lookups) (Some profile) (Some roads) (Some query) tiles =
+    Some (record {
       lookups = file_in lookups;
       profile = file_in profile;
       map = file_in roads;
       query = file_in query;
       tiles = tiles;
     })
-ride_with after lookups profile roads query tiles = Err after
+ride_with lookups profile roads query tiles = None
 
--- the query of these entries and its files, before the word at this place
-abbrev pub ride_in : List Given → ℕ → Result RouteCommand ℕ
-ride_in entries after =
-    ride_with after (entry_with Lookups entries) (entry_with Profile entries) (entry_with Map entries)
+-- the query of these entries and its files
+abbrev pub ride_in : List Given → Option RouteCommand
+ride_in entries =
+    ride_with (entry_with Lookups entries) (entry_with Profile entries) (entry_with Map entries)
     (entry_with Query entries) (files_in Tile entries)
 
--- the command that answers a query
-abbrev pub route_by : Result RouteCommand ℕ → Result Command ℕ
-route_by (Ok route) = Ok (Form.TheVariants.Route route)
-route_by (Err word) = Err word
-
--- the command that certifies the answer of a query
-abbrev pub certify_by : Result RouteCommand ℕ → Result Command ℕ
-certify_by (Ok route) = Ok (Form.TheVariants.Certify route)
-certify_by (Err word) = Err word
-
 -- the command that checks a certificate for a query, or the place after the last word where it is missing
-abbrev pub check_by : ℕ → Result RouteCommand ℕ → Option Given → Result Command ℕ
-check_by after (Ok route) (Some certificate) =
+abbrev pub check_by : ℕ → RouteCommand → Option Given → Result Command ℕ
+check_by after route (Some certificate) =
     Ok (Form.TheVariants.Check (record { route = route; certificate = file_in certificate }))
-check_by after (Ok route) None = Err after
-check_by after (Err word) certificate = Err word
+check_by after route None = Err after
 
--- the command that tells the costs between the waypoints of a query
-abbrev pub table_by : Result RouteCommand ℕ → Result Command ℕ
-table_by (Ok route) = Ok (Form.TheVariants.Table route)
-table_by (Err word) = Err word
-
--- the command that tells what lies within a cost of the waypoints of a query, or the place after the last word
--- where the cost is missing
-abbrev pub within_by : ℕ → Result RouteCommand ℕ → Option Given → Result Command ℕ
-within_by after (Ok route) (Some cost) =
+-- the command that tells what lies within a cost of the waypoints of a query, or the place after the last
+-- word where the cost is missing
+abbrev pub within_by : ℕ → RouteCommand → Option Given → Result Command ℕ
+within_by after route (Some cost) =
     Ok (Form.TheVariants.Within (record { route = route; cost = number_in cost.value }))
-within_by after (Ok route) None = Err after
-within_by after (Err word) cost = Err word
+within_by after route None = Err after
+
+-- the command of this name for a query, or the place after the last word where what it takes beside is
+-- missing; `route` where the name is that of no other such command
+abbrev pub ride_by : ℕ → CommandName → RouteCommand → List Given → Result Command ℕ
+ride_by after Certify route entries = Ok (Form.TheVariants.Certify route)
+ride_by after Check route entries = check_by after route (entry_with Certificate entries)
+ride_by after Table route entries = Ok (Form.TheVariants.Table route)
+ride_by after Within route entries = within_by after route (entry_with Cost entries)
+ride_by after command route entries = Ok (Form.TheVariants.Route route)
+
+-- the same where the query may be wanting
+abbrev pub ride_over : ℕ → CommandName → Option RouteCommand → List Given → Result Command ℕ
+ride_over after command (Some route) entries = ride_by after command route entries
+ride_over after command None entries = Err after
 
 -- the command of a hilly grid, or the place after the last word where an entry is missing
-abbrev pub hills_with : ℕ → Option Given → Option Given → Option Given → Result Command ℕ
-hills_with after (Some seed) (Some w) (Some h) =
-    Ok (Form.TheVariants.Hills
-    (record { seed = number_in seed.value; w = number_in w.value; h = number_in h.value }))
-hills_with after seed w h = Err after
+abbrev pub hills_with : ℕ → Option Sizes → Result Command ℕ
+hills_with after (Some sizes) =
+    Ok (Form.TheVariants.Hills (record { seed = sizes.seed; w = sizes.w; h = sizes.h }))
+hills_with after None = Err after
 
 -- how many events a server takes at most by an entry that may be missing
 unfoldable pub turns_in : Option Given → ℕ
@@ -168,20 +173,16 @@ serve_with after lookups roads profiles tiles listen turns = Err after
 -- the command of this name and these entries, before the word at this place
 unfoldable pub complete : CommandName → List Given → ℕ → Result Command ℕ
 complete Grid entries after =
-    grid_with after (entry_with Seed entries) (entry_with Width entries) (entry_with Height entries)
-    (entry_with From entries) (entry_with To entries)
+    grid_with after (sizes_in entries) (entry_with From entries) (entry_with To entries)
     (files_with after (entry_with Lookups entries) (entry_with Profile entries))
-complete Make entries after =
-    make_with after (entry_with Seed entries) (entry_with Width entries) (entry_with Height entries)
-    (entry_with What entries)
+complete Make entries after = make_with after (sizes_in entries) (entry_with What entries)
 complete Code entries after = code_with after (entry_with Lookups entries) (entry_with Profile entries)
-complete Route entries after = route_by (ride_in entries after)
-complete Certify entries after = certify_by (ride_in entries after)
-complete Check entries after = check_by after (ride_in entries after) (entry_with Certificate entries)
-complete Table entries after = table_by (ride_in entries after)
-complete Within entries after = within_by after (ride_in entries after) (entry_with Cost entries)
-complete Hills entries after =
-    hills_with after (entry_with Seed entries) (entry_with Width entries) (entry_with Height entries)
+complete Route entries after = ride_over after Route (ride_in entries) entries
+complete Certify entries after = ride_over after Certify (ride_in entries) entries
+complete Check entries after = ride_over after Check (ride_in entries) entries
+complete Table entries after = ride_over after Table (ride_in entries) entries
+complete Within entries after = ride_over after Within (ride_in entries) entries
+complete Hills entries after = hills_with after (sizes_in entries)
 complete Serve entries after =
     serve_with after (entry_with Lookups entries) (entry_with Map entries) (files_in Profile entries)
     (files_in Tile entries) (entry_with Listen entries) (entry_with Turns entries)

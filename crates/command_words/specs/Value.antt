@@ -1,12 +1,12 @@
 -- The values of keys: numbers, places, what is made, names of files, queries, addresses and costs. This
 -- project's own rule.
-use Rattle.std.specs.List.{before_first, after_first, position_or_len}
-use Rattle.std.specs.Prelude.{ℕ, ◌+◌, ◌-◌, ◌*◌, ◌==◌, ℤ, unsigned_abs, Bool, true, false, cond, ◌&&◌, nat_lt, nat_le, Option, Some, None, Result, Ok, Err, List, [], ◌∷◌, length, take, drop, position, codes}
+use Rattle.std.specs.List.{before_first, after_first, position_or_len, prefix_len}
+use Rattle.std.specs.Prelude.{ℕ, ◌+◌, ◌-◌, ◌*◌, ◌==◌, ℤ, unsigned_abs, Bool, true, false, cond, ◌&&◌, nat_lt, nat_le, Option, Some, None, Result, Ok, Err, List, [], ◌∷◌, length, take, drop, codes}
 use Rattle.std.specs.Int.{is_negative}
 use Rattle.std.specs.Str.{bytes_eq}
 use Rattle.fixed_num.specs.Literal.{literal_of}
 use Rattle.fixed_num.specs.declared.literal.NumError.{NumError}
-use Rattle.item_list.specs.Bytes.{is_digit}
+use Rattle.item_list.specs.Bytes.{is_digit, is_other}
 use Rattle.command_words.specs.Addresses.{is_address}
 use Rattle.command_words.specs.FileNames.{is_file_name, is_profile_file}
 use Rattle.command_words.specs.declared.rows.Form.{Form}
@@ -38,24 +38,20 @@ abbrev pub within : ℕ → ℕ → Option ℕ → Option ℕ
 within low high None = None
 within low high (Some number) = cond (nat_le low number && nat_le number high) (Some number) None
 
--- the place at which a byte stands first
-abbrev pub first_place : ℕ → List ℕ → Option ℕ
-first_place byte text = position (λ b. b == byte) text
-
 -- a place of two numbers
 abbrev pub place_by : Option ℕ → Option ℕ → Option Place
 place_by None y = None
 place_by (Some x) None = None
 place_by (Some x) (Some y) = Some (record { x = x; y = y })
 
--- a place cut at its first comma
-abbrev pub place_cut : List ℕ → Option ℕ → Option Place
-place_cut text None = None
-place_cut text (Some at) = place_by (number_of (take at text)) (number_of (drop (at + 1) text))
+-- the place of a text that is cut here, none where that is its end
+abbrev pub place_cut : List ℕ → ℕ → Option Place
+place_cut text at =
+    cond (at == length text) None (place_by (number_of (take at text)) (number_of (drop (at + 1) text)))
 
 -- the place of a text: two numbers parted by a comma
 unfoldable pub place_of : List ℕ → Option Place
-place_of text = place_cut text (first_place 44 text)
+place_of text = place_cut text (prefix_len (is_other 44) text)
 
 -- a number as a value
 abbrev pub number_value : Option ℕ → Option Value

@@ -1,7 +1,7 @@
 //! The command of a name and of what the words after it give.
 
 ghost use Rattle.std.specs.Prelude.{◌≡◌, option_map};
-ghost use Rattle.command_words.specs.Command.{complete, file_in, files_in, files_with, grid_by, lies_in, ride_in, turns_in};
+ghost use Rattle.command_words.specs.Command.{complete, file_in, files_in, files_with, grid_by, lies_in, ride_by, ride_in, ride_over, sizes_in, turns_in};
 ghost use Rattle.command_words.specs.Refusals.{now_of};
 ghost use Rattle.command_words.specs.declared.rows.CommandName.{CommandName};
 ghost use Rattle.command_words.specs.declared.rows.Key.{Key};
@@ -15,6 +15,14 @@ use crate::reader::entry_with;
 use crate::rows::{CommandName, Key, MOST_TURNS};
 use crate::value::Place;
 use item_list::Items;
+
+/// The seed of a grid and its sizes.
+#[derive(Clone, Copy)]
+struct Sizes {
+    seed: u64,
+    w: u64,
+    h: u64,
+}
 
 /// The command of this name and these entries, which name these profiles and tiles, before the word
 /// at the place `after`.
@@ -34,13 +42,31 @@ pub fn complete<'a>(
         CommandName::Grid => complete_grid(entries, after),
         CommandName::Make => complete_make(entries, after),
         CommandName::Code => complete_code(entries, after),
-        CommandName::Route => complete_route(entries, tiles, after),
-        CommandName::Certify => complete_certify(entries, tiles, after),
-        CommandName::Check => complete_check(entries, tiles, after),
-        CommandName::Table => complete_table(entries, tiles, after),
-        CommandName::Within => complete_within(entries, tiles, after),
         CommandName::Hills => complete_hills(entries, after),
         CommandName::Serve => complete_serve(entries, profiles, tiles, after),
+        CommandName::Route
+        | CommandName::Certify
+        | CommandName::Check
+        | CommandName::Table
+        | CommandName::Within => complete_ride(command, entries, tiles, after),
+    }
+}
+
+/// The seed and the sizes that these entries give.
+fn sizes_in(entries: &[Entry]) -> Option<Sizes>
+    ensures exact { result ≡ sizes_in entries.now }
+{
+    match (
+        entry_with(entries, Key::Seed),
+        entry_with(entries, Key::Width),
+        entry_with(entries, Key::Height),
+    ) {
+        (Some(seed), Some(w), Some(h)) => Some(Sizes {
+            seed: seed.number(),
+            w: w.number(),
+            h: h.number(),
+        }),
+        _ => None,
     }
 }
 
@@ -49,17 +75,19 @@ pub fn complete<'a>(
 fn complete_grid<'a>(entries: &[Entry<'a>], after: u64) -> Result<Command<'a>, u64>
     ensures exact { result ≡ complete CommandName.Grid entries.now after }
 {
-    let seed = entry_with(entries, Key::Seed).ok_or(after)?;
-    let w = entry_with(entries, Key::Width).ok_or(after)?;
-    let h = entry_with(entries, Key::Height).ok_or(after)?;
-    let from = entry_with(entries, Key::From).ok_or(after)?;
-    let to = entry_with(entries, Key::To).ok_or(after)?;
-    let files = files_with(
-        entry_with(entries, Key::Lookups),
-        entry_with(entries, Key::Profile),
-        after,
-    )?;
-    grid_by(seed.number(), w.number(), h.number(), from, to, files)
+    let lookups = entry_with(entries, Key::Lookups);
+    let profile = entry_with(entries, Key::Profile);
+    match (
+        sizes_in(entries),
+        entry_with(entries, Key::From),
+        entry_with(entries, Key::To),
+    ) {
+        (Some(sizes), Some(from), Some(to)) => match files_with(lookups, profile, after) {
+            Ok(files) => grid_by(sizes, from, to, files),
+            Err(word) => Err(word),
+        },
+        _ => Err(after),
+    }
 }
 
 /// The files of a profile, where both are there or neither is, before the word at the place
@@ -89,27 +117,25 @@ fn files_with<'a>(
 
 /// The grid of a seed and sizes between two places, where they lie in it.
 fn grid_by<'a>(
-    seed: u64,
-    w: u64,
-    h: u64,
+    sizes: Sizes,
     from: &Entry,
     to: &Entry,
     files: Option<CodeCommand<'a>>,
 ) -> Result<Command<'a>, u64>
-    ensures exact { result ≡ grid_by seed w h from.now to.now files.entry }
+    ensures exact { result ≡ grid_by sizes from.now to.now files.entry }
 {
-    if !lies_in(w, h, from.place()) {
+    if !lies_in(sizes.w, sizes.h, from.place()) {
         return Err(from.word());
     }
-    if !lies_in(w, h, to.place()) {
+    if !lies_in(sizes.w, sizes.h, to.place()) {
         return Err(to.word());
     }
     Ok(Command::Grid(GridCommand {
         from: from.place(),
         to: to.place(),
-        seed,
-        w,
-        h,
+        seed: sizes.seed,
+        w: sizes.w,
+        h: sizes.h,
         files,
     }))
 }
@@ -119,16 +145,15 @@ fn grid_by<'a>(
 fn complete_make<'a>(entries: &[Entry<'a>], after: u64) -> Result<Command<'a>, u64>
     ensures exact { result ≡ complete CommandName.Make entries.now after }
 {
-    let seed = entry_with(entries, Key::Seed).ok_or(after)?;
-    let w = entry_with(entries, Key::Width).ok_or(after)?;
-    let h = entry_with(entries, Key::Height).ok_or(after)?;
-    let what = entry_with(entries, Key::What).ok_or(after)?;
-    Ok(Command::Make(MakeCommand {
-        seed: seed.number(),
-        w: w.number(),
-        h: h.number(),
-        what: what.product(),
-    }))
+    match (sizes_in(entries), entry_with(entries, Key::What)) {
+        (Some(sizes), Some(what)) => Ok(Command::Make(MakeCommand {
+            seed: sizes.seed,
+            w: sizes.w,
+            h: sizes.h,
+            what: what.product(),
+        })),
+        _ => Err(after),
+    }
 }
 
 /// The command `code` of these entries, before the word at the place `after`.
@@ -136,118 +161,16 @@ fn complete_make<'a>(entries: &[Entry<'a>], after: u64) -> Result<Command<'a>, u
 fn complete_code<'a>(entries: &[Entry<'a>], after: u64) -> Result<Command<'a>, u64>
     ensures exact { result ≡ complete CommandName.Code entries.now after }
 {
-    let lookups = entry_with(entries, Key::Lookups).ok_or(after)?;
-    let profile = entry_with(entries, Key::Profile).ok_or(after)?;
-    Ok(Command::Code(CodeCommand {
-        lookups: lookups.file(),
-        profile: profile.file(),
-    }))
-}
-
-/// The query of these entries, which name these tiles, and the files that it is answered over,
-/// before the word at the place `after`.
-fn ride_in<'a>(
-    entries: &[Entry<'a>],
-    tiles: Items<FileWord<'a>>,
-    after: u64,
-) -> Result<RouteCommand<'a>, u64>
-    requires tiles { tiles ≡ files_in Key.Tile entries.now }
-    ensures exact { result ≡ ride_in entries.now after }
-{
-    let lookups = entry_with(entries, Key::Lookups).ok_or(after)?;
-    let profile = entry_with(entries, Key::Profile).ok_or(after)?;
-    let map = entry_with(entries, Key::Map).ok_or(after)?;
-    let query = entry_with(entries, Key::Query).ok_or(after)?;
-    Ok(RouteCommand {
-        lookups: lookups.file(),
-        profile: profile.file(),
-        map: map.file(),
-        query: query.file(),
-        tiles,
-    })
-}
-
-/// The command `route` of these entries, which name these tiles, before the word at the place
-/// `after`.
-#[tactic(auto, unfolding(crate::specs::Command::complete))]
-fn complete_route<'a>(
-    entries: &[Entry<'a>],
-    tiles: Items<FileWord<'a>>,
-    after: u64,
-) -> Result<Command<'a>, u64>
-    requires tiles { tiles ≡ files_in Key.Tile entries.now }
-    ensures exact { result ≡ complete CommandName.Route entries.now after }
-{
-    let route = ride_in(entries, tiles, after)?;
-    Ok(Command::Route(route))
-}
-
-/// The command `certify` of these entries, which name these tiles, before the word at the place
-/// `after`.
-#[tactic(auto, unfolding(crate::specs::Command::complete))]
-fn complete_certify<'a>(
-    entries: &[Entry<'a>],
-    tiles: Items<FileWord<'a>>,
-    after: u64,
-) -> Result<Command<'a>, u64>
-    requires tiles { tiles ≡ files_in Key.Tile entries.now }
-    ensures exact { result ≡ complete CommandName.Certify entries.now after }
-{
-    let route = ride_in(entries, tiles, after)?;
-    Ok(Command::Certify(route))
-}
-
-/// The command `check` of these entries, which name these tiles, before the word at the place
-/// `after`.
-#[tactic(auto, unfolding(crate::specs::Command::complete))]
-fn complete_check<'a>(
-    entries: &[Entry<'a>],
-    tiles: Items<FileWord<'a>>,
-    after: u64,
-) -> Result<Command<'a>, u64>
-    requires tiles { tiles ≡ files_in Key.Tile entries.now }
-    ensures exact { result ≡ complete CommandName.Check entries.now after }
-{
-    let route = ride_in(entries, tiles, after)?;
-    let certificate = entry_with(entries, Key::Certificate).ok_or(after)?;
-    Ok(Command::Check(CheckCommand {
-        route,
-        certificate: certificate.file(),
-    }))
-}
-
-/// The command `table` of these entries, which name these tiles, before the word at the place
-/// `after`.
-#[tactic(auto, unfolding(crate::specs::Command::complete))]
-fn complete_table<'a>(
-    entries: &[Entry<'a>],
-    tiles: Items<FileWord<'a>>,
-    after: u64,
-) -> Result<Command<'a>, u64>
-    requires tiles { tiles ≡ files_in Key.Tile entries.now }
-    ensures exact { result ≡ complete CommandName.Table entries.now after }
-{
-    let route = ride_in(entries, tiles, after)?;
-    Ok(Command::Table(route))
-}
-
-/// The command `within` of these entries, which name these tiles, before the word at the place
-/// `after`.
-#[tactic(auto, unfolding(crate::specs::Command::complete))]
-fn complete_within<'a>(
-    entries: &[Entry<'a>],
-    tiles: Items<FileWord<'a>>,
-    after: u64,
-) -> Result<Command<'a>, u64>
-    requires tiles { tiles ≡ files_in Key.Tile entries.now }
-    ensures exact { result ≡ complete CommandName.Within entries.now after }
-{
-    let route = ride_in(entries, tiles, after)?;
-    let cost = entry_with(entries, Key::Cost).ok_or(after)?;
-    Ok(Command::Within(WithinCommand {
-        route,
-        cost: cost.number(),
-    }))
+    match (
+        entry_with(entries, Key::Lookups),
+        entry_with(entries, Key::Profile),
+    ) {
+        (Some(lookups), Some(profile)) => Ok(Command::Code(CodeCommand {
+            lookups: lookups.file(),
+            profile: profile.file(),
+        })),
+        _ => Err(after),
+    }
 }
 
 /// The command `hills` of these entries, before the word at the place `after`.
@@ -255,14 +178,84 @@ fn complete_within<'a>(
 fn complete_hills<'a>(entries: &[Entry<'a>], after: u64) -> Result<Command<'a>, u64>
     ensures exact { result ≡ complete CommandName.Hills entries.now after }
 {
-    let seed = entry_with(entries, Key::Seed).ok_or(after)?;
-    let w = entry_with(entries, Key::Width).ok_or(after)?;
-    let h = entry_with(entries, Key::Height).ok_or(after)?;
-    Ok(Command::Hills(HillsCommand {
-        seed: seed.number(),
-        w: w.number(),
-        h: h.number(),
-    }))
+    match sizes_in(entries) {
+        Some(sizes) => Ok(Command::Hills(HillsCommand {
+            seed: sizes.seed,
+            w: sizes.w,
+            h: sizes.h,
+        })),
+        None => Err(after),
+    }
+}
+
+/// The command of this name for the query of these entries, which name these tiles, before the word
+/// at the place `after`; `route` where the name is that of no other such command.
+fn complete_ride<'a>(
+    command: CommandName,
+    entries: &[Entry<'a>],
+    tiles: Items<FileWord<'a>>,
+    after: u64,
+) -> Result<Command<'a>, u64>
+    requires tiles { tiles ≡ files_in Key.Tile entries.now }
+    ensures exact { result ≡ ride_over after command (ride_in entries.now) entries.now }
+{
+    match ride_in(entries, tiles) {
+        Some(route) => ride_by(command, route, entries, after),
+        None => Err(after),
+    }
+}
+
+/// The query of these entries, which name these tiles, and the files that it is answered over.
+fn ride_in<'a>(entries: &[Entry<'a>], tiles: Items<FileWord<'a>>) -> Option<RouteCommand<'a>>
+    requires tiles { tiles ≡ files_in Key.Tile entries.now }
+    ensures exact { result ≡ ride_in entries.now }
+{
+    match (
+        entry_with(entries, Key::Lookups),
+        entry_with(entries, Key::Profile),
+        entry_with(entries, Key::Map),
+        entry_with(entries, Key::Query),
+    ) {
+        (Some(lookups), Some(profile), Some(map), Some(query)) => Some(RouteCommand {
+            lookups: lookups.file(),
+            profile: profile.file(),
+            map: map.file(),
+            query: query.file(),
+            tiles,
+        }),
+        _ => None,
+    }
+}
+
+/// The command of this name for a query, with what these entries give beside it, before the word at
+/// the place `after`; `route` where the name is that of no other such command.
+fn ride_by<'a>(
+    command: CommandName,
+    route: RouteCommand<'a>,
+    entries: &[Entry<'a>],
+    after: u64,
+) -> Result<Command<'a>, u64>
+    ensures exact { result ≡ ride_by after command route.entry entries.now }
+{
+    match command {
+        CommandName::Certify => Ok(Command::Certify(route)),
+        CommandName::Check => match entry_with(entries, Key::Certificate) {
+            Some(certificate) => Ok(Command::Check(CheckCommand {
+                route,
+                certificate: certificate.file(),
+            })),
+            None => Err(after),
+        },
+        CommandName::Table => Ok(Command::Table(route)),
+        CommandName::Within => match entry_with(entries, Key::Cost) {
+            Some(cost) => Ok(Command::Within(WithinCommand {
+                route,
+                cost: cost.number(),
+            })),
+            None => Err(after),
+        },
+        _ => Ok(Command::Route(route)),
+    }
 }
 
 /// The command `serve` of these entries, which name these profiles and tiles, before the word at
@@ -278,18 +271,20 @@ fn complete_serve<'a>(
     requires tiles { tiles ≡ files_in Key.Tile entries.now }
     ensures exact { result ≡ complete CommandName.Serve entries.now after }
 {
-    let lookups = entry_with(entries, Key::Lookups).ok_or(after)?;
-    let map = entry_with(entries, Key::Map).ok_or(after)?;
-    let listen = file_of(entry_with(entries, Key::Listen));
-    let turns = turns_of(entry_with(entries, Key::Turns));
-    Ok(Command::Serve(ServeCommand {
-        lookups: lookups.file(),
-        map: map.file(),
-        profiles,
-        tiles,
-        listen,
-        turns,
-    }))
+    match (
+        entry_with(entries, Key::Lookups),
+        entry_with(entries, Key::Map),
+    ) {
+        (Some(lookups), Some(map)) => Ok(Command::Serve(ServeCommand {
+            lookups: lookups.file(),
+            map: map.file(),
+            profiles,
+            tiles,
+            listen: file_of(entry_with(entries, Key::Listen)),
+            turns: turns_of(entry_with(entries, Key::Turns)),
+        })),
+        _ => Err(after),
+    }
 }
 
 /// What an entry that may be missing names.

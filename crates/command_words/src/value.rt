@@ -3,13 +3,13 @@
 ghost use Rattle.std.specs.Prelude.{◌≡◌, option_map};
 ghost use Rattle.fixed_num.specs.Literal.{literal_of};
 ghost use Rattle.command_words.specs.Refusals.{texts_in};
-ghost use Rattle.command_words.specs.Value.{cost_value, cut_word, first_place, number_of, number_value, place_of, place_value, product_of, product_value, unsigned_value, value_of, within};
+ghost use Rattle.command_words.specs.Value.{cost_value, cut_word, number_of, number_value, place_of, place_value, product_of, product_value, unsigned_value, value_of, within};
 
 use crate::addresses::is_address;
 use crate::file_names::is_profile_file;
 use crate::rows::Form;
 use fixed_num::Num;
-use item_list::is_digit;
+use item_list::{is_digit, len_before};
 
 /// A place of a grid by its column and its row.
 #[derive(Clone, Copy)]
@@ -76,24 +76,6 @@ fn number_of(text: &[u8]) -> Option<u64>
     Some(number)
 }
 
-/// The place at which a byte stands first.
-fn first_place(byte: u8, text: &[u8]) -> Option<usize>
-    ensures exact { result ≡ first_place byte text.now }
-{
-    text.iter().position(|b| *b == byte)
-}
-
-/// The place of a text: two numbers parted by a comma.
-#[tactic(auto, unfolding(crate::specs::Value::place_of))]
-fn place_of(text: &[u8]) -> Option<Place>
-    ensures exact { result ≡ place_of text.now }
-{
-    let at = first_place(b',', text)?;
-    let x = number_of(&text[..at])?;
-    let y = number_of(&text[at + 1..])?;
-    Some(Place { x, y })
-}
-
 /// The number of a text as a value, where it lies between `low` and `high`.
 fn number_value(text: &[u8], low: u64, high: u64) -> Option<Value>
     ensures exact { result ≡ number_value (within low high (number_of text.now)) }
@@ -106,34 +88,33 @@ fn number_value(text: &[u8], low: u64, high: u64) -> Option<Value>
     }
 }
 
-/// The place of a text as a value.
+/// The place of a text as a value: two numbers parted by a comma.
+#[tactic(auto, unfolding(crate::specs::Value::place_of))]
 fn place_value(text: &[u8]) -> Option<Value>
     ensures exact { result ≡ place_value (place_of text.now) }
 {
-    let place = place_of(text)?;
-    Some(Value::At(place))
-}
-
-/// What a text names to be made.
-#[tactic(auto, unfolding(crate::specs::Value::product_of))]
-fn product_of(text: &[u8]) -> Option<Product>
-    ensures exact { result ≡ product_of text.now }
-{
-    if text == b"map".as_slice() {
-        Some(Product::Map)
-    } else if text == b"hgt".as_slice() {
-        Some(Product::Hgt)
-    } else {
-        None
+    let at = len_before(text, b',');
+    if at == text.len() {
+        return None;
+    }
+    match (number_of(&text[..at]), number_of(&text[at + 1..])) {
+        (Some(x), Some(y)) => Some(Value::At(Place { x, y })),
+        _ => None,
     }
 }
 
 /// What a text names to be made, as a value.
+#[tactic(auto, unfolding(crate::specs::Value::product_of))]
 fn product_value(text: &[u8]) -> Option<Value>
     ensures exact { result ≡ product_value (product_of text.now) }
 {
-    let product = product_of(text)?;
-    Some(Value::Made(product))
+    if text == b"map".as_slice() {
+        Some(Value::Made(Product::Map))
+    } else if text == b"hgt".as_slice() {
+        Some(Value::Made(Product::Hgt))
+    } else {
+        None
+    }
 }
 
 /// The cost of a text as a value: its millionths, where it is a number that isn't negative.
