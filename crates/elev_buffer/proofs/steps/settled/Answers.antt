@@ -20,5 +20,6 @@ returns c =
     let m : c.max.result ≡ int_max c.args.full (pos 0) = simp (to_z-of_z, c.ranges.full) at c.max.ensures.value in
     let e : c.max.result -ℤ c.paid_from-paid.result ≡ left_of l c.args.r c.args.full =
     omega (arith, ints, left-paid l c.args.r c.args.full c.requires.limits) in
-    let left : SFits w64 (c.max.result -ℤ c.paid_from-paid.result) = subst (SFits w64) (sym e) (left-fits l c.args.r c.args.full c.requires.limits) in
+    let left : SFits w64 (c.max.result -ℤ c.paid_from-paid.result) =
+    subst (SFits w64) (sym e) (left-fits l c.args.r c.args.full c.requires.limits) in
     simp (to_z-of_z, paid, top, weight, left) (record { exact = cc })

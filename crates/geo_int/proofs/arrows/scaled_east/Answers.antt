@@ -39,7 +39,8 @@ overflow_mul-result-else-degrees-geminus800000-2 c =
 pub overflow_cast-result-else-degrees-geminus800000-2 : goal.overflow_cast-result-else-degrees-geminus800000-2
 overflow_cast-result-else-degrees-geminus800000-2 c =
     let fits = wide_fits c.args.degrees c.args.cosine c.requires.degrees c.requires.cosine in
-    simp (to_z-of_z, c.ranges.degrees, c.ranges.cosine, fits.left, fits.right, fits.part, fits.product, fits.quotient) (fits.back)
+    simp (to_z-of_z, c.ranges.degrees, c.ranges.cosine, fits.left, fits.right, fits.part, fits.product, fits.quotient)
+    (fits.back)
 
 pub returns-then-degrees-le800000-clause-exact : goal.returns-then-degrees-le800000-clause-exact
 unfolding east_part
@@ -53,16 +54,19 @@ unfolding east_part
 returns-then-degrees-le800000-clause-within c =
     let fits = small_fits c.args.degrees c.args.cosine (simp (to_z-of_z, c.ranges.degrees) at c.if-degrees-geminus800000.true)
     (simp (to_z-of_z, c.ranges.degrees) at c.if-degrees-le800000.true) c.requires.cosine in
-    simp (to_z-of_z, c.ranges.degrees, c.ranges.cosine, fits.part, fits.product, fits.quotient) (east_part_le c.args.degrees c.args.cosine c.requires.degrees c.requires.cosine)
+    simp (to_z-of_z, c.ranges.degrees, c.ranges.cosine, fits.part, fits.product, fits.quotient)
+    (east_part_le c.args.degrees c.args.cosine c.requires.degrees c.requires.cosine)
 
 pub returns-else-degrees-geminus800000-clause-exact : goal.returns-else-degrees-geminus800000-clause-exact
 unfolding east_part
 returns-else-degrees-geminus800000-clause-exact c =
     let fits = wide_fits c.args.degrees c.args.cosine c.requires.degrees c.requires.cosine in
-    simp (to_z-of_z, c.ranges.degrees, c.ranges.cosine, fits.left, fits.right, fits.part, fits.product, fits.quotient, fits.back) (refl)
+    simp (to_z-of_z, c.ranges.degrees, c.ranges.cosine, fits.left, fits.right, fits.part, fits.product, fits.quotient, fits.back)
+    (refl)
 
 pub returns-else-degrees-geminus800000-clause-within : goal.returns-else-degrees-geminus800000-clause-within
 unfolding east_part
 returns-else-degrees-geminus800000-clause-within c =
     let fits = wide_fits c.args.degrees c.args.cosine c.requires.degrees c.requires.cosine in
-    simp (to_z-of_z, c.ranges.degrees, c.ranges.cosine, fits.left, fits.right, fits.part, fits.product, fits.quotient, fits.back) (east_part_le c.args.degrees c.args.cosine c.requires.degrees c.requires.cosine)
+    simp (to_z-of_z, c.ranges.degrees, c.ranges.cosine, fits.left, fits.right, fits.part, fits.product, fits.quotient, fits.back)
+    (east_part_le c.args.degrees c.args.cosine c.requires.degrees c.requires.cosine)
