@@ -4,7 +4,7 @@ ghost use Rattle.std.specs.Option.{IsSome};
 ghost use Rattle.std.specs.Prelude.{◌≡◌, ◌<◌, None, Some, length, get_or, set, option_map};
 ghost use Rattle.hall_seats.specs.Parts.{CountsOne, HasId, HaveOneSeat, IsFreeOne, IsFreeSeat, IsReadOne, IsReaderOf, IsSeatOf, count_of, seated_of, seats_of};
 
-use hall_seats::{Phase, Seat};
+use hall_seats::{Phase, Seat, is_free};
 
 /// The seat of a connection, where it has one.
 pub(crate) fn seat_of(seats: &[Option<Seat>], id: u64) -> Option<usize>

@@ -1,16 +1,12 @@
 -- How serving is put together of what the hub told.
-use Rattle.std.proofs.Common.{◌≡◌, ◌≢◌, ◌<◌, ℕ, ◌+◌, add-one, true, false, List, [], ◌∷◌, ◌++◌, take, Option, Some, None, refl, sym, ◌∙◌, ap, subst, append-nil, append_assoc}
-use Rattle.edge_io.specs.Acts.{Act, Gave, Took, Broke, Closed, OpensOnce}
-use Rattle.edge_io.specs.Faults.{CountRose}
-use Rattle.edge_io.specs.Hub.{HubSeen, IsFresh, IsFreshAmong, Tells}
-use Rattle.edge_io.specs.declared.event.Event.{Event}
-use Rattle.edge_io.specs.declared.event.Event.TheVariants.{Over}
-use Rattle.edge_io.proofs.CallerLemmas.{IsFresh-later, OpensOnce-more, OpensOnce-none, Tells-more, Tells-none}
+use Rattle.std.proofs.Common.{ℕ, List, [], ◌∷◌, ◌++◌, Option, Some, None, refl, sym, ◌∙◌, subst, append-nil}
+use Rattle.edge_io.specs.Acts.{Act}
+use Rattle.edge_io.specs.Hub.{HubSeen}
+use Rattle.edge_io.proofs.CallerLemmas.{Tells-more, Tells-none}
 use Rattle.hall_seats.proofs.SeatCountLemmas.{id_of}
-use Rattle.hall_seats.specs.Sends.{Closes, Sends, nothing, taken, broken, gone, stays, done, ServesEach}
-use Rattle.hall_seats.specs.Served.{ClosedDone, Goes, SentPiece, ServedAll, ServedEach, ServedOne, ServedSeat}
-use Rattle.hall_seats.specs.State.{Connection, Service, State}
-use Rattle.hall_seats.specs.Steps.{Works}
+use Rattle.hall_seats.specs.Sends.{gone, ServesEach}
+use Rattle.hall_seats.specs.Served.{ClosedDone, Goes, SentPiece, ServedEach, ServedOne, ServedSeat}
+use Rattle.hall_seats.specs.State.{Connection, State}
 use Rattle.hall_seats.specs.Sends.ServesEach.{none as none_each, more as more_each}
 use Rattle.hall_seats.specs.Seats.{Seated}
 
