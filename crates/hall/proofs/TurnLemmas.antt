@@ -7,6 +7,7 @@ use Rattle.edge_io.specs.declared.event.Event.{Event}
 use Rattle.edge_io.specs.declared.event.Event.TheVariants.{Over}
 use Rattle.edge_io.proofs.CallerLemmas.{IsFresh-later, OpensOnce-more, OpensOnce-none, Tells-more, Tells-none}
 use Rattle.hall_seats.proofs.SeatCountLemmas.{id_of}
+use Rattle.hall_seats.proofs.ServedLemmas.{Goes-more, Goes-none}
 use Rattle.hall_seats.specs.Sends.{Closes, Sends, nothing, taken, broken, gone, stays, done, ServesEach}
 use Rattle.hall_seats.specs.Served.{ClosedDone, Goes, SentPiece, ServedAll, ServedEach, ServedOne, ServedSeat}
 use Rattle.hall.specs.Served.{OpenOnceIn, Served, Stepped, TurnComesTo, TookTurn, TookTurns, Turned}

@@ -5,16 +5,14 @@ use Rattle.edge_io.specs.Faults.{CountRose}
 use Rattle.edge_io.specs.Hub.{HubSeen, IsFresh, IsLive, Tells}
 use Rattle.edge_io.specs.declared.event.Event.{Event}
 use Rattle.edge_io.specs.declared.event.Event.TheVariants as events
-use Rattle.hall_seats.specs.Held.{AreAll}
-use Rattle.hall_seats.specs.Sends.{Closes, Sends, Serves, ServesEach}
+use Rattle.hall_seats.specs.Served.{Goes}
 use Rattle.hall_seats.specs.State.{Connection, Service, State, left_as}
 use Rattle.hall_seats.specs.Steps.{Step}
 use Rattle.hall.specs.Turns.{Run, Turn, Turns, shut}
-use Rattle.hall_seats.specs.Seats.{Seated}
 use Rattle.hall.specs.declared.serve_end.ServeEnd.{ServeEnd}
 use Rattle.hall.specs.declared.serve_end.ServeEnd.TheVariants as why
 
--- ---- What the hub holds and tells
+-- ---- What the hub tells
 
 -- no connection is opened twice, where acts are told
 abbrev pub OpenOnceIn : Option (List Act) → List Act → Type 0

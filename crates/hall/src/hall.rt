@@ -28,7 +28,7 @@ impl Drop for Hall {
 
 impl Model for Hall {
     ghost use Rattle.std.specs.Coded.{codes};
-    ghost use Rattle.hall.specs.View.{HallValue, service_of, state_of};
+    ghost use Rattle.hall.specs.View.{HallValue};
     ghost use Rattle.route_ready.specs.contracts.world.World as world;
     ghost use Rattle.session_answers.specs.contracts.profiles.Profiles as profiles;
 
@@ -51,6 +51,7 @@ impl Hall {
     ghost use Rattle.hall_seats.specs.Sound.{IsSound};
     ghost use Rattle.hall_seats.specs.State.{empty_hall};
     ghost use Rattle.hall_seats.specs.Steps.{Step, Works};
+    ghost use Rattle.hall.specs.View.{service_of, state_of};
     ghost use Rattle.route_ready.specs.Entries.{names_of};
     ghost use Rattle.route_ready.specs.Shelves.{shelf_of};
     ghost use Rattle.route_ready.specs.World.{world_of};
