@@ -40,8 +40,7 @@ links-preserved g c =
     let walk = c.args.walk.now in
     let goes = c.go_on.ensures.along (take c.links.place walk) c.links.invariant.0.carried in
     let more = cost-more c.args.rates.now facts walk c.links.place c.links-test.true c.go_on.result.0 c.go_on.result.1 c.go_on.ensures.link goes in
-    let is = c.in_ok-cost.ensures.1 in
-    (
+    let is = c.in_ok-cost.ensures.1 in (
       paid-more c.args.rates.now facts walk c.links.place c.links-test.true c.go_on.result.0 c.go_on.result.1 c.go_on.ensures.link goes
           (g.F.FactsOf.links c.args.facts.now).count c.go_on.ensures.kept,
       omega (arith, more, c.links.invariant.1, c.price.ensures.exact, is),

@@ -40,5 +40,5 @@ returns-in-Some g c =
 pub facts-requires : goal.facts-requires
 facts-requires g c =
     let kept = subst (λ (carry : Option Carry). IfSome carry (λ last. IsKept c.args.rates.now (g.F.FactsOf.links c.args.facts.now).count last))
-        c.in-Some.is c.requires.kept in
+    c.in-Some.is c.requires.kept in
     record { within = kept.link }

@@ -34,8 +34,8 @@ returns-then-not-may_come_next g c =
       exact = (
         λ no. (let clash : false ≡ true = no in absurd cc),
         λ is. subst IsTrue c.if-not-may_come_next.true
-        (c.may_come_next.ensures.exact.1
-        (stands-only ride c.args.start c.args.walk.now c.links.place c.args.target c.links.node c.links.last c.links-test.true is
-        c.links.invariant)),
+            (c.may_come_next.ensures.exact.1
+            (stands-only ride c.args.start c.args.walk.now c.links.place c.args.target c.links.node c.links.last c.links-test.true is
+            c.links.invariant)),
       );
     }
