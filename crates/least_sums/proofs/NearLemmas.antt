@@ -1,5 +1,6 @@
 -- The finding ended at a radius: the sums are the least ones up to it.
 use Rattle.std.proofs.Common.{◌≡◌, ℕ, ◌<◌, ◌≤◌, inl, inr, cond, List, [], ◌∷◌, length, get_or, map, Option, Some, None, option_map, refl, sym, ap, ◌∙◌, subst, arith}
+use Rattle.std.specs.Prelude.{Result, Ok, Err, IfOk}
 use Rattle.std.specs.declared.cmp.Reverse.{Reverse}
 use Rattle.std.proofs.lemmas.Bool.{cases_lt, lt-ltb, le-ltb}
 use Rattle.std.proofs.lemmas.List.{get_or-map, get_or_past, length-map, map-id}
@@ -172,6 +173,14 @@ up-to-all roads prices target found all whole = record {
   least = λ node within.
       subst (λ r. IsLeastSumUpTo roads prices target r node (sum_of found.sums node)) (sym whole) (all.least node within);
 }
+
+-- the same of what may have failed
+pub up-to-ok :
+    {E : Type 0} (roads : Roads) (prices : Prices) (target : ℕ) (result : Result NodeSums E) →
+    IfOk result (λ found. AreLeastSums roads prices target found.sums) → IfOk result (λ found. found.radius ≡ None) →
+    IfOk result (AreLeastSumsUpTo roads prices target)
+up-to-ok roads prices target (Ok found) all whole = up-to-all roads prices target found all whole
+up-to-ok roads prices target (Err e) all whole = tt
 
 -- ---- What waits
 

@@ -3,7 +3,7 @@ use Rattle.overpass_graph.specs.Maps.{roads_of}
 use Rattle.least_sums.specs.States.{state_of}
 use Rattle.least_sums.specs.declared.amount.TheConstants.{NARROW_FAR}
 use Rattle.least_sums.proofs.EndLemmas.{kept-below, kept-least}
-use Rattle.least_sums.proofs.NearLemmas.{ended-none, ended-some, kept-near, near-below, up-to-all}
+use Rattle.least_sums.proofs.NearLemmas.{ended-none, ended-some, kept-near, near-below, up-to-all, up-to-ok}
 use Rattle.least_sums.proofs.near.least_sums_near.Goals as goal
 
 pub invariant_of-result : goal.invariant_of-result
@@ -52,3 +52,11 @@ returns g c =
       small = kept-below (roads_of c.args.map.now) prices c.args.target NARROW_FAR found.board.sums
           (state_of (λ n. n) found.board) final refl;
     }
+
+pub returns-then-cut-clause-exact : goal.returns-then-cut-clause-exact
+returns-then-cut-clause-exact g c =
+    up-to-ok (roads_of c.args.map.now) (g.P.LinkPrices.priced c.args.prices.now).price c.args.target c.least_sums.result
+    c.least_sums.ensures.exact c.least_sums.ensures.whole
+
+pub returns-then-cut-clause-small : goal.returns-then-cut-clause-small
+returns-then-cut-clause-small g c = c.least_sums.ensures.small
