@@ -1,17 +1,15 @@
 -- Whom the hub holds while events are taken and connections are served.
-use Rattle.std.proofs.Common.{◌≡◌, ◌≢◌, ◌⊎◌, ℕ, true, false, List, [], ◌∷◌, ◌++◌, Option, Some, None, inl, inr, refl, sym, ◌∙◌, ap, subst, append-nil, append_assoc}
+use Rattle.std.proofs.Common.{◌≡◌, ◌⊎◌, ℕ, false, List, [], ◌∷◌, Option, Some, None, inl, inr, refl, sym, ◌∙◌, ap, subst}
 use Rattle.std.proofs.lemmas.Bool.{cases_eq, ne_eqb}
-use Rattle.edge_io.specs.Acts.{Act, Gave, Closed, is_end_of, told}
-use Rattle.edge_io.specs.Hub.{Closes as ClosesAt, HubSeen, IsLive, Tells}
+use Rattle.edge_io.specs.Acts.{Act, Gave, Closed, is_end_of}
+use Rattle.edge_io.specs.Hub.{Closes as ClosesAt, HubSeen, Tells}
 use Rattle.edge_io.specs.declared.event.Event.{Event}
 use Rattle.edge_io.specs.declared.event.Event.TheVariants.{Opened, Bytes, Ended, Lost, Quiet, Over}
 use Rattle.edge_io.proofs.CallerLemmas.{IsLive-kept, IsLive-opened, Tells-live}
-use Rattle.hall_seats.proofs.ChangeLemmas.{Changes, changes_gone, changes_left, changes_now, changes_put}
-use Rattle.hall_seats.specs.Sends.{Closes, Sends, Serves}
-use Rattle.hall_seats.specs.Sends as sending
+use Rattle.hall_seats.proofs.ChangeLemmas.{Changes, changes_gone, changes_now, changes_put}
 use Rattle.hall_seats.specs.Served.{AreLive}
 use Rattle.hall.specs.Served.{Heard, Stepped}
-use Rattle.hall_seats.specs.State.{Connection, Service, State, changed, freed, left_as}
+use Rattle.hall_seats.specs.State.{Connection, Service, State, changed, freed}
 use Rattle.hall_seats.specs.Steps.{Hears, Loses, Opens, Step, Works, session, turned_away, with_bytes, with_end}
 use Rattle.hall_seats.specs.Steps as steps
 use Rattle.session_answers.specs.Stored.{Stored}

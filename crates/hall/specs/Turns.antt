@@ -6,7 +6,7 @@ use Rattle.edge_io.specs.declared.event.Event.{Event}
 use Rattle.edge_io.specs.declared.event.Event.TheVariants.{Over}
 use Rattle.hall_seats.specs.Held.{AreAll}
 use Rattle.hall_seats.specs.Sends.{ServesEach}
-use Rattle.hall_seats.specs.State.{Connection, Service, State, left_as}
+use Rattle.hall_seats.specs.State.{Service, State}
 use Rattle.hall_seats.specs.Steps.{Step, Works}
 
 -- ---- A turn

@@ -2,7 +2,6 @@
 
 ghost use Rattle.std.specs.Prelude.{◌≡◌};
 ghost use Rattle.hall_seats.specs.Parts.{Joins};
-ghost use Rattle.hall_seats.specs.State.{without};
 
 use crate::seating::{answered, waits};
 use hall_seats::{Frame, Seat};

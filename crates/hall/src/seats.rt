@@ -1,8 +1,7 @@
 //! Seats: whose they are, and which are free.
 
-ghost use Rattle.std.specs.Option.{IsSome};
-ghost use Rattle.std.specs.Prelude.{◌≡◌, ◌<◌, None, Some, length, get_or, set, option_map};
-ghost use Rattle.hall_seats.specs.Parts.{CountsOne, HasId, HaveOneSeat, IsFreeOne, IsFreeSeat, IsReadOne, IsReaderOf, IsSeatOf, count_of, seated_of, seats_of};
+ghost use Rattle.std.specs.Prelude.{◌≡◌, None, Some, option_map};
+ghost use Rattle.hall_seats.specs.Parts.{CountsOne, HasId, HaveOneSeat, IsFreeSeat, IsReadOne, IsReaderOf, IsSeatOf, count_of, seated_of, seats_of};
 
 use hall_seats::{Phase, Seat, is_free};
 
