@@ -5,14 +5,14 @@
 # Without FILE the map is that of a grid of 500 by 500 cells, which has a million links; without TILE the tile slopes up to the east.
 # Where PLAIN names another program that answers `bench lookups= profile= map= tile= queries=` with lines of a name and a figure
 # (bind_ms, load_peak_MB, ready_peak_MB), it is asked for the same map in turn.
-# TIMINGS names the program `timings`, where not the one at `crates/timings/out`, which the gate leaves there.
+# TIMINGS names the program `map_cases`, which times what its words name, where not the one at `crates/map_cases/out`, which the gate leaves there.
 set -e
 text=${1:+$(realpath "$1")}
 tile=${2:+$(realpath "$2")}
 timings=${TIMINGS:+$(realpath "$TIMINGS")}
 cd "$(dirname "$0")/.."
-[ -n "$timings" ] || [ -x crates/timings/out/timings ] || (cd crates/timings && rt run < stdin > /dev/null)
-timings=${timings:-crates/timings/out/timings}
+[ -n "$timings" ] || [ -x crates/map_cases/out/map_cases ] || (cd crates/map_cases && rt run < stdin > /dev/null)
+timings=${timings:-crates/map_cases/out/map_cases}
 folder=$(mktemp -d)
 trap 'rm -rf "$folder"' EXIT
 if [ -z "$text" ]; then

@@ -4,11 +4,11 @@
 # operations an evaluation has. These come from the listing and the tag numbers of the ways, on which the operations
 # are carried out here once more: their cost factors have to sum up to what the program prints. Its word is how many
 # evaluations a run makes: a million where there is none.
-# TIMINGS names the program `timings`, where not the one at `crates/timings/out`, which the gate leaves there.
+# TIMINGS names the program `map_cases`, which times what its words name, where not the one at `crates/map_cases/out`, which the gate leaves there.
 timings=${TIMINGS:+$(realpath "$TIMINGS")}
 cd "$(dirname "$0")/.." || exit 1
-[ -n "$timings" ] || [ -x crates/timings/out/timings ] || (cd crates/timings && rt run < stdin > /dev/null 2>&1) || exit 1
-timings=${timings:-crates/timings/out/timings}
+[ -n "$timings" ] || [ -x crates/map_cases/out/map_cases ] || (cd crates/map_cases && rt run < stdin > /dev/null 2>&1) || exit 1
+timings=${timings:-crates/map_cases/out/map_cases}
 TIMEFORMAT='%3U'
 
 # The middle of three runs with so many evaluations: seconds of the processor.

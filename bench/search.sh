@@ -5,11 +5,11 @@
 # per label, which are the peak of the memory less that of a strip of one cell, by the labels. The strip itself is
 # four numbers. Where a cell has one step, each label is made once; else most are made twice, and one of the two is
 # dropped when it is taken.
-# TIMINGS names the program `timings`, where not the one at `crates/timings/out`, which the gate leaves there.
+# TIMINGS names the program `map_cases`, which times what its words name, where not the one at `crates/map_cases/out`, which the gate leaves there.
 timings=${TIMINGS:+$(realpath "$TIMINGS")}
 cd "$(dirname "$0")/.." || exit 1
-[ -n "$timings" ] || [ -x crates/timings/out/timings ] || (cd crates/timings && rt run < stdin > /dev/null 2>&1) || exit 1
-timings=${timings:-crates/timings/out/timings}
+[ -n "$timings" ] || [ -x crates/map_cases/out/map_cases ] || (cd crates/map_cases && rt run < stdin > /dev/null 2>&1) || exit 1
+timings=${timings:-crates/map_cases/out/map_cases}
 empty=$(/usr/bin/time -f '%M' "$timings" search 1 1 1 0 2>&1 >/dev/null)
 
 # One search with these words: labels, seconds of the clock and of the processor, KB.

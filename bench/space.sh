@@ -7,15 +7,15 @@
 # Where PLAIN names another program that answers `bench lookups= profile= map= tile= queries=` with lines of a name and a figure
 # (long_low_ms, long_search_ms, long_settled, and the same of `many`), it is asked for the same pairs in turn. SEARCHES and TURNS say
 # how many pairs and how many turns there are, where not 10 and 3.
-# TIMINGS names the program `timings`, where not the one at `crates/timings/out`, which the gate leaves there.
+# TIMINGS names the program `map_cases`, which times what its words name, where not the one at `crates/map_cases/out`, which the gate leaves there.
 set -e
 [ -n "$1" ] || { echo "usage: bench/space.sh FILE [TILE]"; exit 1; }
 text=$(realpath "$1")
 tile=${2:+$(realpath "$2")}
 timings=${TIMINGS:+$(realpath "$TIMINGS")}
 cd "$(dirname "$0")/.."
-[ -n "$timings" ] || [ -x crates/timings/out/timings ] || (cd crates/timings && rt run < stdin > /dev/null)
-timings=${timings:-crates/timings/out/timings}
+[ -n "$timings" ] || [ -x crates/map_cases/out/map_cases ] || (cd crates/map_cases && rt run < stdin > /dev/null)
+timings=${timings:-crates/map_cases/out/map_cases}
 folder=$(mktemp -d)
 trap 'rm -rf "$folder"' EXIT
 searches=${SEARCHES:-10}

@@ -2,12 +2,12 @@
 # Least sums of all nodes of a map for ten targets: milliseconds of the processor for one target, which are those of a run for
 # ten less those of a run for none, by ten. With a file's name, on that map; otherwise on that of a grid of 500 by 500 cells, which
 # has a million links.
-# TIMINGS names the program `timings`, where not the one at `crates/timings/out`, which the gate leaves there.
+# TIMINGS names the program `map_cases`, which times what its words name, where not the one at `crates/map_cases/out`, which the gate leaves there.
 set -e
 timings=${TIMINGS:+$(realpath "$TIMINGS")}
 cd "$(dirname "$0")/.."
-[ -n "$timings" ] || [ -x crates/timings/out/timings ] || (cd crates/timings && rt run < stdin > /dev/null)
-timings=${timings:-crates/timings/out/timings}
+[ -n "$timings" ] || [ -x crates/map_cases/out/map_cases ] || (cd crates/map_cases && rt run < stdin > /dev/null)
+timings=${timings:-crates/map_cases/out/map_cases}
 text=$1
 if [ -z "$text" ]; then
   [ -x crates/route_serve/out/route_serve ] || ./build > /dev/null

@@ -1,6 +1,7 @@
 //! Runs tables of cases on maps: texts of maps and what comes of them, the nearest nodes of
 //! waypoints, least sums, tracks, walks of least rank, profiles bound to maps, certificates, and
-//! costs between nodes.
+//! costs between nodes. Then it runs each part that is timed at a small size; with words it runs
+//! the one that they say, and nothing else.
 #![tactic(auto)]
 
 mod answers;
@@ -12,12 +13,14 @@ mod near;
 mod reaches;
 mod space;
 mod sums;
+mod timed;
 mod track;
 
 use case_inputs::{NAMED, Report, Table};
-use std::io;
+use std::{env, io};
 
-fn main(rt: HostRuntime) -> io::Result<()> {
+/// Runs the table of the standard input, and prints each case that differs and how many there are.
+fn run_table(rt: &HostRuntime) -> io::Result<()> {
     let mut table = Table::new(rt.alloc());
     for (name, text) in NAMED {
         table.add_text(name, text)?;
@@ -32,4 +35,20 @@ fn main(rt: HostRuntime) -> io::Result<()> {
         }
     }
     println!(rt; "{} cases, {} differ", report.tried, report.differ)
+}
+
+/// Runs what the words behind the program's name say, or the table and a small size of each part.
+fn run(rt: &HostRuntime, words: &[String]) -> io::Result<()> {
+    match words {
+        [_, name, others @ ..] => timed::run_named(rt, name.as_str(), others),
+        _ => {
+            run_table(rt)?;
+            timed::run_each(rt)
+        }
+    }
+}
+
+fn main(rt: HostRuntime) -> io::Result<()> {
+    let words: Vec<String> = env::args(&rt)?.collect(rt.alloc())?;
+    run(&rt, words.as_slice())
 }

@@ -1,6 +1,0 @@
--- The buffer stays within the limits.
-use Rattle.std.proofs.Common.{pos, ◌≤ℤ◌}
-use Rattle.timings.proofs.climb.steps.Given as goal
-
-abbrev pub invariant-steps : goal.invariant-steps
-invariant-steps l = (pos 0 ≤ℤ l.buffer) × (l.buffer ≤ℤ pos 10000000)

@@ -1,3 +1,0 @@
-pub mod Prices
-pub mod Strip
-pub mod StripLaws
