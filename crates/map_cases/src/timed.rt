@@ -62,12 +62,14 @@ fn run_on(rt: &HostRuntime, map: &Map, place: usize, words: &[String]) -> io::Re
 /// Runs what has this name: what needs a map, on that of the standard input.
 pub(crate) fn run_named(rt: &HostRuntime, name: &str, words: &[String]) -> io::Result<()> {
     let place = place_of(&NAMES, name.as_bytes());
+    if place >= NAMES.len() {
+        return println!(rt; "nothing of this name is timed");
+    }
     if place < ALONE {
         return run_alone(rt, place, words);
     }
     match read_map(rt)? {
-        Ok(map) if place < NAMES.len() => run_on(rt, &map, place, words),
-        Ok(_) => println!(rt; "nothing of this name is timed"),
+        Ok(map) => run_on(rt, &map, place, words),
         Err(_) => println!(rt; "the map is refused"),
     }
 }
