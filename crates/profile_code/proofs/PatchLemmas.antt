@@ -1,13 +1,13 @@
 -- A jump is written after the operations that it passes.
-use Rattle.std.proofs.Common.{◌≡◌, ℕ, ◌+◌, ◌-◌, List, [], ◌∷◌, ◌++◌, length, pos, sym, ap, subst, ◌∙◌, arith, append_assoc, length-append}
+use Rattle.std.proofs.Common.{◌≡◌, ℕ, ◌+◌, ◌-◌, List, [], ◌∷◌, ◌++◌, length, pos, refl, sym, ap, subst, ◌∙◌, arith, append_assoc, length-append}
 use Rattle.std.specs.Prelude.{slice_set}
 use Rattle.std.proofs.Math.Seq.{set-append_seam}
 use Rattle.profile_code.specs.declared.instr.Instr.{Instr}
 use Rattle.profile_code.specs.declared.instr.Instr.TheVariants.{Number, Truth, JumpZero, Jump}
-use Rattle.profile_code.specs.Emit.{choice_code}
+use Rattle.profile_code.specs.Emit.{choice_code, operation_code}
 use Rattle.profile_code.specs.Operands.{between, behind}
 use Rattle.profile_text.specs.declared.expr.Op.{Op}
-use Rattle.profile_text.specs.declared.expr.Op.TheVariants.{Or, And}
+use Rattle.profile_text.specs.declared.expr.Op.TheVariants.{Or, And, Xor, Multiply, Divide, Add, Sub, Max, Min, Equal, Greater, Lesser}
 
 -- the code of a second operand, which begins at a place behind what stands before it
 pub record Second (op : Op) (old front b : List Instr) (start : ℕ) : Type 0 where
@@ -107,3 +107,18 @@ module _ (old a b c : List Instr) where
       ∙ append_assoc old a (i ∷ (b ++ j ∷ c))
       ∙ ap (λ n. old ++ (a ++ JumpZero n ∷ (b ++ j ∷ c))) d1
       ∙ ap (λ n. old ++ (a ++ JumpZero (length b + 1) ∷ (b ++ Jump n ∷ c))) d2
+
+-- the code of an operator has what stands between its operands and behind them
+pub operation_is : (op : Op) (a b : List Instr) → operation_code op a b ≡ a ++ (between op (length b) ++ (b ++ behind op))
+operation_is Or a b = refl
+operation_is And a b = refl
+operation_is Xor a b = refl
+operation_is Multiply a b = refl
+operation_is Divide a b = refl
+operation_is Add a b = refl
+operation_is Sub a b = refl
+operation_is Max a b = refl
+operation_is Min a b = refl
+operation_is Equal a b = refl
+operation_is Greater a b = refl
+operation_is Lesser a b = refl

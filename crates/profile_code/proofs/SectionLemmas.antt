@@ -78,6 +78,18 @@ module _ (overrides : List (List ℕ × ℤ)) where
       by_max : (h r : ℕ) → max b.height (max h r) ≡ max (max b.height h) r
       by_max h r = omega arith
 
+  -- before the first there is nothing
+  pub EmittedUpTo-none : (rows : List TagRow) (global : List (List ℕ)) (assigns : List Assign) (b : Built) → b.instrs ≡ [] →
+      b.names ≡ [] → b.height ≡ 0 → EmittedUpTo rows global (under assigns) 0 b
+  EmittedUpTo-none rows global assigns b instrs names height =
+      let all = under assigns in
+      record {
+        code = ap (λ n. section_code rows global n all) (sym names)
+            ∙ ap (λ l. l ++ section_code rows global b.names all) (sym instrs);
+        named = ap (λ l. l ++ names_in all) (sym names);
+        high = omega (arith, height);
+      }
+
   -- after the last there is nothing behind
   nothing_behind : (assigns : List Assign) (i : ℕ) → length assigns ≤ i → drop i (under assigns) ≡ []
   nothing_behind assigns i past =
@@ -90,6 +102,22 @@ module _ (overrides : List (List ℕ × ℤ)) where
   EmittedUpTo-names rows global assigns i b so_far past =
       sym (so_far.named ∙ ap (λ l. b.names ++ names_in l) (nothing_behind assigns i past) ∙ append-nil b.names)
       ∙ overridden_names overrides (map assignment_in assigns)
+
+  -- and their code
+  pub EmittedUpTo-code : (rows : List TagRow) (global : List (List ℕ)) (assigns : List Assign) (i : ℕ) (b : Built) →
+      EmittedUpTo rows global (under assigns) i b → length assigns ≤ i → b.instrs ≡ section_code rows global [] (under assigns)
+  EmittedUpTo-code rows global assigns i b so_far past =
+      sym (so_far.code
+      ∙ ap (λ l. b.instrs ++ section_code rows global b.names l) (nothing_behind assigns i past)
+      ∙ append-nil b.instrs)
+
+  -- and their greatest height
+  pub EmittedUpTo-high : (rows : List TagRow) (global : List (List ℕ)) (assigns : List Assign) (i : ℕ) (b : Built) →
+      EmittedUpTo rows global (under assigns) i b → length assigns ≤ i → b.height ≡ section_height (under assigns)
+  EmittedUpTo-high rows global assigns i b so_far past =
+      let behind = ap section_height (nothing_behind assigns i past) in
+      let high = so_far.high in
+      omega arith
 
 -- where there is no override assignments stay as they are
 pub unchanged : (overrides : List (List ℕ × ℤ)) (assignments : List Assignment) → overrides ≡ [] →

@@ -6,6 +6,7 @@ use Rattle.cost_table.specs.Costs.{AreCosts, IsSpentOn, Quest}
 use Rattle.cost_table.specs.Reaches.{CountsReach, cost_in, settled_of}
 use Rattle.cost_table.specs.declared.turn.ReachTurn.{ReachTurn}
 use Rattle.cost_table.specs.declared.turn.ReachTurn.TheVariants as reach
+use Rattle.route_ready.specs.declared.error.RouteError.{RouteError}
 use Rattle.route_ready.specs.declared.error.RouteError.TheVariants.{Budget, NoMemory}
 use Rattle.route_engine.specs.Plans.{Plan}
 use Rattle.route_engine.specs.Sources.{TurnsSource, quest_in}
@@ -62,6 +63,19 @@ done-after plan rows source count stage next one starts =
     let left = starts.left in
     let most = starts.allowed in
     record { left = omega (arith, left, one, there, counted); allowed = omega (arith, allowed, most) }
+
+-- the refusal comes after a search on which the limit was spent
+pub spent-after : (plan : Plan) (rows : Vec (Vec (Option ℕ) Global) Global) (source : Source) (e : RouteError) →
+    IsNextSource plan (rows_in rows.items) source → ComesAfter plan (Searching rows source) reach.Budget (Refused e)
+spent-after plan rows source e next =
+    let counted = rows-count rows.items in
+    let there = next.there in
+    record {
+      left = omega arith;
+      allowed =
+          row-allowed (length rows.items) (length plan.nodes) plan.limit (settled_of source.reach) (omega (arith, there, counted))
+          next.within;
+    }
 
 -- a search that goes on or is at its end settled no more than the quota
 fits-quota : (turn : ReachTurn) (quota limit before after settled : ℕ) → CountsReach quota limit before after turn →
