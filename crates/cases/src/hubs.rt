@@ -143,16 +143,28 @@ fn given(alloc: Global, hub: &mut MemHub, room: usize) -> Result<String, AllocEr
     if room == 0 || room > 9 {
         return String::from_str(alloc, OUTSIDE);
     }
-    match hub.next(&mut buf[..room], false) {
-        Ok(Event::Opened { id }) => format!(in alloc; "o{id}"),
-        Ok(Event::Bytes { id, n }) => {
-            let bytes = shown(&buf[..n.min(9)]);
-            format!(in alloc; "b{id}{bytes}")
-        }
-        Ok(Event::Ended { id }) => format!(in alloc; "e{id}"),
-        Ok(Event::Lost { id }) => format!(in alloc; "l{id}"),
+    let event = hub.next(&mut buf[..room], false);
+    told_event(alloc, event, &buf)
+}
+
+/// What is told of an event, whose bytes stand at the front of the buffer.
+fn told_event(
+    alloc: Global,
+    event: Result<Event, Failed>,
+    buf: &[u8; 9],
+) -> Result<String, AllocError> {
+    match event {
+        Ok(Event::Opened { id }) => told_id(alloc, "o", id, ""),
+        Ok(Event::Bytes { id, n }) => told_id(alloc, "b", id, shown(&buf[..n.min(9)])),
+        Ok(Event::Ended { id }) => told_id(alloc, "e", id, ""),
+        Ok(Event::Lost { id }) => told_id(alloc, "l", id, ""),
         Ok(Event::Quiet) => String::from_str(alloc, "q"),
         Ok(Event::Over) => String::from_str(alloc, "over"),
         Err(Failed) => String::from_str(alloc, "fault"),
     }
+}
+
+/// A letter, a connection, and bytes that came from it.
+fn told_id(alloc: Global, letter: &str, id: u64, bytes: &str) -> Result<String, AllocError> {
+    format!(in alloc; "{letter}{id}{bytes}")
 }

@@ -110,12 +110,21 @@ fn scanned(alloc: Global, text: &[u8], size: usize) -> Result<Vec<u8>, AllocErro
 /// The steps of a text, if they are the same in pieces of 1, 2, 3, 7 and 1,000 bytes.
 fn scanned_by_sizes(alloc: Global, text: &[u8]) -> Result<String, AllocError> {
     let whole = scanned(alloc, text, 1000)?;
+    match size_otherwise(alloc, text, whole.as_slice())? {
+        Some(size) => format!(in alloc; "otherwise in pieces of {size}"),
+        None => text_of(alloc, whole.as_slice()),
+    }
+}
+
+/// The first of these sizes in whose pieces a text has other steps.
+fn size_otherwise(alloc: Global, text: &[u8], whole: &[u8]) -> Result<Option<usize>, AllocError> {
     for size in [1, 2, 3, 7] {
-        if scanned(alloc, text, size)?.as_slice() != whole.as_slice() {
-            return format!(in alloc; "otherwise in pieces of {size}");
+        let told = scanned(alloc, text, size)?;
+        if told.as_slice() != whole {
+            return Ok(Some(size));
         }
     }
-    text_of(alloc, whole.as_slice())
+    Ok(None)
 }
 
 /// What is told after each of the pieces that the words are, the last of which is the end of the

@@ -80,10 +80,31 @@ fn tell(text: &mut String, items: &[(Name, i64)]) -> Result<(), AllocError> {
 /// the last.
 fn looked_up(alloc: Global, case: &Case) -> Result<String, AllocError> {
     let mut places = HashMap::new(alloc);
+    put_words(alloc, &mut places, case)?;
+    told_place(alloc, &places, case.word(1))
+}
+
+/// Puts the words behind the first with their places into a map.
+fn put_words(
+    alloc: Global,
+    places: &mut HashMap<Name, usize>,
+    case: &Case,
+) -> Result<(), AllocError> {
     for place in 2..case.len() {
-        places.insert(name(alloc, case.word(place))?, place)?;
+        let name = name(alloc, case.word(place))?;
+        places.insert(name, place)?;
     }
-    match places.get(&name(alloc, case.word(1))?) {
+    Ok(())
+}
+
+/// The place that a map has for a word.
+fn told_place(
+    alloc: Global,
+    places: &HashMap<Name, usize>,
+    word: &[u8],
+) -> Result<String, AllocError> {
+    let name = name(alloc, word)?;
+    match places.get(&name) {
         Some(place) => format!(in alloc; "{place}"),
         None => String::from_str(alloc, "none"),
     }

@@ -59,15 +59,16 @@ fn operation(alloc: Global, case: &Case, call: usize) -> Result<String, AllocErr
     let (Some(a), Some(b)) = (Num::of(case.signed(1)), Num::of(case.signed(2))) else {
         return String::from_str(alloc, OUTSIDE);
     };
-    match call {
-        5 => outcome(alloc, a.add(b)),
-        6 => outcome(alloc, a.sub(b)),
-        7 => outcome(alloc, a.mul(b)),
-        8 => outcome(alloc, a.div(b)),
-        9 => outcome(alloc, Ok(a.max(b))),
-        10 => outcome(alloc, Ok(a.min(b))),
-        _ => String::from_str(alloc, NO_CALL),
-    }
+    let found = match call {
+        5 => a.add(b),
+        6 => a.sub(b),
+        7 => a.mul(b),
+        8 => a.div(b),
+        9 => Ok(a.max(b)),
+        10 => Ok(a.min(b)),
+        _ => return String::from_str(alloc, NO_CALL),
+    };
+    outcome(alloc, found)
 }
 
 /// The millionths of a number, or the fault of its operation.

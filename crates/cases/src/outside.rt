@@ -1,5 +1,7 @@
 //! Cases on sinks and files in memory, sending, and files that are read whole.
 
+ghost use Rattle.std.specs.Prelude.{◌≡◌, ◌≤◌, is_some, true};
+
 use crate::texts::{NO_CALL, OUTSIDE, shown};
 use case_inputs::{Case, place_of};
 use edge_io::{Failed, Files, WholeError, read_whole, send_all};
@@ -59,6 +61,15 @@ fn some_files(alloc: Global) -> Result<Vec<(Name, Vec<u8>)>, AllocError> {
     Ok(files)
 }
 
+/// These files, by reads of at most so many bytes, where the call of this number fails.
+fn files_by(alloc: Global, piece: usize, failing: u64) -> Result<MemFiles, AllocError>
+    requires some { 1 ≤ piece }
+{
+    let files = some_files(alloc)?;
+    let failing = vec![in alloc; failing]?;
+    Ok(MemFiles::new(alloc, files, piece, failing))
+}
+
 /// What comes of reading a file whole: the most bytes of a read, the failing call, the name, the
 /// limit.
 fn read(alloc: Global, case: &Case) -> Result<String, AllocError> {
@@ -66,11 +77,15 @@ fn read(alloc: Global, case: &Case) -> Result<String, AllocError> {
     if piece == 0 {
         return String::from_str(alloc, OUTSIDE);
     }
-    let failing = vec![in alloc; case.count(2)]?;
-    let mut files = MemFiles::new(alloc, some_files(alloc)?, piece, failing);
+    let mut files = files_by(alloc, piece, case.count(2))?;
+    read_from(alloc, case, &mut files)
+}
+
+/// The same of these files.
+fn read_from(alloc: Global, case: &Case, files: &mut MemFiles) -> Result<String, AllocError> {
     let limit = case.count(4).min(1000) as usize;
     match files.open(case.text(3)) {
-        Ok(true) => whole(alloc, &read_whole(alloc, &mut files, limit)),
+        Ok(true) => whole(alloc, &read_whole(alloc, files, limit)),
         Ok(false) => String::from_str(alloc, "missing"),
         Err(Failed) => String::from_str(alloc, "fault"),
     }
@@ -89,11 +104,17 @@ fn whole(alloc: Global, outcome: &Result<Vec<u8>, WholeError>) -> Result<String,
 /// A file is opened, the next opening fails, and what is left of the file is read: how often was
 /// opened, and the text.
 fn opened_again(alloc: Global) -> Result<String, AllocError> {
-    let failing = vec![in alloc; 1u64]?;
-    let mut files = MemFiles::new(alloc, some_files(alloc)?, 9, failing);
-    if files.open("roads") != Ok(true) || files.open("towns") != Err(Failed) {
-        return String::from_str(alloc, "otherwise");
+    let mut files = files_by(alloc, 9, 1)?;
+    match (files.open("roads"), files.open("towns")) {
+        (Ok(true), Err(Failed)) => rest_told(alloc, &mut files),
+        _ => String::from_str(alloc, "otherwise"),
     }
-    let text = whole(alloc, &read_whole(alloc, &mut files, 8))?;
+}
+
+/// How often was opened, and what is left of the open file.
+fn rest_told(alloc: Global, files: &mut MemFiles) -> Result<String, AllocError>
+    requires ready { is_some files.old.left ≡ true }
+{
+    let text = whole(alloc, &read_whole(alloc, files, 8))?;
     format!(in alloc; "{} {text}", files.opens())
 }

@@ -142,26 +142,57 @@ fn priced(alloc: Global, facts: &LinkFacts, used: bool) -> Result<String, AllocE
     format!(in alloc; "{price}")
 }
 
+/// The rates of the seven values, if there are such.
+fn rates_of(case: &Case) -> Option<Rates> {
+    match Rates::new(&globals(case)?) {
+        Ok(rates) => Some(rates),
+        Err(_) => None,
+    }
+}
+
 /// A walk of three links up the slope, of so many microdegrees each, by the rates of seven values:
 /// the elevation part and the buffer of climbing behind each link, and the cost of the walk.
 fn climb(alloc: Global, case: &Case) -> Result<String, AllocError> {
-    let Some(globals) = globals(case) else {
-        return String::from_str(alloc, OUTSIDE);
-    };
-    let Ok(rates) = Rates::new(&globals) else {
-        return String::from_str(alloc, OUTSIDE);
-    };
-    let one = 1_000_000;
-    let (Some(a), Some(b), Some(c)) = (
-        facts_of(case.signed(8), one, one, one, 0),
-        facts_of(case.signed(9), one, one, one, 0),
-        facts_of(case.signed(10), one, one, one, 0),
-    ) else {
-        return String::from_str(alloc, OUTSIDE);
-    };
-    let (behind_a, parts_a) = first(0, &a, &rates);
-    let (behind_b, parts_b) = enter(&behind_a, &a, 1, &b, &rates);
-    let (behind_c, parts_c) = enter(&behind_b, &b, 2, &c, &rates);
+    match rates_of(case) {
+        Some(rates) => climb_by(alloc, case, &rates),
+        None => String::from_str(alloc, OUTSIDE),
+    }
+}
+
+/// The facts of a link of so many microdegrees up the slope, with plain factors.
+fn plain_facts(lon: i64) -> Option<LinkFacts>
+    ensures found { IfSome result (λ facts. AreFacts facts) }
+{
+    facts_of(lon, 1_000_000, 1_000_000, 1_000_000, 0)
+}
+
+/// The walk by these rates.
+fn climb_by(alloc: Global, case: &Case, rates: &Rates) -> Result<String, AllocError> {
+    match (
+        plain_facts(case.signed(8)),
+        plain_facts(case.signed(9)),
+        plain_facts(case.signed(10)),
+    ) {
+        (Some(a), Some(b), Some(c)) => climbed(alloc, rates, &a, &b, &c),
+        _ => String::from_str(alloc, OUTSIDE),
+    }
+}
+
+/// The walk over three links.
+fn climbed(
+    alloc: Global,
+    rates: &Rates,
+    a: &LinkFacts,
+    b: &LinkFacts,
+    c: &LinkFacts,
+) -> Result<String, AllocError>
+    requires first { AreFacts a.now }
+    requires second { AreFacts b.now }
+    requires third { AreFacts c.now }
+{
+    let (behind_a, parts_a) = first(0, a, rates);
+    let (behind_b, parts_b) = enter(&behind_a, a, 1, b, rates);
+    let (behind_c, parts_c) = enter(&behind_b, b, 2, c, rates);
     let cost = parts_a.sum() + parts_b.sum() + parts_c.sum();
     let (x, y, z) = (parts_a.elevation, parts_b.elevation, parts_c.elevation);
     format!(in alloc;

@@ -86,28 +86,31 @@ fn tolls(alloc: Global, case: &Case) -> Result<String, AllocError> {
     let toll = tolls_of(case);
     let quota = number(case, 2);
     let mut search: Search<(u32, u32)> = Search::new(alloc, u64::from(quota));
-    told_tolls(alloc, &toll, &mut search, quota)
+    let mut text = String::new(alloc);
+    tell_tolls(alloc, &mut text, &toll, &mut search, quota)?;
+    Ok(text)
 }
 
-/// What is told of two turns of a search over the tolls.
-fn told_tolls(
+/// Writes what is told of two turns of a search over the tolls.
+fn tell_tolls(
     alloc: Global,
+    text: &mut String,
     toll: &Toll,
     search: &mut Search<(u32, u32)>,
     quota: u32,
-) -> Result<String, AllocError>
+) -> Result<(), AllocError>
     requires of { IsSearchOf (toll_rules toll.now.bounded) search.old }
     requires some { 1 ≤ quota }
 {
     let first = search.turn(toll, quota)?;
-    let mut text = String::from_str(alloc, word_of(first))?;
-    tell_labels(alloc, &mut text, search)?;
+    text.push_str(word_of(first))?;
+    tell_labels(alloc, text, search)?;
     let second = search.turn(toll, 1)?;
     write!(text, " {}", word_of(second))?;
-    if let Turn::Done(end) = second {
-        tell_goal(alloc, &mut text, search, end)?;
+    match second {
+        Turn::Done(end) => tell_goal(alloc, text, search, end),
+        Turn::More(_) => Ok(()),
     }
-    Ok(text)
 }
 
 /// Writes the goal of a search at its end, where one was found.
@@ -149,10 +152,11 @@ fn tell_label(
 ) -> Result<(), AllocError>
     requires readable { IsReadable search.now label }
 {
-    let choices = search.choices(alloc, label)?;
     let (place, due) = *search.state_of(label);
     let cost = search.cost_of(label);
-    write!(text, " {place} {due} {cost} {:?},", choices.as_slice())
+    write!(text, " {place} {due} {cost} ")?;
+    let choices = search.choices(alloc, label)?;
+    write!(text, "{:?},", choices.as_slice())
 }
 
 /// Turns of one label each over a line: cells, goal, how many turns, the most calls of `step` =>

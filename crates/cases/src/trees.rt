@@ -2,6 +2,7 @@
 
 use crate::texts::{NO_CALL, OUTSIDE, shown};
 use case_inputs::{Case, place_of, profile_of};
+use item_list::Name;
 use profile_text::{Assign, Expr, Op, Profile};
 use std::alloc::{AllocError, Global};
 
@@ -80,39 +81,43 @@ fn word_of(op: Op) -> &'static str {
 }
 
 /// Writes a look: its tag, `=`, and its values parted by `|`.
-fn show_look(out: &mut String, expr: &Expr) -> Result<(), AllocError> {
-    if let Expr::Look { tag, values, .. } = expr {
-        write!(out, " {}=", shown(tag.as_slice()))?;
-        for (at, value) in values.as_slice().iter().enumerate() {
-            if at > 0 {
-                out.push('|')?;
-            }
-            out.push_str(shown(value.as_slice()))?;
-        }
+fn show_look(out: &mut String, tag: &[u8], values: &[Name]) -> Result<(), AllocError> {
+    write!(out, " {}=", shown(tag))?;
+    let mut mark = "";
+    for value in values {
+        write!(out, "{mark}{}", shown(value.as_slice()))?;
+        mark = "|";
     }
     Ok(())
 }
 
-/// Writes an expression with a space before each part; numbers as millionths, choices as `switch`.
-fn show(out: &mut String, expr: &Expr) -> Result<(), AllocError> {
+/// Writes what stands before the parts of an expression; numbers as millionths, choices as
+/// `switch`.
+fn show_head(out: &mut String, expr: &Expr) -> Result<(), AllocError> {
     match expr {
         Expr::Number(number) => write!(out, " {}", number.millionths()),
         Expr::Var { name, .. } => write!(out, " {}", shown(name.as_slice())),
-        Expr::Look { .. } => show_look(out, expr),
-        Expr::Not(operand) => {
-            out.push_str(" not")?;
-            show(out, operand)
-        }
-        Expr::Two(op, first, second) => {
-            out.push_str(word_of(*op))?;
+        Expr::Look { tag, values, .. } => show_look(out, tag.as_slice(), values.as_slice()),
+        Expr::Not(_) => out.push_str(" not"),
+        Expr::Two(op, _, _) => out.push_str(word_of(*op)),
+        Expr::Pick(_, _, _) => out.push_str(" switch"),
+    }
+}
+
+/// Writes an expression with a space before each part.
+fn show(out: &mut String, expr: &Expr) -> Result<(), AllocError> {
+    show_head(out, expr)?;
+    match expr {
+        Expr::Not(operand) => show(out, operand),
+        Expr::Two(_, first, second) => {
             show(out, first)?;
             show(out, second)
         }
         Expr::Pick(test, chosen, other) => {
-            out.push_str(" switch")?;
             show(out, test)?;
             show(out, chosen)?;
             show(out, other)
         }
+        _ => Ok(()),
     }
 }

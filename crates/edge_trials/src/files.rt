@@ -1,32 +1,29 @@
 //! The adapters over real files, and the standard output.
 
-use edge_io::{DirFiles, Files, StdSink, WholeError, WriteSink, read_whole, send_all};
+use edge_io::{DirFiles, Failed, Files, StdSink, WholeError, WriteSink, read_whole, send_all};
 use std::alloc::{AllocError, Global};
 use std::fs;
 use std::fs::File;
 use std::test::Fail;
 
-/// The bytes of the file of this name, if one has it.
-fn taken<F: Files>(
-    alloc: Global,
-    files: &mut F,
-    name: &str,
-) -> Result<Option<Vec<u8>>, WholeError> {
-    if files.open(name)? {
-        Ok(Some(read_whole(alloc, files, 20_000)?))
-    } else {
-        Ok(None)
+/// What kept a file from being read, in words.
+fn words_of(error: WholeError) -> &'static [u8] {
+    match error {
+        WholeError::Fault => b"(fault)",
+        WholeError::TooLong => b"(too long)",
+        WholeError::NoMemory => b"(no memory)",
     }
 }
 
-/// What came of it in words, or the bytes.
-fn words_of(outcome: &Result<Option<Vec<u8>>, WholeError>) -> &[u8] {
-    match outcome {
-        Ok(Some(bytes)) => bytes.as_slice(),
-        Ok(None) => b"(missing)",
-        Err(WholeError::Fault) => b"(fault)",
-        Err(WholeError::TooLong) => b"(too long)",
-        Err(WholeError::NoMemory) => b"(no memory)",
+/// Whether the file of this name holds a text; where it can't be read, whether the text says why.
+fn holds<F: Files>(alloc: Global, files: &mut F, name: &str, text: &[u8]) -> bool {
+    match files.open(name) {
+        Ok(true) => match read_whole(alloc, files, 20_000) {
+            Ok(bytes) => bytes.as_slice() == text,
+            Err(error) => words_of(error) == text,
+        },
+        Ok(false) => text == b"(missing)".as_slice(),
+        Err(Failed) => text == b"(fault)".as_slice(),
     }
 }
 
@@ -45,37 +42,35 @@ fn is_written(rt: &HostRuntime, name: &str, text: &[u8]) -> Result<bool, Fail> {
     Ok(send_all(&mut out, text).is_ok())
 }
 
-/// Whether the file of this name holds a text.
-fn is_read_back(rt: &HostRuntime, name: &str, text: &[u8]) -> bool {
+/// Whether the file of this name holds a text; where it can't be read, whether the text says why.
+fn is_read(rt: &HostRuntime, name: &str, text: &[u8]) -> bool {
     let mut files = DirFiles::new(rt);
-    let outcome = taken(rt.alloc(), &mut files, name);
-    words_of(&outcome) == text
+    holds(rt.alloc(), &mut files, name, text)
+}
+
+/// Whether a long text is written whole into the file of this name, and read back.
+fn is_kept(rt: &HostRuntime, name: &str) -> Result<bool, Fail> {
+    let text = long_text(rt.alloc())?;
+    let written = is_written(rt, name, text.as_slice())?;
+    Ok(written && is_read(rt, name, text.as_slice()))
 }
 
 #[test]
 fn a_file_of_several_pieces_is_written_and_read_back(rt: HostRuntime) -> Result<(), Fail> {
     let name = "/tmp/bemokahi_edge_trials_pieces";
-    let text = long_text(rt.alloc())?;
-    let written = is_written(&rt, name, text.as_slice())?;
-    let back = is_read_back(&rt, name, text.as_slice());
+    let kept = is_kept(&rt, name)?;
     fs::remove_file(&rt, name)?;
-    assert!(rt; written && back);
+    assert!(rt; kept);
     Ok(())
 }
 
 #[test]
-fn files_of_the_system_are_missing_empty_or_no_files(rt: HostRuntime) -> Result<(), Fail> {
-    let rows = "/no/such/file (missing)\n/dev/null \n/dev/zero (too long)\n/dev (fault)\n\
-         /dev/null/x (fault)";
-    for row in rows.split('\n') {
-        let Some((name, what)) = row.split_once(' ') else {
-            return Ok(());
-        };
-        let mut files = DirFiles::new(&rt);
-        let outcome = taken(rt.alloc(), &mut files, name);
-        assert_eq!(rt; words_of(&outcome), what.as_bytes(), "{name}");
-    }
-    Ok(())
+fn files_of_the_system_are_missing_empty_or_no_files(rt: HostRuntime) {
+    assert!(rt; is_read(&rt, "/no/such/file", b"(missing)"));
+    assert!(rt; is_read(&rt, "/dev/null", b""));
+    assert!(rt; is_read(&rt, "/dev/zero", b"(too long)"));
+    assert!(rt; is_read(&rt, "/dev", b"(fault)"));
+    assert!(rt; is_read(&rt, "/dev/null/x", b"(fault)"));
 }
 
 #[test]

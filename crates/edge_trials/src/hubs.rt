@@ -1,20 +1,26 @@
 //! The network over the loopback, in one thread.
 
 use edge_io::{Event, Failed, Hub, TcpHub};
-use std::alloc::Global;
+use std::alloc::{AllocError, Global};
+use std::io;
 use std::io::{Read, Write};
-use std::net::{Net, Shutdown, TcpStream};
+use std::net::{Ipv4Addr, Net, Shutdown, TcpStream};
 use std::test::Fail;
 
-/// Opens the hub on a free port of the loopback, and tells its address.
-fn opened<H: Hub>(alloc: Global, hub: &mut H) -> Result<String, Fail> {
+/// Whether the hub opens on this port of the loopback.
+fn opens_at<H: Hub>(alloc: Global, hub: &mut H, port: u16) -> Result<bool, AllocError> {
+    let address = format!(in alloc; "127.0.0.1:{port}")?;
+    Ok(hub.open(address.as_str()).is_ok())
+}
+
+/// Opens the hub on a free port of the loopback, and tells it; 0 where none is free.
+fn opened<H: Hub>(alloc: Global, hub: &mut H) -> Result<u16, AllocError> {
     for port in 42_101u16..42_161 {
-        let address = format!(in alloc; "127.0.0.1:{port}")?;
-        if hub.open(address.as_str()).is_ok() {
-            return Ok(address);
+        if opens_at(alloc, hub, port)? {
+            return Ok(port);
         }
     }
-    Ok(format!(in alloc; "no free port")?)
+    Ok(0)
 }
 
 /// What a hub told: how many connections opened, ended and were lost, the last that opened, and the
@@ -40,7 +46,7 @@ impl Heard {
     }
 
     /// Takes the hub's next event.
-    fn hear<H: Hub>(&mut self, hub: &mut H) -> Result<(), Fail> {
+    fn hear<H: Hub>(&mut self, hub: &mut H) -> Result<(), AllocError> {
         let mut buf = [0u8; 16];
         match hub.next(&mut buf, false) {
             Ok(Event::Opened { id }) => {
@@ -62,7 +68,7 @@ fn hear_until<H: Hub>(
     hub: &mut H,
     bytes: usize,
     ended: u64,
-) -> Result<(), Fail> {
+) -> Result<(), AllocError> {
     for _ in 0..1000 {
         if heard.bytes.len() < bytes || heard.ended < ended {
             heard.hear(hub)?;
@@ -72,7 +78,7 @@ fn hear_until<H: Hub>(
 }
 
 /// What the hub told of a peer that sent a head: how many opened, and the bytes.
-fn head_comes<H: Hub>(hub: &mut H, peer: &mut TcpStream, heard: &mut Heard) -> Result<bool, Fail> {
+fn head_comes<H: Hub>(hub: &mut H, peer: &mut TcpStream, heard: &mut Heard) -> io::Result<bool> {
     let head = b"GET /brouter HTTP/1.1\r\nHost: here\r\n\r\n".as_slice();
     peer.write_all(head)?;
     hear_until(heard, hub, head.len(), 0)?;
@@ -80,7 +86,7 @@ fn head_comes<H: Hub>(hub: &mut H, peer: &mut TcpStream, heard: &mut Heard) -> R
 }
 
 /// Whether a peer gets the bytes that are sent to it.
-fn answer_goes_back<H: Hub>(hub: &mut H, peer: &mut TcpStream, id: u64) -> Result<bool, Fail> {
+fn answer_goes_back<H: Hub>(hub: &mut H, peer: &mut TcpStream, id: u64) -> io::Result<bool> {
     let text = b"HTTP/1.1 404 Not Found".as_slice();
     let sent = hub.send(id, text);
     let mut answer = [0u8; 22];
@@ -90,7 +96,7 @@ fn answer_goes_back<H: Hub>(hub: &mut H, peer: &mut TcpStream, id: u64) -> Resul
 
 /// Whether the end of a peer is told, and whether after a close it reads its end and nothing is
 /// sent to it.
-fn peer_ends<H: Hub>(hub: &mut H, peer: &mut TcpStream, heard: &mut Heard) -> Result<bool, Fail> {
+fn peer_ends<H: Hub>(hub: &mut H, peer: &mut TcpStream, heard: &mut Heard) -> io::Result<bool> {
     peer.shutdown(Shutdown::Write)?;
     hear_until(heard, hub, 0, 1)?;
     hub.close(heard.last);
@@ -98,70 +104,97 @@ fn peer_ends<H: Hub>(hub: &mut H, peer: &mut TcpStream, heard: &mut Heard) -> Re
     Ok(heard.ended == 1 && more == 0 && hub.send(heard.last, b"late").is_err())
 }
 
-/// A peer of the hub at an address, from its head to its end.
+/// A peer of the hub, from its head to its end.
 fn a_whole_exchange<H: Hub>(
     hub: &mut H,
     peer: &mut TcpStream,
     heard: &mut Heard,
-) -> Result<bool, Fail> {
+) -> io::Result<bool> {
     let came = head_comes(hub, peer, heard)?;
     let went = answer_goes_back(hub, peer, heard.last)?;
     let ends = peer_ends(hub, peer, heard)?;
     Ok(came && went && ends)
 }
 
-/// Whether a hub without an address is refused, and a fresh one is quiet; then its address.
-fn quiet_at<H: Hub>(alloc: Global, hub: &mut H) -> Result<(bool, String), Fail> {
+/// The same of a peer that is made for it at a port.
+fn exchanges<H: Hub>(rt: &HostRuntime, hub: &mut H, port: u16) -> io::Result<bool> {
+    let mut peer = TcpStream::connect(rt, (Ipv4Addr::LOCALHOST, port))?;
+    let mut heard = Heard::new(rt.alloc());
+    a_whole_exchange(hub, &mut peer, &mut heard)
+}
+
+/// Whether a hub without an address is refused, and a fresh one is quiet; then its port.
+fn quiet_at<H: Hub>(alloc: Global, hub: &mut H) -> Result<(bool, u16), AllocError> {
     let refused = hub.open("nowhere").is_err() && hub.next(&mut [0u8; 1], true).is_err();
-    let address = opened(alloc, hub)?;
+    let port = opened(alloc, hub)?;
     let quiet = hub.next(&mut [0u8; 1], true) == Ok(Event::Quiet);
-    Ok((refused && quiet, address))
+    Ok((refused && quiet, port))
 }
 
 #[test]
 fn a_head_comes_and_an_answer_goes_back(rt: HostRuntime) -> Result<(), Fail> {
     let mut hub = TcpHub::new(&rt, rt.alloc());
-    let (quiet, address) = quiet_at(rt.alloc(), &mut hub)?;
-    let mut peer = TcpStream::connect(&rt, address.as_str())?;
-    let mut heard = Heard::new(rt.alloc());
-    let whole = a_whole_exchange(&mut hub, &mut peer, &mut heard)?;
+    let (quiet, port) = quiet_at(rt.alloc(), &mut hub)?;
+    let whole = exchanges(&rt, &mut hub, port)?;
     assert!(rt; quiet && whole);
     Ok(())
 }
 
-/// A peer at an address, which sent these bytes.
-fn peer_with(rt: &HostRuntime, address: &str, bytes: &[u8]) -> Result<TcpStream, Fail> {
-    let mut peer = TcpStream::connect(rt, address)?;
+/// Adds a peer at a port, which sent these bytes.
+fn add_peer(
+    rt: &HostRuntime,
+    peers: &mut Vec<TcpStream>,
+    port: u16,
+    bytes: &[u8],
+) -> io::Result<()> {
+    let mut peer = TcpStream::connect(rt, (Ipv4Addr::LOCALHOST, port))?;
     peer.write_all(bytes)?;
-    Ok(peer)
+    peers.push(peer)?;
+    Ok(())
 }
 
-/// So many peers at an address, each of which sent three bytes.
-fn peers(rt: &HostRuntime, address: &str, count: u32) -> Result<Vec<TcpStream>, Fail> {
-    let mut peers = Vec::new(rt.alloc());
-    for _ in 0..count {
-        peers.push(peer_with(rt, address, b"abc")?)?;
+/// Adds a peer that sent more than is heard, and 150 that sent three bytes each.
+fn add_peers(rt: &HostRuntime, peers: &mut Vec<TcpStream>, port: u16) -> io::Result<()> {
+    add_peer(rt, peers, port, &[b'x'; 40_000])?;
+    for _ in 0..150 {
+        add_peer(rt, peers, port, b"abc")?;
     }
-    Ok(peers)
+    Ok(())
+}
+
+/// How many bytes aren't of the peer that sent the most.
+fn others_of(bytes: &[u8]) -> usize {
+    let mut others = 0usize;
+    for byte in bytes {
+        if *byte != b'x' {
+            others = others.saturating_add(1);
+        }
+    }
+    others
 }
 
 /// Whether of so many events all peers are heard, though the first sends without end.
-fn hears_all<H: Hub>(hub: &mut H, heard: &mut Heard) -> Result<bool, Fail> {
+fn hears_all<H: Hub>(alloc: Global, hub: &mut H) -> io::Result<bool> {
+    let mut heard = Heard::new(alloc);
     for _ in 0..1500 {
         heard.hear(hub)?;
     }
-    let others = heard.bytes.iter().filter(|byte| **byte != b'x').count();
+    let others = others_of(heard.bytes.as_slice());
     Ok(heard.opened == 151 && others == 450 && heard.bytes.len() < 40_000)
+}
+
+/// Whether a hub that is opened here hears all its peers.
+fn is_fair<H: Hub>(rt: &HostRuntime, hub: &mut H) -> io::Result<bool> {
+    let port = opened(rt.alloc(), hub)?;
+    let mut peers = Vec::new(rt.alloc());
+    add_peers(rt, &mut peers, port)?;
+    hears_all(rt.alloc(), hub)
 }
 
 #[test]
 fn a_busy_connection_keeps_no_other_waiting(rt: HostRuntime) -> Result<(), Fail> {
     let mut hub = TcpHub::new(&rt, rt.alloc());
-    let address = opened(rt.alloc(), &mut hub)?;
-    let _busy = peer_with(&rt, address.as_str(), &[b'x'; 40_000])?;
-    let _peers = peers(&rt, address.as_str(), 150)?;
-    let mut heard = Heard::new(rt.alloc());
-    let all = hears_all(&mut hub, &mut heard)?;
+    let all = is_fair(&rt, &mut hub)?;
     assert!(rt; all);
     Ok(())
 }

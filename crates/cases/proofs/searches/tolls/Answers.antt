@@ -1,4 +1,4 @@
 use Rattle.cases.proofs.searches.tolls.Goals as goal
 
-pub told_tolls-requires-clause-of : goal.told_tolls-requires-clause-of
-told_tolls-requires-clause-of c = c.new-search.ensures.of _
+pub tell_tolls-requires-clause-of : goal.tell_tolls-requires-clause-of
+tell_tolls-requires-clause-of c = c.new-search.ensures.of _

@@ -2,7 +2,7 @@ use Rattle.std.proofs.Common.{subst}
 use Rattle.item_list.specs.Turns.{Says}
 use Rattle.space_search.specs.Turns.{EndsSearch, IsClosedSoFar}
 use Rattle.space_search.specs.View.{view}
-use Rattle.cases.proofs.searches.told_tolls.Goals as goal
+use Rattle.cases.proofs.searches.tell_tolls.Goals as goal
 
 pub tell_goal-requires : goal.tell_goal-requires
 tell_goal-requires c =
