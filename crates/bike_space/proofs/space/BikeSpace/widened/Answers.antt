@@ -1,4 +1,5 @@
 use Rattle.std.proofs.Common.{sym, subst}
+use Rattle.std.proofs.lemmas.Result.{IfOk-from_err}
 use Rattle.bike_space.specs.Kept.{Wakes}
 use Rattle.bike_space.proofs.OpenLemmas.{widened-wakes}
 use Rattle.bike_space.proofs.space.BikeSpace.widened.Goals as goal
@@ -12,4 +13,15 @@ wake-requires g c =
           (widened-wakes terrain kept c.args.self.wakes c.in_ok-low.low
           (rw (← c.as_slice.ensures.value, ← c.as_slice-2.ensures.value) c.in_ok-low.ensures.exact)
           c.in_ok-low.ensures.small);
+    }
+
+pub returns-in_err-low : goal.returns-in_err-low
+returns-in_err-low g c =
+    let no = c.from_residual.ensures.0 in
+    record {
+      terrain = IfOk-from_err _ _ no;
+      leg = IfOk-from_err _ _ no;
+      used = IfOk-from_err _ _ no;
+      whole = IfOk-from_err _ _ no;
+      wakes = IfOk-from_err _ _ no;
     }
