@@ -1,6 +1,7 @@
-use Rattle.std.proofs.Common.{sym, subst}
+use Rattle.std.proofs.Common.{◌≡◌, ◌∙◌, refl, sym, subst, ap}
 use Rattle.std.proofs.lemmas.Result.{IfOk-from_err}
-use Rattle.bike_space.specs.Kept.{Wakes}
+use Rattle.bike_space.specs.Kept.{Wakes, task_of}
+use Rattle.bike_space.specs.declared.rested.Rested.{Rested}
 use Rattle.bike_space.proofs.OpenLemmas.{widened-wakes}
 use Rattle.bike_space.proofs.space.BikeSpace.widened.Goals as goal
 
@@ -24,4 +25,19 @@ returns-in_err-low g c =
       used = IfOk-from_err _ _ no;
       whole = IfOk-from_err _ _ no;
       wakes = IfOk-from_err _ _ no;
+    }
+
+pub remaining-requires : goal.remaining-requires
+remaining-requires g c = record { target = c.args.self.wakes.lawful.target_in }
+
+pub returns : goal.returns
+returns g c =
+    let terrain = g.G.TerrainOf.terrain c.args.self.terrain in
+    let is = c.wake.ensures.kept ∙ c.with.ensures.exact in
+    record {
+      terrain = c.wake.ensures.terrain;
+      leg = ap (λ (kept : Rested). (task_of terrain kept).leg) is;
+      used = ap (λ (kept : Rested). (task_of terrain kept).used) is;
+      whole = ap (λ (kept : Rested). (task_of terrain kept).radius) is ∙ c.in_ok-low.ensures.whole refl;
+      wakes = c.wake.ensures.wakes;
     }
