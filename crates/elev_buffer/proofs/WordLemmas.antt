@@ -1,10 +1,11 @@
 -- What stays within words as it is computed, and what tests of order tell.
-use Rattle.std.proofs.Common.{◌≡◌, ◌+◌, ◌*◌, ◌/◌, ◌^◌, ◌≤◌, ◌<◌, ℕ, ℤ, pos, negsuc, ◌+ℤ◌, ◌*ℤ◌, ◌≤ℤ◌, ◌<ℤ◌, int_le, int_div, nat_le, IsTrue, ◌↔◌, true, false, Fits, SFits, w64, to_z, of_z, refl, sym, subst, arith}
+use Rattle.std.proofs.Common.{◌≡◌, ◌+◌, ◌*◌, ◌/◌, ◌^◌, ◌≤◌, ◌<◌, ℕ, ℤ, pos, negsuc, ◌+ℤ◌, ◌-ℤ◌, ◌*ℤ◌, ◌≤ℤ◌, ◌<ℤ◌, int_le, int_lt, int_div, nat_le, unsigned_abs, IsTrue, ◌↔◌, true, false, Fits, SFits, w64, to_z, of_z, refl, sym, ◌∙◌, ap, subst, arith}
 use Rattle.std.specs.Int.{w128, int_div_euclid}
 use Rattle.std.proofs.lemmas.Nat.{div_below}
-use Rattle.std.proofs.lemmas.Int.{ints, to_z-of_z, fits_signed_from_abs}
+use Rattle.std.proofs.Math.Nat.{mul-le-mul_left}
+use Rattle.std.proofs.lemmas.Int.{ints, to_z-of_z, fits_signed_from_abs, clamps}
 use Rattle.std.proofs.lemmas.Bool.Decides.{nat_tests}
-use Rattle.elev_buffer.specs.Covers.{IsBuffer, IsInOrder, CoversLabel, Terms, label, price}
+use Rattle.elev_buffer.specs.Covers.{IsBuffer, IsInOrder, CoversLabel, Terms, label, price, excess}
 use Rattle.elev_buffer.specs.Step.{IsLimits, left_of}
 use Rattle.elev_buffer.specs.declared.labels.Pair.{Pair}
 use Rattle.elev_buffer.specs.declared.steps.Limits.{Limits}
@@ -93,3 +94,45 @@ small_part-fits part low high =
 pub left-fits : (l : Limits) (r full : ℤ) → IsLimits l → SFits w64 (left_of l r full)
 left-fits l r full is =
     fits_signed_from_abs w64 _ (omega (arith, ints, left-positive l r full is, left-within l r full is, is.most))
+
+-- a price of a buffer, as it is computed in words
+pub record ProductFits (rate buffer : ℤ) : Type 0 where
+  pub rate_fits : Fits w128 (unsigned_abs rate)
+  pub buffer_fits : Fits w128 (unsigned_abs buffer)
+  pub product : Fits w128 (unsigned_abs rate * unsigned_abs buffer)
+  pub exact : pos (unsigned_abs rate * unsigned_abs buffer) ≡ rate *ℤ buffer
+  pub within : unsigned_abs rate * unsigned_abs buffer < 2 ^ 100
+
+-- it is at most 10^30
+pub product_fits : (rate buffer : ℤ) → IsBuffer rate → IsBuffer buffer → ProductFits rate buffer
+product_fits (pos k) (pos m) is has =
+    let most : m ≤ 1000000000000000 = omega (arith, ints, has.high) in
+    let rate_most : k ≤ 1000000000000000 = omega (arith, ints, is.high) in
+    let within : k * m < 2 ^ 100 = omega (arith, mul-le-mul_left k most, rate_most) in
+    record {
+      rate_fits = record { fits = omega (arith, rate_most) };
+      buffer_fits = record { fits = omega (arith, most) };
+      product = record { fits = omega (arith, within) };
+      exact = refl;
+      within = within;
+    }
+product_fits (pos k) (negsuc m) is has = absurd (omega (arith, ints, has.low))
+product_fits (negsuc k) buffer is has = absurd (omega (arith, ints, is.low))
+
+-- the price of what the first buffer has more, as it is computed in words
+pub record PriceFits (rate first second : ℤ) : Type 0 where
+  pub more : SFits w64 (first -ℤ second)
+  pub product : ProductFits rate (first -ℤ second)
+  pub exact : pos (unsigned_abs rate * unsigned_abs (first -ℤ second)) ≡ rate *ℤ excess first second
+
+-- it is the product with the difference
+pub price_fits : (rate first second : ℤ) → IsBuffer rate → IsBuffer first → IsBuffer second → int_lt second first ≡ true →
+    PriceFits rate first second
+price_fits rate first second is f s more =
+    let above : second <ℤ first = grind (arith, ints) in
+    let low : pos 0 ≤ℤ (first -ℤ second) = omega (arith, ints, above) in
+    let high : (first -ℤ second) ≤ℤ pos 1000000000000000 = omega (arith, ints, f.high, s.low) in
+    let difference : IsBuffer (first -ℤ second) = record { low = low; high = high } in
+    let product = product_fits rate (first -ℤ second) is difference in
+    let same : first -ℤ second ≡ excess first second = omega (arith, ints, clamps, low) in
+    record { more = buffer-fits _ difference; product = product; exact = product.exact ∙ ap (λ x. rate *ℤ x) same }

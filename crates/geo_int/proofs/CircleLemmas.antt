@@ -3,8 +3,9 @@ use Rattle.std.proofs.Common.{◌≡◌, ℕ, zero, suc, negsuc, ◌+◌, ◌*�
 use Rattle.std.proofs.Math.IntN.{*ℤ_comm}
 use Rattle.std.proofs.lemmas.Nat.{mul-le}
 use Rattle.std.proofs.lemmas.Int.{ints}
+use Rattle.std.proofs.lemmas.Bool.Decides.{nat_tests}
 use Rattle.geo_int.specs.Place.{Place}
-use Rattle.geo_int.specs.Circle.{offsets_touch, way_touches, foot, way_square, dot, cross, end_touches, line_touches, is_near, circle_touches, offset_between}
+use Rattle.geo_int.specs.Circle.{offsets_touch, way_touches, foot, way_square, dot, cross, end_touches, line_touches, is_near, circle_touches, offset_between, IsWithin}
 use Rattle.geo_int.specs.declared.circles.Offset.{Offset}
 use Rattle.geo_int.proofs.ProductLemmas.{mul-sub, square-sub}
 use Rattle.geo_int.proofs.SquareLemmas.{square-is}
@@ -173,3 +174,7 @@ circle_touches-near a b centre first second radius e f near = rw (sym e, sym f, 
 -- a test that follows from another holds where that holds
 pub grows_true : (s t : Bool) → (s ≡ true → t ≡ true) → IsTrue s → IsTrue t
 grows_true s t f h = grind arith
+
+-- where both ends are near, so are their parts
+pub near-within : (a b : Offset) → (is_near a && is_near b) ≡ true → IsWithin 300000000 a × IsWithin 300000000 b
+near-within a b e = grind (arith, nat_tests)

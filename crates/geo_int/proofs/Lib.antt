@@ -9,3 +9,4 @@ pub mod ProductLemmas
 pub mod TurnLemmas
 pub mod CircleLemmas
 pub mod TextLemmas
+mod AngleLemmas

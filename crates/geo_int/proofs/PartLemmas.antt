@@ -1,6 +1,6 @@
 -- Differences and sums of what two places are counted by, as they are computed in 64 bits.
-use Rattle.std.proofs.Common.{◌≡◌, ◌≤◌, ◌*◌, ℤ, pos, ◌+ℤ◌, ◌-ℤ◌, ◌*ℤ◌, int_div, unsigned_abs, SFits, w64, ap, ◌∙◌, rules, arith}
-use Rattle.std.proofs.lemmas.Int.{unsigned_abs-mul, fits_signed_from_abs, quot_fits}
+use Rattle.std.proofs.Common.{◌≡◌, ◌≤◌, ◌*◌, ℕ, ℤ, pos, neg_ℤ, ◌≤ℤ◌, int_lt, false, Fits, w32, ◌+ℤ◌, ◌-ℤ◌, ◌*ℤ◌, int_div, unsigned_abs, SFits, w64, ap, ◌∙◌, rules, arith}
+use Rattle.std.proofs.lemmas.Int.{ints, unsigned_abs-mul, fits_signed_from_abs, quot_fits}
 use Rattle.geo_int.specs.Arrow.{north_between, north_part}
 use Rattle.geo_int.specs.Spot.{place_of}
 use Rattle.geo_int.specs.declared.spots.Spot.{Spot}
@@ -60,3 +60,24 @@ pub north-computed : (a b : Spot) (x y : ℤ) → x ≡ (place_of a).lat → y �
     int_div ((y -ℤ x) *ℤ pos 11132) (pos 100) ≡ north_between (place_of a) (place_of b)
 unfolding north_between north_part
 north-computed a b x y e f = ap (λ k. north_part (y -ℤ k)) e ∙ ap (λ k. north_part (k -ℤ (place_of a).lat)) f
+
+-- degrees counted from the least that there are
+pub record CountFits (x : ℤ) (half : ℕ) : Type 0 where
+  pub sum : SFits w64 (x +ℤ pos half)
+  pub count : Fits w32 (unsigned_abs (x +ℤ pos half))
+  pub positive : pos 0 ≤ℤ (x +ℤ pos half)
+  pub most : unsigned_abs (x +ℤ pos half) ≤ 2 * half
+
+-- where they are within half of the circle
+pub count_fits : (x low : ℤ) (half : ℕ) → half ≤ 180000000 → low ≡ neg_ℤ (pos half) → int_lt x low ≡ false → int_lt (pos half) x ≡ false →
+    CountFits x half
+count_fits x low half small is f g =
+    let below : low ≤ℤ x = grind (arith, ints) in
+    let above : x ≤ℤ pos half = grind (arith, ints) in
+    let most : unsigned_abs (x +ℤ pos half) ≤ 2 * half = omega (arith, ints, is, below, above) in
+    record {
+      sum = fits_signed_from_abs w64 _ (omega (arith, most, small));
+      count = record { fits = omega (arith, most, small) };
+      positive = omega (arith, ints, is, below);
+      most = most;
+    }

@@ -48,7 +48,7 @@ fn seen_from(centre: Spot, at: Spot) -> Offset
 fn near(a: Offset, b: Offset) -> bool
     ensures exact { result ≡ (is_near a && is_near b) }
 {
-    is_part_near(a.east) && is_part_near(a.north) && is_part_near(b.east) && is_part_near(b.north)
+    (is_part_near(a.east) & is_part_near(a.north)) & (is_part_near(b.east) & is_part_near(b.north))
 }
 
 /// Whether one part is near enough.

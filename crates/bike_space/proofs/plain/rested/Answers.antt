@@ -5,6 +5,7 @@ use Rattle.overpass_graph.specs.Maps.{IsMap, roads_of}
 use Rattle.bike_space.specs.Remaining.{priced_by}
 use Rattle.bike_space.proofs.OpenLemmas.{opened-wakes}
 use Rattle.bike_space.proofs.PlainLemmas.{unmarked}
+use Rattle.std.proofs.lemmas.Result.{IfOk-from_err}
 use Rattle.bike_space.proofs.plain.rested.Goals as goal
 
 pub returns-clause-unused : goal.returns-clause-unused
@@ -26,3 +27,23 @@ returns-clause-wakes g c =
           (c.in_ok-low.ensures.exact prices c.args.target);
       small = c.in_ok-low.ensures.small;
     })
+
+pub returns-in_err-low : goal.returns-in_err-low
+returns-in_err-low g c =
+    let no = c.from_residual.ensures.0 in
+    record {
+      leg = IfOk-from_err _ _ no;
+      unused = IfOk-from_err _ _ no;
+      wakes = IfOk-from_err _ _ no;
+      radius = IfOk-from_err _ _ no;
+    }
+
+pub returns-in_err-cut : goal.returns-in_err-cut
+returns-in_err-cut g c =
+    let no = c.from_residual-in_err-cut.ensures.0 in
+    record {
+      leg = IfOk-from_err _ _ no;
+      unused = IfOk-from_err _ _ no;
+      wakes = IfOk-from_err _ _ no;
+      radius = IfOk-from_err _ _ no;
+    }

@@ -1,6 +1,7 @@
-use Rattle.std.proofs.Common.{sym, ◌∙◌}
+use Rattle.std.proofs.Common.{sym, ◌∙◌, arith}
+use Rattle.std.proofs.lemmas.Nat.{mul-le}
 use Rattle.geo_int.specs.Spot.{place_of}
-use Rattle.geo_int.proofs.CircleLemmas.{circle_touches-far, circle_touches-near, circle_touches-swap, circle_touches-grows, grows_true}
+use Rattle.geo_int.proofs.CircleLemmas.{circle_touches-far, circle_touches-near, circle_touches-swap, circle_touches-grows, grows_true, near-within}
 use Rattle.geo_int.proofs.circles.touches.Goals as goal
 
 pub returns-then-not-near-clause-exact : goal.returns-then-not-near-clause-exact
@@ -40,3 +41,18 @@ returns-clause-grows c =
     (sym c.near.ensures.exact ∙ c.if-not-near.false) in
     let is = c.touches_near.ensures.exact ∙ sym near in
     λ larger more. grows_true _ _ (λ e. circle_touches-grows _ _ _ c.args.radius larger more (sym is ∙ e))
+
+pub returns-then-not-near-clause-grows : goal.returns-then-not-near-clause-grows
+returns-then-not-near-clause-grows c = λ larger more no. absurd (cc)
+
+pub overflow_mul-radius : goal.overflow_mul-radius
+overflow_mul-radius c = record { fits = omega (arith, mul-le _ _ _ _ c.requires.fits c.requires.fits) }
+
+pub touches_near-requires-clause-a : goal.touches_near-requires-clause-a
+touches_near-requires-clause-a c = (near-within c.seen_from-first.result c.seen_from-second.result (sym c.near.ensures.exact ∙ c.if-not-near.false)).0
+
+pub touches_near-requires-clause-b : goal.touches_near-requires-clause-b
+touches_near-requires-clause-b c = (near-within c.seen_from-first.result c.seen_from-second.result (sym c.near.ensures.exact ∙ c.if-not-near.false)).1
+
+pub touches_near-requires-clause-square : goal.touches_near-requires-clause-square
+touches_near-requires-clause-square c = mul-le _ _ _ _ c.requires.fits c.requires.fits

@@ -1,4 +1,5 @@
 use Rattle.std.proofs.Common.{ap, ◌∙◌}
+use Rattle.std.proofs.lemmas.Result.{IfOk-from_err}
 use Rattle.bike_space.specs.declared.rested.Rested.{Rested}
 use Rattle.bike_space.proofs.PlainLemmas.{radius-blind}
 use Rattle.bike_space.proofs.space.BikeSpace.plain.Goals as goal
@@ -7,3 +8,14 @@ pub returns-clause-blind : goal.returns-clause-blind
 returns-clause-blind g c =
     radius-blind _ c.wake.ensures.wakes.lawful
     (ap (λ (kept : Rested). kept.low.radius) c.wake.ensures.kept ∙ c.in_ok-kept.ensures.radius)
+
+pub returns-in_err-kept : goal.returns-in_err-kept
+returns-in_err-kept g c =
+    let no = c.from_residual.ensures.0 in
+    record {
+      terrain = IfOk-from_err _ _ no;
+      leg = IfOk-from_err _ _ no;
+      unused = IfOk-from_err _ _ no;
+      wakes = IfOk-from_err _ _ no;
+      blind = IfOk-from_err _ _ no;
+    }

@@ -1,0 +1,32 @@
+use Rattle.std.proofs.Common.{SFits, rules}
+use Rattle.std.specs.Int.{w128}
+use Rattle.std.proofs.lemmas.Int.{to_z-of_z}
+use Rattle.space_search.proofs.point.Point.greatest.Goals as goal
+
+pub returns-clause-first : goal.returns-clause-first
+returns-clause-first c =
+    let x : SFits w128 c.max.result = record { sfits = c.max.type_inv } in
+    let y : SFits w128 c.max-2.result = record { sfits = c.max-2.type_inv } in
+    let z : SFits w128 c.max-3.result = record { sfits = c.max-3.type_inv } in
+    let ax : SFits w128 c.args.self.now.x = search rules in
+    let ay : SFits w128 c.args.self.now.y = search rules in
+    let az : SFits w128 c.args.self.now.z = search rules in
+    simp (to_z-of_z, x, y, z) (record {
+      x = simp (to_z-of_z, ax) at c.max.ensures.self_bound;
+      y = simp (to_z-of_z, ay) at c.max-2.ensures.self_bound;
+      z = simp (to_z-of_z, az) at c.max-3.ensures.self_bound;
+    })
+
+pub returns-clause-second : goal.returns-clause-second
+returns-clause-second c =
+    let x : SFits w128 c.max.result = record { sfits = c.max.type_inv } in
+    let y : SFits w128 c.max-2.result = record { sfits = c.max-2.type_inv } in
+    let z : SFits w128 c.max-3.result = record { sfits = c.max-3.type_inv } in
+    let ax : SFits w128 c.args.other.now.x = search rules in
+    let ay : SFits w128 c.args.other.now.y = search rules in
+    let az : SFits w128 c.args.other.now.z = search rules in
+    simp (to_z-of_z, x, y, z) (record {
+      x = simp (to_z-of_z, ax) at c.max.ensures.other_bound;
+      y = simp (to_z-of_z, ay) at c.max-2.ensures.other_bound;
+      z = simp (to_z-of_z, az) at c.max-3.ensures.other_bound;
+    })
