@@ -15,6 +15,6 @@ pub use case::Case;
 pub use ground::tiles_of;
 pub use places::place_of;
 pub use report::Report;
-pub use samples::{GATE, LOOK, NAMED, TREK};
+pub use samples::{GATE, LOOK, TREK};
 pub use table::Table;
 pub use texts::{code_of, code_with, map_of, profile_of, table_of};

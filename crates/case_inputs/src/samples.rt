@@ -56,6 +56,3 @@ assign initialcost = if nodeaccess then 0 else 20
 /// A profile in which a gate stops who wasn't granted to pass.
 pub const GATE: &str = "---context:way assign nodeaccessgranted highway=cycleway assign costfactor 1
 ---context:node assign initialcost switch and barrier=gate not nodeaccessgranted=yes 1000000 0";
-
-/// The texts with their names, for tables of cases.
-pub const NAMED: [(&str, &str); 3] = [("LOOK", LOOK), ("TREK", TREK), ("GATE", GATE)];

@@ -2,6 +2,7 @@
 
 use crate::case::Case;
 use crate::escape::unescaped;
+use crate::samples::{GATE, LOOK, TREK};
 use std::alloc::{AllocError, Global};
 
 /// A text of the table, to which a word refers by its name.
@@ -44,6 +45,15 @@ impl Table {
             line: 0,
             texts: Vec::new(alloc),
         }
+    }
+
+    /// A table of which nothing was read, and which has the texts that tables share.
+    pub fn with_samples(alloc: Global) -> Result<Table, AllocError> {
+        let mut table = Table::new(alloc);
+        table.add_text("LOOK", LOOK)?;
+        table.add_text("TREK", TREK)?;
+        table.add_text("GATE", GATE)?;
+        Ok(table)
     }
 
     /// Gives a text a name, as if it stood in the table.

@@ -25,7 +25,7 @@ mod values;
 
 use crate::heights::Ground;
 use crate::texts::NO_CALL;
-use case_inputs::{Case, GATE, LOOK, Report, TREK, Table, place_of};
+use case_inputs::{Case, Report, Table, place_of};
 use std::alloc::{AllocError, Global};
 use std::io;
 
@@ -49,16 +49,8 @@ const PARTS: [&[&str]; 16] = [
     &searches::CALLS,
 ];
 
-/// Adds the texts that tables share.
-fn add_texts(table: &mut Table) -> Result<(), AllocError> {
-    table.add_text("LOOK", LOOK)?;
-    table.add_text("TREK", TREK)?;
-    table.add_text("GATE", GATE)
-}
-
 fn main(rt: HostRuntime) -> io::Result<()> {
-    let mut table = Table::new(rt.alloc());
-    add_texts(&mut table)?;
+    let mut table = Table::with_samples(rt.alloc())?;
     let mut ground = Ground::new(rt.alloc());
     let mut report = Report::new();
     for line in rt.lines(rt.alloc()) {

@@ -16,15 +16,12 @@ mod sums;
 mod timed;
 mod track;
 
-use case_inputs::{NAMED, Report, Table};
+use case_inputs::{Report, Table};
 use std::{env, io};
 
 /// Runs the table of the standard input, and prints each case that differs and how many there are.
 fn run_table(rt: &HostRuntime) -> io::Result<()> {
-    let mut table = Table::new(rt.alloc());
-    for (name, text) in NAMED {
-        table.add_text(name, text)?;
-    }
+    let mut table = Table::with_samples(rt.alloc())?;
     let mut report = Report::new();
     for line in rt.lines(rt.alloc()) {
         if let Some(case) = table.take(line?.as_str())? {

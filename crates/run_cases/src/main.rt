@@ -12,18 +12,9 @@ mod told;
 mod worlds;
 
 use crate::run::World;
-use case_inputs::{Case, NAMED, Report, Table, place_of};
+use case_inputs::{Case, Report, Table, place_of};
 use std::alloc::{AllocError, Global};
 use std::io;
-
-/// A table that knows the shared texts.
-fn with_texts(alloc: Global) -> Result<Table, AllocError> {
-    let mut table = Table::new(alloc);
-    for (name, text) in NAMED {
-        table.add_text(name, text)?;
-    }
-    Ok(table)
-}
 
 /// Whether a word is one of these names.
 fn is_among(names: &[&str], word: &[u8]) -> bool {
@@ -87,7 +78,7 @@ fn run_lines(rt: &HostRuntime, table: &mut Table, world: &mut World) -> io::Resu
 }
 
 fn main(rt: HostRuntime) -> io::Result<()> {
-    let mut table = with_texts(rt.alloc())?;
+    let mut table = Table::with_samples(rt.alloc())?;
     let mut world = World::new(rt.alloc());
     run_lines(&rt, &mut table, &mut world)
 }
