@@ -80,31 +80,10 @@ fn tell(text: &mut String, items: &[(Name, i64)]) -> Result<(), AllocError> {
 /// the last.
 fn looked_up(alloc: Global, case: &Case) -> Result<String, AllocError> {
     let mut places = HashMap::new(alloc);
-    put_words(alloc, &mut places, case)?;
-    told_place(alloc, &places, case.word(1))
-}
-
-/// Puts the words behind the first with their places into a map.
-fn put_words(
-    alloc: Global,
-    places: &mut HashMap<Name, usize>,
-    case: &Case,
-) -> Result<(), AllocError> {
     for place in 2..case.len() {
-        let name = name(alloc, case.word(place))?;
-        places.insert(name, place)?;
+        places.insert(name(alloc, case.word(place))?, place)?;
     }
-    Ok(())
-}
-
-/// The place that a map has for a word.
-fn told_place(
-    alloc: Global,
-    places: &HashMap<Name, usize>,
-    word: &[u8],
-) -> Result<String, AllocError> {
-    let name = name(alloc, word)?;
-    match places.get(&name) {
+    match places.get(&name(alloc, case.word(1))?) {
         Some(place) => format!(in alloc; "{place}"),
         None => String::from_str(alloc, "none"),
     }
