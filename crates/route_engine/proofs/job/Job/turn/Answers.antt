@@ -166,3 +166,17 @@ pub returns-in-Refused-clause-again : goal.returns-in-Refused-clause-again
 returns-in-Refused-clause-again c =
     let stage : c.searches.self.stage ≡ stages.Refused c.in-Refused.error = cc (c.in-Refused.is, c.replace.ensures.value) in
     stays-again c.searches.self c.args.self.now (stages.Refused c.in-Refused.error) (Err c.in-Refused.error) stage refl c.searches.invariant.begun
+
+pub advance-step-requires-clause-so_far : goal.advance-step-requires-clause-so_far
+advance-step-requires-clause-so_far c =
+    let plan = plan_in (world_of c.args.world.now) c.searches.self in
+    let stage : c.searches.self.stage ≡ stages.Searching c.in-Searching.walked c.in-Searching.search =
+    cc (c.in-Searching.is, c.replace.ensures.value) in
+    (subst (IsStage plan) stage c.searches.invariant.on.stage).0
+
+pub advance-step-requires-clause-begun : goal.advance-step-requires-clause-begun
+advance-step-requires-clause-begun c =
+    let plan = plan_in (world_of c.args.world.now) c.searches.self in
+    let stage : c.searches.self.stage ≡ stages.Searching c.in-Searching.walked c.in-Searching.search =
+    cc (c.in-Searching.is, c.replace.ensures.value) in
+    (subst (IsStage plan) stage c.searches.invariant.on.stage).1
