@@ -1,16 +1,18 @@
 -- The turns of a job, by the turns of its searches.
-use Rattle.std.proofs.Common.{◌≡◌, ◌≢◌, inl, inr, ℕ, ◌+◌, ◌-◌, ◌<◌, ◌≤◌, false, length, Option, Ok, Err, refl, ap, arith, ◌∙◌, subst}
+use Rattle.std.proofs.Common.{◌≡◌, ◌≢◌, ◌⊎◌, inl, inr, ℕ, ◌+◌, ◌-◌, ◌<◌, ◌≤◌, false, length, Option, None, Some, Result, Ok, Err, refl, ap, sym, arith, ◌∙◌, subst}
 use Rattle.cost_model.specs.Rides.{Setting}
+use Rattle.item_list.specs.declared.turn.Turn.{Turn}
 use Rattle.item_list.specs.declared.turn.Turn.TheVariants.{Done}
 use Rattle.leg_search.specs.declared.search.LegSearch.{LegSearch}
 use Rattle.route_http.specs.Asked.{Asked}
 use Rattle.route_ready.specs.declared.error.RouteError.{RouteError}
 use Rattle.track_legs.specs.declared.track.Track.{Track}
-use Rattle.route_engine.specs.Jobs.{AnswersJob, IsPlanFor, most_settled, track_at}
+use Rattle.route_engine.specs.Jobs.{AnswersJob, IsPlanFor, ended_with, last_answer, most_settled, track_at}
 use Rattle.route_engine.specs.Labels.{most_between, most_labels}
 use Rattle.route_engine.specs.Plans.{Plan}
-use Rattle.route_engine.specs.Progress.{Advances, IsStage, allowed, beginning_at, counted_in, searches_left, settled_in}
+use Rattle.route_engine.specs.Progress.{Advances, GoesOnAt, IsStage, allowed, beginning_at, counted_in, searches_left, settled_in}
 use Rattle.route_engine.specs.declared.advance.Advanced.{Advanced}
+use Rattle.route_engine.specs.declared.job.Job.{Job}
 use Rattle.route_engine.specs.declared.stage.Stage.{Stage}
 use Rattle.route_engine.specs.declared.stage.Stage.TheVariants.{Searching, Found, Refused}
 use Rattle.route_engine.specs.declared.walked.Walked.{Walked}
@@ -76,3 +78,52 @@ pub refused-answers :
     (plan : Plan) (stage : Stage) (e : RouteError) → stage ≡ Refused e → IsStage plan stage →
     AnswersJob plan (track_at (Refused e)) (Done (Err e))
 refused-answers plan stage e same is = (refl, subst (IsStage plan) same is)
+
+-- ---- The end of a job
+
+-- a search that goes on has no track
+goes-none : (walked : Walked) (settled : ℕ) (stage : Stage) → GoesOnAt walked settled stage → track_at stage ≡ None
+goes-none walked settled (Searching after search) goes = refl
+goes-none walked settled (Found track) goes = absurd goes
+goes-none walked settled (Refused e) goes = refl
+
+-- nor has a search that begins
+begins-none : (left : ℕ) (stage : Stage) → 0 < beginning_at left stage → track_at stage ≡ None
+begins-none left (Searching walked search) some = refl
+begins-none left (Found track) some = absurd (omega (arith, some))
+begins-none left (Refused e) some = refl
+
+-- where the turn is over there is no track yet
+pub more-none : (plan : Plan) (walked : Walked) (search : Option LegSearch) (quota : ℕ) (advanced : Advanced) →
+    Advances plan walked (settled_in search) quota advanced → counted_in advanced ≡ quota → track_at advanced.stage ≡ None
+more-none plan walked search quota advanced on whole = elim on.steps as (λ _. track_at advanced.stage ≡ None) [
+  | inl goes ↦ goes-none walked (settled_in search + quota) advanced.stage goes.stage
+  | inr ends ↦ begins-none (quota - advanced.settled) advanced.stage (omega (arith, ends.fewer, ends.counts, whole))
+]
+
+-- a job that is at its end gives that end again, and stays as it is
+pub stays-again : (before old : Job) (stage : Stage) (at : Result (Unit {0}) RouteError) → before.stage ≡ stage →
+    last_answer stage ≡ Some at → (before ≡ old) ⊎ (ended_with old ≡ None) → (end : Result (Unit {0}) RouteError) →
+    ended_with old ≡ Some end →
+    (◌≡◌ {A = Turn (Unit {0}) (Result (Unit {0}) RouteError)} (Done at) (Done end))
+    × (◌≡◌ {A = Job} (record { alloc = before.alloc; plan = before.plan; settled = before.settled; stage = stage }) old)
+stays-again before old stage at same is (inl one) end ended =
+    let both : ◌≡◌ {A = Option (Result (Unit {0}) RouteError)} (Some at) (Some end) =
+    sym is ∙ ap last_answer (sym same) ∙ ap (λ (j : Job). last_answer j.stage) one ∙ ended in (
+      cc,
+      ap (λ s. record { alloc = before.alloc; plan = before.plan; settled = before.settled; stage = s }) (sym same) ∙ one,
+    )
+stays-again before old stage at same is (inr none) end ended =
+    let both : ◌≡◌ {A = Option (Result (Unit {0}) RouteError)} None (Some end) = sym none ∙ ended in
+    absurd cc
+
+-- a job that still searches wasn't at its end
+pub never-again : (before old : Job) (walked : Walked) (search : Option LegSearch) → before.stage ≡ Searching walked search →
+    (before ≡ old) ⊎ (ended_with old ≡ None) → (end : Result (Unit {0}) RouteError) → ended_with old ≡ Some end → ⊥
+never-again before old walked search same (inl one) end ended =
+    let both : ◌≡◌ {A = Option (Result (Unit {0}) RouteError)} None (Some end) =
+    ap last_answer (sym same) ∙ ap (λ (j : Job). last_answer j.stage) one ∙ ended in
+    absurd cc
+never-again before old walked search same (inr none) end ended =
+    let both : ◌≡◌ {A = Option (Result (Unit {0}) RouteError)} None (Some end) = sym none ∙ ended in
+    absurd cc
