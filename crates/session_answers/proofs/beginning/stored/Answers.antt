@@ -7,6 +7,7 @@ use Rattle.session_answers.proofs.QueryLemmas.{early-frame, profile-frame}
 use Rattle.session_answers.proofs.StoredLemmas.{found_at}
 use Rattle.session_answers.specs.Profiles.{stored_of}
 use Rattle.session_answers.specs.Rows.{Asks}
+use Rattle.std.proofs.lemmas.Result.{IfOk-from_err}
 use Rattle.session_answers.proofs.beginning.stored.Goals as goal
 
 pub returns-in-Ok-search_for-clause-exact : goal.returns-in-Ok-search_for-clause-exact
@@ -49,3 +50,31 @@ returns-in_ok-frame-in-Err-clause-exact c = λ query reads.
     record { asks = reads; found = found_at stored request.profile c.args.place sections c.requires.found there } in
     profile-frame world stored query request sections asks c.in-Err.error c.in_ok-frame-in-Err.frame.items
     c.in_ok-frame-in-Err.ensures.reason c.in_ok-frame-in-Err.ensures.exact why
+
+pub returns-in-Ok-search_for-clause-kept : goal.returns-in-Ok-search_for-clause-kept
+returns-in-Ok-search_for-clause-kept c =
+    (c.in-Ok.ensures.exact (profiles_of (stored_of c.args.profiles.now)) c.requires.kept c.profile-profile.ensures.value).0
+
+pub returns-in_ok-frame-in-Err-search_for-clause-kept : goal.returns-in_ok-frame-in-Err-search_for-clause-kept
+returns-in_ok-frame-in-Err-search_for-clause-kept c =
+    (c.in-Ok.ensures.exact (profiles_of (stored_of c.args.profiles.now)) c.requires.kept c.profile-profile.ensures.value).0
+
+pub returns-in_ok-frame-in-Err-clause-kept : goal.returns-in_ok-frame-in-Err-clause-kept
+returns-in_ok-frame-in-Err-clause-kept c =
+    (c.in-Err.ensures.exact (profiles_of (stored_of c.args.profiles.now)) c.requires.kept c.profile-profile.ensures.value).0
+
+pub returns-in_err-frame-in-Err-search_for : goal.returns-in_err-frame-in-Err-search_for
+returns-in_err-frame-in-Err-search_for c =
+    let no = c.from_residual.ensures.0 in
+    record {
+      exact = λ _ _. IfOk-from_err _ _ no;
+      kept = (c.in-Ok.ensures.exact (profiles_of (stored_of c.args.profiles.now)) c.requires.kept c.profile-profile.ensures.value).0;
+    }
+
+pub returns-in_err-frame-in-Err : goal.returns-in_err-frame-in-Err
+returns-in_err-frame-in-Err c =
+    let no = c.from_residual-in_err-frame-in-Err.ensures.0 in
+    record {
+      exact = λ _ _. IfOk-from_err _ _ no;
+      kept = (c.in-Err.ensures.exact (profiles_of (stored_of c.args.profiles.now)) c.requires.kept c.profile-profile.ensures.value).0;
+    }

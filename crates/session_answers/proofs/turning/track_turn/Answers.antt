@@ -5,6 +5,7 @@ use Rattle.route_engine.specs.Pending.{TellsEnd}
 use Rattle.route_ready.specs.World.{world_of}
 use Rattle.session_answers.proofs.JobLemmas.{track-later}
 use Rattle.session_answers.proofs.QueryLemmas.{track-refused, track-replied}
+use Rattle.std.proofs.lemmas.Result.{IfOk-from_err}
 use Rattle.session_answers.proofs.turning.track_turn.Goals as goal
 
 pub returns-in-More-clause-exact : goal.returns-in-More-clause-exact
@@ -27,3 +28,16 @@ returns-in_ok-answer-in-Done-Err-clause-exact c = λ stored aim query place job 
     c.in-Done-Err.error
     c.in_ok-answer-in-Done-Err.answer.items c.in_ok-answer-in-Done-Err.ensures.reason c.in_ok-answer-in-Done-Err.ensures.exact
     (subst (TellsEnd (world_of c.args.world.now) c.args.pending) c.in-Done-Err.field-0-is c.in-Done-Err.ensures.tells)
+
+pub returns-in-More-clause-counts : goal.returns-in-More-clause-counts
+returns-in-More-clause-counts c = c.in-More.ensures.counts
+
+pub returns-in_err-answer-in-Done-Ok : goal.returns-in_err-answer-in-Done-Ok
+returns-in_err-answer-in-Done-Ok c =
+    let no = c.from_residual.ensures.0 in
+    record { exact = λ _ _ _ _ _ _. IfOk-from_err _ _ no; counts = IfOk-from_err _ _ no }
+
+pub returns-in_err-answer-in-Done-Err : goal.returns-in_err-answer-in-Done-Err
+returns-in_err-answer-in-Done-Err c =
+    let no = c.from_residual-in_err-answer-in-Done-Err.ensures.0 in
+    record { exact = λ _ _ _ _ _ _. IfOk-from_err _ _ no; counts = IfOk-from_err _ _ no }

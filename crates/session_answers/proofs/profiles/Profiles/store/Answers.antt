@@ -1,4 +1,4 @@
-use Rattle.std.proofs.Common.{ap, ◌∙◌}
+use Rattle.std.proofs.Common.{ap, refl, ◌∙◌}
 use Rattle.lookup_table.specs.Tag.{name_place}
 use Rattle.route_ready.specs.Shelves.{shelf_of}
 use Rattle.route_ready.specs.Entries.{names_of}
@@ -11,3 +11,9 @@ add-requires c =
     record {
       new = ap (name_place (names_of (shelf_of p.shelf))) c.requires.named ∙ next_new p.given (shelf_of p.shelf) p.stored;
     }
+
+pub returns-in-Ok : goal.returns-in-Ok
+returns-in-Ok c = record { value = c.in-Ok.ensures.value; kept = tt; given = refl }
+
+pub returns-in-Err : goal.returns-in-Err
+returns-in-Err c = record { value = tt; kept = c.in-Err.ensures.kept; given = refl }
