@@ -12,17 +12,15 @@ mod told;
 mod worlds;
 
 use crate::run::World;
-use case_inputs::{Case, NAMED, Report, Table, place_of};
+use case_inputs::{Case, GATE, LOOK, Report, TREK, Table, place_of};
 use std::alloc::{AllocError, Global};
 use std::io;
 
-/// A table that knows the shared texts.
-fn with_texts(alloc: Global) -> Result<Table, AllocError> {
-    let mut table = Table::new(alloc);
-    for (name, text) in NAMED {
-        table.add_text(name, text)?;
-    }
-    Ok(table)
+/// Adds the texts that tables share.
+fn add_texts(table: &mut Table) -> Result<(), AllocError> {
+    table.add_text("LOOK", LOOK)?;
+    table.add_text("TREK", TREK)?;
+    table.add_text("GATE", GATE)
 }
 
 /// Whether a word is one of these names.
@@ -87,7 +85,8 @@ fn run_lines(rt: &HostRuntime, table: &mut Table, world: &mut World) -> io::Resu
 }
 
 fn main(rt: HostRuntime) -> io::Result<()> {
-    let mut table = with_texts(rt.alloc())?;
+    let mut table = Table::new(rt.alloc());
+    add_texts(&mut table)?;
     let mut world = World::new(rt.alloc());
     run_lines(&rt, &mut table, &mut world)
 }
