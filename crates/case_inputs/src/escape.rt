@@ -46,18 +46,19 @@ fn taken(out: &mut Vec<u8>, part: Part, byte: u8) -> Result<Part, AllocError> {
 
 /// Appends what a backslash and a letter stand for.
 fn opened(out: &mut Vec<u8>, letter: u8) -> Result<(), AllocError> {
-    match letter {
-        b's' => out.push(b' ')?,
-        b'n' => out.push(b'\n')?,
-        b'r' => out.push(b'\r')?,
-        b't' => out.push(b'\t')?,
-        b'e' => {}
-        b'\\' => out.push(b'\\')?,
+    let byte = match letter {
+        b's' => b' ',
+        b'n' => b'\n',
+        b'r' => b'\r',
+        b't' => b'\t',
+        b'\\' => b'\\',
+        b'e' => return Ok(()),
         _ => {
             out.push(b'\\')?;
-            out.push(letter)?;
+            letter
         }
-    }
+    };
+    out.push(byte)?;
     Ok(())
 }
 
@@ -71,9 +72,9 @@ fn digit_of(byte: u8) -> u8 {
     }
 }
 
-/// The bytes as a text of one line: what isn't a printed ASCII byte is written by its two digits.
-pub(crate) fn shown(alloc: Global, bytes: &[u8]) -> Result<String, AllocError> {
-    let mut out = String::new(alloc);
+/// Writes bytes as a text of one line: what isn't a printed ASCII byte is written by its two
+/// digits.
+pub(crate) fn show(out: &mut String, bytes: &[u8]) -> Result<(), AllocError> {
     for byte in bytes {
         if (32..127).contains(byte) {
             out.push(char::from(*byte))?;
@@ -81,5 +82,5 @@ pub(crate) fn shown(alloc: Global, bytes: &[u8]) -> Result<String, AllocError> {
             write!(out, "\\x{byte:02x}")?;
         }
     }
-    Ok(out)
+    Ok(())
 }

@@ -4,7 +4,7 @@ ghost use Rattle.std.specs.Prelude.{◌≡◌, ◌↔◌, IsNone, IfOk, OnOk};
 ghost use Rattle.case_inputs.specs.Counts.{one_more, counted};
 
 use crate::case::Case;
-use crate::escape::shown;
+use crate::escape::show;
 use std::alloc::{AllocError, Global};
 use std::io;
 
@@ -45,11 +45,24 @@ impl Report {
             return Ok(None);
         }
         self.differ = self.differ.saturating_add(1);
-        let line = case.line;
-        let call = shown(alloc, case.word(0))?;
-        let gave = shown(alloc, answer)?;
-        let wanted = shown(alloc, case.wanted.as_slice())?;
-        let told = format!(in alloc; "line {line}, {call}: gave {gave}, wanted {wanted}")?;
+        let told = told_of(alloc, case, answer)?;
         Ok(Some(told))
     }
+}
+
+/// What is told of a case whose answer isn't the one that is wanted.
+fn told_of(alloc: Global, case: &Case, answer: &[u8]) -> Result<String, AllocError> {
+    let mut told = String::new(alloc);
+    tell(&mut told, case, answer)?;
+    Ok(told)
+}
+
+/// Writes the line and the call of a case, the answer, and the one that is wanted.
+fn tell(told: &mut String, case: &Case, answer: &[u8]) -> Result<(), AllocError> {
+    write!(told, "line {}, ", case.line)?;
+    show(told, case.word(0))?;
+    told.push_str(": gave ")?;
+    show(told, answer)?;
+    told.push_str(", wanted ")?;
+    show(told, case.wanted.as_slice())
 }

@@ -89,15 +89,13 @@ impl Table {
 
     /// Takes a line that is the head of a text or a case.
     fn other(&mut self, line: &str) -> Result<Option<Case>, AllocError> {
-        if let Some(name) = line.strip_prefix("text ") {
-            self.texts.push(Text {
-                name: Vec::from_slice(self.alloc, name.as_bytes())?,
-                bytes: Vec::new(self.alloc),
-            })?;
-            return Ok(None);
+        match line.strip_prefix("text ") {
+            Some(name) => {
+                self.add_text(name, "")?;
+                Ok(None)
+            }
+            None => Ok(Some(self.case(line)?)),
         }
-        let case = self.case(line)?;
-        Ok(Some(case))
     }
 
     /// The case of a line.
@@ -106,27 +104,46 @@ impl Table {
             Some(parts) => parts,
             None => (line, "(no answer is wanted)"),
         };
-        let mut words = Vec::new(self.alloc);
-        for word in call.split(' ') {
-            words.push(self.meant(word.as_bytes())?)?;
-        }
+        let wanted = self.meant(wanted.as_bytes())?;
+        let words = self.words_of(call)?;
         Ok(Case {
             line: self.line,
             words,
-            wanted: self.meant(wanted.as_bytes())?,
+            wanted,
         })
+    }
+
+    /// What each of the words of a call stands for.
+    fn words_of(&self, call: &str) -> Result<Vec<Vec<u8>>, AllocError> {
+        let mut words = Vec::new(self.alloc);
+        for word in call.split(' ') {
+            let word = self.meant(word.as_bytes())?;
+            words.push(word)?;
+        }
+        Ok(words)
     }
 
     /// What a word stands for: a text of the table, or its bytes.
     fn meant(&self, word: &[u8]) -> Result<Vec<u8>, AllocError> {
-        if word.first() == Some(&b'@') {
-            for text in self.texts.iter().rev() {
-                if text.name.as_slice() == &word[1..] {
-                    return Vec::from_slice(self.alloc, text.bytes.as_slice());
-                }
+        match self.text_of(word) {
+            Some(bytes) => Vec::from_slice(self.alloc, bytes),
+            None => unescaped(self.alloc, word),
+        }
+    }
+
+    /// The text to which a word refers; of those of one name the last.
+    fn text_of(&self, word: &[u8]) -> Option<&[u8]> {
+        if word.first() != Some(&b'@') {
+            return None;
+        }
+        let texts = self.texts.as_slice();
+        for back in 0..texts.len() {
+            let text = &texts[texts.len() - 1 - back];
+            if text.name.as_slice() == &word[1..] {
+                return Some(text.bytes.as_slice());
             }
         }
-        unescaped(self.alloc, word)
+        None
     }
 
     /// Adds to the text that was begun last.
@@ -143,18 +160,31 @@ impl Table {
 
     /// Adds so many times to the text that was begun last.
     fn repeat(&mut self, line: &str) -> Result<(), AllocError> {
-        let Some((times, rest)) = line.split_once(' ') else {
-            return Ok(());
-        };
-        let times = times.trim_start_matches('*').parse::<u64>().unwrap_or(0);
+        match line.split_once(' ') {
+            Some((times, rest)) => {
+                let times = times.trim_start_matches('*').parse::<u64>();
+                self.add_times(times.unwrap_or(0), rest)
+            }
+            None => Ok(()),
+        }
+    }
+
+    /// Adds so many times.
+    fn add_times(&mut self, times: u64, rest: &str) -> Result<(), AllocError> {
         for time in 0..times {
             let number = format!(in self.alloc; "{time}")?;
-            for (at, piece) in rest.split('%').enumerate() {
-                if at > 0 {
-                    self.add(number.as_bytes(), false)?;
-                }
-                self.add(piece.as_bytes(), false)?;
-            }
+            self.add_once(rest, number.as_bytes())?;
+        }
+        Ok(())
+    }
+
+    /// Adds the text with this number for each `%` in it.
+    fn add_once(&mut self, rest: &str, number: &[u8]) -> Result<(), AllocError> {
+        let mut between = b"".as_slice();
+        for piece in rest.split('%') {
+            self.add(between, false)?;
+            self.add(piece.as_bytes(), false)?;
+            between = number;
         }
         Ok(())
     }

@@ -87,8 +87,8 @@ fn id(alloc: Global, map: &Map, node: Option<u32>) -> Result<Vec<u8>, AllocError
 {
     let mut text = Vec::new(alloc);
     match node {
-        Some(node) => append_signed(&mut text, map.node_id(node))?,
-        None => append_bytes(&mut text, b"none")?,
-    }
+        Some(node) => append_signed(&mut text, map.node_id(node)),
+        None => append_bytes(&mut text, b"none"),
+    }?;
     Ok(text)
 }

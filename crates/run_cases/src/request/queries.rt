@@ -3,7 +3,7 @@
 use case_inputs::Case;
 use context_check::Overrides;
 use geo_int::Spot;
-use item_list::{append_bytes, append_number, append_signed};
+use item_list::{append_bytes, append_named, append_signed};
 use nogo_areas::Circle;
 use route_http::{Form, Request, request};
 use std::alloc::{AllocError, Global};
@@ -19,25 +19,26 @@ pub(crate) fn answer(alloc: Global, case: &Case) -> Result<Vec<u8>, AllocError> 
 /// What a request asks for, in one line.
 fn shown(alloc: Global, asked: &Request) -> Result<Vec<u8>, AllocError> {
     let mut out = Vec::new(alloc);
-    'spots: for spot in asked.waypoints.as_slice() {
-        append_spot(&mut out, *spot)?;
-        append_bytes(&mut out, b" ")?;
-    }
-    append_bytes(&mut out, b"not")?;
-    'circles: for circle in asked.circles.as_slice() {
-        append_circle(&mut out, circle)?;
-    }
-    append_bytes(&mut out, b" by ")?;
-    append_bytes(&mut out, asked.profile.as_slice())?;
-    append_bytes(&mut out, b" ")?;
-    append_number(&mut out, u64::from(asked.alternative))?;
-    append_bytes(&mut out, form_word(asked.form))?;
-    append_number(&mut out, asked.labels)?;
-    append_overrides(&mut out, &asked.overrides)?;
-    if asked.runs {
-        append_bytes(&mut out, b" runs")?;
-    }
+    append_asked(&mut out, asked)?;
     Ok(out)
+}
+
+/// Appends what a request asks for.
+fn append_asked(out: &mut Vec<u8>, asked: &Request) -> Result<(), AllocError> {
+    'spots: for spot in asked.waypoints.as_slice() {
+        append_spot(out, *spot)?;
+        append_bytes(out, b" ")?;
+    }
+    append_bytes(out, b"not")?;
+    'circles: for circle in asked.circles.as_slice() {
+        append_circle(out, circle)?;
+    }
+    append_bytes(out, b" by ")?;
+    append_bytes(out, asked.profile.as_slice())?;
+    append_named(out, b" ", u64::from(asked.alternative))?;
+    append_named(out, form_word(asked.form), asked.labels)?;
+    append_overrides(out, &asked.overrides)?;
+    append_bytes(out, if asked.runs { b" runs" } else { b"" })
 }
 
 /// A spot by its longitude and latitude in microdegrees.
@@ -51,8 +52,7 @@ fn append_spot(out: &mut Vec<u8>, spot: Spot) -> Result<(), AllocError> {
 fn append_circle(out: &mut Vec<u8>, circle: &Circle) -> Result<(), AllocError> {
     append_bytes(out, b" ")?;
     append_spot(out, circle.centre)?;
-    append_bytes(out, b",")?;
-    append_number(out, circle.radius)
+    append_named(out, b",", circle.radius)
 }
 
 /// The word of a form.

@@ -5,7 +5,7 @@ ghost use Rattle.route_http.specs.Seen.{asked};
 
 use crate::route::call_of;
 use crate::route::inputs::{is_within, word};
-use crate::route::tracks::{costs_told, told};
+use crate::route::tracks::{append_costs, append_track};
 use crate::route::turns::in_turns;
 use crate::told::outside;
 use crate::worlds::world_of;
@@ -100,8 +100,10 @@ fn track_told(
     world: &World,
     track: &Track,
 ) -> Result<Vec<u8>, AllocError> {
+    let mut text = Vec::new(alloc);
     match call_of(case) {
-        0 => told(alloc, world.map(), track),
-        _ => costs_told(alloc, track),
-    }
+        0 => append_track(&mut text, world.map(), track),
+        _ => append_costs(&mut text, track.legs.as_slice()),
+    }?;
+    Ok(text)
 }

@@ -33,10 +33,10 @@ fn store_new(
     name: &[u8],
     profile: Profile,
 ) -> Result<(), AllocError> {
-    let owned = Items::from_vec(bytes_of(alloc, name)?);
     match shelf.find(name) {
         Some(_) => Ok(()),
         None => {
+            let owned = Items::from_vec(bytes_of(alloc, name)?);
             shelf.add(owned, profile)?;
             Ok(())
         }

@@ -64,11 +64,12 @@ fn turned(alloc: Global, world: &World, job: TableJob, quota: u32) -> Result<Vec
 
 /// The rows of a job behind its counts.
 fn found(alloc: Global, job: &TableJob, turns: u64) -> Result<Vec<u8>, AllocError> {
-    let mut text = counts(alloc, job, turns)?;
+    let mut text = Vec::new(alloc);
+    append_counts(&mut text, job, turns)?;
     match job.costs() {
-        Some(table) => append_table(&mut text, table)?,
-        None => append_bytes(&mut text, b"no table is there")?,
-    }
+        Some(table) => append_table(&mut text, table),
+        None => append_bytes(&mut text, b"no table is there"),
+    }?;
     Ok(text)
 }
 
@@ -79,22 +80,21 @@ fn refused(
     turns: u64,
     error: RouteError,
 ) -> Result<Vec<u8>, AllocError> {
-    let mut text = counts(alloc, job, turns)?;
-    append_bytes(&mut text, b" ")?;
-    if job.costs().is_some() {
-        append_bytes(&mut text, b"a table is there: ")?;
-    }
+    let mut text = Vec::new(alloc);
+    append_counts(&mut text, job, turns)?;
+    match job.costs() {
+        Some(_) => append_bytes(&mut text, b" a table is there: "),
+        None => append_bytes(&mut text, b" "),
+    }?;
     let told = line(alloc, &error, None)?;
     append_bytes(&mut text, told.as_slice())?;
     Ok(text)
 }
 
-/// How many turns a job took, and how many labels it settled.
-fn counts(alloc: Global, job: &TableJob, turns: u64) -> Result<Vec<u8>, AllocError> {
-    let mut text = Vec::new(alloc);
-    append_named(&mut text, b"turns ", turns)?;
-    append_named(&mut text, b" settled ", job.settled())?;
-    Ok(text)
+/// Appends how many turns a job took, and how many labels it settled.
+fn append_counts(text: &mut Vec<u8>, job: &TableJob, turns: u64) -> Result<(), AllocError> {
+    append_named(text, b"turns ", turns)?;
+    append_named(text, b" settled ", job.settled())
 }
 
 /// Appends the rows of a table, each behind a space.

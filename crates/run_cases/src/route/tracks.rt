@@ -2,24 +2,10 @@
 
 use item_list::{Items, append_bytes, append_number, append_signed, append_wide};
 use overpass_graph::Map;
-use std::alloc::{AllocError, Global};
+use std::alloc::AllocError;
 use track_legs::{Leg, Track};
 
-/// What a track costs and ranks, and with nodes, legs and earlier alternatives.
-pub(crate) fn told(alloc: Global, map: &Map, track: &Track) -> Result<Vec<u8>, AllocError> {
-    let mut text = Vec::new(alloc);
-    append_track(&mut text, map, track)?;
-    Ok(text)
-}
-
-/// What a track costs and ranks.
-pub(crate) fn costs_told(alloc: Global, track: &Track) -> Result<Vec<u8>, AllocError> {
-    let mut text = Vec::new(alloc);
-    append_costs(&mut text, track.legs.as_slice())?;
-    Ok(text)
-}
-
-/// Appends a track.
+/// Appends what a track costs and ranks, its nodes, its legs and the earlier alternatives.
 pub(crate) fn append_track(text: &mut Vec<u8>, map: &Map, track: &Track) -> Result<(), AllocError> {
     append_costs(text, track.legs.as_slice())?;
     append_nodes(text, map, track.nodes.as_slice())?;
@@ -28,7 +14,7 @@ pub(crate) fn append_track(text: &mut Vec<u8>, map: &Map, track: &Track) -> Resu
 }
 
 /// Appends the sums of what legs cost and rank.
-fn append_costs(text: &mut Vec<u8>, legs: &[Leg]) -> Result<(), AllocError> {
+pub(crate) fn append_costs(text: &mut Vec<u8>, legs: &[Leg]) -> Result<(), AllocError> {
     let mut cost = 0u128;
     let mut rank = 0u128;
     'legs: for place in 0..legs.len() {

@@ -105,27 +105,27 @@ fn turned(alloc: Global, world: &World, job: Job, quota: u32) -> Result<Vec<u8>,
 
 /// The track of a job behind its counts.
 fn found(alloc: Global, map: &Map, job: &Job, turns: u64) -> Result<Vec<u8>, AllocError> {
-    let mut text = counts(alloc, job, turns)?;
+    let mut text = Vec::new(alloc);
+    append_counts(&mut text, job, turns)?;
     match job.track() {
-        Some(track) => append_track(&mut text, map, track)?,
-        None => append_bytes(&mut text, b"no track is there")?,
-    }
+        Some(track) => append_track(&mut text, map, track),
+        None => append_bytes(&mut text, b"no track is there"),
+    }?;
     Ok(text)
 }
 
 /// The line of a job's refusal behind its counts.
 fn refused(alloc: Global, job: &Job, turns: u64, error: RouteError) -> Result<Vec<u8>, AllocError> {
-    let mut text = counts(alloc, job, turns)?;
+    let mut text = Vec::new(alloc);
+    append_counts(&mut text, job, turns)?;
     let told = line(alloc, &error, None)?;
     append_bytes(&mut text, told.as_slice())?;
     Ok(text)
 }
 
-/// How many turns a job took, and how many labels it settled.
-fn counts(alloc: Global, job: &Job, turns: u64) -> Result<Vec<u8>, AllocError> {
-    let mut text = Vec::new(alloc);
-    append_named(&mut text, b"turns ", turns)?;
-    append_named(&mut text, b" settled ", job.settled())?;
-    append_bytes(&mut text, b" ")?;
-    Ok(text)
+/// Appends how many turns a job took, and how many labels it settled.
+fn append_counts(text: &mut Vec<u8>, job: &Job, turns: u64) -> Result<(), AllocError> {
+    append_named(text, b"turns ", turns)?;
+    append_named(text, b" settled ", job.settled())?;
+    append_bytes(text, b" ")
 }

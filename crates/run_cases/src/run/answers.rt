@@ -114,7 +114,7 @@ pub(crate) fn append_edge(
 
 /// Appends the number and the line of want of memory, which no command line is sure to meet.
 pub(crate) fn append_no_memory(told: &mut Vec<u8>, alloc: Global) -> Result<(), AllocError> {
-    let line = Status::NoMemory.line(alloc)?;
     append_number(told, u64::from(Status::NoMemory.number()))?;
+    let line = Status::NoMemory.line(alloc)?;
     append_in_brackets(told, line.as_slice())
 }
