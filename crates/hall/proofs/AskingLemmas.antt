@@ -1,91 +1,93 @@
 -- What a session asks for that waits.
-use Rattle.std.proofs.Common.{◌≡◌, ℕ, List, [], Option, Some, None, Ok, inl, inr, refl, sym, ◌∙◌, ap, subst}
+use Rattle.std.proofs.Common.{◌≡◌, ◌≤◌, ℕ, suc, List, [], Option, Some, None, inl, inr, refl, sym, ◌∙◌, ap, subst, arith}
 use Rattle.std.proofs.lemmas.Bool.{cases_eq}
 use Rattle.edge_io.specs.Acts.{Act}
 use Rattle.edge_io.specs.declared.event.Event.TheVariants as event
 use Rattle.edge_io.specs.declared.event.Event.{Event}
 use Rattle.hall_seats.proofs.ChangeLemmas.{Changes, changes_gone, changes_now, changes_put}
 use Rattle.hall_seats.proofs.SoundInLemmas.{IsLeft, is_gone, is_same, is_more, left_serves}
-use Rattle.hall_seats.specs.Parts.{waiting_for}
 use Rattle.hall_seats.specs.Sends.{IsPiece, sent_more, ServesEach}
 use Rattle.hall_seats.specs.State.{Connection, Phase, Reading, Waits, Answered, Silent, Service, State, freed, left_as, put}
 use Rattle.hall_seats.specs.Steps as steps
 use Rattle.hall_seats.specs.Steps.{AsksFor, GoesOn, Hears, Loses, Opens, Step, Takes, Works, session, turned_away, with_bytes, with_end}
 use Rattle.hall_seats.specs.Sends.ServesEach.{none as none_served, more as more_served}
 use Rattle.route_http.specs.Asked.{Asked}
-use Rattle.route_http.specs.Request.{request_of}
-use Rattle.route_http.specs.declared.span.Span.{Span}
-use Rattle.session_answers.proofs.CallerLemmas.{verdict_unique}
-use Rattle.session_answers.specs.Aims.{most_for}
+use Rattle.session_answers.specs.Searches.{turns_for}
 use Rattle.session_answers.specs.Stored.{Stored}
-use Rattle.session_answers.specs.Verdicts.{part}
-use Rattle.session_answers.specs.declared.aim.Aim.{Aim}
-use Rattle.session_answers.specs.declared.verdict.Verdict.TheVariants.{Query}
+use Rattle.route_engine.specs.declared.aim.Aim.{Aim}
 
 -- ---- What a session asks
 
--- a session asks for something
-abbrev pub Asks : Connection → Type 0
-Asks c = (aim : Aim) × (asked : Asked) × AsksFor c aim asked
+-- a session asks for something, for which so many turns may be left
+abbrev pub Asks : Connection → ℕ → Type 0
+Asks c due = (aim : Aim) × (asked : Asked) × AsksFor c aim asked × (due ≤ turns_for aim asked)
 
 -- each that waits does
 abbrev pub AreAsking : State → Type 0
-AreAsking s = (id : ℕ) (c : Connection) (settled : ℕ) → s.known id ≡ Some c → c.phase ≡ Waits settled → Asks c
+AreAsking s = (id : ℕ) (c : Connection) (due : ℕ) → s.known id ≡ Some c → c.phase ≡ Waits due → Asks c due
 
 -- so it is after one changes that asks where it waits
 asking_by : (s new : State) (id : ℕ) (x : Option Connection) (added : List Stored) → Changes s new id x added → AreAsking s →
-    ((c : Connection) (settled : ℕ) → x ≡ Some c → c.phase ≡ Waits settled → Asks c) → AreAsking new
-asking_by s new id x added changes all mine j c settled known waits =
+    ((c : Connection) (due : ℕ) → x ≡ Some c → c.phase ≡ Waits due → Asks c due) → AreAsking new
+asking_by s new id x added changes all mine j c due known waits =
     elim (cases_eq j id) [
-      | inl same ↦ mine c settled (sym changes.here ∙ sym (ap new.known same) ∙ known) waits
-      | inr other ↦ all j c settled (sym (changes.others j other) ∙ known) waits
+      | inl same ↦ mine c due (sym changes.here ∙ sym (ap new.known same) ∙ known) waits
+      | inr other ↦ all j c due (sym (changes.others j other) ∙ known) waits
     ]
 
 -- nobody is there, or is as far as this, and waits
-gone_asks : (c : Connection) (settled : ℕ) → None ≡ Some c → c.phase ≡ Waits settled → Asks c
-gone_asks c settled is waits = cc
+gone_asks : (c : Connection) (due : ℕ) → None ≡ Some c → c.phase ≡ Waits due → Asks c due
+gone_asks c due is waits = cc
 
-idle_asks : (now c : Connection) (p : Phase) (settled : ℕ) → now.phase ≡ p → (p ≡ Waits settled → ⊥) → Some now ≡ Some c →
-    c.phase ≡ Waits settled → Asks c
-idle_asks now c p settled is never same waits =
+idle_asks : (now c : Connection) (p : Phase) (due : ℕ) → now.phase ≡ p → (p ≡ Waits due → ⊥) → Some now ≡ Some c →
+    c.phase ≡ Waits due → Asks c due
+idle_asks now c p due is never same waits =
     let one : now ≡ c = cc in
     absurd (never (sym is ∙ ap (λ (d : Connection). d.phase) one ∙ waits))
 
 -- one that is this asks where this asks
-own_asks : (now c : Connection) (settled : ℕ) → ((n : ℕ) → now.phase ≡ Waits n → Asks now) → Some now ≡ Some c →
-    c.phase ≡ Waits settled → Asks c
-own_asks now c settled asks same waits =
+own_asks : (now c : Connection) (due : ℕ) → ((n : ℕ) → now.phase ≡ Waits n → Asks now n) → Some now ≡ Some c →
+    c.phase ≡ Waits due → Asks c due
+own_asks now c due asks same waits =
     let one : now ≡ c = cc in
-    subst Asks one (asks settled (ap (λ (d : Connection). d.phase) one ∙ waits))
+    subst (λ (d : Connection). Asks d due) one (asks due (ap (λ (d : Connection). d.phase) one ∙ waits))
 
 -- a session that waits after its bytes asks for what its query spells
-takes_asks : (service : Service) (stored : List Stored) (old c now : Connection) (added : List Stored) (settled : ℕ) → c.phase ≡ Reading →
-    Takes service stored old c now added → now.phase ≡ Waits settled → Asks now
-takes_asks service stored old c now added settled reads (steps.undecided is) waits =
-    (let clash : Reading ≡ Waits settled = sym reads ∙ waits in cc)
-takes_asks service stored old c now added settled reads (steps.silent is) waits = cc
-takes_asks service stored old c now added settled reads (steps.refused is) waits = cc
-takes_asks service stored old c now added settled reads (steps.upload is) waits = cc
-takes_asks service stored old c now added settled reads (steps.early is answers) waits = cc
-takes_asks service stored old c now added settled reads (steps.waits {aim} {span} is searched) waits =
-    (aim, searched.asked, record { span = span; verdict = is; spells = searched.asks.asks })
-takes_asks service stored old c now added settled reads (steps.gives_up some which) waits = cc
+takes_asks : (service : Service) (stored : List Stored) (old c now : Connection) (added : List Stored) (due : ℕ) → c.phase ≡ Reading →
+    Takes service stored old c now added → now.phase ≡ Waits due → Asks now due
+takes_asks service stored old c now added due reads (steps.undecided is) waits =
+    (let clash : Reading ≡ Waits due = sym reads ∙ waits in cc)
+takes_asks service stored old c now added due reads (steps.silent is) waits = cc
+takes_asks service stored old c now added due reads (steps.refused is) waits = cc
+takes_asks service stored old c now added due reads (steps.upload is) waits = cc
+takes_asks service stored old c now added due reads (steps.early is answers) waits = cc
+takes_asks service stored old c now added due reads (steps.waits {aim} {span} is searched) waits =
+    let same : turns_for aim searched.asked ≡ due = cc in
+    (aim, searched.asked, record { span = span; verdict = is; spells = searched.asks.asks }, omega (arith, same))
+takes_asks service stored old c now added due reads (steps.gives_up some which) waits = cc
 
-goes_asks : (service : Service) (stored : List Stored) (c now : Connection) (settled : ℕ) → GoesOn service stored c now →
-    now.phase ≡ Waits settled → Asks now
-goes_asks service stored c now settled (steps.more {aim} {asked} phase asks few) waits =
-    (aim, asked, record { span = asks.span; verdict = asks.verdict; spells = asks.spells })
-goes_asks service stored c now settled (steps.answers phase asked within answers) waits = cc
-goes_asks service stored c now settled (steps.gives_up phase) waits = cc
+goes_asks : (service : Service) (stored : List Stored) (c now : Connection) (due : ℕ) →
+    ((n : ℕ) → c.phase ≡ Waits n → Asks c n) → GoesOn service stored c now → now.phase ≡ Waits due → Asks now due
+goes_asks service stored c now due before (steps.more {due = next} phase) waits =
+    let same : next ≡ due = cc in
+    let was = before (suc next) phase in
+    (
+      was.0,
+      was.1,
+      record { span = was.2.span; verdict = was.2.verdict; spells = was.2.spells },
+      omega (arith, same, was.3),
+    )
+goes_asks service stored c now due before (steps.answers phase asked within answers) waits = cc
+goes_asks service stored c now due before (steps.gives_up phase) waits = cc
 
 asking_opens : (s : State) (id : ℕ) (new : State) (shut : Option ℕ) → AreAsking s → Opens s id new shut → AreAsking new
 asking_opens s id new shut all (steps.again known) = all
 asking_opens s id new shut all (steps.held none room) =
     asking_by s new id (Some session) [] (changes_put s id (Some session)) all
-    (λ c settled. idle_asks session c Reading settled refl (λ clash. cc))
+    (λ c due. idle_asks session c Reading due refl (λ clash. cc))
 asking_opens s id new shut all (steps.away none many room) =
     asking_by s new id (Some turned_away) [] (changes_put s id (Some turned_away)) all
-    (λ c settled. idle_asks turned_away c (turned_away.phase) settled refl (λ clash. cc))
+    (λ c due. idle_asks turned_away c (turned_away.phase) due refl (λ clash. cc))
 asking_opens s id new shut all (steps.full none many turned) = all
 
 asking_hears : (service : Service) (s : State) (id : ℕ) (heard : Connection → Connection) (new : State) →
@@ -93,7 +95,7 @@ asking_hears : (service : Service) (s : State) (id : ℕ) (heard : Connection �
 asking_hears service s id heard new alike all (steps.ignored unread) = all
 asking_hears service s id heard new alike all (steps.kept {c} {now} {added} known reads takes) =
     asking_by s new id (Some now) added (changes_now s s.waiting id now added) all
-    (λ d settled. own_asks now d settled
+    (λ d due. own_asks now d due
     (λ n. takes_asks service s.stored c (heard c) now added n (alike c ∙ reads) takes))
 
 asking_loses : (s : State) (id : ℕ) (new : State) → AreAsking s → Loses s id new → AreAsking new
@@ -114,40 +116,27 @@ pub asking_works : (service : Service) (s new : State) → AreAsking s → Works
 asking_works service s new all (steps.idle none) = all
 asking_works service s new all (steps.turn {id} {rest} {c} {now} first known goes) =
     asking_by s new id (Some now) [] (changes_now s rest id now []) all
-    (λ d settled. own_asks now d settled (λ n. goes_asks service s.stored c now n goes))
+    (λ d due. own_asks now d due (λ n. goes_asks service s.stored c now n (λ m. all id c m known) goes))
 
 -- who has a piece doesn't wait after more of it is sent
-more_waits : (p : Phase) (piece : List ℕ) (n settled : ℕ) → IsPiece p piece → sent_more p n ≡ Waits settled → ⊥
-more_waits Reading piece n settled is waits = is
-more_waits (Waits m) piece n settled is waits = is
-more_waits (Answered frame sent) piece n settled is waits = cc
-more_waits Silent piece n settled is waits = is
+more_waits : (p : Phase) (piece : List ℕ) (n due : ℕ) → IsPiece p piece → sent_more p n ≡ Waits due → ⊥
+more_waits Reading piece n due is waits = is
+more_waits (Waits m) piece n due is waits = is
+more_waits (Answered frame sent) piece n due is waits = cc
+more_waits Silent piece n due is waits = is
 
 asking_left : (s : State) (id : ℕ) (c : Connection) (left : Option Connection) → s.known id ≡ Some c → AreAsking s → IsLeft c left →
     AreAsking (left_as s id left)
 asking_left s id c left known all is_gone = asking_by s (freed s id) id None [] (changes_gone s id) all gone_asks
 asking_left s id c left known all is_same =
     asking_by s (put s id (Some c)) id (Some c) [] (changes_put s id (Some c)) all
-    (λ d settled. own_asks c d settled (λ n. all id c n known))
+    (λ d due. own_asks c d due (λ n. all id c n known))
 asking_left s id c left known all (is_more piece n is fits) =
     let now : Connection = record c { phase = sent_more c.phase n } in
     asking_by s (put s id (Some now)) id (Some now) [] (changes_put s id (Some now)) all
-    (λ d settled. idle_asks now d (sent_more c.phase n) settled refl (more_waits c.phase piece n settled is))
+    (λ d due. idle_asks now d (sent_more c.phase n) due refl (more_waits c.phase piece n due is))
 
 pub asking_each : (s new : State) (ids : List ℕ) (acts : List Act) → AreAsking s → ServesEach s ids acts new → AreAsking new
 asking_each s new ids acts all none_served = all
 asking_each s new ids acts all (more_served {ids = first} {id} {acts = before} {own} {between} {c} {left} each known serves) =
     asking_left between id c left known (asking_each s between first before all each) (left_serves id c own left serves)
-
--- a session asks for one thing, however much is settled for it: as much may be
-pub most_once : (c : Connection) (m n : ℕ) (p q : Aim) (a b : Asked) → AsksFor (waiting_for c m) p a → AsksFor (waiting_for c n) q b →
-    most_for p a ≡ most_for q b
-most_once c m n p q a b one other =
-    let verdict : Query p one.span ≡ Query q other.span =
-    verdict_unique c.bytes c.ended (Query p one.span) (Query q other.span) one.verdict other.verdict in
-    let aim : p ≡ q = cc in
-    let span : one.span ≡ other.span = cc in
-    let spelt : Ok a ≡ Ok b =
-    sym one.spells ∙ ap (λ (x : Span). request_of (part c.bytes x)) span ∙ other.spells in
-    let same : a ≡ b = cc in
-    λ i. most_for (aim i) (same i)

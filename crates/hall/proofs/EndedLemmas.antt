@@ -57,9 +57,9 @@ split service s new n acts (more {n = made} {acts = early} {own} {between} {even
 -- in turns from a hall without connections no search went on for ever
 pub ended_each_wait : (service : Service) (given : List Stored) (new : State) (n : ℕ) (acts : List Act)
     (turns : Turns service (empty_hall given) n acts new) → EndsEachWait service → EndedEachWait turns
-ended_each_wait service given new n acts turns law k state is id settled c known phase =
+ended_each_wait service given new n acts turns law k state is id due c known phase =
     let parts = split service (empty_hall given) new n acts turns k state is in
-    let waits = law given k parts.first state parts.before id settled c known phase in
+    let waits = law given k parts.first state parts.before id due c known phase in
     record {
       aim = waits.aim;
       asked = waits.asked;

@@ -151,7 +151,7 @@ takes_away service stored old c now added alike (steps.gives_up {kept} some whic
     ]
 
 goes_away : (service : Service) (stored : List Stored) (c now : Connection) → GoesOn service stored c now → now.away ≡ c.away
-goes_away service stored c now (steps.more waits asks few) = refl
+goes_away service stored c now (steps.more waits) = refl
 goes_away service stored c now (steps.answers waits asked within answers) = refl
 goes_away service stored c now (steps.gives_up waits) = refl
 
@@ -240,5 +240,5 @@ few_wait service s sound few =
     let waits = sound.queued.waits j is in
     ap (λ (x : Option Connection). count_at x false 0) waits.known
     ∙ ap (λ (b : Bool). cond (beq b false) 1 0)
-    (waits_sound service s.stored waits.c waits.c.phase waits.settled (sound.sound j waits.c waits.known) waits.phase)) in
+    (waits_sound service s.stored waits.c waits.c.phase waits.due (sound.sound j waits.c waits.known) waits.phase)) in
     omega (arith, most, few.1.is, few.2)

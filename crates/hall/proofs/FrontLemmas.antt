@@ -19,11 +19,11 @@ use Rattle.hall_seats.specs.declared.seat.Seat.{Seat}
 use Rattle.session_answers.specs.Profiles.{stored_of}
 use Rattle.session_answers.specs.declared.profiles.Profiles.{Profiles}
 
-waits_in : (p : Kept) (settled : ℕ) → phase_in p ≡ Waits settled → IsWaitingIn p
-waits_in phases.Reading settled is = cc
-waits_in (phases.Waits pending place) settled is = tt
-waits_in (phases.Answered frame sent) settled is = cc
-waits_in phases.Silent settled is = cc
+waits_in : (p : Kept) (due : ℕ) → phase_in p ≡ Waits due → IsWaitingIn p
+waits_in phases.Reading due is = cc
+waits_in (phases.Waits pending place) due is = tt
+waits_in (phases.Answered frame sent) due is = cc
+waits_in phases.Silent due is = cc
 
 module _ (room : Room) (held : IsHeld room) (id : ℕ) (rest : List ℕ) (first : room.desk.queue.items ≡ id ∷ rest) where
   -- the one that waited longest is known, and waits
@@ -46,7 +46,7 @@ module _ (room : Room) (held : IsHeld room) (id : ℕ) (rest : List ℕ) (first 
       let one : Some (connection_of seat) ≡ Some front.c = sym (lifted_known room held k seat has) ∙ ap (state_in room).known own
       ∙ front.known in
       let alike : connection_of seat ≡ front.c = cc in
-      (own, waits_in seat.phase front.settled (ap (λ (d : Connection). d.phase) alike ∙ front.phase))
+      (own, waits_in seat.phase front.due (ap (λ (d : Connection). d.phase) alike ∙ front.phase))
 
 -- it has its turn
 module _ (room new : Room) (held : IsHeld room) (k : ℕ) (seat made : Seat) (back : IsReplaced room new k seat (Some made)) where

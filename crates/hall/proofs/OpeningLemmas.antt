@@ -21,7 +21,6 @@ use Rattle.route_ready.specs.World.{world_of}
 use Rattle.route_ready.specs.Worlds.{WorldValue}
 use Rattle.session_answers.specs.Profiles.{stored_of}
 use Rattle.session_answers.specs.Received.{received_of}
-use Rattle.session_answers.specs.Searches.{settled_by}
 use Rattle.session_answers.specs.Stored.{Stored}
 
 module _ (room new : Room) (held : IsHeld room) (id : ℕ) (none : (state_in room).known id ≡ None) (seat : Seat) (desk :
@@ -92,9 +91,9 @@ is_full room held seen away same many = (
 
 -- where no search waits, none has to be that of its connection
 still_in : (world : WorldValue) (stored : List Stored) (bytes : List ℕ) (ended : Bool) (whole : Option ℕ) (p : Kept) →
-    ((settled : ℕ) → phase_in p ≡ Waits settled → ⊥) → IsSearchIn world stored bytes ended whole p
+    ((due : ℕ) → phase_in p ≡ Waits due → ⊥) → IsSearchIn world stored bytes ended whole p
 still_in world stored bytes ended whole phases.Reading still = tt
-still_in world stored bytes ended whole (phases.Waits pending place) still = absurd (still (settled_by pending) refl)
+still_in world stored bytes ended whole (phases.Waits pending place) still = absurd (still pending.left refl)
 still_in world stored bytes ended whole (phases.Answered frame sent) still = tt
 still_in world stored bytes ended whole phases.Silent still = tt
 
@@ -120,7 +119,7 @@ module _ (room new : Room) (held : IsHeld room) (id : ℕ) (c : Connection) (get
   known_is : connection_of gets.seat ≡ c
   known_is = ap (λ (x : Seated). x.known) gets.is
 
-  opens_by : ((settled : ℕ) → c.phase ≡ Waits settled → ⊥) → count_of (seats_of room.seats.items) c.away < most_sessions →
+  opens_by : ((due : ℕ) → c.phase ≡ Waits due → ⊥) → count_of (seats_of room.seats.items) c.away < most_sessions →
       Opens (state_in room) id (put (state_in room) id (Some c)) None →
       Becomes room new (λ (s : State). Opens (state_in room) id s None)
   opens_by still few opens =
@@ -129,7 +128,7 @@ module _ (room new : Room) (held : IsHeld room) (id : ℕ) (c : Connection) (get
       (sym (opened_state room new held id gets.none gets.seat gets.desk gets.placed own_is c known_is)) opens)
       (still_in (world_of new.desk.world) (stored_of new.desk.profiles) (received_of gets.seat.received) gets.seat.ended gets.seat.before
       gets.seat.phase
-      (λ settled waits. still settled (sym (ap (λ (d : Connection). d.phase) known_is) ∙ waits)))
+      (λ due waits. still due (sym (ap (λ (d : Connection). d.phase) known_is) ∙ waits)))
       (λ away. subst (λ (b : Bool). count_of (seats_of room.seats.items) away + cond (beq b away) 1 0 ≤ most_sessions)
       (sym (ap (λ (d : Connection). d.away) known_is))
       (few_more (seats_of room.seats.items) c.away away held.few few))
@@ -138,11 +137,11 @@ module _ (room new : Room) (held : IsHeld room) (id : ℕ) (c : Connection) (get
 pub opens_held : (room new : Room) (held : IsHeld room) (id : ℕ) → GetsSeat room new id session →
     count_of (seats_of room.seats.items) false < most_sessions → Becomes room new (λ (s : State). Opens (state_in room) id s None)
 opens_held room new held id gets few =
-    opens_by room new held id session gets (λ settled waits. cc) few
+    opens_by room new held id session gets (λ due waits. cc) few
     (steps.held gets.none (has_room room held room.seats.items false refl few))
 
 pub opens_away : (room new : Room) (held : IsHeld room) (id : ℕ) → GetsSeat room new id turned_away → IsFull (state_in room) false →
     count_of (seats_of room.seats.items) true < most_sessions → Becomes room new (λ (s : State). Opens (state_in room) id s None)
 opens_away room new held id gets full few =
-    opens_by room new held id turned_away gets (λ settled waits. cc) few
+    opens_by room new held id turned_away gets (λ due waits. cc) few
     (steps.away gets.none full (has_room room held room.seats.items true refl few))

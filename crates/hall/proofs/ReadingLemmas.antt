@@ -20,9 +20,10 @@ use Rattle.session_answers.specs.Jobs.{AreKept, IsBegun}
 use Rattle.session_answers.specs.Profiles.{given_of, stored_of, uploads_of}
 use Rattle.session_answers.specs.Received.{received_of}
 use Rattle.session_answers.specs.Rows.{IsEarlyFrame}
+use Rattle.session_answers.specs.Searches.{turns_for}
 use Rattle.session_answers.specs.Stored.{Stored, Uploaded, upload_of}
 use Rattle.session_answers.specs.Verdicts.{IsVerdict, part}
-use Rattle.session_answers.specs.declared.aim.Aim.{Aim}
+use Rattle.route_engine.specs.declared.aim.Aim.{Aim}
 use Rattle.session_answers.specs.declared.profiles.Profiles.{Profiles}
 use Rattle.session_answers.specs.declared.refusal.Refusal.{Refusal}
 use Rattle.session_answers.specs.declared.search.Search.{Search}
@@ -171,7 +172,7 @@ module _ (desk : Desk) (kept : KeptProfiles) (are : AreKept (world_of desk.world
               subst (λ (m : ℕ). Takes (service_at desk) (stored_of desk.profiles) before (connection_of seat)
               (record (connection_of whole) { phase = Waits m }) []) (sym begun.fresh)
               (subst (λ (d : Connection). Takes (service_at desk) (stored_of desk.profiles) before (connection_of seat)
-              (record d { phase = Waits 0 }) []) (sym whole_is)
+              (record d { phase = Waits (turns_for aim begun.searched.asked) }) []) (sym whole_is)
               (steps.waits is begun.searched));
           stored = stored_same;
           waiting = queue;

@@ -21,7 +21,7 @@ use Rattle.hall_seats.specs.Steps as steps
 use Rattle.hall.specs.Turns.{Meets}
 use Rattle.session_answers.specs.Rows.{IsQueryFrame}
 use Rattle.session_answers.specs.Stored.{Stored}
-use Rattle.session_answers.specs.declared.aim.Aim.{Aim}
+use Rattle.route_engine.specs.declared.aim.Aim.{Aim}
 
 -- ---- A turn of work
 
@@ -42,17 +42,17 @@ module _ (service : Service) (meets : Meets) (stored : List Stored) (id : ℕ) (
   -- what is known of a connection whose search had a turn fits
   goes_fit : (now : Connection) → IsHeldSo service meets stored id acts c → GoesOn service stored c now →
       IsHeldSo service meets stored id acts now
-  goes_fit now at (steps.more {settled} waits asks few) =
+  goes_fit now at (steps.more {due} waits) =
       let fits = subst (FitsPhase service meets stored id acts c) waits at.by_phase in
       record { opened = at.opened; unclosed = at.unclosed; by_phase = fits }
-  goes_fit now at (steps.answers {settled} {before} {aim} {query} {frame} waits asked within answers) =
+  goes_fit now at (steps.answers {due} {before} {aim} {query} {frame} waits asked within answers) =
       let fits = subst (FitsPhase service meets stored id acts c) waits at.by_phase in
       record {
         opened = at.opened;
         unclosed = at.unclosed;
         by_phase = (row fits.0.decided (answer_row fits.0 before aim query frame asked answers), fits.1);
       }
-  goes_fit now at (steps.gives_up {settled} waits) =
+  goes_fit now at (steps.gives_up {due} waits) =
       let fits = subst (FitsPhase service meets stored id acts c) waits at.by_phase in
       record { opened = at.opened; unclosed = at.unclosed; by_phase = (memory fits.0.decided fits.0.some, fits.1) }
 
@@ -80,7 +80,7 @@ module _ (service : Service) (meets : Meets) (stored : List Stored) (id : ℕ) (
       (told id (acts ++ more)).sent ≡ (told id acts).sent ++ take n piece → FitsPhase service meets stored id acts c p →
       FitsPhase service meets stored id (acts ++ more) d (sent_more p n)
   took_phase c d more piece n Reading is within sent fits = absurd is
-  took_phase c d more piece n (Waits settled) is within sent fits = absurd is
+  took_phase c d more piece n (Waits due) is within sent fits = absurd is
   took_phase c d more piece n (Answered frame m) is within sent fits = (
     HasCause-more meets id acts more service frame fits.0,
     sent ∙ ap (λ (xs : List ℕ). xs ++ take n piece) fits.1 ∙ took_next frame piece m n is within,
@@ -121,7 +121,7 @@ module _ (service : Service) (meets : Meets) (stored : List Stored) (id : ℕ) (
   gets_whole : (p : Phase) → IsDone p → FitsPhase service meets stored id acts c p →
       GetsOwn service meets id (acts ++ (Closed id ∷ []))
   gets_whole Reading done fits = absurd done
-  gets_whole (Waits settled) done fits = absurd done
+  gets_whole (Waits due) done fits = absurd done
   gets_whole (Answered frame sent) done fits =
       let more : List Act = Closed id ∷ [] in
       let t = told-own id acts (Closed id) (eq-eqb id id refl) in

@@ -21,7 +21,7 @@ module _ (service : Service) (meets : Meets) where
     where
       by_phase : (p : Phase) → FitsPhase service meets stored id acts c p → GetsOwn service meets id acts
       by_phase Reading fits = waits fits.1 at.unclosed
-      by_phase (Waits settled) fits = waits fits.1 at.unclosed
+      by_phase (Waits due) fits = waits fits.1 at.unclosed
       by_phase Silent fits = waits fits.1 at.unclosed
       by_phase (Answered frame n) fits = own (record {
         frame = frame;
@@ -63,7 +63,7 @@ module _ (service : Service) (meets : Meets) where
       (p ≡ Reading → (since : List Act) → told id (since ++ more) ≡ told id since) → FitsPhase service meets stored id acts c p →
       FitsPhase service meets (stored ++ added) id (acts ++ more) c p
   fits_more stored added id acts more c Reading none same fits = (read_more id acts more c.bytes c.ended (same refl) fits.0, none ∙ fits.1)
-  fits_more stored added id acts more c (Waits settled) none same fits =
+  fits_more stored added id acts more c (Waits due) none same fits =
       (asked_more stored added id acts more c.bytes c.ended c.before fits.0, none ∙ fits.1)
   fits_more stored added id acts more c (Answered frame n) none same fits =
       (HasCause-more meets id acts more service frame fits.0, none ∙ fits.1)

@@ -34,7 +34,7 @@ pub record IsAsked (meets : Meets) (stored : List Stored) (id : ℕ) (acts : Lis
 -- so many first bytes of it; one that ended without a byte got nothing
 abbrev pub FitsPhase : Service → Meets → List Stored → ℕ → List Act → Connection → Phase → Type 0
 FitsPhase service meets stored id acts c Reading = IsRead meets id acts c.bytes c.ended × ((told id acts).sent ≡ [])
-FitsPhase service meets stored id acts c (Waits settled) =
+FitsPhase service meets stored id acts c (Waits due) =
     IsAsked meets stored id acts c.bytes c.ended c.before × ((told id acts).sent ≡ [])
 FitsPhase service meets stored id acts c (Answered frame sent) =
     HasCause service meets id acts frame × ((told id acts).sent ≡ take sent frame)

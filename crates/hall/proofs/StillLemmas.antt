@@ -1,5 +1,5 @@
 -- What a turn leaves of a session that waits, and of how many wait before it.
-use Rattle.std.proofs.Common.{◌≡◌, ◌≢◌, ◌⊎◌, ◌+◌, ◌≤◌, ℕ, suc, List, [], Option, Some, None, inl, inr, refl, sym, ◌∙◌, ap, subst}
+use Rattle.std.proofs.Common.{◌≡◌, ◌≢◌, ◌⊎◌, ℕ, suc, List, [], Option, Some, None, inl, inr, refl, sym, ◌∙◌, ap, subst}
 use Rattle.std.proofs.lemmas.Bool.{cases_eq}
 use Rattle.edge_io.specs.Acts.{Act}
 use Rattle.edge_io.specs.declared.event.Event.TheVariants as event
@@ -11,12 +11,9 @@ use Rattle.hall_seats.specs.Sends as sending
 use Rattle.hall_seats.specs.Sends.{Closes, IsDone, Sends, Serves, ServesEach}
 use Rattle.hall_seats.specs.State.{Connection, Phase, Reading, Waits, Answered, Silent, Service, State, changed, freed, left_as, put, waits_as, with_frame}
 use Rattle.hall_seats.specs.Steps as steps
-use Rattle.hall_seats.specs.Steps.{AsksFor, GoesOn, Hears, Loses, Opens, Step, Works, memory_frame, session, turned_away, with_bytes, with_end, work_quota}
+use Rattle.hall_seats.specs.Steps.{GoesOn, Hears, Loses, Opens, Step, Works, memory_frame, session, turned_away, with_bytes, with_end}
 use Rattle.hall_seats.specs.Sends.ServesEach.{none as none_served, more as more_served}
-use Rattle.route_http.specs.Asked.{Asked}
-use Rattle.session_answers.specs.Aims.{most_for}
 use Rattle.session_answers.specs.Stored.{Stored}
-use Rattle.session_answers.specs.declared.aim.Aim.{Aim}
 
 -- a session is as it was, and no more wait before it
 pub record IsStill (s new : State) (id : ℕ) (c : Connection) : Type 0 where
@@ -24,23 +21,21 @@ pub record IsStill (s new : State) (id : ℕ) (c : Connection) : Type 0 where
   pub first : (n : ℕ) → IsAmongFirst id n s.waiting → IsAmongFirst id n new.waiting
 
 -- a turn of work gives a session a frame; or it had its turn, and waits on; or one waits less before it
-pub data HasWorked (id : ℕ) (c : Connection) (settled : ℕ) (s new : State) : Type 0 where
-  framed : {frame : List ℕ} → new.known id ≡ Some (with_frame c frame) → HasWorked id c settled s new
-  waits_on :
-      {aim : Aim} {asked : Asked} → AsksFor c aim asked → settled + work_quota ≤ most_for aim asked →
-      new.known id ≡ Some (record c { phase = Waits (settled + work_quota) }) → HasWorked id c settled s new
+pub data HasWorked (id : ℕ) (c : Connection) (due : ℕ) (s new : State) : Type 0 where
+  framed : {frame : List ℕ} → new.known id ≡ Some (with_frame c frame) → HasWorked id c due s new
+  waits_on : {next : ℕ} → due ≡ suc next → new.known id ≡ Some (record c { phase = Waits next }) → HasWorked id c due s new
   nearer :
       new.known id ≡ Some c → ((n : ℕ) → IsAmongFirst id (suc n) s.waiting → IsAmongFirst id n new.waiting) →
-      HasWorked id c settled s new
+      HasWorked id c due s new
 
 -- who is done doesn't wait
-done_waits : (p : Phase) (settled : ℕ) → IsDone p → p ≡ Waits settled → ⊥
-done_waits Reading settled done waits = done
-done_waits (Waits n) settled done waits = done
-done_waits (Answered frame sent) settled done waits = cc
-done_waits Silent settled done waits = cc
+done_waits : (p : Phase) (due : ℕ) → IsDone p → p ≡ Waits due → ⊥
+done_waits Reading due done waits = done
+done_waits (Waits n) due done waits = done
+done_waits (Answered frame sent) due done waits = cc
+done_waits Silent due done waits = cc
 
-module _ (id : ℕ) (c : Connection) (settled : ℕ) (waits : c.phase ≡ Waits settled) where
+module _ (id : ℕ) (c : Connection) (due : ℕ) (waits : c.phase ≡ Waits due) where
   -- ---- An event
 
   still_same : (s : State) → s.known id ≡ Some c → IsStill s s id c
@@ -73,7 +68,7 @@ module _ (id : ℕ) (c : Connection) (settled : ℕ) (waits : c.phase ≡ Waits 
       λ e.
       let one : Some c ≡ Some d = sym known ∙ ap s.known e ∙ there in
       let same : c ≡ d = cc in
-      let clash : Reading ≡ Waits settled = sym reads ∙ ap (λ (x : Connection). x.phase) (sym same) ∙ waits in
+      let clash : Reading ≡ Waits due = sym reads ∙ ap (λ (x : Connection). x.phase) (sym same) ∙ waits in
       cc in
       record {
         known = (changes_now s s.waiting j now added).others id ne ∙ known;
@@ -110,8 +105,8 @@ module _ (id : ℕ) (c : Connection) (settled : ℕ) (waits : c.phase ≡ Waits 
     where
       sends_waits : (sends : List Act) (between : Option Connection) → Sends id c sends between → between ≡ Some c
       sends_waits sends between (sending.nothing none) = refl
-      sends_waits sends between (sending.taken piece n is fits) = absurd (piece_waits c.phase piece settled is waits)
-      sends_waits sends between (sending.broken piece is) = absurd (piece_waits c.phase piece settled is waits)
+      sends_waits sends between (sending.taken piece n is fits) = absurd (piece_waits c.phase piece due is waits)
+      sends_waits sends between (sending.broken piece is) = absurd (piece_waits c.phase piece due is waits)
 
       closes_waits : (between : Option Connection) (closes : List Act) (left : Option Connection) → between ≡ Some c →
           Closes id between closes left → left ≡ Some c
@@ -119,7 +114,7 @@ module _ (id : ℕ) (c : Connection) (settled : ℕ) (waits : c.phase ≡ Waits 
       closes_waits between closes left is (sending.stays open_still) = is
       closes_waits between closes left is (sending.done {c = d} done) =
           let same : d ≡ c = cc in
-          absurd (done_waits d.phase settled done (ap (λ (x : Connection). x.phase) same ∙ waits))
+          absurd (done_waits d.phase due done (ap (λ (x : Connection). x.phase) same ∙ waits))
 
   still_left : (s : State) (j : ℕ) (d : Connection) (own : List Act) (left : Option Connection) → s.known id ≡ Some c →
       s.known j ≡ Some d → Serves j d own left → IsStill s (left_as s j left) id c
@@ -150,17 +145,16 @@ module _ (id : ℕ) (c : Connection) (settled : ℕ) (waits : c.phase ≡ Waits 
   -- ---- Work
 
   goes_worked : (service : Service) (stored : List Stored) (s new : State) (now : Connection) → new.known id ≡ Some now →
-      GoesOn service stored c now → HasWorked id c settled s new
-  goes_worked service stored s new now known (steps.more {settled = n} {aim} {asked} phase asks few) =
-      let one : Waits settled ≡ Waits n = sym waits ∙ phase in
-      let same : n ≡ settled = cc in
-      waits_on asks (subst (λ (m : ℕ). m + work_quota ≤ most_for aim asked) same few)
-      (known ∙ ap (λ (m : ℕ). Some (record c { phase = Waits (m + work_quota) })) same)
+      GoesOn service stored c now → HasWorked id c due s new
+  goes_worked service stored s new now known (steps.more {due = next} phase) =
+      let one : Waits due ≡ Waits (suc next) = sym waits ∙ phase in
+      let same : due ≡ suc next = cc in
+      waits_on same known
   goes_worked service stored s new now known (steps.answers {frame} phase asked within answers) = framed {frame = frame} known
   goes_worked service stored s new now known (steps.gives_up phase) = framed {frame = memory_frame} known
 
   pub has_worked : (service : Service) (s new : State) (n : ℕ) → s.known id ≡ Some c → IsAmongFirst id (suc n) s.waiting →
-      Works service s new → HasWorked id c settled s new
+      Works service s new → HasWorked id c due s new
   has_worked service s new n known first (steps.idle none) = absurd (subst (λ (ids : List ℕ). IsAmongFirst id (suc n) ids) none first)
   has_worked service s new n known first (steps.turn {id = j} {rest} {c = d} {now} is there goes) =
       let changes = changes_now s rest j now [] in

@@ -21,6 +21,7 @@ use Rattle.hall.specs.Uploads.{Accepts, Adds, AreAccepted, StoresUploads, nothin
 use Rattle.route_http.specs.declared.span.Span.{Span}
 use Rattle.session_answers.proofs.CallerLemmas.{verdict_unique}
 use Rattle.session_answers.specs.Frames.{refusal_frame}
+use Rattle.session_answers.specs.Searches.{turns_for}
 use Rattle.session_answers.specs.Stored.{Stored, Uploaded}
 use Rattle.session_answers.specs.Verdicts.{IsVerdict, part}
 use Rattle.session_answers.specs.declared.refusal.Refusal.TheVariants.{OutOfMemory}
@@ -140,7 +141,7 @@ module _ (service : Service) (meets : Meets) (s : State) (id : ℕ) (acts : List
       let text = part c.bytes span in upload_adds span (uploaded service s.stored text) refl v (comes_to service s.stored text)
   takes_adds now added (steps.early {span} {frame} v found) =
       other_frame (whole_in s.stored c) frame (no_success-early service s.stored (part c.bytes span) frame found)
-  takes_adds now added (steps.waits v searched) = no_success (record (whole_in s.stored c) { phase = Waits 0 }) (λ frame is success. cc)
+  takes_adds now added (steps.waits {aim} v searched) = no_success (record (whole_in s.stored c) { phase = Waits (turns_for aim searched.asked) }) (λ frame is success. cc)
   takes_adds now added (steps.gives_up {kept} why which) = other_frame kept memory_frame (no_success-refusal OutOfMemory)
 
 module _ (service : Service) (meets : Meets) (s : State) (acts : List Act) (all : AllStand service meets s acts) where

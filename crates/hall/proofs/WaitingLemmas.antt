@@ -1,8 +1,8 @@
 -- Each search that waits comes to its end: the induction over the turns of a run.
-use Rattle.std.proofs.Common.{◌≡◌, ◌⊎◌, ◌+◌, ◌*◌, ◌/◌, ◌<◌, ◌≤◌, ℕ, zero, suc, false, List, Some, None, inl, inr, refl, sym, ◌∙◌, ap, arith}
+use Rattle.std.proofs.Common.{◌≡◌, ◌⊎◌, ◌+◌, ◌*◌, ◌≤◌, ℕ, zero, suc, false, List, Some, None, inl, inr, refl, sym, ◌∙◌, ap, arith}
 use Rattle.edge_io.specs.Acts.{Act}
 use Rattle.edge_io.specs.declared.event.Event.{Event}
-use Rattle.hall.proofs.AskingLemmas.{AreAsking, asking_each, asking_step, asking_works, most_once}
+use Rattle.hall.proofs.AskingLemmas.{AreAsking, asking_each, asking_step, asking_works}
 use Rattle.hall.proofs.FewLemmas.{few_each, few_empty, few_step, few_wait, few_works}
 use Rattle.hall.proofs.PlaceLemmas.{IsAmongFirst, first_all}
 use Rattle.hall_seats.proofs.SoundLemmas.{sound_each, sound_empty, sound_step, sound_works}
@@ -11,14 +11,10 @@ use Rattle.hall_seats.specs.Held.{AreFew, most_sessions}
 use Rattle.hall_seats.specs.Parts.{waiting_for}
 use Rattle.hall_seats.specs.Sound.{IsSound}
 use Rattle.hall_seats.specs.State.{Connection, Service, State, empty_hall, with_frame}
-use Rattle.hall_seats.specs.Steps.{AsksFor, work_quota}
 use Rattle.hall.specs.Turns.Turns.{none, more}
 use Rattle.hall.specs.Turns.{Turn, Turns}
 use Rattle.hall.specs.Waiting.{AllEndInTime, EndsAmong, EndsEachWait, EndsWait, lost, answered, most_turns}
-use Rattle.route_http.specs.Asked.{Asked}
-use Rattle.session_answers.specs.Aims.{most_for}
 use Rattle.session_answers.specs.Stored.{Stored}
-use Rattle.session_answers.specs.declared.aim.Aim.{Aim}
 
 -- ---- A turn
 
@@ -57,95 +53,75 @@ module _ (service : Service) (s new : State) (event : Event) (bytes : List ℕ) 
 
 -- a session waits, for which so many turns are left at most: those that others have before its next one, and as many for each
 -- further turn of its own
-record IsInTime (s : State) (id : ℕ) (c : Connection) (most left : ℕ) : Type 0 where
-  settled : ℕ
-  known : s.known id ≡ Some (waiting_for c settled)
+record IsInTime (s : State) (id : ℕ) (c : Connection) (left : ℕ) : Type 0 where
+  due : ℕ
+  known : s.known id ≡ Some (waiting_for c due)
   place : ℕ
   first : IsAmongFirst id place s.waiting
-  rounds : ℕ
-  few : most < settled + work_quota * suc rounds
-  left_is : place + most_sessions * rounds ≤ left
+  left_is : place + most_sessions * due ≤ left
 
-module _ (service : Service) (id : ℕ) (c : Connection) (aim : Aim) (asked : Asked) (settled : ℕ)
-    (asks : AsksFor (waiting_for c settled) aim asked) where
+module _ (service : Service) (id : ℕ) (c : Connection) where
   -- a frame is given to it; or it waits with so many turns left
   abbrev Goes : State → ℕ → Type 0
-  Goes worked left = ((frame : List ℕ) × (worked.known id ≡ Some (with_frame c frame))) ⊎ IsInTime worked id c (most_for aim asked) left
+  Goes worked left = ((frame : List ℕ) × (worked.known id ≡ Some (with_frame c frame))) ⊎ IsInTime worked id c left
 
   -- so it is after a turn of work
-  goes_worked : (s worked : State) (now place rounds left : ℕ) → IsWell service worked → IsAmongFirst id (suc place) s.waiting →
-      most_for aim asked < now + work_quota * suc rounds → suc place + most_sessions * rounds ≤ suc left →
-      HasWorked id (waiting_for c now) now s worked → Goes worked left
-  goes_worked s worked now place rounds left well first few left_is (framed {frame} known) = inl (frame, known)
-  goes_worked s worked now place zero left well first few left_is (waits_on {aim = its} {asked = other} asks_other fits known) =
-      absurd (omega (arith, few, fits, most_once c settled now aim its asked other asks asks_other))
-  goes_worked s worked now place (suc rounds) left well first few left_is (waits_on asks_other fits known) =
+  goes_worked : (s worked : State) (now place left : ℕ) → IsWell service worked → IsAmongFirst id (suc place) s.waiting →
+      suc place + most_sessions * now ≤ suc left → HasWorked id (waiting_for c now) now s worked → Goes worked left
+  goes_worked s worked now place left well first left_is (framed {frame} known) = inl (frame, known)
+  goes_worked s worked now place left well first left_is (waits_on {next} is known) =
       inr (record {
-        settled = now + work_quota;
+        due = next;
         known = known;
         place = most_sessions;
         first = first_all id most_sessions worked.waiting
-            (well.sound.queued.whole id
-            (record { c = waiting_for c (now + work_quota); known = known; settled = now + work_quota; phase = refl }))
+            (well.sound.queued.whole id (record { c = waiting_for c next; known = known; due = next; phase = refl }))
             (few_wait service worked well.sound well.few);
-        rounds = rounds;
-        few = omega (arith, few);
-        left_is = omega (arith, left_is);
+        left_is = omega (arith, left_is, is);
       })
-  goes_worked s worked now place rounds left well first few left_is (nearer known closer) =
-      inr (record {
-        settled = now;
-        known = known;
-        place = place;
-        first = closer place first;
-        rounds = rounds;
-        few = few;
-        left_is = omega (arith, left_is);
-      })
+  goes_worked s worked now place left well first left_is (nearer known closer) =
+      inr (record { due = now; known = known; place = place; first = closer place first; left_is = omega (arith, left_is) })
 
   -- a turn ends its wait, or leaves it with a turn less
   abbrev Comes : State → Event → State → ℕ → Type 0
   Comes new event worked left =
-      EndsWait id c event worked ⊎ ((rest : ℕ) × (left ≡ suc rest) × IsInTime new id c (most_for aim asked) rest)
+      EndsWait id c event worked ⊎ ((rest : ℕ) × (left ≡ suc rest) × IsInTime new id c rest)
 
   module _ (s new : State) (event : Event) (bytes : List ℕ) (acts : List Act) (turn : Turn service s event bytes acts new) (well :
       IsWell service s) where
     -- work and serving, by how many wait before it
-    comes_by : (now place rounds left : ℕ) → turn.stepped.known id ≡ Some (waiting_for c now) → IsAmongFirst id place turn.stepped.waiting →
-        most_for aim asked < now + work_quota * suc rounds → place + most_sessions * rounds ≤ left → Comes new event turn.worked left
-    comes_by now zero rounds left known first few left_is = absurd first
-    comes_by now (suc place) rounds zero known first few left_is = absurd (omega (arith, left_is))
-    comes_by now (suc place) rounds (suc left) known first few left_is =
+    comes_by : (now place left : ℕ) → turn.stepped.known id ≡ Some (waiting_for c now) → IsAmongFirst id place turn.stepped.waiting →
+        place + most_sessions * now ≤ left → Comes new event turn.worked left
+    comes_by now zero left known first left_is = absurd first
+    comes_by now (suc place) zero known first left_is = absurd (omega (arith, left_is))
+    comes_by now (suc place) (suc left) known first left_is =
         let worked = well_worked service s new event bytes acts turn (well_stepped service s new event bytes acts turn well) in
-        elim (goes_worked turn.stepped turn.worked now place rounds left worked first few left_is
+        elim (goes_worked turn.stepped turn.worked now place left worked first left_is
         (has_worked id (waiting_for c now) now refl service turn.stepped turn.worked place known first turn.work)) [
           | inl framed_now ↦ inl (answered framed_now.1)
           | inr waits ↦
-              (let still = still_each id (waiting_for c waits.settled) waits.settled refl turn.worked new turn.order turn.served waits.known
+              (let still = still_each id (waiting_for c waits.due) waits.due refl turn.worked new turn.order turn.served waits.known
               turn.serves in
               inr (
                 left,
                 refl,
                 record {
-                  settled = waits.settled;
+                  due = waits.due;
                   known = still.known;
                   place = waits.place;
                   first = still.first waits.place waits.first;
-                  rounds = waits.rounds;
-                  few = waits.few;
                   left_is = waits.left_is;
                 },
               ))
         ]
 
-    comes : (left : ℕ) → IsInTime s id c (most_for aim asked) left → Comes new event turn.worked left
+    comes : (left : ℕ) → IsInTime s id c left → Comes new event turn.worked left
     comes left waits =
-        elim (still_step id (waiting_for c waits.settled) waits.settled refl service s turn.stepped event bytes turn.at_once waits.known
+        elim (still_step id (waiting_for c waits.due) waits.due refl service s turn.stepped event bytes turn.at_once waits.known
         turn.step) [
           | inl lost_now ↦ inl (lost lost_now)
           | inr still ↦
-              comes_by waits.settled waits.place waits.rounds left still.known (still.first waits.place waits.first) waits.few
-              waits.left_is
+              comes_by waits.due waits.place left still.known (still.first waits.place waits.first) waits.left_is
         ]
 
   -- ---- Turns
@@ -154,11 +130,11 @@ module _ (service : Service) (id : ℕ) (c : Connection) (aim : Aim) (asked : As
   record IsLeftOver (new : State) (m left : ℕ) : Type 0 where
     rest : ℕ
     left_is : left ≡ rest + m
-    waits : IsInTime new id c (most_for aim asked) rest
+    waits : IsInTime new id c rest
     well : IsWell service new
 
   comes_among : (s new : State) (m left : ℕ) (acts : List Act) (turns : Turns service s m acts new) → IsWell service s →
-      IsInTime s id c (most_for aim asked) left → EndsAmong service s id c m acts new turns ⊎ IsLeftOver new m left
+      IsInTime s id c left → EndsAmong service s id c m acts new turns ⊎ IsLeftOver new m left
   comes_among s new m left acts none well waits = inr (record { rest = left; left_is = omega arith; waits = waits; well = well })
   comes_among s new m left acts (more {n = before} {acts = first} {own} {between} {event} {bytes} turns turn) well waits =
       elim (comes_among s between before left first turns well waits) [
@@ -182,7 +158,7 @@ module _ (service : Service) (id : ℕ) (c : Connection) (aim : Aim) (asked : As
   some_left s (suc place) first = omega arith
 
   ends_among : (s new : State) (m left : ℕ) (acts : List Act) (turns : Turns service s m acts new) → IsWell service s →
-      IsInTime s id c (most_for aim asked) left → left ≤ m → EndsAmong service s id c m acts new turns
+      IsInTime s id c left → left ≤ m → EndsAmong service s id c m acts new turns
   ends_among s new m left acts turns well waits within =
       elim (comes_among s new m left acts turns well waits) [
         | inl ends ↦ ends
@@ -196,7 +172,7 @@ well_empty : (service : Service) (given : List Stored) → IsWell service (empty
 well_empty service given = record {
   sound = sound_empty service given;
   few = few_empty given;
-  asking = λ id c settled known waits. (let clash : None ≡ Some c = known in absurd (cc));
+  asking = λ id c due known waits. (let clash : None ≡ Some c = known in absurd (cc));
 }
 
 -- so a state is after any turns
@@ -208,29 +184,26 @@ turns_well service s new n acts (more {n = before} {acts = first} {own} {between
 
 -- a session that waits in such a state is answered or lost in time
 ends_in_time : (service : Service) (s : State) → IsWell service s → AllEndInTime service s
-ends_in_time service s well id settled c known phase =
-    let own = well.asking id c settled known phase in
-    let is : waiting_for c settled ≡ c = λ i. record c { phase = sym phase i } in
+ends_in_time service s well id due c known phase =
+    let own = well.asking id c due known phase in
+    let is : waiting_for c due ≡ c = λ i. record c { phase = sym phase i } in
     let asks = own.2 in
-    let waits : IsInTime s id c (most_for own.0 own.1) (most_turns own.0 own.1) =
+    let waits : IsInTime s id c (most_turns own.0 own.1) =
     record {
-      settled = settled;
+      due = due;
       known = known ∙ ap (λ (d : Connection). Some d) (sym is);
       place = most_sessions;
       first = first_all id most_sessions s.waiting
-          (well.sound.queued.whole id (record { c = c; known = known; settled = settled; phase = phase }))
+          (well.sound.queued.whole id (record { c = c; known = known; due = due; phase = phase }))
           (few_wait service s well.sound well.few);
-      rounds = most_for own.0 own.1 / work_quota;
-      few = omega arith;
-      left_is = omega arith;
+      left_is = omega (arith, own.3);
     } in
     record {
       aim = own.0;
       asked = own.1;
       asks = asks;
       ends = λ m acts new turns within.
-          ends_among service id c own.0 own.1 settled (record { span = asks.span; verdict = asks.verdict; spells = asks.spells }) s new m
-          (most_turns own.0 own.1) acts turns well waits within;
+          ends_among service id c s new m (most_turns own.0 own.1) acts turns well waits within;
     }
 
 -- each search comes to its end

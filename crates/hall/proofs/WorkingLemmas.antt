@@ -1,8 +1,8 @@
 -- What a turn of a search changes.
-use Rattle.std.proofs.Common.{◌≡◌, ℕ, ◌+◌, ◌≤◌, List, [], ◌∷◌, ◌++◌, length, take, drop, refl, sym, ◌∙◌, ap, subst, arith, append-nil, length-drop}
+use Rattle.std.proofs.Common.{◌≡◌, ℕ, suc, List, [], ◌∷◌, ◌++◌, length, take, drop, refl, sym, ◌∙◌, ap, subst, arith, append-nil, length-drop}
 use Rattle.hall_seats.specs.Parts.{AreReadied, HasTurn, IsSearchAt, IsSearchOf, Joins, Makes, answered_by, connection_of, frame_in, last, none, seats_of, service_at, service_in, state_in, waiting_by, waiting_for}
-use Rattle.hall_seats.specs.State.{Connection, with_frame}
-use Rattle.hall_seats.specs.Steps.{AskedBy, AsksFor, GoesOn, Works, memory_frame, work_quota}
+use Rattle.hall_seats.specs.State.{Connection, Waits, with_frame}
+use Rattle.hall_seats.specs.Steps.{AskedBy, GoesOn, Works, memory_frame}
 use Rattle.hall_seats.specs.Steps as steps
 use Rattle.hall_seats.specs.Seats.{known_at}
 use Rattle.hall_seats.specs.declared.desk.Desk.{Desk}
@@ -11,12 +11,10 @@ use Rattle.hall_seats.specs.declared.seat.Frame.{Frame}
 use Rattle.hall_seats.specs.declared.seat.Frame.TheVariants as frames
 use Rattle.hall_seats.specs.declared.seat.Seat.{Seat}
 use Rattle.route_ready.specs.World.{world_of}
-use Rattle.session_answers.specs.Aims.{most_for}
 use Rattle.session_answers.specs.Jobs.{IsJobOf}
 use Rattle.session_answers.specs.Profiles.{stored_of}
 use Rattle.session_answers.specs.Received.{received_of}
 use Rattle.session_answers.specs.Rows.{IsQueryFrame}
-use Rattle.session_answers.specs.Searches.{settled_by}
 use Rattle.session_answers.specs.Verdicts.{part}
 use Rattle.session_answers.specs.declared.search.Search.{Search}
 
@@ -25,7 +23,7 @@ module _ (desk : Desk) (seat : Seat) (place : ℕ) (pending : Search)
     (are : AreReadied desk) where
   -- the connection as it waited
   abbrev waited : Connection
-  waited = waiting_for (connection_of seat) (settled_by pending)
+  waited = waiting_for (connection_of seat) pending.left
 
   -- it gets a frame
   framed : (made : Seat) (frame : Frame) → made ≡ answered_by seat frame →
@@ -53,25 +51,18 @@ module _ (desk : Desk) (seat : Seat) (place : ℕ) (pending : Search)
   works_frame made frame is same =
       let asked : AskedBy waited search.before search.aim (part (received_of seat.received) search.span) =
       record { span = search.span; verdict = search.verdict; query_is = refl; before_is = search.whole_is } in
-      framed made frame same (steps.answers {settled = settled_by pending} refl asked search.within is)
+      framed made frame same (steps.answers {due = pending.left} refl asked search.within is)
 
   -- or memory ran out
   pub works_memory : (made : Seat) → made ≡ answered_by seat frames.Memory → Makes desk desk (HasTurn desk waited) seat.id seat.away made
-  works_memory made same = framed made frames.Memory same (steps.gives_up {settled = settled_by pending} refl)
+  works_memory made same = framed made frames.Memory same (steps.gives_up {due = pending.left} refl)
 
   -- or the search goes on, and waits last where the queue has room
   module _ (new : Desk) (world : new.world ≡ desk.world) (profiles : new.profiles ≡ desk.profiles) (kept : new.kept ≡ desk.kept) (next :
       Search)
       (job : IsJobOf (world_of desk.world) (take search.before (stored_of desk.profiles)) search.aim
       (part (received_of seat.received) search.span) place next)
-      (counts : settled_by next ≡ settled_by pending + work_quota) where
-    -- the request that the query spells, for which no more is settled than may be
-    asks : AsksFor waited search.aim job.asked
-    asks = record { span = search.span; verdict = search.verdict; spells = job.asks.asks }
-
-    few : settled_by pending + work_quota ≤ most_for search.aim job.asked
-    few = omega (arith, counts, job.within)
-
+      (counts : pending.left ≡ suc next.left) where
     -- a desk at which only the queue changes
     desk_is : record desk { queue = new.queue; alloc = new.alloc } ≡ new
     desk_is = λ i. record new { world = (sym world) i; profiles = (sym profiles) i; kept = (sym kept) i }
@@ -101,8 +92,7 @@ module _ (desk : Desk) (seat : Seat) (place : ℕ) (pending : Search)
           alike = refl;
           added = [];
           is = (
-            subst (λ (m : ℕ). GoesOn (service_at desk) (stored_of desk.profiles) waited (waiting_for waited m)) (sym counts)
-                (steps.more {settled = settled_by pending} {aim = search.aim} {asked = job.asked} refl asks few),
+            steps.more {due = next.left} (ap (λ (m : ℕ). Waits m) counts),
             refl,
           );
           stored = stored_same;
@@ -117,7 +107,7 @@ module _ (desk : Desk) (seat : Seat) (place : ℕ) (pending : Search)
           own = refl;
           alike = refl;
           added = [];
-          is = (steps.gives_up {settled = settled_by pending} refl, refl);
+          is = (steps.gives_up {due = pending.left} refl, refl);
           stored = stored_same;
           waiting = queue ∙ sym (append-nil desk.queue.items);
           searching = tt;

@@ -30,8 +30,8 @@ use Rattle.session_answers.specs.Rows as queries
 use Rattle.session_answers.specs.Rows.{Asks, IsEarlyFrame, IsQueryFrame}
 use Rattle.session_answers.specs.Stored.{Stored, Uploaded, by_check, by_text, most_uploads, stored_after, upload_name, upload_reply}
 use Rattle.session_answers.specs.Verdicts.{by_path, is_whole, most_body, of_query, of_upload, part, profile_path, route_path, table_path, verdict_by}
-use Rattle.session_answers.specs.declared.aim.Aim.{Aim}
-use Rattle.session_answers.specs.declared.aim.Aim.TheVariants.{Track, Table}
+use Rattle.route_engine.specs.declared.aim.Aim.{Aim}
+use Rattle.route_engine.specs.declared.aim.Aim.TheVariants.{Track, Table}
 use Rattle.session_answers.specs.declared.refusal.Refusal.TheVariants.{BadRequest, BodyTooLong, OutOfMemory, UnknownPath, UnknownProfile, SessionsFull, UploadsFull}
 use Rattle.session_answers.specs.declared.verdict.Verdict.{Verdict}
 use Rattle.session_answers.specs.declared.verdict.Verdict.TheVariants.{Undecided, NoByte, Refused, Upload, Query}

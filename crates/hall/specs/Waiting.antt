@@ -1,18 +1,18 @@
 -- Each search that waits comes to its end: what every run of a server gives to a session that waits, and
 -- what one run gave. This project's own rule.
-use Rattle.std.specs.Prelude.{◌≡◌, ◌⊎◌, ℕ, suc, ◌+◌, ◌*◌, ◌/◌, ◌≤◌, List, Some}
+use Rattle.std.specs.Prelude.{◌≡◌, ◌⊎◌, ℕ, suc, ◌+◌, ◌*◌, ◌≤◌, List, Some}
 use Rattle.edge_io.specs.Acts.{Act}
 use Rattle.edge_io.specs.declared.event.Event.{Event}
 use Rattle.edge_io.specs.declared.event.Event.TheVariants.{Lost}
 use Rattle.hall_seats.specs.Held.{most_sessions}
 use Rattle.hall_seats.specs.State.{Connection, Service, State, Waits, empty_hall, with_frame}
-use Rattle.hall_seats.specs.Steps.{AsksFor, work_quota}
+use Rattle.hall_seats.specs.Steps.{AsksFor}
 use Rattle.hall.specs.Turns.{Turns}
 use Rattle.hall.specs.Turns.Turns.{none, more}
 use Rattle.route_http.specs.Asked.{Asked}
-use Rattle.session_answers.specs.Aims.{most_for}
+use Rattle.session_answers.specs.Searches.{turns_for}
 use Rattle.session_answers.specs.Stored.{Stored}
-use Rattle.session_answers.specs.declared.aim.Aim.{Aim}
+use Rattle.route_engine.specs.declared.aim.Aim.{Aim}
 
 -- ---- The end of a wait
 
@@ -33,9 +33,9 @@ EndsAmong service s id c n acts new (more {n = before} {acts = first} {between} 
 -- ---- The waits that follow
 
 -- the most turns that a session waits for its frame: it has a turn of work in as many turns as sessions may be
--- held, and it has one for each `work_quota` labels that may be settled for what it asks, and one more
+-- held, and it has as many as its search goes on for, and one more
 abbrev pub most_turns : Aim → Asked → ℕ
-most_turns aim asked = most_sessions * suc (most_for aim asked / work_quota)
+most_turns aim asked = most_sessions * suc (turns_for aim asked)
 
 -- a session that waits asks for something, and whatever turns follow, so many of them end its wait: it gets a
 -- frame or is lost
@@ -48,7 +48,7 @@ pub record EndsInTime (service : Service) (s : State) (id : ℕ) (c : Connection
 
 -- so it is for each session that waits
 abbrev pub AllEndInTime : Service → State → Type 0
-AllEndInTime service s = (id settled : ℕ) (c : Connection) → s.known id ≡ Some c → c.phase ≡ Waits settled →
+AllEndInTime service s = (id due : ℕ) (c : Connection) → s.known id ≡ Some c → c.phase ≡ Waits due →
     EndsInTime service s id c
 
 -- ---- The waits of one run
@@ -81,8 +81,8 @@ pub record EndedInTime {service : Service} {s new : State} {n : ℕ} {acts : Lis
 abbrev pub EndedEachWait :
     {service : Service} {s new : State} {n : ℕ} {acts : List Act} → Turns service s n acts new → Type 0
 EndedEachWait turns =
-    (k : ℕ) (state : State) → HeldAfter turns k state → (id settled : ℕ) (c : Connection) →
-    state.known id ≡ Some c → c.phase ≡ Waits settled → EndedInTime turns k id c
+    (k : ℕ) (state : State) → HeldAfter turns k state → (id due : ℕ) (c : Connection) →
+    state.known id ≡ Some c → c.phase ≡ Waits due → EndedInTime turns k id c
 
 -- ---- The law
 

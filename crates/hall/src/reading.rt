@@ -15,8 +15,9 @@ use crate::queue::joined;
 use crate::seating::{answered, silent, whole};
 use crate::seats::reader_of;
 use hall_seats::{Desk, Frame, Room, Seat, lifted, put};
+use route_engine::Aim;
 use route_http::Span;
-use session_answers::{Aim, Begun, Refusal, Verdict, begin, refusal_frame, upload};
+use session_answers::{Begun, Refusal, Verdict, begin, refusal_frame, upload};
 use std::alloc::Global;
 
 /// Takes bytes that came from a connection.

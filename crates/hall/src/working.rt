@@ -6,18 +6,14 @@ ghost use Rattle.hall_seats.specs.Steps.{Works};
 ghost use Rattle.route_ready.specs.World.{world_of};
 ghost use Rattle.session_answers.specs.Profiles.{stored_of};
 ghost use Rattle.session_answers.specs.Received.{received_of};
-ghost use Rattle.session_answers.specs.Searches.{settled_by};
 
 use crate::queue::joined;
 use crate::seating::answered;
 use crate::seats::seat_of;
 use hall_seats::{Desk, Frame, Phase, Room, Seat, lifted, put};
 use item_list::Turn;
-use session_answers::{Search, turn};
+use session_answers::Search;
 use std::mem::replace;
-
-/// How many labels a turn settles.
-const WORK_QUOTA: u32 = 2000;
 
 /// Gives a turn to the search that waited longest.
 pub(crate) fn work(room: &mut Room)
@@ -57,11 +53,11 @@ fn turned(desk: &mut Desk, seat: Seat, place: u32, pending: Search) -> Seat
     requires search { IsSearchOf (world_of desk.old.world) (stored_of desk.old.profiles)
         (received_of seat.received) seat.ended seat.before place pending }
     ensures works { Makes desk.old desk.new
-        (HasTurn desk.old (waiting_for (connection_of seat) (settled_by pending))) seat.id seat.away
+        (HasTurn desk.old (waiting_for (connection_of seat) pending.left)) seat.id seat.away
         result }
 {
     let profile = desk.profiles.profile(place);
-    match turn(desk.alloc, &desk.world, profile, pending, WORK_QUOTA) {
+    match pending.turn(desk.alloc, &desk.world, profile) {
         Ok(Turn::More(pending)) => joined(&mut desk.queue, seat, place, pending),
         Ok(Turn::Done(frame)) => answered(seat, Frame::Own(frame)),
         Err(_) => answered(seat, Frame::Memory),

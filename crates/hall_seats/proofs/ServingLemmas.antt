@@ -33,7 +33,7 @@ use Rattle.session_answers.specs.Stored.{Stored}
 -- what was taken of a piece is no more than is left of the frame
 pub fits_piece : (p : Phase) (piece : List ℕ) (n : ℕ) → IsPiece p piece → n ≤ length piece → FitsUnsent p n
 fits_piece Reading piece n is fits = tt
-fits_piece (Waits settled) piece n is fits = tt
+fits_piece (Waits due) piece n is fits = tt
 fits_piece (Answered frame sent) piece n is fits = piece_fits frame piece sent n is fits
 fits_piece Silent piece n is fits = tt
 

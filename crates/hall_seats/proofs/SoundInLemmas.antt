@@ -1,5 +1,5 @@
 -- What is true of one connection stays so, whatever it comes to.
-use Rattle.std.proofs.Common.{◌≡◌, ◌⊎◌, ◌≤◌, ℕ, ◌+◌, false, List, [], ◌++◌, length, take, drop, Option, Some, None, inl, inr, refl, sym, ◌∙◌, ap, subst, arith, length-drop}
+use Rattle.std.proofs.Common.{◌≡◌, ◌⊎◌, ◌≤◌, ℕ, suc, ◌+◌, false, List, [], ◌++◌, length, take, drop, Option, Some, None, inl, inr, refl, sym, ◌∙◌, ap, subst, arith, length-drop}
 use Rattle.std.proofs.Math.Seq.{take-length}
 use Rattle.std.proofs.lemmas.List.{length-take}
 use Rattle.edge_io.specs.Acts.{Act}
@@ -25,22 +25,22 @@ use Rattle.session_answers.specs.Verdicts.{part}
 pub read_sound : (service : Service) (stored : List Stored) (c : Connection) (p : Phase) → IsSoundIn service stored c p → p ≡ Reading →
     (c.away ≡ false) × (c.ended ≡ false)
 read_sound service stored c Reading is reads = is
-read_sound service stored c (Waits settled) is reads = cc
+read_sound service stored c (Waits due) is reads = cc
 read_sound service stored c (Answered frame sent) is reads = cc
 read_sound service stored c Silent is reads = cc
 
-pub waits_sound : (service : Service) (stored : List Stored) (c : Connection) (p : Phase) (settled : ℕ) → IsSoundIn service stored c p →
-    p ≡ Waits settled → c.away ≡ false
-waits_sound service stored c Reading settled is waits = cc
-waits_sound service stored c (Waits n) settled is waits = is
-waits_sound service stored c (Answered frame sent) settled is waits = cc
-waits_sound service stored c Silent settled is waits = cc
+pub waits_sound : (service : Service) (stored : List Stored) (c : Connection) (p : Phase) (due : ℕ) → IsSoundIn service stored c p →
+    p ≡ Waits due → c.away ≡ false
+waits_sound service stored c Reading due is waits = cc
+waits_sound service stored c (Waits n) due is waits = is
+waits_sound service stored c (Answered frame sent) due is waits = cc
+waits_sound service stored c Silent due is waits = cc
 
 -- a connection stays sound while more profiles are stored
 pub sound_more : (service : Service) (stored more : List Stored) (c : Connection) (p : Phase) → IsSoundIn service stored c p →
     IsSoundIn service (stored ++ more) c p
 sound_more service stored more c Reading is = is
-sound_more service stored more c (Waits settled) is = is
+sound_more service stored more c (Waits due) is = is
 sound_more service stored more c (Answered frame sent) is = (IsAllowed-more service stored more c frame is.0, is.1)
 sound_more service stored more c Silent is = is
 
@@ -82,8 +82,8 @@ module _ (service : Service) (stored : List Stored) (old c : Connection) (was : 
 -- so is what it comes to by a turn of its search
 pub goes_sound : (service : Service) (stored : List Stored) (c now : Connection) → c.away ≡ false → GoesOn service stored c now →
     IsSoundIn service (stored ++ []) now now.phase
-goes_sound service stored c now held (steps.more waits asks few) = held
-goes_sound service stored c now held (steps.answers {settled} {before} {aim} {query} {frame} waits asked within answers) =
+goes_sound service stored c now held (steps.more waits) = held
+goes_sound service stored c now held (steps.answers {due} {before} {aim} {query} {frame} waits asked within answers) =
     frame_sound service stored [] c frame
     (rows.whole {before = before} held asked.before_is within
     (rows.query asked.verdict
@@ -91,10 +91,10 @@ goes_sound service stored c now held (steps.answers {settled} {before} {aim} {qu
 goes_sound service stored c now held (steps.gives_up waits) = frame_sound service stored [] c memory_frame (rows.memory held)
 
 pub goes_waits : (service : Service) (stored : List Stored) (c now : Connection) → GoesOn service stored c now →
-    (settled : ℕ) × (c.phase ≡ Waits settled)
-goes_waits service stored c now (steps.more {settled} waits asks few) = (settled, waits)
-goes_waits service stored c now (steps.answers {settled} waits asked within answers) = (settled, waits)
-goes_waits service stored c now (steps.gives_up {settled} waits) = (settled, waits)
+    (due : ℕ) × (c.phase ≡ Waits due)
+goes_waits service stored c now (steps.more {due} waits) = (suc due, waits)
+goes_waits service stored c now (steps.answers {due} waits asked within answers) = (due, waits)
+goes_waits service stored c now (steps.gives_up {due} waits) = (due, waits)
 
 -- ---- What is left of a connection that is served
 
@@ -128,21 +128,21 @@ pub further_sound : (service : Service) (stored : List Stored) (c : Connection) 
     n ≤ length piece →
     IsSoundIn service stored c p → IsSoundIn service stored (record c { phase = sent_more p n }) (sent_more p n)
 further_sound service stored c piece n Reading is fits sound = absurd is
-further_sound service stored c piece n (Waits settled) is fits sound = absurd is
+further_sound service stored c piece n (Waits due) is fits sound = absurd is
 further_sound service stored c piece n (Answered frame sent) is fits sound =
     (IsAllowed-at service stored c (Answered frame (sent + n)) frame sound.0, piece_fits frame piece sent n is fits)
 further_sound service stored c piece n Silent is fits sound = absurd is
 
 -- who has a piece doesn't wait
-pub piece_waits : (p : Phase) (piece : List ℕ) (settled : ℕ) → IsPiece p piece → p ≡ Waits settled → ⊥
-piece_waits Reading piece settled is waits = is
-piece_waits (Waits n) piece settled is waits = is
-piece_waits (Answered frame sent) piece settled is waits = cc
-piece_waits Silent piece settled is waits = is
+pub piece_waits : (p : Phase) (piece : List ℕ) (due : ℕ) → IsPiece p piece → p ≡ Waits due → ⊥
+piece_waits Reading piece due is waits = is
+piece_waits (Waits n) piece due is waits = is
+piece_waits (Answered frame sent) piece due is waits = cc
+piece_waits Silent piece due is waits = is
 
 -- nor does it after more of it is sent
 pub more_idle : (p : Phase) (piece : List ℕ) (n id : ℕ) → IsPiece p piece → waits_as (sent_more p n) id ≡ []
 more_idle Reading piece n id is = refl
-more_idle (Waits settled) piece n id is = absurd is
+more_idle (Waits due) piece n id is = absurd is
 more_idle (Answered frame sent) piece n id is = refl
 more_idle Silent piece n id is = refl

@@ -57,20 +57,20 @@ beside_without s id ids all = record {
 module _ (s new : State) (id : ℕ) (x : Option Connection) (added : List Stored) (changes : Changes s new id x added) where
   -- another connection waits still
   waits_else : (j : ℕ) → j ≢ id → IsWaiting s j → IsWaiting new j
-  waits_else j ne waits = record { c = waits.c; known = changes.others j ne ∙ waits.known; settled = waits.settled; phase = waits.phase }
+  waits_else j ne waits = record { c = waits.c; known = changes.others j ne ∙ waits.known; due = waits.due; phase = waits.phase }
 
   -- and waited before
   waited_else : (j : ℕ) → j ≢ id → IsWaiting new j → IsWaiting s j
   waited_else j ne waits =
-      record { c = waits.c; known = sym (changes.others j ne) ∙ waits.known; settled = waits.settled; phase = waits.phase }
+      record { c = waits.c; known = sym (changes.others j ne) ∙ waits.known; due = waits.due; phase = waits.phase }
 
   -- one that is as far as this doesn't wait
-  idle_now : (now : Connection) (p : Phase) → x ≡ Some now → now.phase ≡ p → ((settled : ℕ) → p ≡ Waits settled → ⊥) →
+  idle_now : (now : Connection) (p : Phase) → x ≡ Some now → now.phase ≡ p → ((due : ℕ) → p ≡ Waits due → ⊥) →
       IsWaiting new id → ⊥
   idle_now now p is phase never waits =
       let one : Some waits.c ≡ Some now = sym waits.known ∙ changes.here ∙ is in
       let same : waits.c ≡ now = cc in
-      never waits.settled (sym phase ∙ ap (λ (d : Connection). d.phase) (sym same) ∙ waits.phase)
+      never waits.due (sym phase ∙ ap (λ (d : Connection). d.phase) (sym same) ∙ waits.phase)
 
   module _ (ids : List ℕ) (beside : WaitBeside s id ids) where
     -- the others wait still
@@ -106,14 +106,14 @@ module _ (s new : State) (id : ℕ) (x : Option Connection) (added : List Stored
     -- by how far it is now
     waiting_by : (now : Connection) (p : Phase) → x ≡ Some now → now.phase ≡ p → AreWaiting new (ids ++ waits_as p id)
     waiting_by now Reading is phase =
-        subst (AreWaiting new) (sym (append-nil ids)) (waiting_others (idle_now now Reading is phase (λ settled clash. cc)))
+        subst (AreWaiting new) (sym (append-nil ids)) (waiting_others (idle_now now Reading is phase (λ due clash. cc)))
     waiting_by now (Answered frame sent) is phase =
         subst (AreWaiting new) (sym (append-nil ids))
-        (waiting_others (idle_now now (Answered frame sent) is phase (λ settled clash. cc)))
+        (waiting_others (idle_now now (Answered frame sent) is phase (λ due clash. cc)))
     waiting_by now Silent is phase =
-        subst (AreWaiting new) (sym (append-nil ids)) (waiting_others (idle_now now Silent is phase (λ settled clash. cc)))
-    waiting_by now (Waits settled) is phase =
-        waiting_last (record { c = now; known = changes.here ∙ is; settled = settled; phase = phase })
+        subst (AreWaiting new) (sym (append-nil ids)) (waiting_others (idle_now now Silent is phase (λ due clash. cc)))
+    waiting_by now (Waits due) is phase =
+        waiting_last (record { c = now; known = changes.here ∙ is; due = due; phase = phase })
 
 -- ---- A state
 
@@ -126,11 +126,11 @@ module _ (service : Service) (s : State) (sound : IsSound service s) where
   none_waits : (id : ℕ) → s.known id ≡ None → IsWaiting s id → ⊥
   none_waits id none waits = let clash : Some waits.c ≡ None = sym waits.known ∙ none in cc
 
-  still_waits : (id : ℕ) (c : Connection) → s.known id ≡ Some c → ((settled : ℕ) → c.phase ≡ Waits settled → ⊥) → IsWaiting s id → ⊥
+  still_waits : (id : ℕ) (c : Connection) → s.known id ≡ Some c → ((due : ℕ) → c.phase ≡ Waits due → ⊥) → IsWaiting s id → ⊥
   still_waits id c known still waits =
       let one : Some waits.c ≡ Some c = sym waits.known ∙ known in
       let same : waits.c ≡ c = cc in
-      still waits.settled (ap (λ (d : Connection). d.phase) (sym same) ∙ waits.phase)
+      still waits.due (ap (λ (d : Connection). d.phase) (sym same) ∙ waits.phase)
 
   -- a sound connection changes, and those wait who have to
   sound_by : (new : State) (id : ℕ) (x : Option Connection) (added : List Stored) → Changes s new id x added →
@@ -200,7 +200,7 @@ module _ (service : Service) (s : State) (sound : IsSound service s) where
       let session_is = (read_sound service s.stored c c.phase (sound.sound id c known) reads).0 in
       sound_changed s.waiting id now added
       (beside_all s id s.waiting sound.queued
-      (still_waits id c known (λ settled waits. let clash : Reading ≡ Waits settled = sym reads ∙ waits in cc)))
+      (still_waits id c known (λ due waits. let clash : Reading ≡ Waits due = sym reads ∙ waits in cc)))
       (takes_sound service s.stored c (heard c) session_is ((alike c).0 ∙ session_is) ((alike c).1 ∙ reads) now added takes)
 
   pub sound_loses : (id : ℕ) (new : State) → Loses s id new → IsSound service new
@@ -240,15 +240,15 @@ module _ (service : Service) (s : State) (sound : IsSound service s) where
       (record {
         waits = λ j is.
             let waits = sound.queued.waits j is in
-            record { c = waits.c; known = alike j ∙ waits.known; settled = waits.settled; phase = waits.phase };
+            record { c = waits.c; known = alike j ∙ waits.known; due = waits.due; phase = waits.phase };
         once = sound.queued.once;
         whole = λ j waits.
             sound.queued.whole j
-            (record { c = waits.c; known = sym (alike j) ∙ waits.known; settled = waits.settled; phase = waits.phase });
+            (record { c = waits.c; known = sym (alike j) ∙ waits.known; due = waits.due; phase = waits.phase });
       })
   sound_left id c left known (is_more piece n is fits) =
       let now : Connection = record c { phase = sent_more c.phase n } in
-      sound_idle id now (still_waits id c known (λ settled waits. piece_waits c.phase piece settled is waits))
+      sound_idle id now (still_waits id c known (λ due waits. piece_waits c.phase piece due is waits))
       (more_idle c.phase piece n id is) (further_sound service s.stored c piece n c.phase is fits (sound.sound id c known))
 
 -- ---- A turn

@@ -7,8 +7,8 @@ use Rattle.route_http.specs.declared.heads.Method.{Method}
 use Rattle.route_http.specs.declared.heads.Method.TheVariants.{Get, Post, Other}
 use Rattle.route_http.specs.declared.span.Span.{Span}
 use Rattle.session_answers.specs.Verdicts.{IsVerdict, by_path, is_whole, most_body, of_query, of_upload, part, profile_path, route_path, table_path, unfinished, verdict_by}
-use Rattle.session_answers.specs.declared.aim.Aim.{Aim}
-use Rattle.session_answers.specs.declared.aim.Aim.TheVariants.{Track, Table}
+use Rattle.route_engine.specs.declared.aim.Aim.{Aim}
+use Rattle.route_engine.specs.declared.aim.Aim.TheVariants.{Track, Table}
 use Rattle.session_answers.specs.declared.refusal.Refusal.{Refusal}
 use Rattle.session_answers.specs.declared.refusal.Refusal.TheVariants.{BadRequest, BodyTooLong, MethodNotAllowed, UnknownPath}
 use Rattle.session_answers.specs.declared.verdict.Verdict.{Verdict}

@@ -7,7 +7,7 @@ use Rattle.session_answers.specs.Frames.{refusal_frame}
 use Rattle.session_answers.specs.Rows.{IsQueryFrame}
 use Rattle.session_answers.specs.Stored.{Stored}
 use Rattle.session_answers.specs.Verdicts.{IsVerdict, part}
-use Rattle.session_answers.specs.declared.aim.Aim.{Aim}
+use Rattle.route_engine.specs.declared.aim.Aim.{Aim}
 use Rattle.session_answers.specs.declared.refusal.Refusal.{Refusal}
 use Rattle.session_answers.specs.declared.verdict.Verdict.TheVariants.{Refused, Upload, Query}
 

@@ -18,10 +18,9 @@ use Rattle.route_ready.specs.Worlds.{WorldValue}
 use Rattle.session_answers.specs.Jobs.{AreKept, IsJobOf}
 use Rattle.session_answers.specs.Profiles.{given_of, stored_of}
 use Rattle.session_answers.specs.Received.{received_of}
-use Rattle.session_answers.specs.Searches.{settled_by}
 use Rattle.session_answers.specs.Stored.{Stored}
 use Rattle.session_answers.specs.Verdicts.{IsVerdict, part}
-use Rattle.session_answers.specs.declared.aim.Aim.{Aim}
+use Rattle.route_engine.specs.declared.aim.Aim.{Aim}
 use Rattle.session_answers.specs.declared.search.Search.{Search}
 use Rattle.session_answers.specs.declared.verdict.Verdict.TheVariants.{Query}
 
@@ -36,7 +35,7 @@ frame_in (frames.Own bytes) = bytes.items
 -- how far a connection is
 abbrev pub phase_in : Kept → Phase
 phase_in phases.Reading = Reading
-phase_in (phases.Waits pending place) = Waits (settled_by pending)
+phase_in (phases.Waits pending place) = Waits pending.left
 phase_in (phases.Answered frame sent) = Answered (frame_in frame) sent
 phase_in phases.Silent = Silent
 
@@ -128,7 +127,7 @@ IsReaderOf seats id (Some k) =
 -- no more bytes are sent of a frame than it has
 abbrev pub FitsUnsent : Phase → ℕ → Type 0
 FitsUnsent Reading n = Unit {0}
-FitsUnsent (Waits settled) n = Unit {0}
+FitsUnsent (Waits due) n = Unit {0}
 FitsUnsent (Answered frame sent) n = sent + n ≤ length frame
 FitsUnsent Silent n = Unit {0}
 
@@ -229,9 +228,9 @@ Settles old new before c id away made =
 abbrev pub HasTurn : Desk → Connection → Connection → List Stored → Type 0
 HasTurn old c now added = GoesOn (service_at old) (stored_of old.profiles) c now × (added ≡ [])
 
--- a connection whose search waits, with so many labels settled
+-- a connection whose search waits, which goes on for so many turns at most
 abbrev pub waiting_for : Connection → ℕ → Connection
-waiting_for c settled = record c { phase = Waits settled }
+waiting_for c due = record c { phase = Waits due }
 
 -- the search of a seat waits
 abbrev pub IsWaitingIn : Kept → Type 0

@@ -12,14 +12,14 @@ most_piece = 65536
 -- this is the next piece of a connection: the first unsent bytes of its frame
 abbrev pub IsPiece : Phase → List ℕ → Type 0
 IsPiece Reading piece = ⊥
-IsPiece (Waits settled) piece = ⊥
+IsPiece (Waits due) piece = ⊥
 IsPiece (Answered frame sent) piece = (sent < length frame) × (piece ≡ take most_piece (drop sent frame))
 IsPiece Silent piece = ⊥
 
 -- how far a connection is of which more bytes are sent
 abbrev pub sent_more : Phase → ℕ → Phase
 sent_more Reading n = Reading
-sent_more (Waits settled) n = Waits settled
+sent_more (Waits due) n = Waits due
 sent_more (Answered frame sent) n = Answered frame (sent + n)
 sent_more Silent n = Silent
 
@@ -37,7 +37,7 @@ pub data Sends (id : ℕ) (c : Connection) : List Act → Option Connection → 
 -- nothing is left to be done for a connection: its frame is sent whole, or it ended without a byte
 abbrev pub IsDone : Phase → Type 0
 IsDone Reading = ⊥
-IsDone (Waits settled) = ⊥
+IsDone (Waits due) = ⊥
 IsDone (Answered frame sent) = sent ≡ length frame
 IsDone Silent = Unit {0}
 

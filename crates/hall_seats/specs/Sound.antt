@@ -9,7 +9,7 @@ use Rattle.session_answers.specs.Stored.{Stored}
 -- frame is allowed for its own connection, and no more bytes of it are sent than it has
 abbrev pub IsSoundIn : Service → List Stored → Connection → Phase → Type 0
 IsSoundIn service stored c Reading = (c.away ≡ false) × (c.ended ≡ false)
-IsSoundIn service stored c (Waits settled) = c.away ≡ false
+IsSoundIn service stored c (Waits due) = c.away ≡ false
 IsSoundIn service stored c (Answered frame sent) = IsAllowed service stored c frame × (sent ≤ length frame)
 IsSoundIn service stored c Silent = Unit {0}
 
@@ -17,8 +17,8 @@ IsSoundIn service stored c Silent = Unit {0}
 pub record IsWaiting (s : State) (id : ℕ) : Type 0 where
   pub c : Connection
   pub known : s.known id ≡ Some c
-  pub settled : ℕ
-  pub phase : c.phase ≡ Waits settled
+  pub due : ℕ
+  pub phase : c.phase ≡ Waits due
 
 -- these are the connections whose searches wait, none of them twice
 pub record AreWaiting (s : State) (ids : List ℕ) : Type 0 where

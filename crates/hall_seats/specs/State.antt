@@ -5,8 +5,8 @@ use Rattle.session_answers.specs.Stored.{Stored}
 
 -- ---- Connections
 
--- how far a connection is: its bytes are read; its search waits, with so many labels settled; it has a frame,
--- of which so many bytes are sent; or it ended without a byte
+-- how far a connection is: its bytes are read; its search waits, and goes on for so many turns at most; it has a
+-- frame, of which so many bytes are sent; or it ended without a byte
 pub data Phase : Type 0 where
   Reading : Phase
   Waits : ℕ → Phase
@@ -52,7 +52,7 @@ put s id x = record s { known = λ j. if j == id then x else s.known j }
 -- an id, where its connection's search waits
 abbrev pub waits_as : Phase → ℕ → List ℕ
 waits_as Reading id = []
-waits_as (Waits settled) id = id ∷ []
+waits_as (Waits due) id = id ∷ []
 waits_as (Answered frame sent) id = []
 waits_as Silent id = []
 

@@ -1,5 +1,5 @@
 -- What an event, and a turn of work, change in a hall. This project's own rule.
-use Rattle.std.specs.Prelude.{◌≡◌, ◌≢◌, ◌⊎◌, ℕ, ◌+◌, ◌-◌, ◌≤◌, true, false, List, [], ◌∷◌, ◌++◌, length, take, Option, Some, None, Ok}
+use Rattle.std.specs.Prelude.{◌≡◌, ◌≢◌, ◌⊎◌, ℕ, suc, ◌-◌, ◌≤◌, true, false, List, [], ◌∷◌, ◌++◌, length, take, Option, Some, None, Ok}
 use Rattle.edge_io.specs.declared.event.Event.{Event}
 use Rattle.edge_io.specs.declared.event.Event.TheVariants as event
 use Rattle.hall_seats.specs.Held.{HasRoom, IsFull}
@@ -7,12 +7,12 @@ use Rattle.hall_seats.specs.State.{Connection, Service, State, Reading, Waits, A
 use Rattle.route_http.specs.Asked.{Asked}
 use Rattle.route_http.specs.Request.{request_of}
 use Rattle.route_http.specs.declared.span.Span.{Span}
-use Rattle.session_answers.specs.Aims.{most_for}
+use Rattle.session_answers.specs.Searches.{turns_for}
 use Rattle.session_answers.specs.Frames.{refusal_frame}
 use Rattle.session_answers.specs.Rows.{IsEarlyFrame, IsQueryFrame, IsSearched}
 use Rattle.session_answers.specs.Stored.{Stored, Uploaded, upload_of}
 use Rattle.session_answers.specs.Verdicts.{IsVerdict, part}
-use Rattle.session_answers.specs.declared.aim.Aim.{Aim}
+use Rattle.route_engine.specs.declared.aim.Aim.{Aim}
 use Rattle.session_answers.specs.declared.refusal.Refusal.{Refusal}
 use Rattle.session_answers.specs.declared.refusal.Refusal.TheVariants.{OutOfMemory, SessionsFull}
 use Rattle.session_answers.specs.declared.verdict.Verdict.TheVariants.{Undecided, NoByte, Refused, Upload, Query}
@@ -53,8 +53,8 @@ pub data Takes (service : Service) (stored : List Stored) (old c : Connection) :
       Takes service stored old c (with_frame (whole_in stored c) frame) []
   waits :
       {aim : Aim} {span : Span} → IsVerdict c.bytes c.ended (Query aim span) →
-      IsSearched service.world stored (part c.bytes span) →
-      Takes service stored old c (record (whole_in stored c) { phase = Waits 0 }) []
+      (searched : IsSearched service.world stored (part c.bytes span)) →
+      Takes service stored old c (record (whole_in stored c) { phase = Waits (turns_for aim searched.asked) }) []
   gives_up :
       {kept : Connection} → (IsVerdict c.bytes c.ended NoByte → ⊥) →
       (kept ≡ old) ⊎ ((kept ≡ c) ⊎ (kept ≡ whole_in stored c)) →
@@ -110,10 +110,6 @@ Step service s event.Over bytes new shut = (new ≡ s) × (shut ≡ None)
 
 -- ---- Work
 
--- how many labels a turn of work settles
-abbrev pub work_quota : ℕ
-work_quota = 2000
-
 -- what the query of a connection is asked for whose request was whole after so many profiles, and the query
 pub record AskedBy (c : Connection) (before : ℕ) (aim : Aim) (query : List ℕ) : Type 0 where
   pub span : Span
@@ -127,19 +123,16 @@ pub record AsksFor (c : Connection) (aim : Aim) (asked : Asked) : Type 0 where
   pub verdict : IsVerdict c.bytes c.ended (Query aim span)
   pub spells : request_of (part c.bytes span) ≡ Ok asked
 
--- what a connection comes to by a turn of its search: it waits on, while no more is settled than may be for its
--- request; or it is answered by its query or by want of memory
+-- what a connection comes to by a turn of its search: it waits on, with a turn less; or it is answered by its
+-- query or by want of memory
 pub data GoesOn (service : Service) (stored : List Stored) (c : Connection) : Connection → Type 0 where
-  more :
-      {settled : ℕ} {aim : Aim} {asked : Asked} → c.phase ≡ Waits settled → AsksFor c aim asked →
-      settled + work_quota ≤ most_for aim asked →
-      GoesOn service stored c (record c { phase = Waits (settled + work_quota) })
+  more : {due : ℕ} → c.phase ≡ Waits (suc due) → GoesOn service stored c (record c { phase = Waits due })
   answers :
-      {settled before : ℕ} {aim : Aim} {query frame : List ℕ} → c.phase ≡ Waits settled →
+      {due before : ℕ} {aim : Aim} {query frame : List ℕ} → c.phase ≡ Waits due →
       AskedBy c before aim query → before ≤ length stored →
       IsQueryFrame service.world (take before stored) aim query frame →
       GoesOn service stored c (with_frame c frame)
-  gives_up : {settled : ℕ} → c.phase ≡ Waits settled → GoesOn service stored c (with_frame c memory_frame)
+  gives_up : {due : ℕ} → c.phase ≡ Waits due → GoesOn service stored c (with_frame c memory_frame)
 
 -- what a turn of work changes: the search that waited longest goes on, and then waits last where it isn't at
 -- its end

@@ -7,5 +7,5 @@ mod raw;
 mod search;
 mod turn;
 
-pub use search::LegSearch;
+pub use search::{FIRST_LABELS, LegSearch};
 pub use turn::LegTurn;

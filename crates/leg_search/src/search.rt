@@ -5,7 +5,7 @@ use cost_model::Carry;
 use space_search::Search;
 
 /// The most labels that a search settles before it begins anew.
-pub(crate) const FIRST_LABELS: u64 = 131072;
+pub const FIRST_LABELS: u64 = 131072;
 
 /// What a search on a leg is for, and whether it has begun anew.
 #[derive(Clone, Copy, Drop)]

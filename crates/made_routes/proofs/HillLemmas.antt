@@ -25,7 +25,7 @@ use Rattle.made_routes.specs.declared.error.MadeError.TheVariants.{Route, NoMemo
 use Rattle.made_routes.specs.declared.summary.Hills.{Hills}
 use Rattle.profile_text.specs.Read.{profile_of}
 use Rattle.profile_text.specs.Tree.{Sections}
-use Rattle.route_engine.specs.Answers.{IsAnswer, found, refused, trackless, unmapped}
+use Rattle.route_engine.specs.Answers.{IsAnswer, early, found, refused}
 use Rattle.route_engine.specs.Jobs.{IsWithin}
 use Rattle.route_engine.specs.Settings.{Question}
 use Rattle.route_http.specs.Asked.{Asked}
@@ -163,10 +163,9 @@ hill-world plan seed table tiles (Err none) same table_is tile made = tt
 -- the legs of a track that answers a question cost less than 2^127
 answer-fits : (question : Question) (result : Result Track RouteError) → IsAnswer question result →
     IfOk result (λ track. total_cost track.legs < 2 ^ 127)
-answer-fits question _ (refused is) = tt
-answer-fits question _ (unmapped over none) = tt
-answer-fits question _ (trackless over nodes none) = tt
-answer-fits question _ (found over nodes is) = is.costs
+answer-fits question _ (early is) = tt
+answer-fits question _ (refused of is) = tt
+answer-fits question _ (found of is) = is.costs
 
 -- the legs of a track across hills cost less than 2^127
 pub track-fits : (plan : Plan) (track : Track) → IsHillTrack plan track → total_cost track.legs < 2 ^ 127

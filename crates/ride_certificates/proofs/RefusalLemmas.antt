@@ -9,7 +9,8 @@ use Rattle.route_certificate.specs.Certified.{IsCertified, IsFirst, no_walk, sho
 use Rattle.route_certificate.specs.declared.ask.TrackAsk.{TrackAsk}
 use Rattle.route_certificate.specs.declared.making.Certified.{Certified}
 use Rattle.route_certificate.specs.declared.making.Certified.TheVariants.{Shown, NoWalk, Spent}
-use Rattle.route_engine.specs.Answers.{IsAnswer, plan_for, refused as route_refused, trackless as route_trackless, unmapped as route_unmapped}
+use Rattle.route_engine.specs.Answers.{IsAnswer, early, plan_for, refused as plan_refused}
+use Rattle.route_engine.specs.Refusals.{profile, waypoint}
 use Rattle.route_engine.specs.Plans.{HasNoTrack, nth_leg, no_track as first_trackless}
 use Rattle.route_engine.specs.Settings.{Question}
 use Rattle.route_ready.specs.declared.error.RouteError.{RouteError}
@@ -18,9 +19,8 @@ use Rattle.ride_certificates.proofs.LegLemmas.{leg-asked}
 
 -- why a question has no legs is why it has no track
 none-refuses : (question : Question) (e : RouteError) → HasNoLegs question e → IsAnswer question (Err e)
-none-refuses question e (refused is) = route_refused is
-none-refuses question e (unmapped whole refuses) =
-    subst (λ (f : RouteError). IsAnswer question (Err f)) (sym refuses.is) (route_unmapped whole.over refuses.unmapped)
+none-refuses question e (refused is) = early (profile is)
+none-refuses question e (unmapped whole refuses) = early (waypoint whole.over refuses)
 
 -- a leg without a walk is the first such
 record IsWalkless (terrain : Terrain) (ask : TrackAsk) (leg : ℕ) : Type 0 where
@@ -61,7 +61,8 @@ module _ (question : Question) (setting : Setting) (nodes : List ℕ) (legs : Ha
             (walk.0, subst (λ (l : Leg). IsLegWalk l walk.0) (planned k) walk.1.is_walk);
         none = subst HasNoWalk (planned leg) is.none;
       } in
-      route_trackless legs.whole.over legs.are (first_trackless none)
+      plan_refused {plan = plan_for question setting nodes}
+      (record { setting = setting; over = legs.whole.over; nodes = nodes; mapped = legs.are; is = refl }) (first_trackless none)
 
   -- what is told of certifying is refused as the track is
   pub told-refuses : (found : Certified) → CertifiesTo setting nodes question.asked.labels found →

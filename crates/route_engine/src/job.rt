@@ -1,11 +1,12 @@
 //! A request that is answered in turns.
 
-ghost use Rattle.std.specs.Prelude.{◌≡◌, ◌⊎◌, ◌≤◌, IfErr, IfOk, Some, length, option_map};
-ghost use Rattle.route_engine.specs.Jobs.{AnswersJob, CountsJob, IsJobOn, IsPlanFor, IsPlanOn, IsWithin};
-ghost use Rattle.route_engine.specs.Jobs.{ended_with, most_settled, plan_in, plan_of, setting_of, settled_by, track_of};
+ghost use Rattle.std.specs.Prelude.{◌≡◌, ◌⊎◌, ◌≤◌, IfErr, IfOk, length};
+ghost use Rattle.route_engine.specs.Jobs.{IsJobOn, IsPlanFor, IsPlanOn, IsWithin, plan_in, plan_of, setting_of};
+ghost use Rattle.route_engine.specs.Plans.{IsRefusal, IsTrackFor};
+ghost use Rattle.route_engine.specs.Progress.{searches_left};
+ghost use Rattle.route_engine.specs.Searches.{StepsSearch, work_of_job};
 ghost use Rattle.route_engine.specs.Settings.{cut_links, open_map_of};
 ghost use Rattle.route_engine.specs.Waypoints.{RefusesWaypoint};
-ghost use Rattle.item_list.specs.declared.turn.Turn.TheVariants as turns;
 ghost use Rattle.route_http.specs.Seen.{asked};
 ghost use Rattle.route_ready.specs.World.{world_of};
 ghost use Rattle.route_ready.specs.declared.error.RouteError.TheVariants.{NoMemory};
@@ -22,8 +23,8 @@ use item_list::{Items, Turn};
 use route_http::Request;
 use route_ready::{Ready, RouteError, World};
 use std::alloc::Global;
-use std::mem::replace;
 use std::rc::Rc;
+use tasks::Stepped;
 use track_legs::Track;
 
 /// A request that is answered in turns: its legs are searched one after the other, and of each the
@@ -33,8 +34,6 @@ use track_legs::Track;
 pub struct Job {
     pub(crate) alloc: Global,
     pub(crate) plan: JobPlan,
-    /// How many labels all searches have settled, and what beginnings count as.
-    pub(crate) settled: u64,
     pub(crate) stage: Stage,
 }
 
@@ -43,7 +42,6 @@ impl Drop for Job {
         let Job {
             alloc: _,
             plan: _,
-            settled: _,
             stage: _,
         } = self;
     }
@@ -66,7 +64,6 @@ impl Job {
             setting_of (world_of world.now) ready.value (asked request).circles in
             IfOk result (λ job. IsPlanFor setting (asked request)
             (plan_in (world_of world.now) job)) }
-        ensures fresh { IfOk result (λ job. settled_by job ≡ 0) }
         ensures cause { let setting =
             setting_of (world_of world.now) ready.value (asked request).circles in
             IfErr result (λ e. (e ≡ NoMemory) ⊎
@@ -74,92 +71,46 @@ impl Job {
     {
         let plan = plan_for(alloc, world, ready, &request)?;
         let stage = next_stage(alloc, world, &plan, Walked::new(alloc))?;
-        Ok(Job {
-            alloc,
-            plan,
-            settled: 0,
-            stage,
-        })
+        Ok(Job { alloc, plan, stage })
     }
 
-    /// Settles at most `quota` labels, beginnings counted. It goes on where the whole quota was
-    /// counted, and is at its end where the track is found or there is none. After its end a job
-    /// gives that end again.
-    pub fn turn(&mut self, world: &World, quota: u32) -> Turn<(), Result<(), RouteError>>
-        requires on { IsJobOn (world_of world.now) self.old }
-        requires some { 1 ≤ quota }
-
-        // It stays a job over the world, with its plan.
-        ensures on { IsJobOn (world_of world.now) self.new }
-        ensures plan { plan_in (world_of world.now) self.new ≡
-            plan_in (world_of world.now) self.old }
-
-        ensures answers { AnswersJob (plan_in (world_of world.now) self.old) (track_of self.new)
+    /// A step of it: a turn of the search for its next walk, and the beginning of the next one.
+    pub(crate) fn stepped(
+        self,
+        world: &World,
+        budget: u32,
+    ) -> Stepped<Job, Result<Track, RouteError>>
+        requires on { IsJobOn (world_of world.now) self }
+        requires some { 1 ≤ budget }
+        ensures steps { let world = world_of world.now in
+            StepsSearch (IsJobOn world) (plan_in world)
+            (λ job. work_of_job (plan_in world job) job.stage)
+            (λ job. searches_left (plan_in world job) job.stage) IsTrackFor IsRefusal budget self
             result }
-        ensures counts { CountsJob quota (settled_by self.old) (settled_by self.new) result }
-        ensures bounded { settled_by self.new ≤ most_settled
-            (plan_in (world_of world.now) self.new) }
-
-        ensures again { (end : _) → ended_with self.old ≡ Some end →
-            (result ≡ turns.Done end) × (self.new ≡ self.old) }
     {
-        let mut left = quota;
-        'searches: loop {
-            match replace(&mut self.stage, Stage::Refused(RouteError::NoMemory)) {
-                Stage::Searching { walked, search } => {
-                    let step = advance(self.alloc, world, &self.plan, walked, search, left);
-                    let counted = step.settled + step.beginning as u64;
-                    self.settled += counted;
-                    self.stage = step.stage;
-                    if step.more {
-                        return Turn::More(());
-                    }
-                    left -= counted as u32;
-                }
-                Stage::Found(track) => {
-                    self.stage = Stage::Found(track);
-                    return Turn::Done(Ok(()));
-                }
-                Stage::Refused(error) => {
-                    self.stage = Stage::Refused(error);
-                    return Turn::Done(Err(error));
+        let Job { alloc, plan, stage } = self;
+        match stage {
+            Stage::Searching { walked, search } => {
+                let next = advance(alloc, world, &plan, walked, search, budget);
+                let spent = next.settled as u32 + next.beginning;
+                Stepped {
+                    spent,
+                    turn: Turn::More(Job {
+                        alloc,
+                        plan,
+                        stage: next.stage,
+                    }),
                 }
             }
+            Stage::Found(track) => Stepped {
+                spent: 0,
+                turn: Turn::Done(Ok(track)),
+            },
+            Stage::Refused(error) => Stepped {
+                spent: 0,
+                turn: Turn::Done(Err(error)),
+            },
         }
-    }
-
-    /// The track, once it is found.
-    pub fn track(&self) -> Option<&Track>
-        ensures value { option_map (λ track. track.now) result ≡ track_of self.now }
-    {
-        match &self.stage {
-            Stage::Found(track) => Some(track),
-            _ => None,
-        }
-    }
-
-    /// The track, once it is found, of a job that is done with.
-    pub fn into_track(self) -> Option<Track>
-        ensures value { result ≡ track_of self }
-    {
-        let Job {
-            alloc: _,
-            plan: _,
-            settled: _,
-            stage,
-        } = self;
-        match stage {
-            Stage::Found(track) => Some(track),
-            _ => None,
-        }
-    }
-
-    /// How many labels its searches have settled so far, and what beginnings count as. Those of a
-    /// search that ran out of memory in this turn aren't counted.
-    pub fn settled(&self) -> u64
-        ensures value { result ≡ settled_by self.now }
-    {
-        self.settled
     }
 }
 

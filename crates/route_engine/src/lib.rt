@@ -3,16 +3,19 @@
 #![tactic(auto)]
 
 mod advance;
+mod aim;
+mod asking;
 mod begin;
 mod circles;
 mod job;
 mod marks;
 mod nearby;
-mod pending;
-mod pending_table;
+mod pendings;
 mod plan;
 mod replying;
 mod routing;
+mod search;
+mod searches;
 mod sources;
 mod stage;
 mod table;
@@ -23,12 +26,15 @@ mod told;
 mod walked;
 mod waypoints;
 
+pub use aim::{Aim, most_for};
+pub use asking::Asking;
 pub use job::Job;
 pub use nearby::within;
-pub use pending::Pending;
-pub use pending_table::{PendingTable, table_reply};
-pub use replying::reply;
+pub use pendings::Pending;
+pub use replying::{reply, table_reply};
 pub use routing::{route, route_by};
+pub use search::Search;
 pub use table::TableJob;
 pub use table_stage::CostRows;
+pub use told::Told;
 pub use waypoints::waypoint_nodes;

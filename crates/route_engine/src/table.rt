@@ -1,11 +1,11 @@
 //! A table of costs that is found in turns.
 
-ghost use Rattle.std.specs.Prelude.{◌≡◌, ◌⊎◌, ◌≤◌, IfErr, IfOk, Some, length, option_map};
-ghost use Rattle.item_list.specs.declared.turn.Turn.TheVariants as turns;
+ghost use Rattle.std.specs.Prelude.{◌≡◌, ◌⊎◌, ◌≤◌, IfErr, IfOk, length};
 ghost use Rattle.route_engine.specs.Jobs.{IsPlanFor, IsWithin, setting_of};
 ghost use Rattle.route_engine.specs.Settings.{open_map_of};
-ghost use Rattle.route_engine.specs.TableJobs.{AnswersTable, CountsTable, IsTableOn, costs_of, settled_for, table_end, table_plan};
-ghost use Rattle.route_engine.specs.Tables.{most_for_table};
+ghost use Rattle.route_engine.specs.TableJobs.{IsTableOn, rows_left, table_plan, work_of_table};
+ghost use Rattle.route_engine.specs.Searches.{StepsSearch};
+ghost use Rattle.route_engine.specs.Tables.{IsTable, IsTableRefusal};
 ghost use Rattle.route_engine.specs.Waypoints.{RefusesWaypoint};
 ghost use Rattle.route_http.specs.Seen.{asked};
 ghost use Rattle.route_ready.specs.World.{world_of};
@@ -20,8 +20,8 @@ use item_list::Turn;
 use route_http::Request;
 use route_ready::{Ready, RouteError, World};
 use std::alloc::Global;
-use std::mem::replace;
 use std::rc::Rc;
+use tasks::Stepped;
 
 /// The costs between the waypoints of a request, found in turns: one search from each waypoint
 /// finds what it costs to come to all of them. The alternative, the form and the runs of the
@@ -29,8 +29,6 @@ use std::rc::Rc;
 pub struct TableJob {
     pub(crate) alloc: Global,
     pub(crate) plan: JobPlan,
-    /// How many labels all searches have settled.
-    pub(crate) settled: u64,
     pub(crate) stage: TableStage,
 }
 
@@ -39,7 +37,6 @@ impl Drop for TableJob {
         let TableJob {
             alloc: _,
             plan: _,
-            settled: _,
             stage: _,
         } = self;
     }
@@ -62,7 +59,6 @@ impl TableJob {
             setting_of (world_of world.now) ready.value (asked request).circles in
             IfOk result (λ job. IsPlanFor setting (asked request)
             (table_plan (world_of world.now) job)) }
-        ensures fresh { IfOk result (λ job. settled_for job ≡ 0) }
         ensures cause { let setting =
             setting_of (world_of world.now) ready.value (asked request).circles in
             IfErr result (λ e. (e ≡ NoMemory) ⊎
@@ -70,75 +66,45 @@ impl TableJob {
     {
         let plan = plan_for(alloc, world, ready, &request)?;
         let stage = next_source(alloc, world, &plan, Vec::new(alloc))?;
-        Ok(TableJob {
-            alloc,
-            plan,
-            settled: 0,
-            stage,
-        })
+        Ok(TableJob { alloc, plan, stage })
     }
 
-    /// Settles at most `quota` labels. It goes on where as many were settled and rows are left, and
-    /// is at its end where the table is found or there is none. After its end a job gives that end
-    /// again.
-    pub fn turn(&mut self, world: &World, quota: u32) -> Turn<(), Result<(), RouteError>>
-        requires on { IsTableOn (world_of world.now) self.old }
-        requires some { 1 ≤ quota }
-
-        // It stays a job over the world, with its plan.
-        ensures on { IsTableOn (world_of world.now) self.new }
-        ensures plan { table_plan (world_of world.now) self.new ≡
-            table_plan (world_of world.now) self.old }
-
-        ensures answers { AnswersTable (table_plan (world_of world.now) self.old)
-            (costs_of self.new) result }
-        ensures counts { CountsTable quota (settled_for self.old) (settled_for self.new) result }
-        ensures bounded { settled_for self.new ≤ most_for_table
-            (table_plan (world_of world.now) self.new) }
-
-        ensures again { (end : _) → table_end self.old ≡ Some end →
-            (result ≡ turns.Done end) × (self.new ≡ self.old) }
+    /// A step of it: a turn of the search for its next row.
+    pub(crate) fn stepped(
+        self,
+        world: &World,
+        budget: u32,
+    ) -> Stepped<TableJob, Result<CostRows, RouteError>>
+        requires on { IsTableOn (world_of world.now) self }
+        requires some { 1 ≤ budget }
+        ensures steps { let world = world_of world.now in
+            StepsSearch (IsTableOn world) (table_plan world)
+            (λ job. work_of_table (table_plan world job) job.stage)
+            (λ job. rows_left (table_plan world job) job.stage) IsTable IsTableRefusal budget self
+            result }
     {
-        let mut left = quota;
-        'searches: loop {
-            match replace(&mut self.stage, TableStage::Refused(RouteError::NoMemory)) {
-                TableStage::Searching { rows, source } => {
-                    if left == 0 {
-                        self.stage = TableStage::Searching { rows, source };
-                        return Turn::More(());
-                    }
-                    let next = step(self.alloc, world, &self.plan, rows, source, left);
-                    self.settled += next.settled;
-                    self.stage = next.stage;
-                    left -= next.settled as u32;
-                }
-                TableStage::Found(table) => {
-                    self.stage = TableStage::Found(table);
-                    return Turn::Done(Ok(()));
-                }
-                TableStage::Refused(error) => {
-                    self.stage = TableStage::Refused(error);
-                    return Turn::Done(Err(error));
+        let TableJob { alloc, plan, stage } = self;
+        match stage {
+            TableStage::Searching { rows, source } => {
+                let next = step(alloc, world, &plan, rows, source, budget);
+                let spent = next.settled as u32;
+                Stepped {
+                    spent,
+                    turn: Turn::More(TableJob {
+                        alloc,
+                        plan,
+                        stage: next.stage,
+                    }),
                 }
             }
+            TableStage::Found(table) => Stepped {
+                spent: 0,
+                turn: Turn::Done(Ok(table)),
+            },
+            TableStage::Refused(error) => Stepped {
+                spent: 0,
+                turn: Turn::Done(Err(error)),
+            },
         }
-    }
-
-    /// The costs, once they are found. It takes no memory.
-    pub fn costs(&self) -> Option<&CostRows>
-        ensures value { option_map (λ costs. costs.now) result ≡ costs_of self.now }
-    {
-        match &self.stage {
-            TableStage::Found(table) => Some(table),
-            _ => None,
-        }
-    }
-
-    /// How many labels its searches have settled so far. Those of a search that ran out of memory
-    /// in this turn aren't counted. It takes no memory.
-    pub fn settled(&self) -> u64
-        ensures value { result ≡ settled_for self.now }
-    {
-        self.settled
     }
 }

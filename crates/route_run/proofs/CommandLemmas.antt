@@ -9,7 +9,6 @@ use Rattle.command_words.specs.declared.command.Command as Form
 use Rattle.command_words.specs.declared.command.GridCommand.{GridCommand}
 use Rattle.command_words.specs.declared.command.RouteCommand.{RouteCommand}
 use Rattle.command_words.specs.declared.command.ServeCommand.{ServeCommand}
-use Rattle.command_words.specs.declared.command.WithinCommand.{WithinCommand}
 use Rattle.context_check.specs.Refusal.{refusal_of}
 use Rattle.edge_io.specs.Files.{FilesSeen}
 use Rattle.hgt_tiles.specs.File.{relief_of_file}
@@ -23,6 +22,8 @@ use Rattle.profile_text.specs.Read.{profile_of}
 use Rattle.profile_text.specs.Tree.{Sections}
 use Rattle.route_certificate.specs.declared.verdict.Verdict.{Verdict}
 use Rattle.route_certificate.specs.declared.verdict.Verdict.TheVariants.{Yes, No}
+use Rattle.route_engine.specs.Replies.{question_of}
+use Rattle.route_engine.specs.Settings.{Question}
 use Rattle.route_http.specs.Asked.{Asked}
 use Rattle.route_http.specs.Request.{request_of}
 use Rattle.route_ready.specs.Worlds.{WorldValue}
@@ -30,17 +31,18 @@ use Rattle.route_ready.specs.declared.error.RouteError.{RouteError}
 use Rattle.route_run.proofs.CauseLemmas.{Cause, IsInner, each-cause, file-cause, last-cause, leaves-cause, map-cause, settles-cause, then-cause}
 use Rattle.route_run.specs.Offer.{Offer, Offers, offer_over, serve_files}
 use Rattle.route_run.specs.Outcome.{IsCommandAnswer, IsQueryWord, check_words, file_words, profile_words, words_in, world_words}
-use Rattle.run_answers.specs.Certify.{IsCertifiedBy, IsCertifiedOver, IsCertifyAnswer}
-use Rattle.run_answers.specs.Check.{IsCheckedAnswer, IsCheckedBy, IsCheckedOver, TellsVerdict}
+use Rattle.run_answers.specs.Asks.{AnswersQuery, IsAnsweredBy, IsAnsweredOver}
+use Rattle.run_answers.specs.Certify.{IsWritten}
+use Rattle.run_answers.specs.Check.{IsCheckedAnswer, IsTested, TellsVerdict}
 use Rattle.run_answers.specs.Code.{IsCodeAnswer, listing_in, listing_under}
 use Rattle.run_answers.specs.First.{first_in, first_of}
 use Rattle.run_answers.specs.Grid.{IsGridAnswerBy, IsPricedAnswer, IsShortestAnswer, question_by}
 use Rattle.run_answers.specs.Hills.{IsHillsAnswer}
 use Rattle.run_answers.specs.Make.{made_by}
-use Rattle.run_answers.specs.Refused.{IsRefusal}
-use Rattle.run_answers.specs.Route.{IsRouteAnswer, IsRouted, IsRoutedBy, route_files}
-use Rattle.run_answers.specs.Table.{IsTableCommandAnswer, IsTabledBy, IsTabledOver}
-use Rattle.run_answers.specs.Within.{IsNearbyBy, IsNearbyOver, IsWithinCommandAnswer}
+use Rattle.run_answers.specs.Refused.{IsRefusal, IsTold}
+use Rattle.run_answers.specs.Route.{IsReplied, any_in, route_files}
+use Rattle.run_answers.specs.Table.{IsTabled}
+use Rattle.run_answers.specs.Within.{IsNearbyTold}
 use Rattle.run_files.specs.Certificate.{IsCertificateIn, TakesCertificate}
 use Rattle.run_files.specs.Chain.{seen_as}
 use Rattle.run_files.specs.Checked.{TakesChecked, checked_by, checked_in}
@@ -90,12 +92,22 @@ module _ (Faulty : ℕ → Type 0)
     refusal-inner Refuses profile status (inl none) = subst (IsInner Faulty) (sym none) tt
     refusal-inner Refuses profile status (inr tells) = subst (IsInner Faulty) (sym tells.is) tt
 
+    -- what is told as a refusal of a question
+    told-inner : (Tells : Question → List ℕ → Type 0) (Refuses : Question → RouteError → Type 0) (question : Question) (status : Status) →
+        IsTold Tells Refuses question (Err status) → IsInner Faulty status
+    told-inner Tells Refuses question status is =
+        refusal-inner (Refuses question) (Some question.binding.subject.sections) status is
+
     -- the refusal of a request by a profile, where there is one
-    routed-inner : (profile : Option Sections) (world : WorldValue) (asked : Asked) (status : Status) →
-        IsRoutedBy profile world asked (Err status) →
-        IsInner Faulty status
-    routed-inner (Some sections) world asked status is = refusal-inner _ _ status is
-    routed-inner None world asked status is = refusal-inner _ _ status is
+    answered-inner : (answers : Question → Result (List ℕ) Status → Type 0) →
+        ((question : Question) (status : Status) → answers question (Err status) → IsInner Faulty status) → (profile : Option Sections)
+        (world : WorldValue) (asked : Asked) (status : Status) → IsAnsweredBy answers profile world asked (Err status) → IsInner Faulty status
+    answered-inner answers inner (Some sections) world asked status is = inner (question_of world sections asked) status is
+    answered-inner answers inner None world asked status is = refusal-inner _ _ status is
+
+    -- a query that is none
+    any-inner : (query : Named) (status : Status) → any_in query ≡ Err status → IsInner Faulty status
+    any-inner query status is = mapped-inner Query (request_of query.name) (λ e. tt) status is
 
     -- a query that asks for no first track, where its word may be told at fault
     first-inner : (query : Named) → Faulty query.word → (status : Status) → first_in query ≡ Err status → IsInner Faulty status
@@ -114,36 +126,17 @@ module _ (Faulty : ℕ → Type 0)
             let same : refusal ≡ status = cc in
             mapped-inner Query (request_of query.name) (λ e. tt) status (read ∙ ap Err same)
 
-    -- the refusal of a request for a certificate by a profile, where there is one
-    certified-inner : (profile : Option Sections) (world : WorldValue) (asked : Asked) (status : Status) →
-        IsCertifiedBy profile world asked (Err status) → IsInner Faulty status
-    certified-inner (Some sections) world asked status is = refusal-inner _ _ status is
-    certified-inner None world asked status is = refusal-inner _ _ status is
-
-    -- the refusal of a request for a table by a profile, where there is one
-    tabled-inner : (profile : Option Sections) (world : WorldValue) (asked : Asked) (status : Status) →
-        IsTabledBy profile world asked (Err status) → IsInner Faulty status
-    tabled-inner (Some sections) world asked status is = refusal-inner _ _ status is
-    tabled-inner None world asked status is = refusal-inner _ _ status is
-
-    -- the refusal of a request with a cost by a profile, where there is one
-    nearby-inner : (profile : Option Sections) (world : WorldValue) (asked : Asked) (most : ℕ) (status : Status) →
-        IsNearbyBy profile world asked most (Err status) → IsInner Faulty status
-    nearby-inner (Some sections) world asked most status is = refusal-inner _ _ status is
-    nearby-inner None world asked most status is = refusal-inner _ _ status is
-
     -- the verdict on a certificate, where it is told as a refusal
     verdict-inner : (verdict : Verdict) (status : Status) → TellsVerdict verdict (Err status) → IsInner Faulty status
     verdict-inner verdict status (inl none) = subst (IsInner Faulty) (sym none) tt
     verdict-inner (Yes cost) status (inr is) = cc
     verdict-inner (No leg why) status (inr is) = let same : Refuted leg why ≡ status = cc in subst (IsInner Faulty) same tt
 
-    -- the refusal of a certificate by a profile, where there is one
-    checked-by-inner : (profile : Option Sections) (world : WorldValue) (asked : Asked) (certificate : Certificate) (status : Status) →
-        IsCheckedBy profile world asked certificate (Err status) → IsInner Faulty status
-    checked-by-inner (Some sections) world asked certificate status (inl judged) = verdict-inner judged.verdict status judged.tells
-    checked-by-inner (Some sections) world asked certificate status (inr refused) = refusal-inner _ _ status refused
-    checked-by-inner None world asked certificate status is = refusal-inner _ _ status is
+    -- the refusal of a certificate
+    tested-inner : (certificate : Certificate) (question : Question) (status : Status) → IsTested question certificate (Err status) →
+        IsInner Faulty status
+    tested-inner certificate question status (inl judged) = verdict-inner judged.verdict status judged.tells
+    tested-inner certificate question status (inr refused) = refusal-inner _ _ status refused
 
     -- the refusal of a certificate's text
     certificate-inner : (map : MapValue) (word : ℕ) (text : List ℕ) (status : Status) → IsCertificateIn map word text (Err status) →
@@ -241,25 +234,17 @@ module _ (Faulty : ℕ → Type 0)
         (λ sections. settles-cause Faulty (listing_in command.profile.word table sections)
         (listing-inner command.profile.word table sections)))
 
-    -- the command `route`
-    route-cause : (command : RouteCommand) (old new : FilesSeen) (r : Result (List ℕ) Status) → IsRouteAnswer command old new r →
+    -- a command that asks something of its query
+    query-cause : (reads : Named → Result Asked Status) (answers : Question → Result (List ℕ) Status → Type 0) (command : RouteCommand) →
+        ((status : Status) → reads command.query ≡ Err status → IsInner Faulty status) →
+        ((question : Question) (status : Status) → answers question (Err status) → IsInner Faulty status) →
+        (old new : FilesSeen) (r : Result (List ℕ) Status) → AnswersQuery reads answers command old new r →
         Cause Faulty (world_words (route_files command)) old new r
-    route-cause command =
-        then-cause Faulty _ _ [] (world_words (route_files command))
-        (settles-cause Faulty (query_in command.query.name) (mapped-inner Query (request_of command.query.name) (λ e. tt)))
+    query-cause reads answers command reader inner =
+        then-cause Faulty _ _ [] (world_words (route_files command)) (settles-cause Faulty (reads command.query) reader)
         (λ asked. last-cause Faulty _ _ (world_words (route_files command)) (world-cause (route_files command))
-        (λ offered. leaves-cause Faulty (IsRouted offered asked)
-        (routed-inner (profile_named offered.profiles asked.profile) offered.world asked)))
-
-    -- the command `certify`
-    certify-cause : (command : RouteCommand) → Faulty command.query.word → (old new : FilesSeen) (r : Result (List ℕ) Status) →
-        IsCertifyAnswer command old new r → Cause Faulty (world_words (route_files command)) old new r
-    certify-cause command may =
-        then-cause Faulty _ _ [] (world_words (route_files command))
-        (settles-cause Faulty (first_in command.query) (first-inner command.query may))
-        (λ asked. last-cause Faulty _ _ (world_words (route_files command)) (world-cause (route_files command))
-        (λ offered. leaves-cause Faulty (IsCertifiedOver offered asked)
-        (certified-inner (profile_named offered.profiles asked.profile) offered.world asked)))
+        (λ offered. leaves-cause Faulty (IsAnsweredOver answers offered asked)
+        (answered-inner answers inner (profile_named offered.profiles asked.profile) offered.world asked)))
 
     -- the command `check`
     check-cause : (command : CheckCommand) → Faulty command.route.query.word → (old new : FilesSeen) (r : Result (List ℕ) Status) →
@@ -270,28 +255,9 @@ module _ (Faulty : ℕ → Type 0)
         (λ asked. then-cause Faulty _ _ (world_words (route_files command.route)) (command.certificate.word ∷ [])
         (world-cause (route_files command.route))
         (λ offered. last-cause Faulty _ _ (command.certificate.word ∷ []) (certificate-cause offered.world.map command.certificate)
-        (λ certificate. leaves-cause Faulty (IsCheckedOver offered asked certificate)
-        (checked-by-inner (profile_named offered.profiles asked.profile) offered.world asked certificate))))
-
-    -- the command `table`
-    costs-cause : (command : RouteCommand) (old new : FilesSeen) (r : Result (List ℕ) Status) → IsTableCommandAnswer command old new r →
-        Cause Faulty (world_words (route_files command)) old new r
-    costs-cause command =
-        then-cause Faulty _ _ [] (world_words (route_files command))
-        (settles-cause Faulty (query_in command.query.name) (mapped-inner Query (request_of command.query.name) (λ e. tt)))
-        (λ asked. last-cause Faulty _ _ (world_words (route_files command)) (world-cause (route_files command))
-        (λ offered. leaves-cause Faulty (IsTabledOver offered asked)
-        (tabled-inner (profile_named offered.profiles asked.profile) offered.world asked)))
-
-    -- the command `within`
-    within-cause : (command : WithinCommand) (old new : FilesSeen) (r : Result (List ℕ) Status) →
-        IsWithinCommandAnswer command old new r → Cause Faulty (world_words (route_files command.route)) old new r
-    within-cause command =
-        then-cause Faulty _ _ [] (world_words (route_files command.route))
-        (settles-cause Faulty (query_in command.route.query.name) (mapped-inner Query (request_of command.route.query.name) (λ e. tt)))
-        (λ asked. last-cause Faulty _ _ (world_words (route_files command.route)) (world-cause (route_files command.route))
-        (λ offered. leaves-cause Faulty (IsNearbyOver offered asked command.cost)
-        (nearby-inner (profile_named offered.profiles asked.profile) offered.world asked command.cost)))
+        (λ certificate. leaves-cause Faulty (IsAnsweredOver (λ question. IsTested question certificate) offered asked)
+        (answered-inner (λ question. IsTested question certificate) (tested-inner certificate)
+        (profile_named offered.profiles asked.profile) offered.world asked))))
 
     -- the command `grid`
     grid-cause : (files : Option CodeCommand) (command : GridCommand) (old new : FilesSeen) (r : Result (List ℕ) Status) →
@@ -311,11 +277,15 @@ module _ (Faulty : ℕ → Type 0)
     command-cause (Form.TheVariants.Make command) may old new r is =
         settles-cause Faulty (Ok (made_by command)) (λ status none. cc) old new r is
     command-cause (Form.TheVariants.Code command) may old new r is = code-cause command old new r is
-    command-cause (Form.TheVariants.Route command) may old new r is = route-cause command old new r is
-    command-cause (Form.TheVariants.Certify command) may old new r is = certify-cause command (may command.query.word refl) old new r is
+    command-cause (Form.TheVariants.Route command) may old new r is =
+        query-cause any_in IsReplied command (any-inner command.query) (told-inner _ _) old new r is
+    command-cause (Form.TheVariants.Certify command) may old new r is =
+        query-cause first_in IsWritten command (first-inner command.query (may command.query.word refl)) (told-inner _ _) old new r is
     command-cause (Form.TheVariants.Check command) may old new r is = check-cause command (may command.route.query.word refl) old new r is
-    command-cause (Form.TheVariants.Table command) may old new r is = costs-cause command old new r is
-    command-cause (Form.TheVariants.Within command) may old new r is = within-cause command old new r is
+    command-cause (Form.TheVariants.Table command) may old new r is =
+        query-cause any_in IsTabled command (any-inner command.query) (told-inner _ _) old new r is
+    command-cause (Form.TheVariants.Within command) may old new r is =
+        query-cause any_in (IsNearbyTold command.cost) command.route (any-inner command.route.query) (told-inner _ _) old new r is
     command-cause (Form.TheVariants.Hills command) may old new r is =
         leaves-cause Faulty (IsHillsAnswer command) (refusal-inner _ _) old new r is
     command-cause (Form.TheVariants.Serve command) may old new r is = absurd is

@@ -4,15 +4,17 @@ use Rattle.edge_io.specs.Faults.{CountRose, count_after}
 use Rattle.edge_io.specs.Files.{FilesSeen}
 use Rattle.edge_io.specs.Hub.{HubSeen}
 use Rattle.edge_io.specs.Sink.{SinkSeen}
-use Rattle.run_answers.specs.Certify.{IsCertifyAnswer}
+use Rattle.run_answers.specs.Asks.{AnswersQuery}
+use Rattle.run_answers.specs.Certify.{IsWritten as IsCertificateWritten}
+use Rattle.run_answers.specs.First.{first_in}
 use Rattle.run_answers.specs.Check.{IsCheckedAnswer}
 use Rattle.run_answers.specs.Code.{IsCodeAnswer}
 use Rattle.run_answers.specs.Grid.{IsGridAnswer}
 use Rattle.run_answers.specs.Hills.{IsHillsAnswer}
 use Rattle.run_answers.specs.Make.{made_by}
-use Rattle.run_answers.specs.Route.{IsRouteAnswer, route_files}
-use Rattle.run_answers.specs.Table.{IsTableCommandAnswer}
-use Rattle.run_answers.specs.Within.{IsWithinCommandAnswer}
+use Rattle.run_answers.specs.Route.{IsReplied, any_in, route_files}
+use Rattle.run_answers.specs.Table.{IsTabled}
+use Rattle.run_answers.specs.Within.{IsNearbyTold}
 use Rattle.route_run.specs.Serving.{IsServeOutcome}
 use Rattle.route_run.specs.Ends.{Ends}
 use Rattle.route_run.specs.Offer.{serve_files}
@@ -38,12 +40,13 @@ abbrev pub IsCommandAnswer : Command → Stage (List ℕ)
 IsCommandAnswer (Form.TheVariants.Grid command) old new answer = IsGridAnswer command old new answer
 IsCommandAnswer (Form.TheVariants.Make command) old new answer = Settles (Ok (made_by command)) old new answer
 IsCommandAnswer (Form.TheVariants.Code command) old new answer = IsCodeAnswer command old new answer
-IsCommandAnswer (Form.TheVariants.Route command) old new answer = IsRouteAnswer command old new answer
-IsCommandAnswer (Form.TheVariants.Certify command) old new answer = IsCertifyAnswer command old new answer
+IsCommandAnswer (Form.TheVariants.Route command) old new answer = AnswersQuery any_in IsReplied command old new answer
+IsCommandAnswer (Form.TheVariants.Certify command) old new answer =
+    AnswersQuery first_in IsCertificateWritten command old new answer
 IsCommandAnswer (Form.TheVariants.Check command) old new answer = IsCheckedAnswer command old new answer
-IsCommandAnswer (Form.TheVariants.Table command) old new answer = IsTableCommandAnswer command old new answer
+IsCommandAnswer (Form.TheVariants.Table command) old new answer = AnswersQuery any_in IsTabled command old new answer
 IsCommandAnswer (Form.TheVariants.Within command) old new answer =
-    IsWithinCommandAnswer command old new answer
+    AnswersQuery any_in (IsNearbyTold command.cost) command.route old new answer
 IsCommandAnswer (Form.TheVariants.Hills command) old new answer =
     Leaves (IsHillsAnswer command) old new answer
 IsCommandAnswer (Form.TheVariants.Serve command) old new answer = ⊥

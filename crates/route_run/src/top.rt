@@ -14,8 +14,8 @@ use crate::server::serve_answer;
 use command_words::{Command, Refusal, command_of};
 use edge_io::{Files, Hub, Sink};
 use run_answers::{
-    certify_answer, check_answer, code_answer, grid_answer, hills_answer, make_answer,
-    route_answer, table_answer, within_answer,
+    CertifyAsk, RouteAsk, TableAsk, WithinAsk, check_answer, code_answer, grid_answer,
+    hills_answer, make_answer, query_answer,
 };
 use run_files::Status;
 use std::alloc::Global;
@@ -76,11 +76,14 @@ fn command_run<F: Files, O: Sink, H: Hub>(
         Command::Grid(command) => send(out, grid_answer(alloc, command, files)),
         Command::Make(command) => send_output(out, make_answer(alloc, command)),
         Command::Code(command) => send(out, code_answer(alloc, command, files)),
-        Command::Route(command) => send(out, route_answer(alloc, command, files)),
-        Command::Certify(command) => send(out, certify_answer(alloc, command, files)),
+        Command::Route(command) => send(out, query_answer(alloc, command, &RouteAsk, files)),
+        Command::Certify(command) => send(out, query_answer(alloc, command, &CertifyAsk, files)),
         Command::Check(command) => send(out, check_answer(alloc, command, files)),
-        Command::Table(command) => send(out, table_answer(alloc, command, files)),
-        Command::Within(command) => send(out, within_answer(alloc, command, files)),
+        Command::Table(command) => send(out, query_answer(alloc, command, &TableAsk, files)),
+        Command::Within(command) => {
+            let ask = WithinAsk { cost: command.cost };
+            send(out, query_answer(alloc, &command.route, &ask, files))
+        }
         Command::Hills(command) => send(out, hills_answer(alloc, command)),
         Command::Serve(command) => serve_answer(alloc, command, files, hub),
     }

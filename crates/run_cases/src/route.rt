@@ -4,6 +4,7 @@ mod answers;
 mod inputs;
 mod replies;
 mod shelves;
+mod steps;
 mod tables;
 mod tracks;
 mod turns;

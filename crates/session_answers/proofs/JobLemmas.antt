@@ -1,31 +1,27 @@
 -- The search for a query stays it while more profiles are stored.
-use Rattle.std.proofs.Common.{◌≡◌, ℕ, ◌≤◌, ◌<◌, List, [], ◌∷◌, ◌++◌, length, take, drop, refl, sym, ap, ◌∙◌, subst, arith, Option, Some}
+use Rattle.std.proofs.Common.{◌≡◌, ℕ, ◌≤◌, ◌<◌, List, [], ◌∷◌, ◌++◌, length, take, drop, refl, sym, ap, ◌∙◌, subst, arith, Option, Some, Result, Vec}
+use Rattle.std.specs.declared.alloc.Global.{Global}
 use Rattle.std.specs.Prelude.{slice_get}
 use Rattle.std.proofs.lemmas.List.{length-map, take-append-drop, take-append-le, take_all}
 use Rattle.std.proofs.lemmas.Option.{slice_get_within}
 use Rattle.session_answers.specs.declared.kept.KeptProfiles.{KeptProfiles}
 use Rattle.profile_text.specs.Tree.{Sections}
-use Rattle.route_engine.specs.Pending.{IsBounded, IsPending, StaysFor, settled_of}
-use Rattle.route_engine.specs.PendingTables.{IsPendingTable, IsTableBounded, StaysTable, settled_in}
-use Rattle.route_engine.specs.Plans.{Plan}
 use Rattle.route_engine.specs.Replies.{IsReady, question_of}
-use Rattle.route_engine.specs.TableJobs.{table_plan}
-use Rattle.route_engine.specs.declared.pending.Pending.{Pending}
-use Rattle.route_engine.specs.declared.pending_table.PendingTable.{PendingTable}
 use Rattle.route_engine.proofs.RouteLemmas.{ready-setting}
-use Rattle.route_engine.specs.Jobs.{IsPlanFor, plan_in, setting_of}
+use Rattle.route_engine.specs.Aims.{HasPlan}
+use Rattle.route_engine.specs.Jobs.{setting_of}
+use Rattle.route_engine.specs.Pendings.{EndsAs}
 use Rattle.route_ready.specs.Entries.{profiles_of}
 use Rattle.route_http.specs.Asked.{Asked}
 use Rattle.route_ready.specs.Worlds.{WorldValue}
+use Rattle.route_ready.specs.declared.error.RouteError.{RouteError}
 use Rattle.route_ready.specs.declared.ready.Ready.{Ready}
-use Rattle.session_answers.specs.Aims.{most_for}
 use Rattle.session_answers.specs.Jobs.{AreKept, IsBegun, IsJobOf}
 use Rattle.session_answers.specs.Rows.{Asks, IsSearched}
-use Rattle.session_answers.specs.Searches.{IsSearchFor, IsSearchOver, aim_of, settled_by}
+use Rattle.session_answers.specs.Searches.{IsOver, IsSearchFor, turns_for}
 use Rattle.session_answers.specs.Stored.{Stored}
-use Rattle.session_answers.specs.declared.aim.Aim.{Aim}
+use Rattle.route_engine.specs.declared.aim.Aim.{Aim}
 use Rattle.session_answers.specs.declared.search.Search.{Search}
-use Rattle.session_answers.specs.declared.search.Search.TheVariants as searches
 use Rattle.item_list.proofs.ListLemmas.{slice_get-append}
 
 -- ---- Lists
@@ -70,79 +66,42 @@ kept_more world stored more kept are entry within =
 
 module _ (world : WorldValue) where
   -- a request that has a plan is one that is to be searched for
-  planned-search : (stored : List Stored) (query : List ℕ) (asked : Asked) (sections : Sections) (ready : Ready) (plan : Plan) →
+  planned-search : (stored : List Stored) (query : List ℕ) (asked : Asked) (sections : Sections) (ready : Ready) →
       Asks stored query asked sections → IsReady world sections asked ready →
-      IsPlanFor (setting_of world ready asked.circles) asked plan → IsSearched world stored query
-  planned-search stored query asked sections ready plan asks is planned = record {
+      HasPlan (setting_of world ready asked.circles) asked → IsSearched world stored query
+  planned-search stored query asked sections ready asks is planned = record {
     asked = asked;
     sections = sections;
     asks = asks;
     setting = setting_of world ready asked.circles;
     over = ready-setting (question_of world sections asked) world ready refl is;
-    nodes = plan.nodes;
-    mapped = planned.nodes;
+    nodes = planned.plan.nodes;
+    mapped = planned.is.nodes;
   }
 
-  -- so is one whose search this is
-  searched-for : (stored : List Stored) (query : List ℕ) (asked : Asked) (sections : Sections) (p : Search) →
-      Asks stored query asked sections → IsSearchFor world sections asked p → IsSearched world stored query
-  searched-for stored query asked sections (searches.Track p) asks is =
-      planned-search stored query asked sections p.ready.value (plan_in world p.job) asks is.ready is.planned
-  searched-for stored query asked sections (searches.Table p) asks is =
-      planned-search stored query asked sections p.ready.value (table_plan world p.job) asks is.ready is.planned
-
-  -- for which nothing is settled at first
-  pub begun-job : (stored : List Stored) (aim : Aim) (query : List ℕ) (place : ℕ) (asked : Asked) (sections : Sections) (p : Search) →
-      Asks stored query asked sections → slice_get (profiles_of stored) place ≡ Some sections → aim_of p ≡ aim → IsSearchOver world p →
-      IsSearchFor world sections asked p → settled_by p ≡ 0 → IsBegun world stored aim query place p
-  begun-job stored aim query place asked sections p asks there aims over is fresh = record {
-    searched = searched-for stored query asked sections p asks is;
-    job = record {
-      aims = aims;
-      asked = asked;
-      sections = sections;
-      asks = asks;
-      there = there;
-      over = over;
-      is = is;
-      within = omega (arith, fresh);
-    };
+  -- of whose search no turn is taken at first
+  pub begun-job : (stored : List Stored) (aim : Aim) (query : List ℕ) (place : ℕ) (asked : Asked) (sections : Sections) (ready : Ready)
+      (p : Search) → Asks stored query asked sections → slice_get (profiles_of stored) place ≡ Some sections →
+      IsReady world sections asked ready → HasPlan (setting_of world ready asked.circles) asked → IsOver world p →
+      IsSearchFor world sections aim asked p → p.left ≡ turns_for aim asked → IsBegun world stored aim query place p
+  begun-job stored aim query place asked sections ready p asks there is planned over for fresh = record {
+    searched = planned-search stored query asked sections ready asks is planned;
+    job = record { asked = asked; sections = sections; asks = asks; there = there; over = over; is = for };
     fresh = fresh;
   }
 
-  -- after a turn that leaves it what it is, the search for a track still is that of its query
-  pub track-later : (stored : List Stored) (aim : Aim) (query : List ℕ) (place : ℕ) (p next : Pending) → IsPending world next →
-      StaysFor world p next → IsBounded world next → IsJobOf world stored aim query place (searches.Track p) →
-      IsJobOf world stored aim query place (searches.Track next)
-  track-later stored aim query place p next pending stays bounded job =
-      let is = stays job.sections job.asked job.is in
-      record {
-        aims = job.aims;
-        asked = job.asked;
-        sections = job.sections;
-        asks = job.asks;
-        there = job.there;
-        over = pending;
-        is = is;
-        within = subst (λ (a : Aim). settled_of next ≤ most_for a job.asked) job.aims (bounded job.sections job.asked is);
-      }
-
-  -- and so is that for a table of costs
-  pub table-later : (stored : List Stored) (aim : Aim) (query : List ℕ) (place : ℕ) (p next : PendingTable) →
-      IsPendingTable world next → StaysTable world p next → IsTableBounded world next →
-      IsJobOf world stored aim query place (searches.Table p) → IsJobOf world stored aim query place (searches.Table next)
-  table-later stored aim query place p next pending stays bounded job =
-      let is = stays job.sections job.asked job.is in
-      record {
-        aims = job.aims;
-        asked = job.asked;
-        sections = job.sections;
-        asks = job.asks;
-        there = job.there;
-        over = pending;
-        is = is;
-        within = subst (λ (a : Aim). settled_in next ≤ most_for a job.asked) job.aims (bounded job.sections job.asked is);
-      }
+  -- a search that goes on as this still is that of its query: it may end with nothing else
+  pub job-later : (stored : List Stored) (aim : Aim) (query : List ℕ) (place : ℕ) (p next : Search) → IsOver world next →
+      next.kind ≡ p.kind → ((end : Result (Vec ℕ Global) RouteError) → EndsAs world next.pending end → EndsAs world p.pending end) →
+      IsJobOf world stored aim query place p → IsJobOf world stored aim query place next
+  job-later stored aim query place p next over kind same job = record {
+    asked = job.asked;
+    sections = job.sections;
+    asks = job.asks;
+    there = job.there;
+    over = over;
+    is = record { kind = kind ∙ job.is.kind; ends = λ end is. job.is.ends end (same end is) };
+  }
 
   module _ (aim : Aim) (query : List ℕ) (place : ℕ) (p : Search) where
     -- by all profiles that are stored now

@@ -1,14 +1,14 @@
 -- The frames that answer a query.
-use Rattle.std.proofs.Common.{◌≡◌, ◌≢◌, ◌⊎◌, inl, inr, ℕ, List, Option, Some, None, Ok, Err, refl, sym, ap, ◌∙◌, subst}
+use Rattle.std.proofs.Common.{◌≡◌, ◌≢◌, ◌⊎◌, inl, inr, ℕ, List, Option, Some, None, Ok, Err, refl, sym, ap, ◌∙◌, subst, Vec}
+use Rattle.std.specs.declared.alloc.Global.{Global}
 use Rattle.std.specs.Prelude.{slice_get}
 use Rattle.lookup_table.specs.Tag.{name_place}
 use Rattle.profile_text.specs.Tree.{Sections}
-use Rattle.route_engine.specs.Pending.{RefusesTo, RepliesTo}
-use Rattle.route_engine.specs.PendingTables.{RefusesTable, RepliesTable}
+use Rattle.route_engine.specs.Aims.{IsRefusalTo, IsReplyTo, TellsTo}
+use Rattle.route_engine.specs.Pendings.{EndsAs}
 use Rattle.route_engine.specs.Refusals.{RefusesEarly, profile}
+use Rattle.route_engine.specs.Settings.{Question}
 use Rattle.route_engine.specs.Replies.{question_of}
-use Rattle.route_engine.specs.declared.pending.Pending.{Pending}
-use Rattle.route_engine.specs.declared.pending_table.PendingTable.{PendingTable}
 use Rattle.route_ready.specs.Entries.{names_of, profiles_of}
 use Rattle.route_http.specs.Asked.{Asked}
 use Rattle.route_http.specs.Frames.{frame_of}
@@ -16,23 +16,21 @@ use Rattle.route_http.specs.Lines.{request_line}
 use Rattle.route_http.specs.Request.{request_of}
 use Rattle.route_http.specs.declared.error.RequestError.{RequestError}
 use Rattle.route_http.specs.declared.error.RequestError.TheVariants as request
-use Rattle.route_http.specs.declared.form.Form.{Form}
 use Rattle.route_http.specs.declared.kind.Kind.{Kind}
-use Rattle.route_http.specs.declared.kind.Kind.TheVariants.{Json}
 use Rattle.route_ready.specs.Readiness.{ready_of}
 use Rattle.route_ready.specs.Worlds.{WorldValue}
 use Rattle.route_ready.specs.declared.error.RouteError.{RouteError}
 use Rattle.route_ready.specs.declared.error.RouteError.TheVariants as route
 use Rattle.session_answers.proofs.StoredLemmas.{unknown_at}
-use Rattle.session_answers.specs.Aims.{IsRefusalTo, IsReplyTo, kind_for, kind_of}
+use Rattle.session_answers.specs.Aims.{kind_for}
 use Rattle.session_answers.specs.Frames.{line_frame, refusal_frame}
 use Rattle.session_answers.specs.Jobs.{IsJobOf}
 use Rattle.session_answers.specs.Rows.{Asks, IsEarlyFrame, IsQueryFrame, early, malformed, refused, route_frame, told, unknown}
 use Rattle.session_answers.specs.Stored.{Stored}
-use Rattle.session_answers.specs.declared.aim.Aim.{Aim}
-use Rattle.session_answers.specs.declared.aim.Aim.TheVariants as aims
+use Rattle.route_engine.specs.declared.aim.Aim.{Aim}
+use Rattle.route_engine.specs.declared.aim.Aim.TheVariants.{Track, Table}
+use Rattle.session_answers.specs.declared.search.Search.{Search}
 use Rattle.session_answers.specs.declared.refusal.Refusal.TheVariants.{UnknownProfile}
-use Rattle.session_answers.specs.declared.search.Search.TheVariants as searches
 
 -- what stands at a place is one
 one-there : (found : Option Sections) (a b : Sections) → found ≡ Some a → found ≡ Some b → a ≡ b
@@ -82,42 +80,30 @@ module _ (world : WorldValue) (stored : List Stored) (query : List ℕ) where
   reply-frame aim asked sections asks kind bytes frame kind_is replies is =
       subst (IsQueryFrame world stored aim query) (sym (is ∙ ap (λ (k : Kind). frame_of 200 k bytes) kind_is)) (told asks bytes replies)
 
--- the search for a track
-module _ (world : WorldValue) (stored : List Stored) (aim : Aim) (query : List ℕ) (place : ℕ) (p : Pending) (job :
-    IsJobOf world stored aim query place (searches.Track p)) where
+-- what a search for a query ends with
+module _ (world : WorldValue) (stored : List Stored) (aim : Aim) (query : List ℕ) (place : ℕ) (p : Search) (job :
+    IsJobOf world stored aim query place p) where
+  -- a refusal, by what it is asked for
+  refuses : (a : Aim) (question : Question) (e : RouteError) → TellsTo a question (Err e) → (e ≡ route.NoMemory) ⊎ IsRefusalTo a question e
+  refuses Track question e is = is
+  refuses Table question e is = is
+
+  -- and a reply
+  replies : (a : Aim) (question : Question) (bytes : List ℕ) → TellsTo a question (Ok bytes) → IsReplyTo a question bytes
+  replies Track question bytes is = is
+  replies Table question bytes is = is
+
   -- there is none
-  pub track-refused : (sections : Sections) → slice_get (profiles_of stored) place ≡ Some sections → (e : RouteError) (frame : List ℕ) →
-      e ≢ route.NoMemory → frame ≡ route_frame sections e → RefusesTo world p e → IsQueryFrame world stored aim query frame
-  track-refused sections there e frame differ is refuses =
+  pub query-refused : (sections : Sections) → slice_get (profiles_of stored) place ≡ Some sections → (e : RouteError) (frame : List ℕ) →
+      e ≢ route.NoMemory → frame ≡ route_frame sections e → EndsAs world p.pending (Err e) → IsQueryFrame world stored aim query frame
+  query-refused sections there e frame differ is ends =
       let same : sections ≡ job.sections = one-there (slice_get (profiles_of stored) place) sections job.sections there job.there in
-      subst (λ (a : Aim). IsQueryFrame world stored a query frame) job.aims
-      (refused-frame world stored query job.asked job.sections job.asks e frame differ (is ∙ ap (λ (s : Sections). route_frame s e) same)
-      aims.Track (refuses job.sections job.asked job.is))
+      refused-frame world stored query job.asked job.sections job.asks e frame differ (is ∙ ap (λ (s : Sections). route_frame s e) same)
+      aim (refuses aim (question_of world job.sections job.asked) e (job.is.ends (Err e) ends))
 
   -- and it is told
-  pub track-replied : (form : Form) (kind : Kind) (bytes frame : List ℕ) → form ≡ job.asked.form → kind ≡ kind_of form →
-      RepliesTo world p bytes → frame ≡ frame_of 200 kind bytes → IsQueryFrame world stored aim query frame
-  track-replied form kind bytes frame form_is kind_is replies is =
-      subst (λ (a : Aim). IsQueryFrame world stored a query frame) job.aims
-      (reply-frame world stored query aims.Track job.asked job.sections job.asks kind bytes frame (kind_is ∙ ap kind_of form_is)
-      (replies job.sections job.asked job.is) is)
-
--- the search for a table of costs
-module _ (world : WorldValue) (stored : List Stored) (aim : Aim) (query : List ℕ) (place : ℕ) (p : PendingTable) (job :
-    IsJobOf world stored aim query place (searches.Table p)) where
-  -- there is none
-  pub table-refused : (sections : Sections) → slice_get (profiles_of stored) place ≡ Some sections → (e : RouteError) (frame : List ℕ) →
-      e ≢ route.NoMemory → frame ≡ route_frame sections e → RefusesTable world p e → IsQueryFrame world stored aim query frame
-  table-refused sections there e frame differ is refuses =
-      let same : sections ≡ job.sections = one-there (slice_get (profiles_of stored) place) sections job.sections there job.there in
-      subst (λ (a : Aim). IsQueryFrame world stored a query frame) job.aims
-      (refused-frame world stored query job.asked job.sections job.asks e frame differ (is ∙ ap (λ (s : Sections). route_frame s e) same)
-      aims.Table (refuses job.sections job.asked job.is))
-
-  -- and it is told
-  pub table-replied : (bytes frame : List ℕ) → RepliesTable world p bytes → frame ≡ frame_of 200 Json bytes →
-      IsQueryFrame world stored aim query frame
-  table-replied bytes frame replies is =
-      subst (λ (a : Aim). IsQueryFrame world stored a query frame) job.aims
-      (reply-frame world stored query aims.Table job.asked job.sections job.asks Json bytes frame refl
-      (replies job.sections job.asked job.is) is)
+  pub query-replied : (bytes : Vec ℕ Global) (frame : List ℕ) → EndsAs world p.pending (Ok bytes) →
+      frame ≡ frame_of 200 p.kind bytes.items → IsQueryFrame world stored aim query frame
+  query-replied bytes frame ends is =
+      reply-frame world stored query aim job.asked job.sections job.asks p.kind bytes.items frame job.is.kind
+      (replies aim (question_of world job.sections job.asked) bytes.items (job.is.ends (Ok bytes) ends)) is

@@ -1,5 +1,5 @@
 -- What a query comes to at once, and what a turn of the search for it comes to. This project's own rule.
-use Rattle.std.specs.Prelude.{◌≡◌, ℕ, ◌+◌, ◌≤◌, List, Some, Result, IfOk, Vec, slice_get}
+use Rattle.std.specs.Prelude.{◌≡◌, ℕ, suc, List, Some, Result, IfOk, Vec, slice_get}
 use Rattle.item_list.specs.Turns.{Says}
 use Rattle.item_list.specs.declared.turn.Turn.{Turn}
 use Rattle.session_answers.specs.Kept.{IsKept}
@@ -9,11 +9,10 @@ use Rattle.profile_text.specs.Tree.{Sections}
 use Rattle.route_ready.specs.Entries.{profiles_of}
 use Rattle.route_http.specs.Asked.{Asked}
 use Rattle.route_ready.specs.Worlds.{WorldValue}
-use Rattle.session_answers.specs.Aims.{most_for}
 use Rattle.session_answers.specs.Rows.{Asks, IsEarlyFrame, IsQueryFrame, IsSearched}
-use Rattle.session_answers.specs.Searches.{IsSearchFor, IsSearchOver, aim_of, settled_by}
+use Rattle.session_answers.specs.Searches.{IsOver, IsSearchFor, turns_for}
 use Rattle.session_answers.specs.Stored.{Stored}
-use Rattle.session_answers.specs.declared.aim.Aim.{Aim}
+use Rattle.route_engine.specs.declared.aim.Aim.{Aim}
 use Rattle.session_answers.specs.declared.beginning.Begun.{Begun}
 use Rattle.session_answers.specs.declared.beginning.Begun.TheVariants as begun
 use Rattle.session_answers.specs.declared.search.Search.{Search}
@@ -24,25 +23,22 @@ use Rattle.session_answers.specs.declared.search.Search.{Search}
 abbrev pub AreKept : WorldValue → List Stored → KeptProfiles → Type 0
 AreKept world stored kept = IsKept world (profiles_of stored) kept
 
--- it is the search for a query of this aim, which goes by the stored profile at a place, and no more is settled
--- in it than may be for what the query asks
+-- it is the search for a query of this aim, which goes by the stored profile at a place
 pub record IsJobOf (world : WorldValue) (stored : List Stored) (aim : Aim) (query : List ℕ) (place : ℕ)
     (p : Search) : Type 0 where
-  pub aims : aim_of p ≡ aim
   pub asked : Asked
   pub sections : Sections
   pub asks : Asks stored query asked sections
   pub there : slice_get (profiles_of stored) place ≡ Some sections
-  pub over : IsSearchOver world p
-  pub is : IsSearchFor world sections asked p
-  pub within : settled_by p ≤ most_for aim asked
+  pub over : IsOver world p
+  pub is : IsSearchFor world sections aim asked p
 
--- it is that search, in which nothing was settled yet
+-- it is that search, of which no turn was taken yet
 pub record IsBegun (world : WorldValue) (stored : List Stored) (aim : Aim) (query : List ℕ) (place : ℕ)
     (p : Search) : Type 0 where
   pub searched : IsSearched world stored query
   pub job : IsJobOf world stored aim query place p
-  pub fresh : settled_by p ≡ 0
+  pub fresh : p.left ≡ turns_for aim searched.asked
 
 -- ---- What calls answer
 
@@ -65,6 +61,6 @@ AnswersTurn world sections p result =
     slice_get (profiles_of stored) place ≡ Some sections →
     IfOk result (TurnsTo world stored aim query place)
 
--- the whole quota is settled where it goes on
-abbrev pub CountsTo : {E : Type 0} → ℕ → ℕ → Turn Search E → Type 0
-CountsTo quota before = Says (λ next. settled_by next ≡ before + quota) (λ _. Unit {0})
+-- a turn less is left where it goes on
+abbrev pub CountsDown : {E : Type 0} → ℕ → Turn Search E → Type 0
+CountsDown left = Says (λ next. left ≡ suc next.left) (λ _. Unit {0})

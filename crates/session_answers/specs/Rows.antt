@@ -13,10 +13,11 @@ use Rattle.route_http.specs.declared.error.RequestError.{RequestError}
 use Rattle.route_ready.specs.Lines.{route_line}
 use Rattle.route_ready.specs.Worlds.{WorldValue}
 use Rattle.route_ready.specs.declared.error.RouteError.{RouteError}
-use Rattle.session_answers.specs.Aims.{IsRefusalTo, IsReplyTo, kind_for}
+use Rattle.route_engine.specs.Aims.{IsRefusalTo, IsReplyTo}
+use Rattle.session_answers.specs.Aims.{kind_for}
 use Rattle.session_answers.specs.Frames.{line_frame, refusal_frame}
 use Rattle.session_answers.specs.Stored.{Stored, find_stored}
-use Rattle.session_answers.specs.declared.aim.Aim.{Aim}
+use Rattle.route_engine.specs.declared.aim.Aim.{Aim}
 use Rattle.session_answers.specs.declared.refusal.Refusal.TheVariants.{UnknownProfile}
 use Rattle.route_engine.specs.Waypoints.{AreNodes}
 

@@ -6,8 +6,8 @@ use Rattle.route_http.specs.declared.heads.Head.TheVariants.{Whole, More, Bad, T
 use Rattle.route_http.specs.declared.heads.Method.{Method}
 use Rattle.route_http.specs.declared.heads.Method.TheVariants.{Get, Post, Other}
 use Rattle.route_http.specs.declared.span.Span.{Span}
-use Rattle.session_answers.specs.declared.aim.Aim.{Aim}
-use Rattle.session_answers.specs.declared.aim.Aim.TheVariants.{Track, Table}
+use Rattle.route_engine.specs.declared.aim.Aim.{Aim}
+use Rattle.route_engine.specs.declared.aim.Aim.TheVariants.{Track, Table}
 use Rattle.session_answers.specs.declared.refusal.Refusal.TheVariants.{HeadTooLong, BadRequest, UnknownPath, MethodNotAllowed, BodyTooLong}
 use Rattle.session_answers.specs.declared.verdict.Verdict.{Verdict}
 use Rattle.session_answers.specs.declared.verdict.Verdict.TheVariants.{Undecided, NoByte, Refused, Upload, Query}

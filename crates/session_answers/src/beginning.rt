@@ -13,13 +13,13 @@ ghost use Rattle.session_answers.specs.Frames.{line_frame};
 ghost use Rattle.session_answers.specs.Jobs.{AreKept, Begins};
 ghost use Rattle.session_answers.specs.Profiles.{stored_of};
 
-use crate::aim::Aim;
 use crate::frames::{line_frame, refusal_frame};
 use crate::kept::KeptProfiles;
 use crate::profiles::Profiles;
 use crate::refusal::Refusal;
 use crate::routes::route_frame;
 use crate::search::{Search, search_for};
+use route_engine::Aim;
 use route_http::{Request, RequestError, request};
 use route_ready::World;
 use std::alloc::{AllocError, Global};

@@ -2,7 +2,6 @@
 //! the stored profiles.
 #![tactic(auto)]
 
-mod aim;
 mod beginning;
 mod frames;
 mod kept;
@@ -13,12 +12,10 @@ mod received;
 mod refusal;
 mod routes;
 mod search;
-mod turning;
 mod uploading;
 mod verdict;
 mod warming;
 
-pub use aim::Aim;
 pub use beginning::{Begun, begin};
 pub use frames::{line_frame, refusal_frame};
 pub use kept::KeptProfiles;
@@ -26,7 +23,6 @@ pub use profiles::Profiles;
 pub use received::Received;
 pub use refusal::Refusal;
 pub use search::Search;
-pub use turning::turn;
 pub use uploading::upload;
 pub use verdict::Verdict;
 pub use warming::make_ready;

@@ -5,8 +5,8 @@ ghost use Rattle.route_http.specs.Heads.{IsHeadOf, IsHeadWithin};
 ghost use Rattle.session_answers.specs.Verdicts.{IsVerdict, IsVerdictIn, by_path, is_whole, of_body, of_query, of_upload};
 ghost use Rattle.session_answers.specs.Verdicts.{unfinished, verdict_by};
 
-use crate::aim::Aim;
 use crate::refusal::Refusal;
+use route_engine::Aim;
 use route_http::{Head, Method, Span};
 
 /// The most bytes that a body may have.

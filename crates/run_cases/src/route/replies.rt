@@ -2,24 +2,25 @@
 
 ghost use Rattle.std.specs.Prelude.{◌≡◌, ◌≤◌, length};
 ghost use Rattle.route_engine.specs.Jobs.{IsWithin};
-ghost use Rattle.route_engine.specs.Pending.{IsPending};
+ghost use Rattle.route_engine.specs.Pendings.{IsPendingOver};
 ghost use Rattle.route_http.specs.Seen.{asked};
 ghost use Rattle.route_ready.specs.World.{world_of};
 ghost use Rattle.way_class.specs.Links.{links_of};
 
 use crate::route::inputs::quota;
-use crate::route::turns::MOST_TURNS;
+use crate::route::steps::MOST_STEPS;
 use crate::told::outside;
 use case_inputs::Case;
 use item_list::{Turn, append_bytes, append_number};
-use route_engine::Pending;
+use route_engine::{Aim, Pending};
 use route_http::Request;
 use route_ready::{Ready, World, line};
 use std::alloc::{AllocError, Global};
 use std::rc::Rc;
+use tasks::Task;
 
-/// How long the reply to a request is that is answered in turns, or the line of a waypoint without
-/// a node.
+/// How long the reply to a request is that is answered in turns of the quota of a case, or the line
+/// of its refusal.
 pub(crate) fn in_replies(
     alloc: Global,
     case: &Case,
@@ -30,11 +31,12 @@ pub(crate) fn in_replies(
     requires counted { (links_of ready.value.bound).count ≡ length (world_of world.now).map.links }
     requires within { IsWithin (asked request) }
 {
-    match Pending::new(alloc, world, ready, request) {
+    match Pending::new(alloc, world, ready, Aim::Track, request) {
         Ok(pending) => by_quota(alloc, case, world, pending),
         Err(error) => line(alloc, &error, None),
     }
 }
+
 /// The same with the quota of a case.
 fn by_quota(
     alloc: Global,
@@ -42,7 +44,7 @@ fn by_quota(
     world: &World,
     pending: Pending,
 ) -> Result<Vec<u8>, AllocError>
-    requires pending { IsPending (world_of world.now) pending }
+    requires over { IsPendingOver (world_of world.now) pending }
 {
     let quota = quota(case);
     if quota > 0 {
@@ -53,12 +55,12 @@ fn by_quota(
 
 /// The same in turns of a quota.
 fn turned(alloc: Global, world: &World, pending: Pending, quota: u32) -> Result<Vec<u8>, AllocError>
-    requires pending { IsPending (world_of world.now) pending }
+    requires over { IsPendingOver (world_of world.now) pending }
     requires some { 1 ≤ quota }
 {
     let mut pending = pending;
-    'turns: for _ in 1..MOST_TURNS {
-        match pending.turn(alloc, world, quota) {
+    'turns: for _ in 0..MOST_STEPS {
+        match pending.take_turn(alloc, world, quota) {
             Turn::More(next) => pending = next,
             Turn::Done(Ok(bytes)) => return told(alloc, bytes.len()),
             Turn::Done(Err(error)) => return line(alloc, &error, None),

@@ -8,13 +8,14 @@ ghost use Rattle.route_ready.specs.World.{world_of};
 ghost use Rattle.way_class.specs.Links.{links_of};
 
 use crate::route::inputs::quota;
-use crate::route::turns::MOST_TURNS;
+use crate::route::steps::{Ended, append_counts, stepped};
+use crate::route::turns::append_line;
 use crate::told::outside;
 use case_inputs::Case;
-use item_list::{Turn, append_bytes, append_named, append_wide};
+use item_list::{append_bytes, append_wide};
 use route_engine::{CostRows, TableJob};
 use route_http::Request;
-use route_ready::{Ready, RouteError, World, line};
+use route_ready::{Ready, World, line};
 use std::alloc::{AllocError, Global};
 use std::rc::Rc;
 
@@ -46,55 +47,29 @@ fn by_quota(alloc: Global, case: &Case, world: &World, job: TableJob) -> Result<
     outside(alloc)
 }
 
-/// The same in turns of a quota.
+/// The same in turns of a quota, behind its counts.
 fn turned(alloc: Global, world: &World, job: TableJob, quota: u32) -> Result<Vec<u8>, AllocError>
     requires on { IsTableOn (world_of world.now) job }
     requires some { 1 ≤ quota }
 {
-    let mut job = job;
-    'turns: for turn in 1..MOST_TURNS {
-        match job.turn(world, quota) {
-            Turn::More(_) => {}
-            Turn::Done(Ok(_)) => return found(alloc, &job, turn),
-            Turn::Done(Err(error)) => return refused(alloc, &job, turn, error),
+    match stepped(alloc, world, job, quota) {
+        Some(ended) => told(alloc, &ended),
+        None => Vec::from_slice(alloc, b"not at its end"),
+    }
+}
+
+/// The rows of a job, or the line of its refusal, behind its counts.
+fn told(alloc: Global, ended: &Ended<CostRows>) -> Result<Vec<u8>, AllocError> {
+    let mut text = Vec::new(alloc);
+    append_counts(&mut text, ended.turns, ended.spent)?;
+    match &ended.end {
+        Ok(table) => append_table(&mut text, table)?,
+        Err(error) => {
+            append_bytes(&mut text, b" ")?;
+            append_line(alloc, &mut text, error)?;
         }
     }
-    Vec::from_slice(alloc, b"not at its end")
-}
-
-/// The rows of a job behind its counts.
-fn found(alloc: Global, job: &TableJob, turns: u64) -> Result<Vec<u8>, AllocError> {
-    let mut text = Vec::new(alloc);
-    append_counts(&mut text, job, turns)?;
-    match job.costs() {
-        Some(table) => append_table(&mut text, table),
-        None => append_bytes(&mut text, b"no table is there"),
-    }?;
     Ok(text)
-}
-
-/// The line of a job's refusal behind its counts.
-fn refused(
-    alloc: Global,
-    job: &TableJob,
-    turns: u64,
-    error: RouteError,
-) -> Result<Vec<u8>, AllocError> {
-    let mut text = Vec::new(alloc);
-    append_counts(&mut text, job, turns)?;
-    match job.costs() {
-        Some(_) => append_bytes(&mut text, b" a table is there: "),
-        None => append_bytes(&mut text, b" "),
-    }?;
-    let told = line(alloc, &error, None)?;
-    append_bytes(&mut text, told.as_slice())?;
-    Ok(text)
-}
-
-/// Appends how many turns a job took, and how many labels it settled.
-fn append_counts(text: &mut Vec<u8>, job: &TableJob, turns: u64) -> Result<(), AllocError> {
-    append_named(text, b"turns ", turns)?;
-    append_named(text, b" settled ", job.settled())
 }
 
 /// Appends the rows of a table, each behind a space.

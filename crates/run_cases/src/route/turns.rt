@@ -9,11 +9,12 @@ ghost use Rattle.way_class.specs.Links.{links_of};
 use crate::route::call_of;
 use crate::route::inputs::quota;
 use crate::route::replies::in_replies;
+use crate::route::steps::{Ended, append_counts, stepped};
 use crate::route::tables::in_table;
 use crate::route::tracks::append_track;
 use crate::told::outside;
 use case_inputs::Case;
-use item_list::{Turn, append_bytes, append_named};
+use item_list::append_bytes;
 use overpass_graph::Map;
 use profile_text::Profile;
 use route_engine::Job;
@@ -21,9 +22,7 @@ use route_http::Request;
 use route_ready::{Ready, RouteError, World, line, prepare};
 use std::alloc::{AllocError, Global};
 use std::rc::Rc;
-
-/// The most turns that are tried.
-pub(crate) const MOST_TURNS: u64 = 1_000_000;
+use track_legs::Track;
 
 /// The answer to a request in turns, or the line of the profile's refusal.
 pub(crate) fn in_turns(
@@ -87,45 +86,35 @@ fn by_quota(alloc: Global, case: &Case, world: &World, job: Job) -> Result<Vec<u
     outside(alloc)
 }
 
-/// The answer of a job in turns of a quota.
+/// The answer of a job in turns of a quota, behind its counts.
 fn turned(alloc: Global, world: &World, job: Job, quota: u32) -> Result<Vec<u8>, AllocError>
     requires on { IsJobOn (world_of world.now) job }
     requires some { 1 ≤ quota }
 {
-    let mut job = job;
-    'turns: for turn in 1..MOST_TURNS {
-        match job.turn(world, quota) {
-            Turn::More(_) => {}
-            Turn::Done(Ok(_)) => return found(alloc, world.map(), &job, turn),
-            Turn::Done(Err(error)) => return refused(alloc, &job, turn, error),
-        }
+    match stepped(alloc, world, job, quota) {
+        Some(ended) => told(alloc, world.map(), &ended),
+        None => Vec::from_slice(alloc, b"not at its end"),
     }
-    Vec::from_slice(alloc, b"not at its end")
 }
 
-/// The track of a job behind its counts.
-fn found(alloc: Global, map: &Map, job: &Job, turns: u64) -> Result<Vec<u8>, AllocError> {
+/// The track of a job, or the line of its refusal, behind its counts.
+fn told(alloc: Global, map: &Map, ended: &Ended<Track>) -> Result<Vec<u8>, AllocError> {
     let mut text = Vec::new(alloc);
-    append_counts(&mut text, job, turns)?;
-    match job.track() {
-        Some(track) => append_track(&mut text, map, track),
-        None => append_bytes(&mut text, b"no track is there"),
-    }?;
+    append_counts(&mut text, ended.turns, ended.spent)?;
+    append_bytes(&mut text, b" ")?;
+    match &ended.end {
+        Ok(track) => append_track(&mut text, map, track)?,
+        Err(error) => append_line(alloc, &mut text, error)?,
+    }
     Ok(text)
 }
 
-/// The line of a job's refusal behind its counts.
-fn refused(alloc: Global, job: &Job, turns: u64, error: RouteError) -> Result<Vec<u8>, AllocError> {
-    let mut text = Vec::new(alloc);
-    append_counts(&mut text, job, turns)?;
-    let told = line(alloc, &error, None)?;
-    append_bytes(&mut text, told.as_slice())?;
-    Ok(text)
-}
-
-/// Appends how many turns a job took, and how many labels it settled.
-fn append_counts(text: &mut Vec<u8>, job: &Job, turns: u64) -> Result<(), AllocError> {
-    append_named(text, b"turns ", turns)?;
-    append_named(text, b" settled ", job.settled())?;
-    append_bytes(text, b" ")
+/// Appends the line of a refusal.
+pub(crate) fn append_line(
+    alloc: Global,
+    text: &mut Vec<u8>,
+    error: &RouteError,
+) -> Result<(), AllocError> {
+    let told = line(alloc, error, None)?;
+    append_bytes(text, told.as_slice())
 }

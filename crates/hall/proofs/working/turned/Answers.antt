@@ -1,16 +1,14 @@
 use Rattle.std.proofs.Common.{refl, subst, take}
 use Rattle.hall.proofs.WorkingLemmas.{works_frame, works_memory, works_more}
 use Rattle.hall.proofs.working.turned.Goals as goal
-use Rattle.hall_seats.specs.Steps.{work_quota}
 use Rattle.hall_seats.specs.declared.desk.Desk.{Desk}
 use Rattle.hall_seats.specs.declared.seat.Frame.TheVariants as frames
 use Rattle.profile_text.specs.Expr.{sections_in}
 use Rattle.route_ready.specs.World.{world_of}
 use Rattle.session_answers.proofs.CallerLemmas.{job_place, job_profile}
-use Rattle.session_answers.specs.Jobs.{CountsTo, TurnsTo}
+use Rattle.session_answers.specs.Jobs.{CountsDown, TurnsTo}
 use Rattle.session_answers.specs.Profiles.{stored_of}
 use Rattle.session_answers.specs.Received.{received_of}
-use Rattle.session_answers.specs.Searches.{settled_by}
 use Rattle.session_answers.specs.Verdicts.{part}
 
 pub profile-profile-requires : goal.profile-profile-requires
@@ -21,6 +19,9 @@ profile-profile-requires c =
       fits = job_place (world_of desk.world) search.aim (part (received_of c.args.seat.received) search.span) c.args.place c.args.pending
           search.before (stored_of desk.profiles) search.job;
     }
+
+pub turn-requires : goal.turn-requires
+turn-requires c = record { over = c.requires.search.job.over }
 
 pub returns-in-Ok-More : goal.returns-in-Ok-More
 returns-in-Ok-More c =
@@ -34,7 +35,7 @@ returns-in-Ok-More c =
     let new : Desk = record desk { queue = c.joined.new.queue } in
     let turned = subst (TurnsTo world stored search.aim query c.args.place) c.in-Ok-More.field-0-is
     (c.in-Ok-More.ensures.exact stored search.aim query c.args.place search.job there) in
-    let counted = subst (CountsTo work_quota (settled_by c.args.pending)) c.in-Ok-More.field-0-is c.in-Ok-More.ensures.counts in
+    let counted = subst (CountsDown c.args.pending.left) c.in-Ok-More.field-0-is c.in-Ok-More.ensures.counts in
     record {
       works = works_more desk c.args.seat c.args.place c.args.pending search c.requires.kept new refl refl refl c.in-Ok-More.pending turned
           counted

@@ -35,13 +35,13 @@ returns-in-Code g c = record {
 pub returns-in-Route : goal.returns-in-Route
 returns-in-Route g c = record {
   exact =
-      written _ _ _ _ (bytes_in c.route_answer.result) _ c.in-Route.is c.route_answer.ensures.exact c.send-in-Route.ensures.ends refl;
+      written _ _ _ _ (bytes_in c.query_answer.result) _ c.in-Route.is c.query_answer.ensures.exact c.send-in-Route.ensures.ends refl;
 }
 
 pub returns-in-Certify : goal.returns-in-Certify
 returns-in-Certify g c = record {
   exact =
-      written _ _ _ _ (bytes_in c.certify_answer.result) _ c.in-Certify.is c.certify_answer.ensures.exact c.send-in-Certify.ensures.ends
+      written _ _ _ _ (bytes_in c.query_answer-in-Certify.result) _ c.in-Certify.is c.query_answer-in-Certify.ensures.exact c.send-in-Certify.ensures.ends
       refl;
 }
 
@@ -54,13 +54,13 @@ returns-in-Check g c = record {
 pub returns-in-Table : goal.returns-in-Table
 returns-in-Table g c = record {
   exact =
-      written _ _ _ _ (bytes_in c.table_answer.result) _ c.in-Table.is c.table_answer.ensures.exact c.send-in-Table.ensures.ends refl;
+      written _ _ _ _ (bytes_in c.query_answer-in-Table.result) _ c.in-Table.is c.query_answer-in-Table.ensures.exact c.send-in-Table.ensures.ends refl;
 }
 
 pub returns-in-Within : goal.returns-in-Within
 returns-in-Within g c = record {
   exact =
-      written _ _ _ _ (bytes_in c.within_answer.result) _ c.in-Within.is c.within_answer.ensures.exact c.send-in-Within.ensures.ends
+      written _ _ _ _ (bytes_in c.query_answer-in-Within.result) _ c.in-Within.is c.query_answer-in-Within.ensures.exact c.send-in-Within.ensures.ends
       refl;
 }
 

@@ -1,0 +1,39 @@
+-- What a request may be asked for, and what answers it.
+use Rattle.std.specs.Prelude.{ℕ, List, Result, Err}
+use Rattle.cost_model.specs.Rides.{Setting}
+use Rattle.route_engine.specs.Answers.{IsAnswer}
+use Rattle.route_engine.specs.Jobs.{IsPlanFor}
+use Rattle.route_engine.specs.Labels.{most_labels}
+use Rattle.route_engine.specs.Plans.{Plan}
+use Rattle.route_engine.specs.Replies.{IsReply, Tells}
+use Rattle.route_engine.specs.Settings.{Question}
+use Rattle.route_engine.specs.TableAnswers.{IsTableAnswer, IsTableReply, TellsTable, most_for_costs}
+use Rattle.route_engine.specs.declared.aim.Aim.{Aim}
+use Rattle.route_engine.specs.declared.aim.Aim.TheVariants.{Track, Table}
+use Rattle.route_http.specs.Asked.{Asked}
+use Rattle.route_ready.specs.declared.error.RouteError.{RouteError}
+
+-- these bytes are the reply to a question
+abbrev pub IsReplyTo : Aim → Question → List ℕ → Type 0
+IsReplyTo Track question bytes = IsReply question bytes
+IsReplyTo Table question bytes = IsTableReply question bytes
+
+-- a question has none, for this reason
+abbrev pub IsRefusalTo : Aim → Question → RouteError → Type 0
+IsRefusalTo Track question e = IsAnswer question (Err e)
+IsRefusalTo Table question e = IsTableAnswer question (Err e)
+
+-- a call gives the reply, or why there is none, or reports want of memory
+abbrev pub TellsTo : Aim → Question → Result (List ℕ) RouteError → Type 0
+TellsTo Track question result = Tells question result
+TellsTo Table question result = TellsTable question result
+
+-- the most labels that are counted for what is asked
+abbrev pub most_for : Aim → Asked → ℕ
+most_for Track asked = most_labels asked
+most_for Table asked = most_for_costs asked
+
+-- a request has a plan over a setting: each of its waypoints is moved to a node
+pub record HasPlan (setting : Setting) (asked : Asked) : Type 0 where
+  pub plan : Plan
+  pub is : IsPlanFor setting asked plan

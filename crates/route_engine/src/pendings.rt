@@ -1,0 +1,104 @@
+//! A request of either kind that is answered in turns, as one type.
+
+ghost use Rattle.std.specs.Prelude.{◌≡◌, ◌≤◌, ℕ, IfErr, IfOk, OnOk, Result, Vec, length};
+ghost use Rattle.std.specs.declared.alloc.Global.{Global as TheGlobal};
+ghost use Rattle.profile_text.specs.Tree.{Sections};
+ghost use Rattle.route_engine.specs.Aims.{HasPlan, TellsTo, most_for};
+ghost use Rattle.route_engine.specs.Jobs.{IsWithin, setting_of};
+ghost use Rattle.route_engine.specs.Pendings.{EndsAs, IsPendingOver, turns_of, work_of};
+ghost use Rattle.route_engine.specs.Refusals.{RefusesEarly};
+ghost use Rattle.route_engine.specs.Replies.{IsReady, bytes_in, question_of};
+ghost use Rattle.route_http.specs.Seen.{asked};
+ghost use Rattle.route_ready.specs.World.{world_of};
+ghost use Rattle.route_ready.specs.declared.error.RouteError.{RouteError as TheRouteError};
+ghost use Rattle.way_class.specs.Links.{links_of};
+
+use crate::aim::Aim;
+use crate::asking::Asking;
+use crate::job::Job;
+use crate::table::TableJob;
+use item_list::Turn;
+use route_http::Request;
+use route_ready::{Ready, RouteError, World};
+use std::alloc::Global;
+use std::rc::Rc;
+use tasks::Task;
+
+/// A request of either kind that is answered in turns.
+#[derive(Drop)]
+pub enum Pending {
+    Track(Asking<Job>),
+    Table(Asking<TableJob>),
+}
+
+impl Pending {
+    /// A request over a world, by what it is asked for and by a profile that was made ready for it
+    /// under the request's overrides. It is refused where a waypoint is moved to no node.
+    pub fn new(
+        alloc: Global,
+        world: &World,
+        ready: Rc<Ready>,
+        aim: Aim,
+        request: Request,
+    ) -> Result<Pending, RouteError>
+        requires counted { (links_of ready.value.bound).count ≡
+            length (world_of world.now).map.links }
+        requires within { IsWithin (asked request) }
+        ensures over { IfOk result (IsPendingOver (world_of world.now)) }
+        ensures planned { let setting =
+            setting_of (world_of world.now) ready.value (asked request).circles in
+            OnOk result (HasPlan setting (asked request)) }
+        ensures answers { (sections : Sections) →
+            IsReady (world_of world.now) sections (asked request) ready.value →
+            IfOk result (λ p. (end : Result (Vec ℕ TheGlobal) TheRouteError) →
+            EndsAs (world_of world.now) p end →
+            TellsTo aim (question_of (world_of world.now) sections (asked request)) (bytes_in end)) }
+        ensures few { IfOk result (λ p. work_of (world_of world.now) p ≤
+            most_for aim (asked request)) }
+        ensures cause { (sections : Sections) →
+            IsReady (world_of world.now) sections (asked request) ready.value →
+            IfErr result (RefusesEarly
+            (question_of (world_of world.now) sections (asked request))) }
+    {
+        match aim {
+            Aim::Track => match Asking::<Job>::new(alloc, world, ready, request) {
+                Ok(asking) => Ok(Pending::Track(asking)),
+                Err(error) => Err(error),
+            },
+            Aim::Table => match Asking::<TableJob>::new(alloc, world, ready, request) {
+                Ok(asking) => Ok(Pending::Table(asking)),
+                Err(error) => Err(error),
+            },
+        }
+    }
+}
+
+impl Task for Pending {
+    type Data = World;
+
+    type Answer = Result<Vec<u8>, RouteError>;
+
+    ghost IsOver = { λ world p. IsPendingOver (world_of world) p };
+
+    ghost answers = { λ world p end. EndsAs (world_of world) p end };
+
+    ghost turns_left = { λ world budget p. turns_of (world_of world) budget p };
+
+    fn take_turn(
+        self,
+        alloc: Global,
+        dataset: &World,
+        budget: u32,
+    ) -> Turn<Pending, Result<Vec<u8>, RouteError>> {
+        match self {
+            Pending::Track(asking) => match asking.take_turn(alloc, dataset, budget) {
+                Turn::More(next) => Turn::More(Pending::Track(next)),
+                Turn::Done(end) => Turn::Done(end),
+            },
+            Pending::Table(asking) => match asking.take_turn(alloc, dataset, budget) {
+                Turn::More(next) => Turn::More(Pending::Table(next)),
+                Turn::Done(end) => Turn::Done(end),
+            },
+        }
+    }
+}
