@@ -84,6 +84,7 @@ module _ (world : WorldValue) where
       (p : Search) → Asks stored query asked sections → slice_get (profiles_of stored) place ≡ Some sections →
       IsReady world sections asked ready → HasPlan (setting_of world ready asked.circles) asked → IsOver world p →
       IsSearchFor world sections aim asked p → p.left ≡ turns_for aim asked → IsBegun world stored aim query place p
+  unfolding planned-search
   begun-job stored aim query place asked sections ready p asks there is planned over for fresh = record {
     searched = planned-search stored query asked sections ready asks is planned;
     job = record { asked = asked; sections = sections; asks = asks; there = there; over = over; is = for };

@@ -20,8 +20,8 @@ returns-in-Ok-search_for-clause-exact c = λ query reads.
     let ready = (c.in-Ok.ensures.exact (profiles_of stored) c.requires.kept there).1 in
     let asks : Asks stored query request sections =
     record { asks = reads; found = found_at stored request.profile c.args.place sections c.requires.found there } in
-    begun-job world stored c.args.aim query c.args.place request sections c.in-Ok-search_for.search asks there
-    c.in-Ok-search_for.ensures.aims c.in-Ok-search_for.ensures.over (c.in-Ok-search_for.ensures.answers sections ready)
+    begun-job world stored c.args.aim query c.args.place request sections c.in-Ok.ready.value c.in-Ok-search_for.search asks there ready
+    c.in-Ok-search_for.ensures.planned c.in-Ok-search_for.ensures.over (c.in-Ok-search_for.ensures.answers sections ready)
     c.in-Ok-search_for.ensures.fresh
 
 pub returns-in_ok-frame-in-Err-search_for-clause-exact : goal.returns-in_ok-frame-in-Err-search_for-clause-exact
