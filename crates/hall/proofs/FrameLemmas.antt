@@ -1,7 +1,7 @@
 -- Frames of two statuses differ.
 use Rattle.std.proofs.Common.{◌≡◌, ◌≢◌, ◌==◌, ℕ, ◌+◌, ◌-◌, ◌*◌, true, false, List, [], ◌∷◌, ◌++◌, length, get_or, cond, Some, None, Result, Ok, Err, refl, sym, ◌∙◌, arith}
 use Rattle.std.specs.Fmt.{digits}
-use Rattle.hall_seats.specs.State.{Service}
+use Rattle.hall_seats.specs.State.{site_in, Service}
 use Rattle.hall_seats.specs.Steps.{uploaded}
 use Rattle.profile_text.specs.Lines.{text_line}
 use Rattle.profile_text.specs.Read.{profile_of}
@@ -65,7 +65,7 @@ no_success-refusal r is = refusal_fails r (sym (status-refusal r) ∙ is)
 
 -- nor is what is answered before any search
 pub no_success-early : (service : Service) (stored : List Stored) (query frame : List ℕ) →
-    IsEarlyFrame service.world stored query frame → status_in frame ≢ 200
+    IsEarlyFrame (site_in service) stored query frame → status_in frame ≢ 200
 no_success-early service stored query frame (queries.malformed {e} failed) is =
     omega (arith, status-400 Plain (request_line e ++ 10 ∷ []), is)
 no_success-early service stored query frame (queries.unknown asks unknown) is = no_success-refusal UnknownProfile is

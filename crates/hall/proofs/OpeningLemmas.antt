@@ -6,7 +6,7 @@ use Rattle.hall_seats.proofs.SeatCountLemmas.{counts}
 use Rattle.hall_seats.proofs.SeatLemmas.{IsFor, known_seat, seats_get}
 use Rattle.hall_seats.proofs.SoundLemmas.{sound_opens}
 use Rattle.hall_seats.specs.Held.{HasRoom, IsFull, count_at, most_sessions}
-use Rattle.hall_seats.specs.Parts.{AreReadied, IsHeld, IsPlaced, IsSearchAt, IsSearchIn, connection_of, count_of, known_of, phase_in, seated_of, seats_of, service_at, service_in, state_in}
+use Rattle.hall_seats.specs.Parts.{AreReadied, IsHeld, IsPlaced, IsSearchAt, IsSearchIn, connection_of, count_of, known_of, phase_in, seated_of, seats_of, service_at, service_in, site_at, state_in}
 use Rattle.hall_seats.specs.Sound.{IsSound}
 use Rattle.hall_seats.specs.State.{Connection, State, Waits, put}
 use Rattle.hall_seats.specs.Steps as steps
@@ -17,10 +17,9 @@ use Rattle.hall_seats.specs.declared.room.Room.{Room}
 use Rattle.hall_seats.specs.declared.seat.Phase.TheVariants as phases
 use Rattle.hall_seats.specs.declared.seat.Phase.{Phase as Kept}
 use Rattle.hall_seats.specs.declared.seat.Seat.{Seat}
-use Rattle.route_ready.specs.World.{world_of}
-use Rattle.route_ready.specs.Worlds.{WorldValue}
 use Rattle.session_answers.specs.Profiles.{stored_of}
 use Rattle.session_answers.specs.Received.{received_of}
+use Rattle.session_answers.specs.Sites.{Site}
 use Rattle.session_answers.specs.Stored.{Stored}
 
 module _ (room new : Room) (held : IsHeld room) (id : ℕ) (none : (state_in room).known id ≡ None) (seat : Seat) (desk :
@@ -67,7 +66,7 @@ module _ (room new : Room) (held : IsHeld room) (id : ℕ) (none : (state_in roo
         (sound_opens (service_in room) (state_in room) held.sound id (state_in new) shut opens))
         (λ away. omega (arith, opened_count away, few away))
         (λ other is. let one : seat ≡ other = cc in subst (IsSearchAt new.desk) one searching)
-        [] (ap (λ (d : Desk). world_of d.world) desk) (stored_same ∙ sym (append-nil (stored_of room.desk.profiles)))
+        [] (ap site_at desk) (stored_same ∙ sym (append-nil (stored_of room.desk.profiles)))
         (subst AreReadied (sym desk) held.kept);
     same = ap service_at desk;
   }
@@ -90,12 +89,12 @@ is_full room held seen away same many = (
 )
 
 -- where no search waits, none has to be that of its connection
-still_in : (world : WorldValue) (stored : List Stored) (bytes : List ℕ) (ended : Bool) (whole : Option ℕ) (p : Kept) →
-    ((due : ℕ) → phase_in p ≡ Waits due → ⊥) → IsSearchIn world stored bytes ended whole p
-still_in world stored bytes ended whole phases.Reading still = tt
-still_in world stored bytes ended whole (phases.Waits pending place) still = absurd (still pending.left refl)
-still_in world stored bytes ended whole (phases.Answered frame sent) still = tt
-still_in world stored bytes ended whole phases.Silent still = tt
+still_in : (site : Site) (stored : List Stored) (bytes : List ℕ) (ended : Bool) (whole : Option ℕ) (p : Kept) →
+    ((due : ℕ) → phase_in p ≡ Waits due → ⊥) → IsSearchIn site stored bytes ended whole p
+still_in site stored bytes ended whole phases.Reading still = tt
+still_in site stored bytes ended whole (phases.Waits pending place) still = absurd (still pending.left refl)
+still_in site stored bytes ended whole (phases.Answered frame sent) still = tt
+still_in site stored bytes ended whole phases.Silent still = tt
 
 few_more : (seats : List (Option Seated)) (away b : Bool) → ((x : Bool) → count_of seats x ≤ most_sessions) →
     count_of seats away < most_sessions → count_of seats b + cond (beq away b) 1 0 ≤ most_sessions
@@ -126,7 +125,7 @@ module _ (room new : Room) (held : IsHeld room) (id : ℕ) (c : Connection) (get
       opened_becomes room new held id gets.none gets.seat gets.desk gets.placed own_is None
       (subst (λ (s : State). Opens (state_in room) id s None)
       (sym (opened_state room new held id gets.none gets.seat gets.desk gets.placed own_is c known_is)) opens)
-      (still_in (world_of new.desk.world) (stored_of new.desk.profiles) (received_of gets.seat.received) gets.seat.ended gets.seat.before
+      (still_in (site_at new.desk) (stored_of new.desk.profiles) (received_of gets.seat.received) gets.seat.ended gets.seat.before
       gets.seat.phase
       (λ due waits. still due (sym (ap (λ (d : Connection). d.phase) known_is) ∙ waits)))
       (λ away. subst (λ (b : Bool). count_of (seats_of room.seats.items) away + cond (beq b away) 1 0 ≤ most_sessions)

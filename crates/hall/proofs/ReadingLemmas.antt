@@ -1,7 +1,7 @@
 -- What a session is given by what is fixed for it.
 use Rattle.std.proofs.Common.{◌≡◌, ◌≢◌, ◌⊎◌, ℕ, Bool, true, false, List, [], ◌++◌, length, Some, inl, inr, refl, sym, ◌∙◌, ap, subst, arith, append-nil}
 use Rattle.hall_seats.proofs.VerdictLemmas.{silent_by}
-use Rattle.hall_seats.specs.Parts.{AreReadied, IsSearchAt, IsSearchIn, Joins, Settles, answered_by, connection_of, frame_in, last, none, phase_in, service_at, waiting_by}
+use Rattle.hall_seats.specs.Parts.{AreReadied, IsSearchAt, IsSearchIn, Joins, Settles, answered_by, connection_of, frame_in, last, none, phase_in, service_at, site_at, waiting_by}
 use Rattle.hall_seats.specs.State.{Connection, Silent, Waits, waits_as, with_frame}
 use Rattle.hall_seats.specs.Steps.{Takes, memory_frame, uploaded, whole_in}
 use Rattle.hall_seats.specs.Steps as steps
@@ -83,7 +83,7 @@ module _ (desk : Desk) (kept : KeptProfiles) (are : AreKept (world_of desk.world
       Takes (service_at desk) (stored_of desk.profiles) before c (connection_of made) [] → Settles desk next before c id away made
   settles_undecided made reads own alike takes =
       settles_stay made own alike (ap (λ (p : Kept). waits_as (phase_in p) id) reads)
-      (subst (IsSearchIn (world_of desk.world) (stored_of desk.profiles) (received_of made.received) made.ended made.before) (sym reads) tt)
+      (subst (IsSearchIn (site_at desk) (stored_of desk.profiles) (received_of made.received) made.ended made.before) (sym reads) tt)
       takes
 
 -- a seat is answered by the frame of a refusal, or of want of memory
@@ -125,24 +125,25 @@ module _ (desk : Desk) (kept : KeptProfiles) (are : AreKept (world_of desk.world
   -- the answer before any search
   pub settles_early : (made : Seat) (frame : Frame) (query : List ℕ) → made ≡ answered_by whole frame →
       query ≡ part (received_of seat.received) span →
-      IsEarlyFrame (world_of desk.world) (stored_of desk.profiles) query (frame_in frame) →
+      IsEarlyFrame (site_at desk) (stored_of desk.profiles) query (frame_in frame) →
       Settles desk (record desk { kept = kept }) before (connection_of seat) seat.id seat.away made
   settles_early made frame query same same_query answers =
       settles_frame desk kept are before (connection_of seat) seat.id seat.away made whole frame same refl refl
       (subst (λ (d : Connection). Takes (service_at desk) (stored_of desk.profiles) before (connection_of seat)
       (with_frame d (frame_in frame)) []) (sym whole_is)
-      (steps.early is (subst (λ (q : List ℕ). IsEarlyFrame (world_of desk.world) (stored_of desk.profiles) q (frame_in frame)) same_query
+      (steps.early is (subst (λ (q : List ℕ). IsEarlyFrame (site_at desk) (stored_of desk.profiles) q (frame_in frame)) same_query
       answers)))
 
   -- a search that waits, or want of memory
-  module _ (new : Desk) (world : new.world ≡ desk.world) (profiles : new.profiles ≡ desk.profiles) (readied : AreReadied new) (place : ℕ)
+  module _ (new : Desk) (world : new.world ≡ desk.world) (profiles : new.profiles ≡ desk.profiles) (labels : new.labels ≡ desk.labels)
+      (readied : AreReadied new) (place : ℕ)
       (pending : Search)
-      (begun : IsBegun (world_of desk.world) (stored_of desk.profiles) aim (part (received_of seat.received) span) place pending) where
+      (begun : IsBegun (site_at desk) (stored_of desk.profiles) aim (part (received_of seat.received) span) place pending) where
     stored_same : stored_of new.profiles ≡ stored_of desk.profiles ++ []
     stored_same = ap stored_of profiles ∙ sym (append-nil (stored_of desk.profiles))
 
     same_service : service_at new ≡ service_at desk
-    same_service = λ i. service_at (record desk { world = world i; profiles = profiles i })
+    same_service = λ i. service_at (record desk { world = world i; profiles = profiles i; labels = labels i })
 
     searching : IsSearchAt new (waiting_by whole pending place)
     searching =
@@ -154,11 +155,11 @@ module _ (desk : Desk) (kept : KeptProfiles) (are : AreKept (world_of desk.world
           verdict = is;
           whole_is = ap (λ (m : ℕ). Some m) counts;
           within = omega arith;
-          job = job_now (world_of desk.world) aim (part (received_of seat.received) span) place pending (stored_of desk.profiles) begun.job;
+          job = job_now (site_at desk) aim (part (received_of seat.received) span) place pending (stored_of desk.profiles) begun.job;
         })
       where
         desk_is : record desk { queue = new.queue; kept = new.kept; alloc = new.alloc } ≡ new
-        desk_is = λ i. record new { world = (sym world) i; profiles = (sym profiles) i }
+        desk_is = λ i. record new { world = (sym world) i; profiles = (sym profiles) i; labels = (sym labels) i }
 
     pub settles_search : (made : Seat) → Joins desk.queue.items new.queue.items whole place pending made →
         Settles desk new before (connection_of seat) seat.id seat.away made
@@ -225,7 +226,7 @@ module _ (desk : Desk) (profiles : Profiles) (before : Connection) (seat : Seat)
         searching = tt;
         kept = subst (λ (l : List Stored). AreKept (world_of desk.world) l desk.kept) (sym stored)
             (kept_more (world_of desk.world) (stored_of desk.profiles) more desk.kept are);
-        same = λ i. record { world = world_of desk.world; given = given i };
+        same = λ i. record { world = world_of desk.world; given = given i; labels = desk.labels };
       })
 
   -- it is answered

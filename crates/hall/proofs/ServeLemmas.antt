@@ -15,7 +15,7 @@ use Rattle.hall.specs.Causes.{memory, row}
 use Rattle.hall.specs.Law.{GetsOwn, own, silent}
 use Rattle.hall_seats.specs.Sends.{Closes, IsDone, IsPiece, Sends, Serves, most_piece, sent_more}
 use Rattle.hall_seats.specs.Sends as sending
-use Rattle.hall_seats.specs.State.{Answered, Connection, Phase, Reading, Service, Silent, Waits}
+use Rattle.hall_seats.specs.State.{site_in, Answered, Connection, Phase, Reading, Service, Silent, Waits}
 use Rattle.hall_seats.specs.Steps.{AskedBy, GoesOn}
 use Rattle.hall_seats.specs.Steps as steps
 use Rattle.hall.specs.Turns.{Meets}
@@ -28,7 +28,7 @@ use Rattle.route_engine.specs.declared.aim.Aim.{Aim}
 module _ (service : Service) (meets : Meets) (stored : List Stored) (id : ℕ) (acts : List Act) (c : Connection) where
   -- a frame that answers its query is the row of its request
   answer_row : (a : IsAsked meets stored id acts c.bytes c.ended c.before) (before : ℕ) (aim : Aim) (query frame : List ℕ) →
-      AskedBy c before aim query → IsQueryFrame service.world (take before stored) aim query frame → IsRowOf service a.state.stored c.bytes c.ended frame []
+      AskedBy c before aim query → IsQueryFrame (site_in service) (take before stored) aim query frame → IsRowOf service a.state.stored c.bytes c.ended frame []
   answer_row a before aim query frame asked answers =
       let one : Some before ≡ Some (length a.state.stored) = sym asked.before_is ∙ a.counts in
       let count : before ≡ length a.state.stored = cc in
@@ -36,8 +36,8 @@ module _ (service : Service) (meets : Meets) (stored : List Stored) (id : ℕ) (
       ap (λ (n : ℕ). take n stored) count ∙ ap (λ (xs : List Stored). take (length a.state.stored) xs) a.grown
       ∙ take-append_seam a.state.stored a.rest in
       rows.query asked.verdict
-      (subst (λ (q : List ℕ). IsQueryFrame service.world a.state.stored aim q frame) asked.query_is
-      (subst (λ (xs : List Stored). IsQueryFrame service.world xs aim query frame) front answers))
+      (subst (λ (q : List ℕ). IsQueryFrame (site_in service) a.state.stored aim q frame) asked.query_is
+      (subst (λ (xs : List Stored). IsQueryFrame (site_in service) xs aim query frame) front answers))
 
   -- what is known of a connection whose search had a turn fits
   goes_fit : (now : Connection) → IsHeldSo service meets stored id acts c → GoesOn service stored c now →

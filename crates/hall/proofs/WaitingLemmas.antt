@@ -22,7 +22,7 @@ use Rattle.session_answers.specs.Stored.{Stored}
 pub record IsWell (service : Service) (s : State) : Type 0 where
   pub sound : IsSound service s
   pub few : AreFew s false
-  pub asking : AreAsking s
+  pub asking : AreAsking service s
 
 module _ (service : Service) (s new : State) (event : Event) (bytes : List ℕ) (acts : List Act) (turn :
     Turn service s event bytes acts new) where
@@ -45,7 +45,7 @@ module _ (service : Service) (s new : State) (event : Event) (bytes : List ℕ) 
   well_served well = record {
     sound = sound_each service turn.worked new turn.order turn.served well.sound turn.serves;
     few = few_each turn.worked new turn.order turn.served well.few turn.serves;
-    asking = asking_each turn.worked new turn.order turn.served well.asking turn.serves;
+    asking = asking_each service turn.worked new turn.order turn.served well.asking turn.serves;
   }
 
   pub well_turned : IsWell service s → IsWell service new

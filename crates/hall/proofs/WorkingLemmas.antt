@@ -1,6 +1,6 @@
 -- What a turn of a search changes.
 use Rattle.std.proofs.Common.{◌≡◌, ℕ, suc, List, [], ◌∷◌, ◌++◌, length, take, drop, refl, sym, ◌∙◌, ap, subst, arith, append-nil, length-drop}
-use Rattle.hall_seats.specs.Parts.{AreReadied, HasTurn, IsSearchAt, IsSearchOf, Joins, Makes, answered_by, connection_of, frame_in, last, none, seats_of, service_at, service_in, state_in, waiting_by, waiting_for}
+use Rattle.hall_seats.specs.Parts.{AreReadied, HasTurn, IsSearchAt, IsSearchOf, Joins, Makes, answered_by, connection_of, frame_in, last, none, seats_of, service_at, service_in, site_at, state_in, waiting_by, waiting_for}
 use Rattle.hall_seats.specs.State.{Connection, Waits, with_frame}
 use Rattle.hall_seats.specs.Steps.{AskedBy, GoesOn, Works, memory_frame}
 use Rattle.hall_seats.specs.Steps as steps
@@ -10,7 +10,6 @@ use Rattle.hall_seats.specs.declared.room.Room.{Room}
 use Rattle.hall_seats.specs.declared.seat.Frame.{Frame}
 use Rattle.hall_seats.specs.declared.seat.Frame.TheVariants as frames
 use Rattle.hall_seats.specs.declared.seat.Seat.{Seat}
-use Rattle.route_ready.specs.World.{world_of}
 use Rattle.session_answers.specs.Jobs.{IsJobOf}
 use Rattle.session_answers.specs.Profiles.{stored_of}
 use Rattle.session_answers.specs.Received.{received_of}
@@ -19,7 +18,7 @@ use Rattle.session_answers.specs.Verdicts.{part}
 use Rattle.session_answers.specs.declared.search.Search.{Search}
 
 module _ (desk : Desk) (seat : Seat) (place : ℕ) (pending : Search)
-    (search : IsSearchOf (world_of desk.world) (stored_of desk.profiles) (received_of seat.received) seat.ended seat.before place pending)
+    (search : IsSearchOf (site_at desk) (stored_of desk.profiles) (received_of seat.received) seat.ended seat.before place pending)
     (are : AreReadied desk) where
   -- the connection as it waited
   abbrev waited : Connection
@@ -45,7 +44,7 @@ module _ (desk : Desk) (seat : Seat) (place : ℕ) (pending : Search)
 
   -- that of its query
   pub works_frame : (made : Seat) (frame : Frame) →
-      IsQueryFrame (world_of desk.world) (take search.before (stored_of desk.profiles)) search.aim
+      IsQueryFrame (site_at desk) (take search.before (stored_of desk.profiles)) search.aim
       (part (received_of seat.received) search.span) (frame_in frame) →
       made ≡ answered_by seat frame → Makes desk desk (HasTurn desk waited) seat.id seat.away made
   works_frame made frame is same =
@@ -58,14 +57,14 @@ module _ (desk : Desk) (seat : Seat) (place : ℕ) (pending : Search)
   works_memory made same = framed made frames.Memory same (steps.gives_up {due = pending.left} refl)
 
   -- or the search goes on, and waits last where the queue has room
-  module _ (new : Desk) (world : new.world ≡ desk.world) (profiles : new.profiles ≡ desk.profiles) (kept : new.kept ≡ desk.kept) (next :
+  module _ (new : Desk) (world : new.world ≡ desk.world) (profiles : new.profiles ≡ desk.profiles) (kept : new.kept ≡ desk.kept) (labels : new.labels ≡ desk.labels) (next :
       Search)
-      (job : IsJobOf (world_of desk.world) (take search.before (stored_of desk.profiles)) search.aim
+      (job : IsJobOf (site_at desk) (take search.before (stored_of desk.profiles)) search.aim
       (part (received_of seat.received) search.span) place next)
       (counts : pending.left ≡ suc next.left) where
     -- a desk at which only the queue changes
     desk_is : record desk { queue = new.queue; alloc = new.alloc } ≡ new
-    desk_is = λ i. record new { world = (sym world) i; profiles = (sym profiles) i; kept = (sym kept) i }
+    desk_is = λ i. record new { world = (sym world) i; profiles = (sym profiles) i; kept = (sym kept) i; labels = (sym labels) i }
 
     searching : IsSearchAt new (waiting_by seat next place)
     searching =

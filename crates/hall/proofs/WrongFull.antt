@@ -8,7 +8,7 @@ use Rattle.hall_seats.specs.Allowed as rows
 use Rattle.hall_seats.specs.Allowed.{IsRowOf}
 use Rattle.hall.specs.Causes.{HasCause, OpensIn, away, memory, row}
 use Rattle.hall_seats.specs.Held.{HasRoom, IsFull}
-use Rattle.hall_seats.specs.State.{Service, State}
+use Rattle.hall_seats.specs.State.{site_in, Service, State}
 use Rattle.hall_seats.specs.Steps.{full_frame}
 use Rattle.hall.specs.Turns.{Meets}
 use Rattle.profile_text.specs.Lines.{text_line}
@@ -86,7 +86,7 @@ verdict_never (Whole long method path query body) bytes ended =
 
 -- nor is a query answered in it
 query_never : (service : Service) (stored : List Stored) (aim : Aim) (query frame : List ℕ) →
-    IsQueryFrame service.world stored aim query frame → status_in frame ≢ 503
+    IsQueryFrame (site_in service) stored aim query frame → status_in frame ≢ 503
 query_never service stored aim query frame (queries.before (queries.malformed {e} failed)) is =
     omega (arith, status-400 Plain (request_line e ++ 10 ∷ []), is)
 query_never service stored aim query frame (queries.before (queries.unknown asks unknown)) is = omega (arith, status-refusal UnknownProfile, is)

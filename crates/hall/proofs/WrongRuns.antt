@@ -9,7 +9,7 @@ use Rattle.hall.proofs.FrameLemmas.{no_success-early, status-200, status-422, st
 use Rattle.hall_seats.specs.Allowed as rows
 use Rattle.hall_seats.specs.Allowed.{IsRowOf}
 use Rattle.hall.specs.Causes.{HasCause, HearsIn, IsDecidedIn, away, memory, row}
-use Rattle.hall_seats.specs.State.{Service, State}
+use Rattle.hall_seats.specs.State.{site_in, Service, State}
 use Rattle.hall.specs.Turns.{EventOf, Meets, Turns}
 use Rattle.profile_text.specs.Lines.{text_line}
 use Rattle.profile_text.specs.Read.{profile_of}
@@ -56,17 +56,17 @@ only_row service meets id acts frame below (row {state} {bytes} {ended} {added} 
 -- ---- A well-formed query for a stored profile
 
 -- so much is decided to be a well-formed query for a profile that is stored
-pub record IsKnown (stored : List Stored) (bytes : List ℕ) (ended : Bool) : Type 0 where
+pub record IsKnown (service : Service) (stored : List Stored) (bytes : List ℕ) (ended : Bool) : Type 0 where
   pub aim : Aim
   pub span : Span
   pub verdict : IsVerdict bytes ended (Query aim span)
   pub asked : Asked
   pub sections : Sections
-  pub asks : Asks stored (part bytes span) asked sections
+  pub asks : Asks (site_in service) stored (part bytes span) asked sections
 
 -- it is answered by a reply, or by why there is none
 known_query : (service : Service) (stored : List Stored) (aim : Aim) (query : List ℕ) (asked : Asked) (sections : Sections)
-    (frame : List ℕ) → Asks stored query asked sections → IsQueryFrame service.world stored aim query frame →
+    (frame : List ℕ) → Asks (site_in service) stored query asked sections → IsQueryFrame (site_in service) stored aim query frame →
     (status_in frame ≡ 200) ⊎ (status_in frame ≡ 422)
 known_query service stored aim query asked sections frame asks (queries.before (queries.malformed {e} failed)) =
     (let clash : Ok asked ≡ Err e = sym asks.asks ∙ failed in absurd (cc))
@@ -83,7 +83,7 @@ known_query service stored aim query asked sections frame asks (queries.told {as
     inl (status-200 (kind_for aim other.form) bytes)
 
 known_row : (service : Service) (stored : List Stored) (bytes : List ℕ) (ended : Bool) (frame : List ℕ) (added : List Stored) →
-    IsKnown stored bytes ended → IsRowOf service stored bytes ended frame added → (status_in frame ≡ 200) ⊎ (status_in frame ≡ 422)
+    IsKnown service stored bytes ended → IsRowOf service stored bytes ended frame added → (status_in frame ≡ 200) ⊎ (status_in frame ≡ 422)
 known_row service stored bytes ended frame added known (rows.refused {r} other) =
     (let clash : Query known.aim known.span ≡ Refused r =
     verdict_unique bytes ended (Query known.aim known.span) (Refused r) known.verdict other in
@@ -97,10 +97,10 @@ known_row service stored bytes ended frame added known (rows.query {aim} {span} 
     verdict_unique bytes ended (Query aim span) (Query known.aim known.span) other known.verdict in
     let same : span ≡ known.span = cc in
     known_query service stored aim (part bytes known.span) known.asked known.sections frame known.asks
-    (subst (λ (x : Span). IsQueryFrame service.world stored aim (part bytes x) frame) same answers)
+    (subst (λ (x : Span). IsQueryFrame (site_in service) stored aim (part bytes x) frame) same answers)
 
 module _ (service : Service) (meets : Meets) (id : ℕ) (acts : List Act) (frame : List ℕ) (known : (state : State) (bytes : List ℕ)
-    (ended : Bool) (added : List Stored) → IsDecidedIn meets id acts state bytes ended added → IsKnown state.stored bytes ended) where
+    (ended : Bool) (added : List Stored) → IsDecidedIn meets id acts state bytes ended added → IsKnown service state.stored bytes ended) where
   no_refusal : (r : Refusal) → status_of r ≢ 200 → status_of r < 422 → frame ≡ refusal_frame r → HasCause service meets id acts frame → ⊥
   no_refusal r fails below is cause =
       let status : status_in frame ≡ status_of r = ap status_in is ∙ status-refusal r in
@@ -132,7 +132,7 @@ unfolding frame_of status_line type_line reason_of digits
 lines_and_json lines body is = let clash : ◌≡◌ {A = ℕ} 116 97 = ap (λ (f : List ℕ). get_or f 31 0) is in omega arith
 
 table_query : (service : Service) (stored : List Stored) (query frame lines : List ℕ) → frame ≡ frame_of 200 Csv lines →
-    IsQueryFrame service.world stored Table query frame → ⊥
+    IsQueryFrame (site_in service) stored Table query frame → ⊥
 table_query service stored query frame lines is (queries.before at_once) =
     no_success-early service stored query frame at_once (ap status_in is ∙ status-200 Csv lines)
 table_query service stored query frame lines is (queries.refused {sections} asks e answer) =
@@ -154,7 +154,7 @@ table_row service stored bytes ended frame lines added known is (rows.query {aim
     verdict_unique bytes ended (Query aim span) (Query Table known.span) other known.verdict in
     let same : aim ≡ Table = cc in
     table_query service stored (part bytes span) frame lines is
-    (subst (λ (a : Aim). IsQueryFrame service.world stored a (part bytes span) frame) same answers)
+    (subst (λ (a : Aim). IsQueryFrame (site_in service) stored a (part bytes span) frame) same answers)
 
 -- it isn't answered in lines, as a track may be
 pub no_lines_for_a_table : (service : Service) (meets : Meets) (id : ℕ) (acts : List Act) (frame lines : List ℕ) → ((state : State)

@@ -8,6 +8,7 @@ use Rattle.hall.specs.declared.hall.Hall.TheInside.{Inside}
 abbrev pub hall_in : Inside → HallValue
 hall_in h = record {
   world = h.room.desk.world;
+  labels = h.room.desk.labels;
   profiles = h.room.desk.profiles;
   waiting = h.room.desk.queue.items;
   seats = seats_of h.room.seats.items;

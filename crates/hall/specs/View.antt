@@ -7,9 +7,10 @@ use Rattle.route_ready.specs.declared.world.World.{World}
 use Rattle.session_answers.specs.Profiles.{given_of, stored_of}
 use Rattle.session_answers.specs.declared.profiles.Profiles.{Profiles}
 
--- what is seen of a hall: the world, the stored profiles, the connections whose searches wait, and the seats
+-- what is seen of a hall: the world, the most labels that a search settles, the stored profiles, the connections whose searches wait, and the seats
 pub record HallValue : Type 0 where
   pub world : World
+  pub labels : ℕ
   pub profiles : Profiles
   pub waiting : List ℕ
   pub seats : List (Option Seated)
@@ -25,4 +26,4 @@ state_of hall = record {
 
 -- what its connections share
 unfoldable pub service_of : HallValue → Service
-service_of hall = record { world = world_of hall.world; given = given_of hall.profiles }
+service_of hall = record { world = world_of hall.world; given = given_of hall.profiles; labels = hall.labels }

@@ -42,7 +42,7 @@ most_turns aim asked = most_sessions * suc (turns_for aim asked)
 pub record EndsInTime (service : Service) (s : State) (id : ℕ) (c : Connection) : Type 0 where
   pub aim : Aim
   pub asked : Asked
-  pub asks : AsksFor c aim asked
+  pub asks : AsksFor service c aim asked
   pub ends : (m : ℕ) (acts : List Act) (new : State) (turns : Turns service s m acts new) →
       most_turns aim asked ≤ m → EndsAmong service s id c m acts new turns
 
@@ -74,7 +74,7 @@ pub record EndedInTime {service : Service} {s new : State} {n : ℕ} {acts : Lis
     (turns : Turns service s n acts new) (k id : ℕ) (c : Connection) : Type 0 where
   pub aim : Aim
   pub asked : Asked
-  pub asks : AsksFor c aim asked
+  pub asks : AsksFor service c aim asked
   pub ended : k + most_turns aim asked ≤ n → EndedSince id c k turns
 
 -- in these turns no search went on for ever: so it was for each session that waited after some of them

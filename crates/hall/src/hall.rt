@@ -57,14 +57,15 @@ impl Hall {
     ghost use Rattle.route_ready.specs.World.{world_of};
     ghost use Rattle.session_answers.specs.Stored.{AreGiven};
 
-    /// A hall without connections, in which the first profiles were made ready. No name in the
-    /// shelf begins with `custom_`.
-    pub fn new(alloc: Global, world: World, shelf: Shelf) -> Result<Hall, AllocError>
+    /// A hall without connections, in which the first profiles were made ready. No search settles
+    /// more than `labels` of them, whatever a request asks. No name in the shelf begins with
+    /// `custom_`.
+    pub fn new(alloc: Global, world: World, shelf: Shelf, labels: u64) -> Result<Hall, AllocError>
         requires given { AreGiven (names_of (shelf_of shelf)) }
         ensures empty { IfOk result (λ hall. state_of hall ≡ empty_hall (shelf_of shelf)) }
         ensures service { let given = length (shelf_of shelf) in
             IfOk result (λ hall. service_of hall ≡
-            record { world = world_of world; given = given }) }
+            record { world = world_of world; given = given; labels = labels }) }
     {
         let mut kept = KeptProfiles::new(alloc)?;
         let seats = free_seats(alloc)?;
@@ -75,6 +76,7 @@ impl Hall {
         let desk = Desk {
             alloc,
             world,
+            labels,
             profiles,
             kept,
             queue,

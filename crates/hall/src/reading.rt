@@ -140,6 +140,7 @@ fn asked(desk: &mut Desk, seat: Seat, aim: Aim, span: Span) -> Seat
     match begin(
         desk.alloc,
         &desk.world,
+        desk.labels,
         &desk.profiles,
         &mut desk.kept,
         aim,

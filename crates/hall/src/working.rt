@@ -1,9 +1,8 @@
 //! Turns of searches.
 
 ghost use Rattle.std.specs.Prelude.{◌≡◌};
-ghost use Rattle.hall_seats.specs.Parts.{AreReadied, HasTurn, IsHeld, IsSearchAt, IsSearchOf, IsWaitingIn, Makes, connection_of, service_in, state_in, waiting_for};
+ghost use Rattle.hall_seats.specs.Parts.{AreReadied, HasTurn, IsHeld, IsSearchAt, IsSearchOf, IsWaitingIn, Makes, connection_of, service_in, site_at, state_in, waiting_for};
 ghost use Rattle.hall_seats.specs.Steps.{Works};
-ghost use Rattle.route_ready.specs.World.{world_of};
 ghost use Rattle.session_answers.specs.Profiles.{stored_of};
 ghost use Rattle.session_answers.specs.Received.{received_of};
 
@@ -50,7 +49,7 @@ fn worked(desk: &mut Desk, seat: Seat) -> Seat
 /// The same by the search that waited, which was taken out.
 fn turned(desk: &mut Desk, seat: Seat, place: u32, pending: Search) -> Seat
     requires kept { AreReadied desk.old }
-    requires search { IsSearchOf (world_of desk.old.world) (stored_of desk.old.profiles)
+    requires search { IsSearchOf (site_at desk.old) (stored_of desk.old.profiles)
         (received_of seat.received) seat.ended seat.before place pending }
     ensures works { Makes desk.old desk.new
         (HasTurn desk.old (waiting_for (connection_of seat) pending.left)) seat.id seat.away

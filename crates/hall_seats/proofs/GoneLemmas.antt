@@ -5,7 +5,7 @@ use Rattle.hall_seats.proofs.SeatLemmas.{IsAlone, IsFor, alone_at, known_seat, s
 use Rattle.hall_seats.proofs.SoundLemmas.{sound_loses}
 use Rattle.hall_seats.specs.Parts.{AreReadied, IsHeld, IsSeatOf, seats_of, service_in, state_in}
 use Rattle.hall_seats.specs.Sound.{IsSound}
-use Rattle.hall_seats.specs.State.{Service, State, freed, without}
+use Rattle.hall_seats.specs.State.{site_in, Service, State, freed, without}
 use Rattle.hall_seats.specs.Steps as steps
 use Rattle.hall_seats.specs.Steps.{Loses}
 use Rattle.hall_seats.specs.Seats.{Seated}
@@ -30,7 +30,7 @@ module _ (room new : Room) (held : IsHeld room) (k id : ℕ) (places : Places ro
     held = held_now room new k id None places held (subst (λ (v : Service). IsSound v (state_in new)) (sym left.same) sound)
         (λ away. omega (arith, count_now room new k id None places away, held.few away))
         (λ seat is. let clash : None ≡ Some seat = is in absurd (cc))
-        [] (ap (λ (v : Service). v.world) left.same) (left.stored ∙ sym (append-nil (stored_of room.desk.profiles))) left.kept;
+        [] (ap site_in left.same) (left.stored ∙ sym (append-nil (stored_of room.desk.profiles))) left.kept;
     same = left.same;
   }
 

@@ -6,20 +6,19 @@ use Rattle.std.specs.Bool.{beq}
 use Rattle.hall_seats.proofs.SeatCountLemmas.{count_set}
 use Rattle.hall_seats.proofs.SeatLemmas.{IsAlone, IsFor, alone_at, known_seat, known_set, once_set, seat_is, seat_within, seats_long, seats_set, set_twice}
 use Rattle.hall_seats.specs.Held.{count_at, most_sessions}
-use Rattle.hall_seats.specs.Parts.{AreReadied, IsHeld, IsSearchAt, IsSearchIn, IsSearching, Makes, connection_of, count_of, known_of, seated_of, seats_of, service_at, service_in, state_in}
+use Rattle.hall_seats.specs.Parts.{AreReadied, IsHeld, IsSearchAt, IsSearchIn, IsSearching, Makes, connection_of, count_of, known_of, seated_of, seats_of, service_at, service_in, site_at, state_in}
 use Rattle.hall_seats.specs.Sound.{IsSound}
-use Rattle.hall_seats.specs.State.{Connection, Service, State, changed, waits_as}
+use Rattle.hall_seats.specs.State.{site_in, Connection, Service, State, changed, waits_as}
 use Rattle.hall_seats.specs.Seats.{Seated, known_at}
 use Rattle.hall_seats.specs.declared.desk.Desk.{Desk}
 use Rattle.hall_seats.specs.declared.room.Room.{Room}
 use Rattle.hall_seats.specs.declared.seat.Phase.TheVariants as phases
 use Rattle.hall_seats.specs.declared.seat.Phase.{Phase as Kept}
 use Rattle.hall_seats.specs.declared.seat.Seat.{Seat}
-use Rattle.route_ready.specs.World.{world_of}
-use Rattle.route_ready.specs.Worlds.{WorldValue}
 use Rattle.session_answers.proofs.CallerLemmas.{job_more}
 use Rattle.session_answers.specs.Profiles.{stored_of}
 use Rattle.session_answers.specs.Received.{received_of}
+use Rattle.session_answers.specs.Sites.{Site}
 use Rattle.session_answers.specs.Stored.{Stored}
 use Rattle.session_answers.specs.Verdicts.{part}
 use Rattle.session_answers.specs.declared.profiles.Profiles.{Profiles}
@@ -27,28 +26,28 @@ use Rattle.session_answers.specs.declared.profiles.Profiles.{Profiles}
 -- ---- Searches
 
 -- a search is that of its connection while more profiles are stored
-search_more : (world : WorldValue) (stored more : List Stored) (bytes : List ℕ) (ended : Bool) (whole : Option ℕ) (p : Kept) →
-    IsSearchIn world stored bytes ended whole p → IsSearchIn world (stored ++ more) bytes ended whole p
-search_more world stored more bytes ended whole phases.Reading is = tt
-search_more world stored more bytes ended whole (phases.Waits pending place) is = record {
+search_more : (site : Site) (stored more : List Stored) (bytes : List ℕ) (ended : Bool) (whole : Option ℕ) (p : Kept) →
+    IsSearchIn site stored bytes ended whole p → IsSearchIn site (stored ++ more) bytes ended whole p
+search_more site stored more bytes ended whole phases.Reading is = tt
+search_more site stored more bytes ended whole (phases.Waits pending place) is = record {
   before = is.before;
   aim = is.aim;
   span = is.span;
   verdict = is.verdict;
   whole_is = is.whole_is;
   within = omega (arith, is.within, length-append stored more);
-  job = job_more world is.aim (part bytes is.span) place pending is.before stored more is.within is.job;
+  job = job_more site is.aim (part bytes is.span) place pending is.before stored more is.within is.job;
 }
-search_more world stored more bytes ended whole (phases.Answered frame sent) is = tt
-search_more world stored more bytes ended whole phases.Silent is = tt
+search_more site stored more bytes ended whole (phases.Answered frame sent) is = tt
+search_more site stored more bytes ended whole phases.Silent is = tt
 
 -- so at a desk
-search_at : (old new : Desk) (added : List Stored) (seat : Seat) → world_of new.world ≡ world_of old.world →
+search_at : (old new : Desk) (added : List Stored) (seat : Seat) → site_at new ≡ site_at old →
     stored_of new.profiles ≡ stored_of old.profiles ++ added → IsSearchAt old seat → IsSearchAt new seat
-search_at old new added seat world stored is =
-    subst (λ (w : WorldValue). IsSearching w (stored_of new.profiles) seat) (sym world)
-    (subst (λ (l : List Stored). IsSearching (world_of old.world) l seat) (sym stored)
-    (search_more (world_of old.world) (stored_of old.profiles) added (received_of seat.received) seat.ended seat.before seat.phase is))
+search_at old new added seat site stored is =
+    subst (λ (w : Site). IsSearching w (stored_of new.profiles) seat) (sym site)
+    (subst (λ (l : List Stored). IsSearching (site_at old) l seat) (sym stored)
+    (search_more (site_at old) (stored_of old.profiles) added (received_of seat.received) seat.ended seat.before seat.phase is))
 
 -- ---- One seat is changed
 
@@ -96,9 +95,9 @@ module _ (room new : Room) (k id : ℕ) (x : Option Seat) (places : Places room 
   pub held_now : IsHeld room → IsSound (service_in new) (state_in new) →
       ((away : Bool) → count_of (seats_of new.seats.items) away ≤ most_sessions) →
       ((seat : Seat) → x ≡ Some seat → IsSearchAt new.desk seat) → (added : List Stored) →
-      world_of new.desk.world ≡ world_of room.desk.world →
+      site_at new.desk ≡ site_at room.desk →
       stored_of new.desk.profiles ≡ stored_of room.desk.profiles ++ added → AreReadied new.desk → IsHeld new
-  held_now held sound few inside added world stored kept = record {
+  held_now held sound few inside added site stored kept = record {
     sound = sound;
     long = ap length places.seats ∙ length-set room.seats.items k x ∙ held.long;
     once = subst (λ (l : List (Option Seated)). (i j : ℕ) (y z : Seated) → get_or l i None ≡ Some y → get_or l j None ≡ Some z →
@@ -112,7 +111,7 @@ module _ (room new : Room) (k id : ℕ) (x : Option Seat) (places : Places room 
           ∙ sym (ap (λ (l : List (Option Seat)). get_or l k None) places.seats)
           ∙ sym (ap (λ (n : ℕ). get_or new.seats.items n None) same) ∙ has)
       | inr other ↦
-          search_at room.desk new.desk added seat world stored
+          search_at room.desk new.desk added seat site stored
           (held.searching j seat
           (sym (get_or-set_other room.seats.items k j x None other) ∙ sym (ap (λ (l : List (Option Seat)). get_or l j None) places.seats)
           ∙ has))
@@ -170,7 +169,7 @@ replaced room new k seat x lifted has left now = record {
 module _ (room new : Room) (held : IsHeld room) (k : ℕ) (seat made : Seat) (back : IsReplaced room new k seat (Some made)) (desk : Desk)
     (relation : Connection → List Stored → Type 0)
     (makes : Makes desk new.desk relation seat.id seat.away made) (world : desk.world ≡ room.desk.world) (profiles :
-    desk.profiles ≡ room.desk.profiles) where
+    desk.profiles ≡ room.desk.profiles) (labels : desk.labels ≡ room.desk.labels) where
   places_made : Places room new k seat.id (Some made)
   places_made = places_at room new k seat (Some made) held back.has makes.own back.now
 
@@ -178,7 +177,7 @@ module _ (room new : Room) (held : IsHeld room) (k : ℕ) (seat made : Seat) (ba
   stored_now = makes.stored ∙ ap (λ (p : Profiles). stored_of p ++ makes.added) profiles
 
   service_now : service_in new ≡ service_in room
-  service_now = makes.same ∙ (λ i. service_at (record desk { world = world i; profiles = profiles i }))
+  service_now = makes.same ∙ (λ i. service_at (record desk { world = world i; profiles = profiles i; labels = labels i }))
 
   -- its state, where these others wait
   pub made_state : state_in new ≡ changed (record (state_in room) { waiting = desk.queue.items }) seat.id (connection_of made) makes.added
@@ -194,7 +193,7 @@ module _ (room new : Room) (held : IsHeld room) (k : ℕ) (seat made : Seat) (ba
         (subst (λ (v : Service). IsSound v (state_in new)) (sym service_now) sound)
         (few_alike room new k seat.id seat made places_made held back.has makes.alike)
         (λ other is. let one : made ≡ other = cc in subst (IsSearchAt new.desk) one makes.searching)
-        makes.added (ap (λ (v : Service). v.world) service_now) stored_now makes.kept;
+        makes.added (ap site_in service_now) stored_now makes.kept;
     same = service_now;
   }
 

@@ -11,7 +11,7 @@ use Rattle.hall_seats.proofs.SeatCountLemmas.{all_ids, ids_of}
 use Rattle.hall_seats.proofs.SeatLemmas.{seat_is, seats_long}
 use Rattle.hall_seats.proofs.SoundInLemmas.{left_serves, piece_fits}
 use Rattle.hall_seats.proofs.SoundLemmas.{sound_left}
-use Rattle.hall_seats.specs.Parts.{AreReadied, FitsUnsent, IsHeld, IsSearchAt, IsSearchIn, Keeps, KeepsOthers, connection_of, phase_in, seats_of, sent_in, service_at, service_in, state_in}
+use Rattle.hall_seats.specs.Parts.{AreReadied, FitsUnsent, IsHeld, IsSearchAt, IsSearchIn, Keeps, KeepsOthers, connection_of, phase_in, seats_of, sent_in, service_at, service_in, state_in, site_at}
 use Rattle.hall_seats.specs.Sends.{IsDone, IsPiece, nothing, taken, broken, stays, done, sent_more}
 use Rattle.hall_seats.specs.Served.{AreLive, ClosedDone, SentPiece, ServedAll, ServedEach, ServedOne, ServedSeat}
 use Rattle.hall_seats.specs.Sound.{IsSound}
@@ -22,10 +22,9 @@ use Rattle.hall_seats.specs.declared.room.Room.{Room}
 use Rattle.hall_seats.specs.declared.seat.Phase.{Phase as Kept}
 use Rattle.hall_seats.specs.declared.seat.Phase.TheVariants as phases
 use Rattle.hall_seats.specs.declared.seat.Seat.{Seat}
-use Rattle.route_ready.specs.World.{world_of}
-use Rattle.route_ready.specs.Worlds.{WorldValue}
 use Rattle.session_answers.specs.Profiles.{stored_of}
 use Rattle.session_answers.specs.Received.{received_of}
+use Rattle.session_answers.specs.Sites.{Site}
 use Rattle.session_answers.specs.Stored.{Stored}
 
 -- ---- One connection
@@ -43,26 +42,26 @@ sent_phase (phases.Waits pending place) n = refl
 sent_phase (phases.Answered frame sent) n = refl
 sent_phase phases.Silent n = refl
 
-sent_search : (world : WorldValue) (stored : List Stored) (bytes : List ℕ) (ended : Bool) (whole : Option ℕ) (p : Kept) (n : ℕ) →
-    IsSearchIn world stored bytes ended whole p → IsSearchIn world stored bytes ended whole (sent_in p n)
-sent_search world stored bytes ended whole phases.Reading n is = tt
-sent_search world stored bytes ended whole (phases.Waits pending place) n is = is
-sent_search world stored bytes ended whole (phases.Answered frame sent) n is = tt
-sent_search world stored bytes ended whole phases.Silent n is = tt
+sent_search : (site : Site) (stored : List Stored) (bytes : List ℕ) (ended : Bool) (whole : Option ℕ) (p : Kept) (n : ℕ) →
+    IsSearchIn site stored bytes ended whole p → IsSearchIn site stored bytes ended whole (sent_in p n)
+sent_search site stored bytes ended whole phases.Reading n is = tt
+sent_search site stored bytes ended whole (phases.Waits pending place) n is = is
+sent_search site stored bytes ended whole (phases.Answered frame sent) n is = tt
+sent_search site stored bytes ended whole phases.Silent n is = tt
 
 -- what is left of a seat has its id and its search
 pub keeps_same : (seat : Seat) → Keeps seat (Some seat)
-keeps_same seat = (refl, refl, λ world stored is. is)
+keeps_same seat = (refl, refl, λ site stored is. is)
 
 pub keeps_further : (seat made : Seat) (n : ℕ) → made ≡ record seat { phase = sent_in seat.phase n } → Keeps seat (Some made)
 keeps_further seat made n same =
     subst (λ (m : Seat). Keeps seat (Some m)) (sym same)
-    (refl, refl, λ world stored is. sent_search world stored (received_of seat.received) seat.ended seat.before seat.phase n is)
+    (refl, refl, λ site stored is. sent_search site stored (received_of seat.received) seat.ended seat.before seat.phase n is)
 
 pub keeps_more : (seat mid : Seat) (left : Option Seat) → Keeps seat (Some mid) → Keeps mid left → Keeps seat left
 keeps_more seat mid None first more = tt
 keeps_more seat mid (Some made) first more =
-    (more.0 ∙ first.0, more.1 ∙ first.1, λ world stored is. more.2 world stored (first.2 world stored is))
+    (more.0 ∙ first.0, more.1 ∙ first.1, λ site stored is. more.2 site stored (first.2 site stored is))
 
 -- ---- A send
 
@@ -188,8 +187,8 @@ seat_kept room new held k seat made back desk old seen live keeps one =
     let alike : made ≡ other = cc in
     subst (IsSearchAt new.desk) alike
     (subst (λ (d : Desk). IsSearchAt d made) (sym desk)
-    (keeps.2 (world_of room.desk.world) (stored_of room.desk.profiles) (held.searching k seat back.has))))
-    [] (ap (λ (d : Desk). world_of d.world) desk) (stored
+    (keeps.2 (site_at room.desk) (stored_of room.desk.profiles) (held.searching k seat back.has))))
+    [] (ap site_at desk) (stored
     ∙ sym (append-nil (stored_of room.desk.profiles))) (subst AreReadied (sym desk) held.kept))
     same state
 

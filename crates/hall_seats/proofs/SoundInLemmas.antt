@@ -10,7 +10,7 @@ use Rattle.hall_seats.specs.Allowed.{IsAllowed, IsRowOf}
 use Rattle.hall_seats.specs.Sends as sending
 use Rattle.hall_seats.specs.Sends.{Closes, IsPiece, Sends, Serves, most_piece, sent_more}
 use Rattle.hall_seats.specs.Sound.{IsSoundIn}
-use Rattle.hall_seats.specs.State.{Connection, Phase, Reading, Waits, Answered, Silent, Service, waits_as, with_frame}
+use Rattle.hall_seats.specs.State.{site_in, Connection, Phase, Reading, Waits, Answered, Silent, Service, waits_as, with_frame}
 use Rattle.hall_seats.specs.Steps as steps
 use Rattle.hall_seats.specs.Steps.{GoesOn, Takes, memory_frame, uploaded, whole_in}
 use Rattle.session_answers.specs.Frames.{refusal_frame}
@@ -87,7 +87,7 @@ goes_sound service stored c now held (steps.answers {due} {before} {aim} {query}
     frame_sound service stored [] c frame
     (rows.whole {before = before} held asked.before_is within
     (rows.query asked.verdict
-    (subst (λ (q : List ℕ). IsQueryFrame service.world (take before stored) aim q frame) asked.query_is answers)))
+    (subst (λ (q : List ℕ). IsQueryFrame (site_in service) (take before stored) aim q frame) asked.query_is answers)))
 goes_sound service stored c now held (steps.gives_up waits) = frame_sound service stored [] c memory_frame (rows.memory held)
 
 pub goes_waits : (service : Service) (stored : List Stored) (c now : Connection) → GoesOn service stored c now →

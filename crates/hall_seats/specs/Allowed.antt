@@ -1,6 +1,6 @@
 -- Which frames are allowed for a connection. This project's own rule.
 use Rattle.std.specs.Prelude.{◌≡◌, ℕ, ◌≤◌, Bool, true, false, List, [], length, take, Some}
-use Rattle.hall_seats.specs.State.{Answered, Connection, Service, State}
+use Rattle.hall_seats.specs.State.{site_in, Answered, Connection, Service, State}
 use Rattle.hall_seats.specs.Steps.{full_frame, memory_frame, uploaded}
 use Rattle.route_http.specs.declared.span.Span.{Span}
 use Rattle.session_answers.specs.Frames.{refusal_frame}
@@ -23,7 +23,7 @@ pub data IsRowOf (service : Service) (stored : List Stored) (bytes : List ℕ) (
       (uploaded service stored (part bytes span)).added
   query :
       {aim : Aim} {span : Span} {frame : List ℕ} → IsVerdict bytes ended (Query aim span) →
-      IsQueryFrame service.world stored aim (part bytes span) frame → IsRowOf service stored bytes ended frame []
+      IsQueryFrame (site_in service) stored aim (part bytes span) frame → IsRowOf service stored bytes ended frame []
 
 -- a frame is allowed for a connection: that of one that is turned away; of a session that of a refused
 -- request, its row where its request was whole, or that of want of memory

@@ -14,10 +14,10 @@ use Rattle.hall_seats.specs.declared.seat.Phase.TheVariants as phases
 use Rattle.hall_seats.specs.declared.seat.Seat.{Seat}
 use Rattle.route_http.specs.declared.span.Span.{Span}
 use Rattle.route_ready.specs.World.{world_of}
-use Rattle.route_ready.specs.Worlds.{WorldValue}
 use Rattle.session_answers.specs.Jobs.{AreKept, IsJobOf}
 use Rattle.session_answers.specs.Profiles.{given_of, stored_of}
 use Rattle.session_answers.specs.Received.{received_of}
+use Rattle.session_answers.specs.Sites.{Site, site_of}
 use Rattle.session_answers.specs.Stored.{Stored}
 use Rattle.session_answers.specs.Verdicts.{IsVerdict, part}
 use Rattle.route_engine.specs.declared.aim.Aim.{Aim}
@@ -57,9 +57,13 @@ seated_of seat = record { id = seat.id; known = connection_of seat }
 abbrev pub seats_of : List (Option Seat) → List (Option Seated)
 seats_of seats = map (λ (seat : Option Seat). option_map seated_of seat) seats
 
+-- where requests are answered from a desk
+abbrev pub site_at : Desk → Site
+site_at desk = site_of (world_of desk.world) desk.labels
+
 -- what the connections at these seats share that are answered from a desk, and the state of both
 abbrev pub service_at : Desk → Service
-service_at desk = record { world = world_of desk.world; given = given_of desk.profiles }
+service_at desk = record { world = world_of desk.world; given = given_of desk.profiles; labels = desk.labels }
 
 abbrev pub state_at : Desk → List (Option Seated) → State
 state_at desk seats = record {
@@ -143,7 +147,7 @@ HaveOneSeat seats = (j k : ℕ) (x y : Seated) → get_or seats j None ≡ Some 
     x.id ≡ y.id → j ≡ k
 
 -- a search is that for the query that these bytes ask, over the profiles that were stored before they did
-pub record IsSearchOf (world : WorldValue) (stored : List Stored) (bytes : List ℕ) (ended : Bool) (whole :
+pub record IsSearchOf (site : Site) (stored : List Stored) (bytes : List ℕ) (ended : Bool) (whole :
     Option ℕ) (place : ℕ) (pending : Search) : Type 0 where
   pub before : ℕ
   pub aim : Aim
@@ -151,24 +155,24 @@ pub record IsSearchOf (world : WorldValue) (stored : List Stored) (bytes : List 
   pub verdict : IsVerdict bytes ended (Query aim span)
   pub whole_is : whole ≡ Some before
   pub within : before ≤ length stored
-  pub job : IsJobOf world (take before stored) aim (part bytes span) place pending
+  pub job : IsJobOf site (take before stored) aim (part bytes span) place pending
 
 -- where the search of a seat waits, it is that of its connection
-abbrev pub IsSearchIn : (world : WorldValue) (stored : List Stored) (bytes : List ℕ) (ended : Bool) (whole :
+abbrev pub IsSearchIn : (site : Site) (stored : List Stored) (bytes : List ℕ) (ended : Bool) (whole :
     Option ℕ) → Kept → Type 0
-IsSearchIn world stored bytes ended whole phases.Reading = Unit {0}
-IsSearchIn world stored bytes ended whole (phases.Waits pending place) =
-    IsSearchOf world stored bytes ended whole place pending
-IsSearchIn world stored bytes ended whole (phases.Answered frame sent) = Unit {0}
-IsSearchIn world stored bytes ended whole phases.Silent = Unit {0}
+IsSearchIn site stored bytes ended whole phases.Reading = Unit {0}
+IsSearchIn site stored bytes ended whole (phases.Waits pending place) =
+    IsSearchOf site stored bytes ended whole place pending
+IsSearchIn site stored bytes ended whole (phases.Answered frame sent) = Unit {0}
+IsSearchIn site stored bytes ended whole phases.Silent = Unit {0}
 
--- so it is of the world and the profiles of a desk
-abbrev pub IsSearching : WorldValue → List Stored → Seat → Type 0
-IsSearching world stored seat =
-    IsSearchIn world stored (received_of seat.received) seat.ended seat.before seat.phase
+-- so it is of the site and the profiles of a desk
+abbrev pub IsSearching : Site → List Stored → Seat → Type 0
+IsSearching site stored seat =
+    IsSearchIn site stored (received_of seat.received) seat.ended seat.before seat.phase
 
 abbrev pub IsSearchAt : Desk → Seat → Type 0
-IsSearchAt desk seat = IsSearching (world_of desk.world) (stored_of desk.profiles) seat
+IsSearchAt desk seat = IsSearching (site_at desk) (stored_of desk.profiles) seat
 
 -- what is kept at a desk of profiles that were made ready was made from those that are stored
 abbrev pub AreReadied : Desk → Type 0
@@ -244,8 +248,8 @@ abbrev pub Keeps : Seat → Option Seat → Type 0
 Keeps seat None = Unit {0}
 Keeps seat (Some made) =
     (made.id ≡ seat.id) × (made.away ≡ seat.away)
-    × ((world : WorldValue) (stored : List Stored) → IsSearching world stored seat →
-    IsSearching world stored made)
+    × ((site : Site) (stored : List Stored) → IsSearching site stored seat →
+    IsSearching site stored made)
 
 -- a connection got a free seat
 pub record IsPlaced (old new : List (Option Seat)) (seat : Seat) : Type 0 where

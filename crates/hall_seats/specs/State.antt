@@ -1,6 +1,7 @@
 -- What a server's hall holds at a moment. This project's own rule.
 use Rattle.std.specs.Prelude.{ℕ, ◌==◌, Bool, List, [], ◌∷◌, ◌++◌, if◌then◌else◌, Option, Some, None}
 use Rattle.route_ready.specs.Worlds.{WorldValue}
+use Rattle.session_answers.specs.Sites.{Site, site_of}
 use Rattle.session_answers.specs.Stored.{Stored}
 
 -- ---- Connections
@@ -23,10 +24,16 @@ pub record Connection : Type 0 where
   pub before : Option ℕ
   pub phase : Phase
 
--- what all connections share: the world, and how many profiles were given at the start
+-- what all connections share: the world, how many profiles were given at the start, and the most labels that a
+-- search settles
 pub record Service : Type 0 where
   pub world : WorldValue
   pub given : ℕ
+  pub labels : ℕ
+
+-- where their requests are answered
+abbrev pub site_in : Service → Site
+site_in service = site_of service.world service.labels
 
 -- the profiles that are stored, the given ones first; the connections whose searches wait, the longest
 -- waiting first; and what is known of each connection that is held, by its id

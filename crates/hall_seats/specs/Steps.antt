@@ -3,13 +3,13 @@ use Rattle.std.specs.Prelude.{◌≡◌, ◌≢◌, ◌⊎◌, ℕ, suc, ◌-◌
 use Rattle.edge_io.specs.declared.event.Event.{Event}
 use Rattle.edge_io.specs.declared.event.Event.TheVariants as event
 use Rattle.hall_seats.specs.Held.{HasRoom, IsFull}
-use Rattle.hall_seats.specs.State.{Connection, Service, State, Reading, Waits, Answered, Silent, changed, freed, put, with_frame}
+use Rattle.hall_seats.specs.State.{site_in, Connection, Service, State, Reading, Waits, Answered, Silent, changed, freed, put, with_frame}
 use Rattle.route_http.specs.Asked.{Asked}
-use Rattle.route_http.specs.Request.{request_of}
 use Rattle.route_http.specs.declared.span.Span.{Span}
 use Rattle.session_answers.specs.Searches.{turns_for}
 use Rattle.session_answers.specs.Frames.{refusal_frame}
 use Rattle.session_answers.specs.Rows.{IsEarlyFrame, IsQueryFrame, IsSearched}
+use Rattle.session_answers.specs.Sites.{request_at}
 use Rattle.session_answers.specs.Stored.{Stored, Uploaded, upload_of}
 use Rattle.session_answers.specs.Verdicts.{IsVerdict, part}
 use Rattle.route_engine.specs.declared.aim.Aim.{Aim}
@@ -49,11 +49,11 @@ pub data Takes (service : Service) (stored : List Stored) (old c : Connection) :
       (uploaded service stored (part c.bytes span)).added
   early :
       {aim : Aim} {span : Span} {frame : List ℕ} → IsVerdict c.bytes c.ended (Query aim span) →
-      IsEarlyFrame service.world stored (part c.bytes span) frame →
+      IsEarlyFrame (site_in service) stored (part c.bytes span) frame →
       Takes service stored old c (with_frame (whole_in stored c) frame) []
   waits :
       {aim : Aim} {span : Span} → IsVerdict c.bytes c.ended (Query aim span) →
-      (searched : IsSearched service.world stored (part c.bytes span)) →
+      (searched : IsSearched (site_in service) stored (part c.bytes span)) →
       Takes service stored old c (record (whole_in stored c) { phase = Waits (turns_for aim searched.asked) }) []
   gives_up :
       {kept : Connection} → (IsVerdict c.bytes c.ended NoByte → ⊥) →
@@ -118,10 +118,10 @@ pub record AskedBy (c : Connection) (before : ℕ) (aim : Aim) (query : List ℕ
   pub before_is : c.before ≡ Some before
 
 -- what the query of a connection is asked for, and the request that it spells
-pub record AsksFor (c : Connection) (aim : Aim) (asked : Asked) : Type 0 where
+pub record AsksFor (service : Service) (c : Connection) (aim : Aim) (asked : Asked) : Type 0 where
   pub span : Span
   pub verdict : IsVerdict c.bytes c.ended (Query aim span)
-  pub spells : request_of (part c.bytes span) ≡ Ok asked
+  pub spells : request_at (site_in service) (part c.bytes span) ≡ Ok asked
 
 -- what a connection comes to by a turn of its search: it waits on, with a turn less; or it is answered by its
 -- query or by want of memory
@@ -130,7 +130,7 @@ pub data GoesOn (service : Service) (stored : List Stored) (c : Connection) : Co
   answers :
       {due before : ℕ} {aim : Aim} {query frame : List ℕ} → c.phase ≡ Waits due →
       AskedBy c before aim query → before ≤ length stored →
-      IsQueryFrame service.world (take before stored) aim query frame →
+      IsQueryFrame (site_in service) (take before stored) aim query frame →
       GoesOn service stored c (with_frame c frame)
   gives_up : {due : ℕ} → c.phase ≡ Waits due → GoesOn service stored c (with_frame c memory_frame)
 

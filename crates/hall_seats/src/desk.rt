@@ -12,6 +12,8 @@ pub struct Desk {
     pub alloc: Global,
     /// The map, the heights and the tag table.
     pub world: World,
+    /// The most labels that a search settles, whatever a request asks.
+    pub labels: u64,
     /// The stored profiles.
     pub profiles: Profiles,
     /// Those of them that were made ready.
@@ -25,6 +27,7 @@ impl Drop for Desk {
         let Desk {
             alloc: _,
             world: _,
+            labels: _,
             profiles: _,
             kept: _,
             queue: _,

@@ -19,6 +19,7 @@ use Rattle.route_ready.specs.declared.ready.Ready.{Ready}
 use Rattle.session_answers.specs.Jobs.{AreKept, IsBegun, IsJobOf}
 use Rattle.session_answers.specs.Rows.{Asks, IsSearched}
 use Rattle.session_answers.specs.Searches.{IsOver, IsSearchFor, turns_for}
+use Rattle.session_answers.specs.Sites.{Site}
 use Rattle.session_answers.specs.Stored.{Stored}
 use Rattle.route_engine.specs.declared.aim.Aim.{Aim}
 use Rattle.session_answers.specs.declared.search.Search.{Search}
@@ -64,26 +65,26 @@ kept_more world stored more kept are entry within =
 
 -- ---- The search for a query
 
-module _ (world : WorldValue) where
+module _ (site : Site) where
   -- a request that has a plan is one that is to be searched for
   planned-search : (stored : List Stored) (query : List ℕ) (asked : Asked) (sections : Sections) (ready : Ready) →
-      Asks stored query asked sections → IsReady world sections asked ready →
-      HasPlan (setting_of world ready asked.circles) asked → IsSearched world stored query
+      Asks site stored query asked sections → IsReady site.world sections asked ready →
+      HasPlan (setting_of site.world ready asked.circles) asked → IsSearched site stored query
   planned-search stored query asked sections ready asks is planned = record {
     asked = asked;
     sections = sections;
     asks = asks;
-    setting = setting_of world ready asked.circles;
-    over = ready-setting (question_of world sections asked) world ready refl is;
+    setting = setting_of site.world ready asked.circles;
+    over = ready-setting (question_of site.world sections asked) site.world ready refl is;
     nodes = planned.plan.nodes;
     mapped = planned.is.nodes;
   }
 
   -- of whose search no turn is taken at first
   pub begun-job : (stored : List Stored) (aim : Aim) (query : List ℕ) (place : ℕ) (asked : Asked) (sections : Sections) (ready : Ready)
-      (p : Search) → Asks stored query asked sections → slice_get (profiles_of stored) place ≡ Some sections →
-      IsReady world sections asked ready → HasPlan (setting_of world ready asked.circles) asked → IsOver world p →
-      IsSearchFor world sections aim asked p → p.left ≡ turns_for aim asked → IsBegun world stored aim query place p
+      (p : Search) → Asks site stored query asked sections → slice_get (profiles_of stored) place ≡ Some sections →
+      IsReady site.world sections asked ready → HasPlan (setting_of site.world ready asked.circles) asked → IsOver site.world p →
+      IsSearchFor site.world sections aim asked p → p.left ≡ turns_for aim asked → IsBegun site stored aim query place p
   unfolding planned-search
   begun-job stored aim query place asked sections ready p asks there is planned over for fresh = record {
     searched = planned-search stored query asked sections ready asks is planned;
@@ -92,9 +93,9 @@ module _ (world : WorldValue) where
   }
 
   -- a search that goes on as this still is that of its query: it may end with nothing else
-  pub job-later : (stored : List Stored) (aim : Aim) (query : List ℕ) (place : ℕ) (p next : Search) → IsOver world next →
-      next.kind ≡ p.kind → ((end : Result (Vec ℕ Global) RouteError) → EndsAs world next.pending end → EndsAs world p.pending end) →
-      IsJobOf world stored aim query place p → IsJobOf world stored aim query place next
+  pub job-later : (stored : List Stored) (aim : Aim) (query : List ℕ) (place : ℕ) (p next : Search) → IsOver site.world next →
+      next.kind ≡ p.kind → ((end : Result (Vec ℕ Global) RouteError) → EndsAs site.world next.pending end → EndsAs site.world p.pending end) →
+      IsJobOf site stored aim query place p → IsJobOf site stored aim query place next
   job-later stored aim query place p next over kind same job = record {
     asked = job.asked;
     sections = job.sections;
@@ -106,16 +107,16 @@ module _ (world : WorldValue) where
 
   module _ (aim : Aim) (query : List ℕ) (place : ℕ) (p : Search) where
     -- by all profiles that are stored now
-    pub job_now : (stored : List Stored) → IsJobOf world stored aim query place p → IsJobOf world (take (length stored) stored) aim query place p
-    job_now stored = subst (λ (l : List Stored). IsJobOf world l aim query place p) (sym (take_all (length stored) stored (omega arith)))
+    pub job_now : (stored : List Stored) → IsJobOf site stored aim query place p → IsJobOf site (take (length stored) stored) aim query place p
+    job_now stored = subst (λ (l : List Stored). IsJobOf site l aim query place p) (sym (take_all (length stored) stored (omega arith)))
 
     -- by the first ones, where more are stored behind
-    pub job_more : (before : ℕ) (stored more : List Stored) → before ≤ length stored → IsJobOf world (take before stored) aim query place p →
-        IsJobOf world (take before (stored ++ more)) aim query place p
+    pub job_more : (before : ℕ) (stored more : List Stored) → before ≤ length stored → IsJobOf site (take before stored) aim query place p →
+        IsJobOf site (take before (stored ++ more)) aim query place p
     job_more before stored more within =
-        subst (λ (l : List Stored). IsJobOf world l aim query place p) (sym (take-append-le before stored more within))
+        subst (λ (l : List Stored). IsJobOf site l aim query place p) (sym (take-append-le before stored more within))
 
-    module _ (before : ℕ) (stored : List Stored) (job : IsJobOf world (take before stored) aim query place p) where
+    module _ (before : ℕ) (stored : List Stored) (job : IsJobOf site (take before stored) aim query place p) where
       -- its profile is stored
       pub job_place : place < length stored
       job_place =

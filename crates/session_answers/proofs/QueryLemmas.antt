@@ -1,10 +1,13 @@
 -- The frames that answer a query.
-use Rattle.std.proofs.Common.{◌≡◌, ◌≢◌, ◌⊎◌, inl, inr, ℕ, List, Option, Some, None, Ok, Err, refl, sym, ap, ◌∙◌, subst, Vec}
+use Rattle.std.proofs.Common.{◌≡◌, ◌≢◌, ◌⊎◌, inl, inr, ℕ, List, Option, Some, None, Ok, Err, refl, sym, ap, ◌∙◌, subst, arith, Vec}
+use Rattle.std.proofs.lemmas.Bool.Decides.{nat_tests}
 use Rattle.std.specs.declared.alloc.Global.{Global}
 use Rattle.std.specs.Prelude.{slice_get}
+use Rattle.item_list.specs.Answer.{answer_map}
 use Rattle.lookup_table.specs.Tag.{name_place}
 use Rattle.profile_text.specs.Tree.{Sections}
 use Rattle.route_engine.specs.Aims.{IsRefusalTo, IsReplyTo, TellsTo}
+use Rattle.route_engine.specs.Jobs.{IsWithin}
 use Rattle.route_engine.specs.Pendings.{EndsAs}
 use Rattle.route_engine.specs.Refusals.{RefusesEarly, profile}
 use Rattle.route_engine.specs.Settings.{Question}
@@ -18,7 +21,6 @@ use Rattle.route_http.specs.declared.error.RequestError.{RequestError}
 use Rattle.route_http.specs.declared.error.RequestError.TheVariants as request
 use Rattle.route_http.specs.declared.kind.Kind.{Kind}
 use Rattle.route_ready.specs.Readiness.{ready_of}
-use Rattle.route_ready.specs.Worlds.{WorldValue}
 use Rattle.route_ready.specs.declared.error.RouteError.{RouteError}
 use Rattle.route_ready.specs.declared.error.RouteError.TheVariants as route
 use Rattle.session_answers.proofs.StoredLemmas.{unknown_at}
@@ -26,6 +28,7 @@ use Rattle.session_answers.specs.Aims.{kind_for}
 use Rattle.session_answers.specs.Frames.{line_frame, refusal_frame}
 use Rattle.session_answers.specs.Jobs.{IsJobOf}
 use Rattle.session_answers.specs.Rows.{Asks, IsEarlyFrame, IsQueryFrame, early, malformed, refused, route_frame, told, unknown}
+use Rattle.session_answers.specs.Sites.{Site, limited, request_at}
 use Rattle.session_answers.specs.Stored.{Stored}
 use Rattle.route_engine.specs.declared.aim.Aim.{Aim}
 use Rattle.route_engine.specs.declared.aim.Aim.TheVariants.{Track, Table}
@@ -41,48 +44,61 @@ reason : {E : Type 0} {P : Type 0} (e no_memory : E) → (e ≡ no_memory) ⊎ P
 reason e no_memory (inl is) differ = absurd (differ is)
 reason e no_memory (inr p) differ = p
 
-module _ (world : WorldValue) (stored : List Stored) (query : List ℕ) where
+-- a request that a query spells is answered with no more labels than a site allows
+pub spelt-at : (site : Site) (query : List ℕ) (asked at : Asked) → request_of query ≡ Ok asked → at ≡ limited site.labels asked →
+    request_at site query ≡ Ok at
+spelt-at site query asked at spelt is =
+    ap (answer_map (limited site.labels) (λ (e : RequestError). e)) spelt ∙ ap (λ (a : Asked). Ok a) (sym is)
+
+-- it is within the limits of a request
+pub limited-within : (labels : ℕ) (asked at : Asked) → at ≡ limited labels asked → IsWithin asked → IsWithin at
+limited-within labels asked at is within =
+    subst IsWithin (sym is)
+    (record { some = within.some; few = within.few; alternative = within.alternative; labels = grind (arith, nat_tests, within.labels) })
+
+module _ (site : Site) (stored : List Stored) (query : List ℕ) where
   -- a query that is no request
   pub malformed-frame : (e : RequestError) (frame : List ℕ) → (e ≡ request.NoMemory) ⊎ (request_of query ≡ Err e) → e ≢ request.NoMemory →
-      frame ≡ line_frame 400 (request_line e) → IsEarlyFrame world stored query frame
+      frame ≡ line_frame 400 (request_line e) → IsEarlyFrame site stored query frame
   malformed-frame e frame why differ is =
-      subst (IsEarlyFrame world stored query) (sym is) (malformed (reason e request.NoMemory why differ))
+      subst (IsEarlyFrame site stored query) (sym is)
+      (malformed (ap (answer_map (limited site.labels) (λ (x : RequestError). x)) (reason e request.NoMemory why differ)))
 
   -- a request whose profile has no place
-  pub unknown-frame : (asked : Asked) (frame : List ℕ) → request_of query ≡ Ok asked →
-      name_place (names_of stored) asked.profile ≡ None → frame ≡ refusal_frame UnknownProfile → IsEarlyFrame world stored query frame
+  pub unknown-frame : (asked : Asked) (frame : List ℕ) → request_at site query ≡ Ok asked →
+      name_place (names_of stored) asked.profile ≡ None → frame ≡ refusal_frame UnknownProfile → IsEarlyFrame site stored query frame
   unknown-frame asked frame asks none is =
-      subst (IsEarlyFrame world stored query) (sym is) (unknown asks (unknown_at stored asked.profile none))
+      subst (IsEarlyFrame site stored query) (sym is) (unknown asks (unknown_at stored asked.profile none))
 
-  module _ (asked : Asked) (sections : Sections) (asks : Asks stored query asked sections) (e : RouteError) (frame : List ℕ)
+  module _ (asked : Asked) (sections : Sections) (asks : Asks site stored query asked sections) (e : RouteError) (frame : List ℕ)
       (differ : e ≢ route.NoMemory) (is : frame ≡ route_frame sections e) where
     -- a request that is refused before any search
-    pub early-frame : RefusesEarly (question_of world sections asked) e → IsEarlyFrame world stored query frame
+    pub early-frame : RefusesEarly (question_of site.world sections asked) e → IsEarlyFrame site stored query frame
     early-frame why =
-        subst (IsEarlyFrame world stored query) (sym is) (early asks (reason e route.NoMemory why differ))
+        subst (IsEarlyFrame site stored query) (sym is) (early asks (reason e route.NoMemory why differ))
 
     -- one whose profile is refused
-    pub profile-frame : (e ≡ route.NoMemory) ⊎ (ready_of (question_of world sections asked).binding ≡ Err e) →
-        IsEarlyFrame world stored query frame
+    pub profile-frame : (e ≡ route.NoMemory) ⊎ (ready_of (question_of site.world sections asked).binding ≡ Err e) →
+        IsEarlyFrame site stored query frame
     profile-frame why =
-        subst (IsEarlyFrame world stored query) (sym is) (early asks (profile (reason e route.NoMemory why differ)))
+        subst (IsEarlyFrame site stored query) (sym is) (early asks (profile (reason e route.NoMemory why differ)))
 
     -- one that has no reply
-    pub refused-frame : (aim : Aim) → (e ≡ route.NoMemory) ⊎ IsRefusalTo aim (question_of world sections asked) e →
-        IsQueryFrame world stored aim query frame
+    pub refused-frame : (aim : Aim) → (e ≡ route.NoMemory) ⊎ IsRefusalTo aim (question_of site.world sections asked) e →
+        IsQueryFrame site stored aim query frame
     refused-frame aim why =
-        subst (IsQueryFrame world stored aim query) (sym is) (refused asks e (reason e route.NoMemory why differ))
+        subst (IsQueryFrame site stored aim query) (sym is) (refused asks e (reason e route.NoMemory why differ))
 
   -- a reply
-  pub reply-frame : (aim : Aim) (asked : Asked) (sections : Sections) → Asks stored query asked sections → (kind : Kind)
-      (bytes frame : List ℕ) → kind ≡ kind_for aim asked.form → IsReplyTo aim (question_of world sections asked) bytes →
-      frame ≡ frame_of 200 kind bytes → IsQueryFrame world stored aim query frame
+  pub reply-frame : (aim : Aim) (asked : Asked) (sections : Sections) → Asks site stored query asked sections → (kind : Kind)
+      (bytes frame : List ℕ) → kind ≡ kind_for aim asked.form → IsReplyTo aim (question_of site.world sections asked) bytes →
+      frame ≡ frame_of 200 kind bytes → IsQueryFrame site stored aim query frame
   reply-frame aim asked sections asks kind bytes frame kind_is replies is =
-      subst (IsQueryFrame world stored aim query) (sym (is ∙ ap (λ (k : Kind). frame_of 200 k bytes) kind_is)) (told asks bytes replies)
+      subst (IsQueryFrame site stored aim query) (sym (is ∙ ap (λ (k : Kind). frame_of 200 k bytes) kind_is)) (told asks bytes replies)
 
 -- what a search for a query ends with
-module _ (world : WorldValue) (stored : List Stored) (aim : Aim) (query : List ℕ) (place : ℕ) (p : Search) (job :
-    IsJobOf world stored aim query place p) where
+module _ (site : Site) (stored : List Stored) (aim : Aim) (query : List ℕ) (place : ℕ) (p : Search) (job :
+    IsJobOf site stored aim query place p) where
   -- a refusal, by what it is asked for
   refuses : (a : Aim) (question : Question) (e : RouteError) → TellsTo a question (Err e) → (e ≡ route.NoMemory) ⊎ IsRefusalTo a question e
   refuses Track question e is = is
@@ -95,15 +111,15 @@ module _ (world : WorldValue) (stored : List Stored) (aim : Aim) (query : List �
 
   -- there is none
   pub query-refused : (sections : Sections) → slice_get (profiles_of stored) place ≡ Some sections → (e : RouteError) (frame : List ℕ) →
-      e ≢ route.NoMemory → frame ≡ route_frame sections e → EndsAs world p.pending (Err e) → IsQueryFrame world stored aim query frame
+      e ≢ route.NoMemory → frame ≡ route_frame sections e → EndsAs site.world p.pending (Err e) → IsQueryFrame site stored aim query frame
   query-refused sections there e frame differ is ends =
       let same : sections ≡ job.sections = one-there (slice_get (profiles_of stored) place) sections job.sections there job.there in
-      refused-frame world stored query job.asked job.sections job.asks e frame differ (is ∙ ap (λ (s : Sections). route_frame s e) same)
-      aim (refuses aim (question_of world job.sections job.asked) e (job.is.ends (Err e) ends))
+      refused-frame site stored query job.asked job.sections job.asks e frame differ (is ∙ ap (λ (s : Sections). route_frame s e) same)
+      aim (refuses aim (question_of site.world job.sections job.asked) e (job.is.ends (Err e) ends))
 
   -- and it is told
-  pub query-replied : (bytes : Vec ℕ Global) (frame : List ℕ) → EndsAs world p.pending (Ok bytes) →
-      frame ≡ frame_of 200 p.kind bytes.items → IsQueryFrame world stored aim query frame
+  pub query-replied : (bytes : Vec ℕ Global) (frame : List ℕ) → EndsAs site.world p.pending (Ok bytes) →
+      frame ≡ frame_of 200 p.kind bytes.items → IsQueryFrame site stored aim query frame
   query-replied bytes frame ends is =
-      reply-frame world stored query aim job.asked job.sections job.asks p.kind bytes.items frame job.is.kind
-      (replies aim (question_of world job.sections job.asked) bytes.items (job.is.ends (Ok bytes) ends)) is
+      reply-frame site stored query aim job.asked job.sections job.asks p.kind bytes.items frame job.is.kind
+      (replies aim (question_of site.world job.sections job.asked) bytes.items (job.is.ends (Ok bytes) ends)) is

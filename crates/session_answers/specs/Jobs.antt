@@ -11,6 +11,7 @@ use Rattle.route_http.specs.Asked.{Asked}
 use Rattle.route_ready.specs.Worlds.{WorldValue}
 use Rattle.session_answers.specs.Rows.{Asks, IsEarlyFrame, IsQueryFrame, IsSearched}
 use Rattle.session_answers.specs.Searches.{IsOver, IsSearchFor, turns_for}
+use Rattle.session_answers.specs.Sites.{Site, site_of}
 use Rattle.session_answers.specs.Stored.{Stored}
 use Rattle.route_engine.specs.declared.aim.Aim.{Aim}
 use Rattle.session_answers.specs.declared.beginning.Begun.{Begun}
@@ -24,42 +25,42 @@ abbrev pub AreKept : WorldValue → List Stored → KeptProfiles → Type 0
 AreKept world stored kept = IsKept world (profiles_of stored) kept
 
 -- it is the search for a query of this aim, which goes by the stored profile at a place
-pub record IsJobOf (world : WorldValue) (stored : List Stored) (aim : Aim) (query : List ℕ) (place : ℕ)
+pub record IsJobOf (site : Site) (stored : List Stored) (aim : Aim) (query : List ℕ) (place : ℕ)
     (p : Search) : Type 0 where
   pub asked : Asked
   pub sections : Sections
-  pub asks : Asks stored query asked sections
+  pub asks : Asks site stored query asked sections
   pub there : slice_get (profiles_of stored) place ≡ Some sections
-  pub over : IsOver world p
-  pub is : IsSearchFor world sections aim asked p
+  pub over : IsOver site.world p
+  pub is : IsSearchFor site.world sections aim asked p
 
 -- it is that search, of which no turn was taken yet
-pub record IsBegun (world : WorldValue) (stored : List Stored) (aim : Aim) (query : List ℕ) (place : ℕ)
+pub record IsBegun (site : Site) (stored : List Stored) (aim : Aim) (query : List ℕ) (place : ℕ)
     (p : Search) : Type 0 where
-  pub searched : IsSearched world stored query
-  pub job : IsJobOf world stored aim query place p
+  pub searched : IsSearched site stored query
+  pub job : IsJobOf site stored aim query place p
   pub fresh : p.left ≡ turns_for aim searched.asked
 
 -- ---- What calls answer
 
 -- what a query comes to at once: a frame that answers it before any search, or its search
-abbrev pub Begins : WorldValue → List Stored → Aim → List ℕ → Begun → Type 0
-Begins world stored aim query (begun.Frame frame) = IsEarlyFrame world stored query frame.items
-Begins world stored aim query (begun.Job p place) = IsBegun world stored aim query place p
+abbrev pub Begins : Site → List Stored → Aim → List ℕ → Begun → Type 0
+Begins site stored aim query (begun.Frame frame) = IsEarlyFrame site stored query frame.items
+Begins site stored aim query (begun.Job p place) = IsBegun site stored aim query place p
 
 -- what a turn comes to: its search, which goes on, or a frame that answers its query
-abbrev pub TurnsTo : (world : WorldValue) (stored : List Stored) (aim : Aim) (query : List ℕ) (place : ℕ) →
+abbrev pub TurnsTo : (site : Site) (stored : List Stored) (aim : Aim) (query : List ℕ) (place : ℕ) →
     Turn Search (Vec ℕ Global) → Type 0
-TurnsTo world stored aim query place =
-    Says (IsJobOf world stored aim query place) (λ frame. IsQueryFrame world stored aim query frame.items)
+TurnsTo site stored aim query place =
+    Says (IsJobOf site stored aim query place) (λ frame. IsQueryFrame site stored aim query frame.items)
 
 -- so it is of each query whose search this is, by a profile of these sections
 abbrev pub AnswersTurn : {E : Type 0} → (world : WorldValue) (sections : Sections) (p : Search) →
     Result (Turn Search (Vec ℕ Global)) E → Type 0
 AnswersTurn world sections p result =
-    (stored : List Stored) (aim : Aim) (query : List ℕ) (place : ℕ) → IsJobOf world stored aim query place p →
-    slice_get (profiles_of stored) place ≡ Some sections →
-    IfOk result (TurnsTo world stored aim query place)
+    (labels : ℕ) (stored : List Stored) (aim : Aim) (query : List ℕ) (place : ℕ) →
+    IsJobOf (site_of world labels) stored aim query place p → slice_get (profiles_of stored) place ≡ Some sections →
+    IfOk result (TurnsTo (site_of world labels) stored aim query place)
 
 -- a turn less is left where it goes on
 abbrev pub CountsDown : {E : Type 0} → ℕ → Turn Search E → Type 0

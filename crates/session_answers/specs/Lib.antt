@@ -7,5 +7,6 @@ pub mod Profiles
 pub mod Received
 pub mod Rows
 pub mod Searches
+pub mod Sites
 pub mod Stored
 pub mod Verdicts

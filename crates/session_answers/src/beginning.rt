@@ -4,7 +4,6 @@ ghost use Rattle.std.specs.Prelude.{◌≡◌, ◌≢◌, ◌<◌, List, ℕ, Ok
 ghost use Rattle.lookup_table.specs.Tag.{name_place};
 ghost use Rattle.route_engine.specs.Jobs.{IsWithin};
 ghost use Rattle.route_http.specs.Lines.{request_line};
-ghost use Rattle.route_http.specs.Request.{request_of};
 ghost use Rattle.route_http.specs.Seen.{asked};
 ghost use Rattle.route_http.specs.declared.error.RequestError.TheVariants.{NoMemory};
 ghost use Rattle.route_ready.specs.World.{world_of};
@@ -12,6 +11,7 @@ ghost use Rattle.route_ready.specs.Entries.{names_of};
 ghost use Rattle.session_answers.specs.Frames.{line_frame};
 ghost use Rattle.session_answers.specs.Jobs.{AreKept, Begins};
 ghost use Rattle.session_answers.specs.Profiles.{stored_of};
+ghost use Rattle.session_answers.specs.Sites.{limited, request_at, site_of};
 
 use crate::frames::{line_frame, refusal_frame};
 use crate::kept::KeptProfiles;
@@ -33,29 +33,44 @@ pub enum Begun {
     Job(Search, u32),
 }
 
-/// What a query comes to at once that is asked for this, over a world and the stored profiles.
-/// Profiles that were made ready before are used again. An error is want of memory; what is kept is
+/// What a query comes to at once that is asked for this, over a world and the stored profiles. No
+/// search settles more than `labels` of them, whatever the query asks. Profiles that were made ready before are used again. An error is want of memory; what is kept is
 /// still sound then.
 pub fn begin(
     alloc: Global,
     world: &World,
+    labels: u64,
     profiles: &Profiles,
     kept: &mut KeptProfiles,
     aim: Aim,
     query: &[u8],
 ) -> Result<Begun, AllocError>
     requires kept { AreKept (world_of world.now) (stored_of profiles.now) kept.old }
-    ensures exact { IfOk result
-        (Begins (world_of world.now) (stored_of profiles.now) aim query.now) }
+    ensures exact { let site = site_of (world_of world.now) labels in
+        IfOk result (Begins site (stored_of profiles.now) aim query.now) }
     ensures kept { AreKept (world_of world.now) (stored_of profiles.now) kept.new }
 {
     match request(alloc, query) {
-        Ok(request) => named(alloc, world, profiles, kept, aim, request),
+        Ok(request) => {
+            let request = limited(request, labels);
+            named(alloc, world, profiles, kept, aim, request)
+        }
         Err(error) => {
             let frame = malformed(alloc, error)?;
             Ok(Begun::Frame(frame))
         }
     }
+}
+
+/// A request of which no search settles more labels than these.
+fn limited(request: Request, labels: u64) -> Request
+    ensures exact { asked result ≡ limited labels (asked request) }
+{
+    let mut request = request;
+    if labels < request.labels {
+        request.labels = labels;
+    }
+    request
 }
 
 /// The frame of a query that is no request. Want of memory is no reason.
@@ -83,8 +98,10 @@ fn named(
 ) -> Result<Begun, AllocError>
     requires kept { AreKept (world_of world.now) (stored_of profiles.now) kept.old }
     requires within { IsWithin (asked request) }
-    ensures exact { (query : List ℕ) → request_of query ≡ Ok (asked request) →
-        IfOk result (Begins (world_of world.now) (stored_of profiles.now) aim query) }
+    ensures exact { (labels : ℕ) (query : List ℕ) →
+        let site = site_of (world_of world.now) labels in
+        request_at site query ≡ Ok (asked request) →
+        IfOk result (Begins site (stored_of profiles.now) aim query) }
     ensures kept { AreKept (world_of world.now) (stored_of profiles.now) kept.new }
 {
     match profiles.find(request.profile.as_slice()) {
@@ -111,8 +128,10 @@ fn stored(
     requires fits { place < length (stored_of profiles.now) }
     requires found { name_place (names_of (stored_of profiles.now)) (asked request).profile ≡
         Some place }
-    ensures exact { (query : List ℕ) → request_of query ≡ Ok (asked request) →
-        IfOk result (Begins (world_of world.now) (stored_of profiles.now) aim query) }
+    ensures exact { (labels : ℕ) (query : List ℕ) →
+        let site = site_of (world_of world.now) labels in
+        request_at site query ≡ Ok (asked request) →
+        IfOk result (Begins site (stored_of profiles.now) aim query) }
     ensures kept { AreKept (world_of world.now) (stored_of profiles.now) kept.new }
 {
     let profile = profiles.profile(place);

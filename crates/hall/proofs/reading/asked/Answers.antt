@@ -1,12 +1,11 @@
 use Rattle.std.proofs.Common.{List, ℕ, refl, subst, ap, ◌∙◌}
 use Rattle.hall.proofs.ReadingLemmas.{has_byte, settles_early, settles_frame, settles_search}
 use Rattle.std.proofs.Common.{inl, inr}
-use Rattle.hall_seats.specs.Parts.{Joins, answered_by, connection_of}
+use Rattle.hall_seats.specs.Parts.{Joins, answered_by, connection_of, site_at}
 use Rattle.hall_seats.specs.Steps.{gives_up}
 use Rattle.hall_seats.specs.declared.desk.Desk.{Desk}
 use Rattle.hall_seats.specs.declared.seat.Frame.TheVariants as frames
 use Rattle.hall_seats.specs.declared.seat.Seat.{Seat}
-use Rattle.route_ready.specs.World.{world_of}
 use Rattle.session_answers.specs.Jobs.{Begins, IsBegun}
 use Rattle.session_answers.specs.Profiles.{stored_of}
 use Rattle.session_answers.specs.Received.{received_of}
@@ -16,7 +15,7 @@ use Rattle.hall.proofs.reading.asked.Goals as goal
 pub returns-in-Ok-Frame : goal.returns-in-Ok-Frame
 returns-in-Ok-Frame c =
     let desk = c.args.desk.now in
-    let early = subst (Begins (world_of desk.world) (stored_of desk.profiles) c.args.aim c.part-query.result.now) c.in-Ok-Frame.field-0-is
+    let early = subst (Begins (site_at desk) (stored_of desk.profiles) c.args.aim c.part-query.result.now) c.in-Ok-Frame.field-0-is
     c.in-Ok-Frame.ensures.exact in
     let frame = frames.Own c.in-Ok-Frame.frame in
     record {
@@ -34,15 +33,15 @@ returns-in-Ok-Job c =
     let new : Desk = record desk { kept = c.begin.new.kept; queue = c.joined.new.queue } in
     let place = c.in-Ok-Job.place in
     let pending = c.in-Ok-Job.pending in
-    let begun = subst (Begins (world_of desk.world) (stored_of desk.profiles) c.args.aim c.part-query.result.now) c.in-Ok-Job.field-0-is
+    let begun = subst (Begins (site_at desk) (stored_of desk.profiles) c.args.aim c.part-query.result.now) c.in-Ok-Job.field-0-is
     c.in-Ok-Job.ensures.exact in
-    let here = subst (λ (q : List ℕ). IsBegun (world_of desk.world) (stored_of desk.profiles) c.args.aim q place pending) c.part-query.ensures.value
+    let here = subst (λ (q : List ℕ). IsBegun (site_at desk) (stored_of desk.profiles) c.args.aim q place pending) c.part-query.ensures.value
     begun in
     record {
       settles = λ old.
           settles_search desk c.begin.new.kept c.begin.ensures.kept old c.args.seat c.len-before.result c.len-before.ensures.value
           c.args.aim c.args.span c.requires.verdict
-          new refl refl c.begin.ensures.kept place pending here c.joined.result
+          new refl refl refl c.begin.ensures.kept place pending here c.joined.result
           (subst (λ (s : Seat). Joins desk.queue.items c.joined.new.queue.items s place pending c.joined.result)
           c.whole-in-Ok-Job.ensures.value c.joined.ensures.joins);
     }

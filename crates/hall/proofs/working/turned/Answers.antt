@@ -4,7 +4,7 @@ use Rattle.hall.proofs.working.turned.Goals as goal
 use Rattle.hall_seats.specs.declared.desk.Desk.{Desk}
 use Rattle.hall_seats.specs.declared.seat.Frame.TheVariants as frames
 use Rattle.profile_text.specs.Expr.{sections_in}
-use Rattle.route_ready.specs.World.{world_of}
+use Rattle.hall_seats.specs.Parts.{site_at}
 use Rattle.session_answers.proofs.CallerLemmas.{job_place, job_profile}
 use Rattle.session_answers.specs.Jobs.{CountsDown, TurnsTo}
 use Rattle.session_answers.specs.Profiles.{stored_of}
@@ -16,7 +16,7 @@ profile-profile-requires c =
     let desk = c.args.desk.now in
     let search = c.requires.search in
     record {
-      fits = job_place (world_of desk.world) search.aim (part (received_of c.args.seat.received) search.span) c.args.place c.args.pending
+      fits = job_place (site_at desk) search.aim (part (received_of c.args.seat.received) search.span) c.args.place c.args.pending
           search.before (stored_of desk.profiles) search.job;
     }
 
@@ -27,17 +27,17 @@ pub returns-in-Ok-More : goal.returns-in-Ok-More
 returns-in-Ok-More c =
     let desk = c.args.desk.now in
     let search = c.requires.search in
-    let world = world_of desk.world in
+    let site = site_at desk in
     let stored = take search.before (stored_of desk.profiles) in
     let query = part (received_of c.args.seat.received) search.span in
-    let there = job_profile world search.aim query c.args.place c.args.pending search.before (stored_of desk.profiles) search.job
+    let there = job_profile site search.aim query c.args.place c.args.pending search.before (stored_of desk.profiles) search.job
     (sections_in c.profile-profile.result.now) c.profile-profile.ensures.value in
     let new : Desk = record desk { queue = c.joined.new.queue } in
-    let turned = subst (TurnsTo world stored search.aim query c.args.place) c.in-Ok-More.field-0-is
-    (c.in-Ok-More.ensures.exact stored search.aim query c.args.place search.job there) in
+    let turned = subst (TurnsTo site stored search.aim query c.args.place) c.in-Ok-More.field-0-is
+    (c.in-Ok-More.ensures.exact desk.labels stored search.aim query c.args.place search.job there) in
     let counted = subst (CountsDown c.args.pending.left) c.in-Ok-More.field-0-is c.in-Ok-More.ensures.counts in
     record {
-      works = works_more desk c.args.seat c.args.place c.args.pending search c.requires.kept new refl refl refl c.in-Ok-More.pending turned
+      works = works_more desk c.args.seat c.args.place c.args.pending search c.requires.kept new refl refl refl refl c.in-Ok-More.pending turned
           counted
           c.joined.result c.joined.ensures.joins;
     }
@@ -46,13 +46,13 @@ pub returns-in-Ok-Done : goal.returns-in-Ok-Done
 returns-in-Ok-Done c =
     let desk = c.args.desk.now in
     let search = c.requires.search in
-    let world = world_of desk.world in
+    let site = site_at desk in
     let stored = take search.before (stored_of desk.profiles) in
     let query = part (received_of c.args.seat.received) search.span in
-    let there = job_profile world search.aim query c.args.place c.args.pending search.before (stored_of desk.profiles) search.job
+    let there = job_profile site search.aim query c.args.place c.args.pending search.before (stored_of desk.profiles) search.job
     (sections_in c.profile-profile.result.now) c.profile-profile.ensures.value in
-    let turned = subst (TurnsTo world stored search.aim query c.args.place) c.in-Ok-Done.field-0-is
-    (c.in-Ok-Done.ensures.exact stored search.aim query c.args.place search.job there) in
+    let turned = subst (TurnsTo site stored search.aim query c.args.place) c.in-Ok-Done.field-0-is
+    (c.in-Ok-Done.ensures.exact desk.labels stored search.aim query c.args.place search.job there) in
     record {
       works = works_frame desk c.args.seat c.args.place c.args.pending search c.requires.kept c.answered.result
           (frames.Own c.in-Ok-Done.frame) turned c.answered.ensures.value;

@@ -7,48 +7,49 @@ use Rattle.session_answers.proofs.QueryLemmas.{early-frame, profile-frame}
 use Rattle.session_answers.proofs.StoredLemmas.{found_at}
 use Rattle.session_answers.specs.Profiles.{stored_of}
 use Rattle.session_answers.specs.Rows.{Asks}
+use Rattle.session_answers.specs.Sites.{site_of}
 use Rattle.std.proofs.lemmas.Result.{IfOk-from_err}
 use Rattle.session_answers.proofs.beginning.stored.Goals as goal
 
 pub returns-in-Ok-search_for-clause-exact : goal.returns-in-Ok-search_for-clause-exact
-returns-in-Ok-search_for-clause-exact c = λ query reads.
-    let world = world_of c.args.world.now in
+returns-in-Ok-search_for-clause-exact c = λ labels query reads.
+    let site = site_of (world_of c.args.world.now) labels in
     let stored = stored_of c.args.profiles.now in
     let request = asked c.args.request in
     let sections = sections_in c.profile-profile.result.now in
     let there = c.profile-profile.ensures.value in
     let ready = (c.in-Ok.ensures.exact (profiles_of stored) c.requires.kept there).1 in
-    let asks : Asks stored query request sections =
+    let asks : Asks site stored query request sections =
     record { asks = reads; found = found_at stored request.profile c.args.place sections c.requires.found there } in
-    begun-job world stored c.args.aim query c.args.place request sections c.in-Ok.ready.value c.in-Ok-search_for.search asks there ready
+    begun-job site stored c.args.aim query c.args.place request sections c.in-Ok.ready.value c.in-Ok-search_for.search asks there ready
     c.in-Ok-search_for.ensures.planned c.in-Ok-search_for.ensures.over (c.in-Ok-search_for.ensures.answers sections ready)
     c.in-Ok-search_for.ensures.fresh
 
 pub returns-in_ok-frame-in-Err-search_for-clause-exact : goal.returns-in_ok-frame-in-Err-search_for-clause-exact
-returns-in_ok-frame-in-Err-search_for-clause-exact c = λ query reads.
-    let world = world_of c.args.world.now in
+returns-in_ok-frame-in-Err-search_for-clause-exact c = λ labels query reads.
+    let site = site_of (world_of c.args.world.now) labels in
     let stored = stored_of c.args.profiles.now in
     let request = asked c.args.request in
     let sections = sections_in c.profile-profile.result.now in
     let there = c.profile-profile.ensures.value in
     let ready = (c.in-Ok.ensures.exact (profiles_of stored) c.requires.kept there).1 in
-    let asks : Asks stored query request sections =
+    let asks : Asks site stored query request sections =
     record { asks = reads; found = found_at stored request.profile c.args.place sections c.requires.found there } in
-    early-frame world stored query request sections asks c.in-Err-search_for.error c.in_ok-frame-in-Err-search_for.frame.items
+    early-frame site stored query request sections asks c.in-Err-search_for.error c.in_ok-frame-in-Err-search_for.frame.items
     c.in_ok-frame-in-Err-search_for.ensures.reason c.in_ok-frame-in-Err-search_for.ensures.exact
     (c.in-Err-search_for.ensures.cause sections ready)
 
 pub returns-in_ok-frame-in-Err-clause-exact : goal.returns-in_ok-frame-in-Err-clause-exact
-returns-in_ok-frame-in-Err-clause-exact c = λ query reads.
-    let world = world_of c.args.world.now in
+returns-in_ok-frame-in-Err-clause-exact c = λ labels query reads.
+    let site = site_of (world_of c.args.world.now) labels in
     let stored = stored_of c.args.profiles.now in
     let request = asked c.args.request in
     let sections = sections_in c.profile-profile.result.now in
     let there = c.profile-profile.ensures.value in
     let why = (c.in-Err.ensures.exact (profiles_of stored) c.requires.kept there).1 in
-    let asks : Asks stored query request sections =
+    let asks : Asks site stored query request sections =
     record { asks = reads; found = found_at stored request.profile c.args.place sections c.requires.found there } in
-    profile-frame world stored query request sections asks c.in-Err.error c.in_ok-frame-in-Err.frame.items
+    profile-frame site stored query request sections asks c.in-Err.error c.in_ok-frame-in-Err.frame.items
     c.in_ok-frame-in-Err.ensures.reason c.in_ok-frame-in-Err.ensures.exact why
 
 pub returns-in-Ok-search_for-clause-kept : goal.returns-in-Ok-search_for-clause-kept
@@ -67,7 +68,7 @@ pub returns-in_err-frame-in-Err-search_for : goal.returns-in_err-frame-in-Err-se
 returns-in_err-frame-in-Err-search_for c =
     let no = c.from_residual.ensures.0 in
     record {
-      exact = λ _ _. IfOk-from_err _ _ no;
+      exact = λ _ _ _. IfOk-from_err _ _ no;
       kept = (c.in-Ok.ensures.exact (profiles_of (stored_of c.args.profiles.now)) c.requires.kept c.profile-profile.ensures.value).0;
     }
 
@@ -75,6 +76,6 @@ pub returns-in_err-frame-in-Err : goal.returns-in_err-frame-in-Err
 returns-in_err-frame-in-Err c =
     let no = c.from_residual-in_err-frame-in-Err.ensures.0 in
     record {
-      exact = λ _ _. IfOk-from_err _ _ no;
+      exact = λ _ _ _. IfOk-from_err _ _ no;
       kept = (c.in-Err.ensures.exact (profiles_of (stored_of c.args.profiles.now)) c.requires.kept c.profile-profile.ensures.value).0;
     }

@@ -42,4 +42,4 @@ returns-clause-empty c =
 
 pub returns-clause-service : goal.returns-clause-service
 unfolding service_of
-returns-clause-service c = λ i. record { world = world_of c.args.world; given = c.new-profiles.ensures.given i }
+returns-clause-service c = λ i. record { world = world_of c.args.world; given = c.new-profiles.ensures.given i; labels = c.args.labels }
