@@ -1,6 +1,6 @@
 //! The keys of each command, as rows.
 
-use crate::rows::{Form, Key, KeyRow, MOST_LABELS, MOST_TURNS};
+use crate::rows::{Form, Key, KeyRow, LABELS, MOST_TURNS};
 
 /// The most files of a kind of which there may be several.
 const MOST_FILES: usize = 64;
@@ -288,10 +288,7 @@ pub const SERVE_KEYS: [KeyRow; 8] = [
         key: Key::Hangup,
     },
     KeyRow {
-        form: Form::Number {
-            low: 1,
-            high: MOST_LABELS,
-        },
+        form: LABELS,
         least: 0,
         most: 1,
         key: Key::Labels,

@@ -82,6 +82,12 @@ pub const MOST_TURNS: u64 = 1 << 63;
 /// settles at most where it isn't told.
 pub const MOST_LABELS: u64 = 4_000_000_000;
 
+/// How many labels a server may be told to settle.
+pub const LABELS: Form = Form::Number {
+    low: 1,
+    high: MOST_LABELS,
+};
+
 /// The commands that are built.
 pub const COMMANDS: [CommandName; 10] = [
     CommandName::Grid,
