@@ -99,14 +99,15 @@ fn bytes_entry(alloc: Global, id: u64, bytes: &[u8]) -> Result<Script, AllocErro
 }
 
 /// What one call comes to: `n` with the length of the buffer, `s` and `c` with a connection, or an
-/// opening, with the address behind its letter.
+/// opening, with the address behind its letter, which is `h` where an end of a peer is a loss.
 fn called(alloc: Global, hub: &mut MemHub, word: &[u8]) -> Result<String, AllocError> {
     let id = digit(word, 1) as u64;
-    match place_of(&["n", "s", "c"], letter_of(word)) {
+    match place_of(&["n", "s", "c", "h"], letter_of(word)) {
         0 => given(alloc, hub, digit(word, 1) as usize),
         1 => sent(alloc, hub, id, rest_of(word)),
         2 => closed(alloc, hub, id),
-        _ => opened(alloc, hub, shown(address_of(word))),
+        3 => opened(alloc, hub, shown(address_of(word)), true),
+        _ => opened(alloc, hub, shown(address_of(word)), false),
     }
 }
 
@@ -129,9 +130,14 @@ fn address_of(word: &[u8]) -> &[u8] {
     if word.is_empty() { &[] } else { &word[1..] }
 }
 
-/// The hub is opened at an address.
-fn opened(alloc: Global, hub: &mut MemHub, address: &str) -> Result<String, AllocError> {
-    match hub.open(address) {
+/// The hub is opened at an address, with an end of a peer as a loss or not.
+fn opened(
+    alloc: Global,
+    hub: &mut MemHub,
+    address: &str,
+    hangup: bool,
+) -> Result<String, AllocError> {
+    match hub.open(address, hangup) {
         Ok(()) => String::from_str(alloc, "open"),
         Err(Failed) => String::from_str(alloc, "fault"),
     }

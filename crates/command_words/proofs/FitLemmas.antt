@@ -4,10 +4,10 @@ use Rattle.std.proofs.Common.{◌≡◌, ℕ, ◌<◌, ◌≤◌, ◌+◌, inl, 
 use Rattle.std.proofs.lemmas.Bool.Decides.{nat_tests}
 use Rattle.command_words.specs.Addresses.{SpellsAddress, is_address}
 use Rattle.command_words.specs.Given.{Given, Named}
-use Rattle.command_words.specs.Rows.{keys_of, most_turns}
+use Rattle.command_words.specs.Rows.{keys_of, most_labels, most_turns}
 use Rattle.command_words.specs.Value.{number_in, place_in, product_in}
 use Rattle.command_words.specs.Reader.{entry_with, entries_after, entries_of}
-use Rattle.command_words.specs.Command.{lies_in, files_with, sizes_with, sizes_in, grid_by, grid_over, grid_with, hills_with, complete, command_with, code_with, make_with, file_in, files_in, check_by, within_by, ride_in, ride_over, serve_with, turns_in}
+use Rattle.command_words.specs.Command.{lies_in, files_with, sizes_with, sizes_in, grid_by, grid_over, grid_with, hills_with, complete, command_with, code_with, make_with, file_in, files_in, check_by, within_by, ride_in, ride_over, serve_with, turns_in, hangup_in, labels_in}
 use Rattle.command_words.proofs.AddressLemmas.{address-spelled}
 use Rattle.command_words.proofs.EntryLemmas.{AllFit, split, err-not_ok, after-fit, whole-read, with-fit}
 use Rattle.command_words.proofs.ServeLemmas.{after-once, profiles-fit}
@@ -27,7 +27,7 @@ use Rattle.command_words.specs.declared.command.WithinCommand.{WithinCommand}
 use Rattle.command_words.specs.declared.completing.Sizes.{Sizes}
 use Rattle.command_words.specs.declared.rows.CommandName.{CommandName}
 use Rattle.command_words.specs.declared.rows.CommandName.TheVariants as Name
-use Rattle.command_words.specs.declared.rows.Key.TheVariants.{Seed, Width, Height, From, To, What, Lookups, Profile, Map, Tile, Listen, Turns, Certificate, Cost}
+use Rattle.command_words.specs.declared.rows.Key.TheVariants.{Seed, Width, Height, From, To, What, Lookups, Profile, Map, Tile, Listen, Turns, Hangup, Labels, Certificate, Cost}
 use Rattle.command_words.specs.declared.value.Place.{Place}
 
 in_grid : (w h : ℕ) (place : Place) → lies_in w h place ≡ true → (place.x < w) × (place.y < h)
@@ -165,6 +165,14 @@ unfolding turns_in
 turns-fit None fit = (omega arith, omega arith)
 turns-fit (Some turns) fit = fit turns refl
 
+-- a search of a server settles a number of labels within its limits
+labels-fit : (labels : Option Given) →
+    ((e : Given) → labels ≡ Some e → (1 ≤ number_in e.value) × (number_in e.value ≤ most_labels)) →
+    (1 ≤ labels_in labels) × (labels_in labels ≤ most_labels)
+unfolding labels_in
+labels-fit None fit = (omega arith, omega arith)
+labels-fit (Some labels) fit = fit labels refl
+
 -- a hilly grid is within its limits
 hills_with-fit : (after : ℕ) (sizes : Option Sizes) (command : Command) → AreSized sizes →
     hills_with after sizes ≡ Ok command → IsFit command
@@ -182,14 +190,16 @@ listen-fit (Some entry) fit word is =
     let same : file_in entry ≡ word = cc in
     subst (λ (w : Named). SpellsAddress w.name) same (address-spelled entry.text (fit entry refl))
 
--- a server takes as many events as may be, its profiles have names of their own, and where it listens is an address
-serve_with-fit : (after : ℕ) (lookups roads : Option Given) (profiles tiles : List Named) (listen turns : Option Given) (command :
-    Command) →
+-- a server takes as many events as may be, a search of it settles as many labels, its profiles have names of their own, and
+-- where it listens is an address
+serve_with-fit : (after : ℕ) (lookups roads : Option Given) (profiles tiles : List Named) (listen turns hangup labels : Option Given)
+    (command : Command) →
     AreProfileFiles profiles → AreOnceAfter [] profiles →
     ((e : Given) → listen ≡ Some e → is_address e.text ≡ true) →
     ((e : Given) → turns ≡ Some e → (1 ≤ number_in e.value) × (number_in e.value ≤ most_turns)) →
-    serve_with after lookups roads profiles tiles listen turns ≡ Ok command → IsFit command
-serve_with-fit after (Some lookups) (Some roads) profiles tiles listen turns command named once where_to a e =
+    ((e : Given) → labels ≡ Some e → (1 ≤ number_in e.value) × (number_in e.value ≤ most_labels)) →
+    serve_with after lookups roads profiles tiles listen turns hangup labels ≡ Ok command → IsFit command
+serve_with-fit after (Some lookups) (Some roads) profiles tiles listen turns hangup labels command named once where_to a b e =
     let made : ServeCommand = record {
       lookups = file_in lookups;
       map = file_in roads;
@@ -197,18 +207,24 @@ serve_with-fit after (Some lookups) (Some roads) profiles tiles listen turns com
       tiles = tiles;
       listen = option_map file_in listen;
       turns = turns_in turns;
+      hangup = hangup_in hangup;
+      labels = labels_in labels;
     } in
     let same : Form.TheVariants.Serve made ≡ command = cc in
     let limits = turns-fit turns a in
+    let settled = labels-fit labels b in
     subst IsFit same (record {
       some_turns = limits.0;
       turns = limits.1;
+      some_labels = settled.0;
+      labels = settled.1;
       named = named;
       once = once;
       listens = listen-fit listen where_to;
     })
-serve_with-fit after None roads profiles tiles listen turns command named once where_to a e = absurd (err-not_ok after command e)
-serve_with-fit after (Some lookups) None profiles tiles listen turns command named once where_to a e =
+serve_with-fit after None roads profiles tiles listen turns hangup labels command named once where_to a b e =
+    absurd (err-not_ok after command e)
+serve_with-fit after (Some lookups) None profiles tiles listen turns hangup labels command named once where_to a b e =
     absurd (err-not_ok after command e)
 
 complete-fit : (name : CommandName) (entries : List Given) (after : ℕ) (command : Command) → AllFit (keys_of name) entries →
@@ -241,9 +257,10 @@ complete-fit Name.Within entries after command all once e =
     (λ x is. with-fit (keys_of Name.Within) Cost entries x all is) e
 complete-fit Name.Serve entries after command all once e =
     serve_with-fit after (entry_with Lookups entries) (entry_with Map entries) (files_in Profile entries) (files_in Tile entries)
-    (entry_with Listen entries) (entry_with Turns entries) command
+    (entry_with Listen entries) (entry_with Turns entries) (entry_with Hangup entries) (entry_with Labels entries) command
     (profiles-fit (keys_of Name.Serve) entries (λ text x fit. fit) all) once
-    (λ x is. with-fit (keys_of Name.Serve) Listen entries x all is) (λ x is. with-fit (keys_of Name.Serve) Turns entries x all is) e
+    (λ x is. with-fit (keys_of Name.Serve) Listen entries x all is) (λ x is. with-fit (keys_of Name.Serve) Turns entries x all is)
+    (λ x is. with-fit (keys_of Name.Serve) Labels entries x all is) e
 
 with_words-fit : (name : CommandName) (texts : List (List ℕ)) (command : Command) → command_with name texts ≡ Ok command → IsFit command
 with_words-fit name texts command e =

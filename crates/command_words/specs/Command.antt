@@ -1,15 +1,15 @@
 -- The command that a list of words is, or the place of the word at fault. This project's own rule.
 use Rattle.std.specs.List.{find}
-use Rattle.std.specs.Prelude.{ℕ, ◌+◌, Bool, cond, ◌&&◌, nat_lt, Option, Some, None, option_map, Result, Ok, Err, List, [], ◌∷◌, length, map, codes}
+use Rattle.std.specs.Prelude.{ℕ, ◌+◌, ◌==◌, Bool, false, cond, ◌&&◌, nat_lt, Option, Some, None, option_map, Result, Ok, Err, List, [], ◌∷◌, length, map, codes}
 use Rattle.std.specs.Str.{bytes_eq}
 use Rattle.command_words.specs.Given.{Given, Named}
 use Rattle.command_words.specs.Reader.{entries_of, entries_with, entry_with}
-use Rattle.command_words.specs.Rows.{command_name, commands, keys_of, most_turns}
+use Rattle.command_words.specs.Rows.{command_name, commands, keys_of, most_labels, most_turns}
 use Rattle.command_words.specs.Value.{number_in, place_in, product_in}
 use Rattle.command_words.specs.declared.rows.CommandName.{CommandName}
 use Rattle.command_words.specs.declared.rows.CommandName.TheVariants.{Grid, Make, Code, Route, Certify, Check, Table, Within, Hills, Serve}
 use Rattle.command_words.specs.declared.rows.Key.{Key}
-use Rattle.command_words.specs.declared.rows.Key.TheVariants.{Seed, Width, Height, From, To, What, Lookups, Profile, Map, Query, Tile, Listen, Turns, Certificate, Cost}
+use Rattle.command_words.specs.declared.rows.Key.TheVariants.{Seed, Width, Height, From, To, What, Lookups, Profile, Map, Query, Tile, Listen, Turns, Hangup, Labels, Certificate, Cost}
 use Rattle.command_words.specs.declared.command.Command.{Command}
 use Rattle.command_words.specs.declared.command.Command as Form
 use Rattle.command_words.specs.declared.command.CodeCommand.{CodeCommand}
@@ -151,6 +151,16 @@ unfoldable pub turns_in : Option Given → ℕ
 turns_in None = most_turns
 turns_in (Some turns) = number_in turns.value
 
+-- an end of a peer is the loss of its connection, by an entry that may be missing
+unfoldable pub hangup_in : Option Given → Bool
+hangup_in None = false
+hangup_in (Some hangup) = number_in hangup.value == 1
+
+-- how many labels a search may settle for an alternative of a leg, by an entry that may be missing
+unfoldable pub labels_in : Option Given → ℕ
+labels_in None = most_labels
+labels_in (Some labels) = number_in labels.value
+
 -- where a server listens by a word that may be missing
 unfoldable pub address_of : Option Named → List ℕ
 address_of None = codes "127.0.0.1:17777"
@@ -158,8 +168,8 @@ address_of (Some word) = word.name
 
 -- the command of a server, or the place after the last word where the tag table or the map is missing
 abbrev pub serve_with : (after : ℕ) (lookups roads : Option Given) (profiles tiles : List Named)
-    (listen turns : Option Given) → Result Command ℕ
-serve_with after (Some lookups) (Some roads) profiles tiles listen turns =
+    (listen turns hangup labels : Option Given) → Result Command ℕ
+serve_with after (Some lookups) (Some roads) profiles tiles listen turns hangup labels =
     Ok (Form.TheVariants.Serve (record {
       lookups = file_in lookups;
       map = file_in roads;
@@ -167,8 +177,10 @@ serve_with after (Some lookups) (Some roads) profiles tiles listen turns =
       tiles = tiles;
       listen = option_map file_in listen;
       turns = turns_in turns;
+      hangup = hangup_in hangup;
+      labels = labels_in labels;
     }))
-serve_with after lookups roads profiles tiles listen turns = Err after
+serve_with after lookups roads profiles tiles listen turns hangup labels = Err after
 
 -- the command of this name and these entries, before the word at this place
 unfoldable pub complete : CommandName → List Given → ℕ → Result Command ℕ
@@ -185,7 +197,8 @@ complete Within entries after = ride_over after Within (ride_in entries) entries
 complete Hills entries after = hills_with after (sizes_in entries)
 complete Serve entries after =
     serve_with after (entry_with Lookups entries) (entry_with Map entries) (files_in Profile entries)
-    (files_in Tile entries) (entry_with Listen entries) (entry_with Turns entries)
+    (files_in Tile entries) (entry_with Listen entries) (entry_with Turns entries) (entry_with Hangup entries)
+    (entry_with Labels entries)
 
 -- the command of this name and the words after it
 abbrev pub command_with : CommandName → List (List ℕ) → Result Command ℕ

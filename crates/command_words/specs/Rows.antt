@@ -1,7 +1,7 @@
 -- The commands as rows. This project's own rule.
 use Rattle.std.specs.Prelude.{ℕ, ◌^◌, List, [], ◌∷◌, ◌++◌, codes}
 use Rattle.command_words.specs.declared.rows.Key.{Key}
-use Rattle.command_words.specs.declared.rows.Key.TheVariants.{Seed, Width, Height, From, To, What, Lookups, Profile, Map, Query, Tile, Listen, Turns, Certificate, Cost}
+use Rattle.command_words.specs.declared.rows.Key.TheVariants.{Seed, Width, Height, From, To, What, Lookups, Profile, Map, Query, Tile, Listen, Turns, Hangup, Labels, Certificate, Cost}
 use Rattle.command_words.specs.declared.rows.Form.{Form}
 use Rattle.command_words.specs.declared.rows.Form.TheVariants as form
 use Rattle.command_words.specs.declared.rows.KeyRow.{KeyRow}
@@ -23,6 +23,8 @@ key_name Query = codes "query"
 key_name Tile = codes "tile"
 key_name Listen = codes "listen"
 key_name Turns = codes "turns"
+key_name Hangup = codes "hangup"
+key_name Labels = codes "labels"
 key_name Certificate = codes "certificate"
 key_name Cost = codes "cost"
 
@@ -51,6 +53,11 @@ up_to most key wanted = record { form = wanted; least = 0; most = most; key = ke
 abbrev pub most_turns : ℕ
 most_turns = 2 ^ 63
 
+-- the most labels that a server may be told to settle for an alternative of a leg, and how many it settles at
+-- most where it isn't told
+abbrev pub most_labels : ℕ
+most_labels = 4000000000
+
 -- the keys of a command that answers a query over files
 abbrev pub ride_keys : List KeyRow
 ride_keys =
@@ -76,7 +83,8 @@ keys_of Hills = once Seed (form.Number 0 65535) ∷ once Width (form.Number 1 10
     (form.Number 1 1000) ∷ []
 keys_of Serve =
     once Lookups form.File ∷ once Map form.File ∷ up_to 64 Profile form.ProfileFile ∷ up_to 64 Tile form.File
-    ∷ up_to 1 Listen form.Address ∷ up_to 1 Turns (form.Number 1 most_turns) ∷ []
+    ∷ up_to 1 Listen form.Address ∷ up_to 1 Turns (form.Number 1 most_turns)
+    ∷ up_to 1 Hangup (form.Number 0 1) ∷ up_to 1 Labels (form.Number 1 most_labels) ∷ []
 
 -- what a command does
 unfoldable pub about_of : CommandName → List ℕ

@@ -76,7 +76,8 @@ pub struct HillsCommand {
 }
 
 /// The command `serve`: the files of the tag table, of the map, of the profiles and of the tiles,
-/// where to listen, if that is told, and how many events are taken at most.
+/// where to listen, if that is told, how many events are taken at most, whether an end of a peer is
+/// the loss of its connection, and how many labels a search may settle for an alternative of a leg.
 pub struct ServeCommand<'a> {
     pub lookups: FileWord<'a>,
     pub map: FileWord<'a>,
@@ -84,6 +85,8 @@ pub struct ServeCommand<'a> {
     pub tiles: Items<FileWord<'a>>,
     pub listen: Option<FileWord<'a>>,
     pub turns: u64,
+    pub hangup: bool,
+    pub labels: u64,
 }
 
 impl<'a> Drop for ServeCommand<'a> {
@@ -95,6 +98,8 @@ impl<'a> Drop for ServeCommand<'a> {
             tiles: _,
             listen: _,
             turns: _,
+            hangup: _,
+            labels: _,
         } = self;
     }
 }

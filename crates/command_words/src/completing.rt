@@ -1,7 +1,7 @@
 //! The command of a name and of what the words after it give.
 
 ghost use Rattle.std.specs.Prelude.{◌≡◌, option_map};
-ghost use Rattle.command_words.specs.Command.{complete, file_in, files_in, files_with, grid_by, lies_in, ride_by, ride_in, ride_over, sizes_in, turns_in};
+ghost use Rattle.command_words.specs.Command.{complete, file_in, files_in, files_with, grid_by, hangup_in, labels_in, lies_in, ride_by, ride_in, ride_over, sizes_in, turns_in};
 ghost use Rattle.command_words.specs.Refusals.{now_of};
 ghost use Rattle.command_words.specs.declared.rows.CommandName.{CommandName};
 ghost use Rattle.command_words.specs.declared.rows.Key.{Key};
@@ -12,7 +12,7 @@ use crate::command::{
 };
 use crate::entry::{Entry, FileWord};
 use crate::reader::entry_with;
-use crate::rows::{CommandName, Key, MOST_TURNS};
+use crate::rows::{CommandName, Key, MOST_LABELS, MOST_TURNS};
 use crate::value::Place;
 use item_list::Items;
 
@@ -282,6 +282,8 @@ fn complete_serve<'a>(
             tiles,
             listen: file_of(entry_with(entries, Key::Listen)),
             turns: turns_of(entry_with(entries, Key::Turns)),
+            hangup: hangup_of(entry_with(entries, Key::Hangup)),
+            labels: labels_of(entry_with(entries, Key::Labels)),
         })),
         _ => Err(after),
     }
@@ -305,6 +307,28 @@ fn turns_of(entry: Option<&Entry>) -> u64
     match entry {
         Some(entry) => entry.number(),
         None => MOST_TURNS,
+    }
+}
+
+/// Whether an end of a peer is the loss of its connection, by an entry that may be missing.
+#[tactic(auto, unfolding(crate::specs::Command::hangup_in))]
+fn hangup_of(entry: Option<&Entry>) -> bool
+    ensures exact { result ≡ hangup_in (option_map now_of entry.entry) }
+{
+    match entry {
+        Some(entry) => entry.number() == 1,
+        None => false,
+    }
+}
+
+/// How many labels a search may settle for an alternative of a leg, by an entry that may be missing.
+#[tactic(auto, unfolding(crate::specs::Command::labels_in))]
+fn labels_of(entry: Option<&Entry>) -> u64
+    ensures exact { result ≡ labels_in (option_map now_of entry.entry) }
+{
+    match entry {
+        Some(entry) => entry.number(),
+        None => MOST_LABELS,
     }
 }
 

@@ -131,7 +131,7 @@ impl<'a> Entry<'a> {
 }
 
 /// All keys.
-const ALL_KEYS: [Key; 15] = [
+const ALL_KEYS: [Key; 17] = [
     Key::Seed,
     Key::Width,
     Key::Height,
@@ -145,6 +145,8 @@ const ALL_KEYS: [Key; 15] = [
     Key::Tile,
     Key::Listen,
     Key::Turns,
+    Key::Hangup,
+    Key::Labels,
     Key::Certificate,
     Key::Cost,
 ];

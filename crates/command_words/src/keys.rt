@@ -1,6 +1,6 @@
 //! The keys of each command, as rows.
 
-use crate::rows::{Form, Key, KeyRow, MOST_TURNS};
+use crate::rows::{Form, Key, KeyRow, LABELS, MOST_TURNS};
 
 /// The most files of a kind of which there may be several.
 const MOST_FILES: usize = 64;
@@ -241,7 +241,7 @@ pub const HILLS_KEYS: [KeyRow; 3] = [
 ];
 
 /// The keys of the command `serve`.
-pub const SERVE_KEYS: [KeyRow; 6] = [
+pub const SERVE_KEYS: [KeyRow; 8] = [
     KeyRow {
         form: Form::File,
         least: 1,
@@ -280,5 +280,17 @@ pub const SERVE_KEYS: [KeyRow; 6] = [
         least: 0,
         most: 1,
         key: Key::Turns,
+    },
+    KeyRow {
+        form: Form::Number { low: 0, high: 1 },
+        least: 0,
+        most: 1,
+        key: Key::Hangup,
+    },
+    KeyRow {
+        form: LABELS,
+        least: 0,
+        most: 1,
+        key: Key::Labels,
     },
 ];

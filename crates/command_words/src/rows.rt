@@ -23,6 +23,8 @@ pub enum Key {
     Tile,
     Listen,
     Turns,
+    Hangup,
+    Labels,
     Certificate,
     Cost,
 }
@@ -76,6 +78,16 @@ pub enum CommandName {
 /// told: 2^63.
 pub const MOST_TURNS: u64 = 1 << 63;
 
+/// The most labels that a server may be told to settle for an alternative of a leg, and how many it
+/// settles at most where it isn't told.
+pub const MOST_LABELS: u64 = 4_000_000_000;
+
+/// How many labels a server may be told to settle.
+pub const LABELS: Form = Form::Number {
+    low: 1,
+    high: MOST_LABELS,
+};
+
 /// The commands that are built.
 pub const COMMANDS: [CommandName; 10] = [
     CommandName::Grid,
@@ -110,6 +122,8 @@ impl Key {
             Key::Tile => "tile",
             Key::Listen => "listen",
             Key::Turns => "turns",
+            Key::Hangup => "hangup",
+            Key::Labels => "labels",
             Key::Certificate => "certificate",
             Key::Cost => "cost",
         }

@@ -5,7 +5,7 @@ use Rattle.edge_io.specs.Acts.{Act, Listens, Gave, Took, Broke, Closed, Traffic,
 use Rattle.edge_io.specs.Hub.{Tells, TellsWhereLive, IsLive, IsFreshAmong}
 use Rattle.edge_io.specs.declared.event.Event.{Event}
 use Rattle.edge_io.specs.declared.event.Event.TheVariants.{Opened, Bytes, Ended, Lost, Quiet, Over}
-pub use Rattle.edge_io.proofs.ActLemmas.{after_acts-append, told-one}
+pub use Rattle.edge_io.proofs.ActLemmas.{after_acts-append, told-one, hangs_up-one}
 
 -- ---- told acts
 
@@ -41,7 +41,7 @@ Tells-gone old new id act gone tells = subst (λ (b : Bool). Tells (Some old) ne
 
 -- an act that doesn't end a connection leaves it held
 live_act : (id : ℕ) (act : Act) (t : Traffic) → is_end_of id act ≡ false → t.live ≡ true → (after_act id t act).live ≡ true
-live_act id (Listens address) t stays live = live
+live_act id (Listens address hangup) t stays live = live
 live_act id (Gave (Opened at) bytes) t stays live =
     elim (at == id) as (λ b. (cond b (after_event t (Opened at) bytes) t).live ≡ true) [ true ↦ refl | false ↦ live ]
 live_act id (Gave (Bytes at n) bytes) t stays live =
@@ -81,7 +81,7 @@ IsLive-opened (Some old) (Some new) id bytes tells =
 
 -- once opened, a connection stays so
 opened_act : (id : ℕ) (act : Act) (t : Traffic) → t.opened ≡ true → (after_act id t act).opened ≡ true
-opened_act id (Listens address) t was = was
+opened_act id (Listens address hangup) t was = was
 opened_act id (Gave (Opened at) bytes) t was =
     elim (at == id) as (λ b. (cond b (after_event t (Opened at) bytes) t).opened ≡ true) [ true ↦ refl | false ↦ was ]
 opened_act id (Gave (Bytes at n) bytes) t was =
@@ -100,7 +100,7 @@ opened_act id (Closed at) t was = elim (at == id) as (λ b. (cond b (after_own t
 -- an act opens what was not opened, or leaves it, whatever came before
 opened_by_act : (id : ℕ) (act : Act) (t u : Traffic) → (t.opened ≡ true → u.opened ≡ true) → (after_act id t act).opened ≡ true →
     (after_act id u act).opened ≡ true
-opened_by_act id (Listens address) t u less was = less was
+opened_by_act id (Listens address hangup) t u less was = less was
 opened_by_act id (Gave (Opened at) bytes) t u less was =
     (elim (at == id) as (λ b. (cond b (after_event t (Opened at) bytes) t).opened ≡ true →
     (cond b (after_event u (Opened at) bytes) u).opened ≡ true) [ true ↦ λ h. refl | false ↦ less ]) was
@@ -153,7 +153,7 @@ IsFresh-later first acts Over fresh = tt
 
 -- an act that opens nothing that was opened
 abbrev pub IsFreshAct : List Act → Act → Type 0
-IsFreshAct acts (Listens address) = Unit {0}
+IsFreshAct acts (Listens address hangup) = Unit {0}
 IsFreshAct acts (Gave event bytes) = IsFreshAmong acts event
 IsFreshAct acts (Took id bytes) = Unit {0}
 IsFreshAct acts (Broke id) = Unit {0}

@@ -3,11 +3,11 @@ use Rattle.std.specs.Prelude.{◌≡◌, ◌==◌, ℕ, Bool, true, false, List,
 use Rattle.edge_io.specs.declared.event.Event.{Event}
 use Rattle.edge_io.specs.declared.event.Event.TheVariants.{Opened, Bytes, Ended, Lost, Quiet, Over}
 
--- one act: the hub began to take connections at an address; an event was given, with the bytes that came; bytes
--- were taken from a send to a connection; a send to a connection failed, which ends it; a connection was closed
--- by the caller
+-- one act: the hub began to take connections at an address, from then on with an end of a peer as the loss of its
+-- connection or not; an event was given, with the bytes that came; bytes were taken from a send to a connection; a
+-- send to a connection failed, which ends it; a connection was closed by the caller
 pub data Act : Type 0 where
-  Listens : List ℕ → Act
+  Listens : List ℕ → Bool → Act
   Gave : Event → List ℕ → Act
   Took : ℕ → List ℕ → Act
   Broke : ℕ → Act
@@ -38,7 +38,7 @@ after_event t Over bytes = t
 
 -- the traffic after an act on its own connection
 abbrev pub after_own : Traffic → Act → Traffic
-after_own t (Listens address) = t
+after_own t (Listens address hangup) = t
 after_own t (Gave event bytes) = after_event t event bytes
 after_own t (Took id bytes) = record t { sent = t.sent ++ bytes }
 after_own t (Broke id) = record t { live = false }
@@ -55,7 +55,7 @@ is_event_of id Over = false
 
 -- an act is one on this connection
 abbrev pub is_act_on : ℕ → Act → Bool
-is_act_on id (Listens address) = false
+is_act_on id (Listens address hangup) = false
 is_act_on id (Gave event bytes) = is_event_of id event
 is_act_on id (Took at bytes) = at == id
 is_act_on id (Broke at) = at == id
@@ -82,7 +82,7 @@ OpensOnce acts =
 
 -- an act ends a connection: it is lost, a send to it failed, or it was closed
 abbrev pub is_end_of : ℕ → Act → Bool
-is_end_of id (Listens address) = false
+is_end_of id (Listens address hangup) = false
 is_end_of id (Gave (Opened at) bytes) = false
 is_end_of id (Gave (Bytes at n) bytes) = false
 is_end_of id (Gave (Ended at) bytes) = false
@@ -92,3 +92,20 @@ is_end_of id (Gave Over bytes) = false
 is_end_of id (Took at bytes) = false
 is_end_of id (Broke at) = at == id
 is_end_of id (Closed at) = at == id
+
+-- an end of a peer is the loss of its connection after one more act, where it was or wasn't before
+abbrev pub hangs_up_by : Act → Bool → Bool
+hangs_up_by (Listens address hangup) before = hangup
+hangs_up_by (Gave event bytes) before = before
+hangs_up_by (Took id bytes) before = before
+hangs_up_by (Broke id) before = before
+hangs_up_by (Closed id) before = before
+
+-- the same after more acts, in their order
+abbrev pub hangs_up_after : Bool → List Act → Bool
+hangs_up_after before [] = before
+hangs_up_after before (act ∷ acts) = hangs_up_after (hangs_up_by act before) acts
+
+-- the hub was last opened with an end of a peer as the loss of its connection
+abbrev pub hangs_up : List Act → Bool
+hangs_up acts = hangs_up_after false acts

@@ -1,6 +1,6 @@
 -- This project's own rule: what a hub shows at a moment, and what its calls change in it.
-use Rattle.std.specs.Prelude.{◌≡◌, ◌≤◌, ℕ, true, false, List, [], ◌∷◌, ◌++◌, length, take, Option, Some, None, if◌then◌else◌}
-use Rattle.edge_io.specs.Acts.{Act, Gave, Took, Broke, Closed, told}
+use Rattle.std.specs.Prelude.{◌≡◌, ◌≤◌, ℕ, Bool, true, false, List, [], ◌∷◌, ◌++◌, length, take, Option, Some, None, if◌then◌else◌}
+use Rattle.edge_io.specs.Acts.{Act, Gave, Took, Broke, Closed, told, hangs_up}
 use Rattle.edge_io.specs.Faults.{CountRose}
 use Rattle.edge_io.specs.declared.event.Event.{Event}
 use Rattle.edge_io.specs.declared.event.Event.TheVariants.{Opened, Bytes, Ended, Lost, Quiet, Over}
@@ -50,6 +50,20 @@ IsFreshAmong acts Over = Unit {0}
 abbrev pub IsFresh : Option (List Act) → Event → Type 0
 IsFresh None event = Unit {0}
 IsFresh (Some acts) event = IsFreshAmong acts event
+
+-- an end is told only where it isn't the loss of its connection
+abbrev pub TellsEnd : Bool → Event → Type 0
+TellsEnd hangup (Opened id) = Unit {0}
+TellsEnd hangup (Bytes id n) = Unit {0}
+TellsEnd hangup (Ended id) = hangup ≡ false
+TellsEnd hangup (Lost id) = Unit {0}
+TellsEnd hangup Quiet = Unit {0}
+TellsEnd hangup Over = Unit {0}
+
+-- the same of a hub as it was last opened, where its acts are told
+abbrev pub TellsEndAfter : Option (List Act) → Event → Type 0
+TellsEndAfter None event = Unit {0}
+TellsEndAfter (Some acts) event = TellsEnd (hangs_up acts) event
 
 -- the bytes that an event gave in the buffer
 abbrev pub bytes_given : Event → List ℕ → List ℕ

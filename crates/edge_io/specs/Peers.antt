@@ -44,27 +44,35 @@ follow_of id reads.NotNow = record { event = None; ended = false; again = false;
 follow_of id reads.Again = record { event = None; ended = false; again = true; gone = false }
 follow_of id reads.Lost = record { event = Some (events.Lost id); ended = false; again = false; gone = true }
 
+-- what a reading is taken for: an end of the peer is the loss of its connection, where it is to be
+abbrev pub reading_as : Bool → Reading → Reading
+reading_as hangup (reads.Arrived n) = reads.Arrived n
+reading_as hangup reads.Ended = if hangup then reads.Lost else reads.Ended
+reading_as hangup reads.NotNow = reads.NotNow
+reading_as hangup reads.Again = reads.Again
+reading_as hangup reads.Lost = reads.Lost
+
 -- ---- The connections that are held
 
--- a connection that was read is what follows from the reading: its stream gave the bytes that are told, its peer
--- ended where the reading says so, and it is in line where it is put there again
-pub record HearsPeer {S : Type 0} (remaining : S → Option (List ℕ)) (old new : Peer S) (id : ℕ) (buffer : List ℕ)
-    (line after : Line) (told : Following) : Type 0 where
+-- a connection that was read is what follows from the reading, as that is taken: its stream gave the bytes that
+-- are told, its peer ended where the reading says so, and it is in line where it is put there again
+pub record HearsPeer {S : Type 0} (remaining : S → Option (List ℕ)) (hangup : Bool) (old new : Peer S) (id : ℕ)
+    (buffer : List ℕ) (line after : Line) (told : Following) : Type 0 where
   pub reading : Reading
   pub bytes : ReadsStream (remaining old.stream) (remaining new.stream) buffer reading
-  pub follows : told ≡ follow_of id reading
-  pub ended : new.ended ≡ old.ended || (follow_of id reading).ended
-  pub again : (follow_of id reading).again ≡ true → length line.waiting < line.room → new.in_line ≡ true
+  pub follows : told ≡ follow_of id (reading_as hangup reading)
+  pub ended : new.ended ≡ old.ended || told.ended
+  pub again : told.again ≡ true → length line.waiting < line.room → new.in_line ≡ true
   pub waits : after.waiting ≡ (if new.in_line then line.waiting ++ id ∷ [] else line.waiting)
-  pub only : (follow_of id reading).again ≡ false → new.in_line ≡ false
+  pub only : told.again ≡ false → new.in_line ≡ false
 
 -- a connection was read: the event is what follows, and it is held no more where that says so; where none is
 -- held, nothing is told
-abbrev pub Hears : {S : Type 0} → (S → Option (List ℕ)) → (old new : Option (Peer S)) → ℕ → List ℕ → (line after :
-    Line) → Option Event → Type 0
-Hears remaining None new id buffer line after event = (new ≡ None) × (event ≡ None) × (after.waiting ≡ line.waiting)
-Hears {S} remaining (Some old) new id buffer line after event =
-    (follows : Following) × (left : Peer S) × HearsPeer remaining old left id buffer line after follows ×
+abbrev pub Hears : {S : Type 0} → (S → Option (List ℕ)) → Bool → (old new : Option (Peer S)) → ℕ → List ℕ → (line
+    after : Line) → Option Event → Type 0
+Hears remaining hangup None new id buffer line after event = (new ≡ None) × (event ≡ None) × (after.waiting ≡ line.waiting)
+Hears {S} remaining hangup (Some old) new id buffer line after event =
+    (follows : Following) × (left : Peer S) × HearsPeer remaining hangup old left id buffer line after follows ×
     (event ≡ follows.event) × (new ≡ (if follows.gone then None else Some left))
 
 -- a send was offered to a connection: so many bytes were taken by its own stream, or it failed and the

@@ -7,7 +7,7 @@ pub enum Event {
     Opened { id: u64 },
     /// The next `n` bytes of a connection came; they stand at the front of the buffer.
     Bytes { id: u64, n: usize },
-    /// The peer sends no more.
+    /// The peer sends no more; it isn't told where that is the loss of the connection.
     Ended { id: u64 },
     /// The connection is gone; the hub holds it no more.
     Lost { id: u64 },

@@ -1,7 +1,7 @@
 //! What the answers of one stream come to.
 
 ghost use Rattle.std.specs.Prelude.{◌≡◌, ◌<◌, length};
-ghost use Rattle.edge_io.specs.Peers.{ReadsStream, WritesStream, follow_of};
+ghost use Rattle.edge_io.specs.Peers.{ReadsStream, WritesStream, follow_of, reading_as};
 
 use crate::event::Event;
 use crate::failed::Failed;
@@ -33,6 +33,16 @@ pub(crate) fn sending_of<S: Write>(stream: &mut S, piece: &[u8]) -> Result<usize
     ensures bytes { WritesStream (S.contents stream.old) (S.contents stream.new) piece.now result }
 {
     taken(stream.write(piece))
+}
+
+/// What a reading is taken for: with `hangup` an end of the peer is the loss of its connection.
+pub(crate) fn reading_as(hangup: bool, reading: Reading) -> Reading
+    ensures exact { result ≡ reading_as hangup reading }
+{
+    match reading {
+        Reading::Ended if hangup => Reading::Lost,
+        _ => reading,
+    }
 }
 
 /// What follows from a read of the connection of this number.

@@ -2,7 +2,7 @@
 
 ghost use Rattle.std.specs.Prelude.{◌<◌, ◌≤◌, [], ◌∷◌, length, IfOk, OnOk, OnErr};
 ghost use Rattle.edge_io.specs.Acts.{Listens};
-ghost use Rattle.edge_io.specs.Hub.{HubSeen, FitsBuffer, IsFresh, Does, Gives, Takes, Fails, Breaks, Closes};
+ghost use Rattle.edge_io.specs.Hub.{HubSeen, FitsBuffer, IsFresh, TellsEndAfter, Does, Gives, Takes, Fails, Breaks, Closes};
 
 use crate::event::Event;
 use crate::failed::Failed;
@@ -14,10 +14,11 @@ pub trait Hub {
     /// value.
     ghost seen: { Self → HubSeen };
 
-    /// Begins to take connections at this address.
-    fn open(&mut self, address: &str) -> Result<(), Failed>
+    /// Begins to take connections at this address. With `hangup` an end of a peer, also of a
+    /// connection that is held already, is told as the loss of its connection from then on.
+    fn open(&mut self, address: &str, hangup: bool) -> Result<(), Failed>
         ensures value { OnOk result (Does (seen self.old) (seen self.new)
-            (Listens address.now ∷ [])) }
+            (Listens address.now hangup ∷ [])) }
         ensures kept { OnErr result (Fails (seen self.old) (seen self.new)) };
 
     /// The next event. New bytes are put at the front of the buffer. A caller that is busy has work
@@ -26,6 +27,7 @@ pub trait Hub {
         requires some { 0 < length buf.old }
         ensures fits { IfOk result (FitsBuffer buf.new) }
         ensures fresh { IfOk result (IsFresh (seen self.old).acts) }
+        ensures only { IfOk result (TellsEndAfter (seen self.old).acts) }
         ensures value { IfOk result (Gives (seen self.old) (seen self.new) buf.new) }
         ensures kept { OnErr result (Fails (seen self.old) (seen self.new)) };
 

@@ -3,14 +3,14 @@
 ghost use Rattle.std.specs.Prelude.{◌≡◌, ◌<◌, ◌≤◌, ◌+◌, ◌==◌, ◌||◌, ℕ, true, false, None, Some, [], ◌∷◌, ◌++◌, length, IfSome, OnOk, OnSome, is_ok, is_some, option_map, if◌then◌else◌};
 ghost use Rattle.std.specs.BTreeMap.{get, Updates, btree_map_len};
 ghost use Rattle.std.specs.Ordering.{nat_cmp};
-ghost use Rattle.edge_io.specs.Hub.{FitsBuffer};
+ghost use Rattle.edge_io.specs.Hub.{FitsBuffer, TellsEnd};
 ghost use Rattle.edge_io.specs.Acts.{is_event_of};
 ghost use Rattle.edge_io.specs.Peers.{Hears, HearsPeer, SendsTo, Wakes, is_whole, without};
 ghost use Rattle.edge_io.specs.declared.event.Event.TheVariants as events;
 
 use crate::event::Event;
 use crate::failed::Failed;
-use crate::follow::{Following, follow, reading_of, sending_of};
+use crate::follow::{Following, follow, reading_as, reading_of, sending_of};
 use crate::turns::Turns;
 use std::alloc::Global;
 use std::collections::BTreeMap;
@@ -138,14 +138,15 @@ impl<S> Peers<S> {
         }
     }
 
-    /// Reads a connection once.
-    pub(crate) fn hear(&mut self, id: u64, buf: &mut [u8]) -> Option<Event>
+    /// Reads a connection once. With `hangup` an end of its peer is the loss of the connection.
+    pub(crate) fn hear(&mut self, id: u64, buf: &mut [u8], hangup: bool) -> Option<Event>
     where
         S: Read + Drop,
         requires some { 0 < length buf.old }
         ensures fits { IfSome result (FitsBuffer buf.new) }
         ensures own { IfSome result (λ e. is_event_of id e ≡ true) }
-        ensures heard { Hears S.remaining (get nat_cmp self.old.held id)
+        ensures only { IfSome result (TellsEnd hangup) }
+        ensures heard { Hears S.remaining hangup (get nat_cmp self.old.held id)
             (get nat_cmp self.new.held id) id buf.new self.old.turns self.new.turns result }
         ensures others { (q : ℕ) → (q == id) ≡ false →
             get nat_cmp self.new.held q ≡ get nat_cmp self.old.held q }
@@ -154,7 +155,7 @@ impl<S> Peers<S> {
         let Some(peer) = self.held.get_mut(&id) else {
             return None;
         };
-        let follows = heard(peer, &mut self.turns, id, buf);
+        let follows = heard(peer, &mut self.turns, id, buf, hangup);
         if follows.gone {
             let _lost = self.held.remove(&id);
         }
@@ -202,11 +203,19 @@ impl<S> Peers<S> {
 }
 
 /// Reads a connection once, and puts it in line again where more may come.
-fn heard<S: Read>(peer: &mut Peer<S>, turns: &mut Turns, id: u64, buf: &mut [u8]) -> Following
+fn heard<S: Read>(
+    peer: &mut Peer<S>,
+    turns: &mut Turns,
+    id: u64,
+    buf: &mut [u8],
+    hangup: bool,
+) -> Following
     requires some { 0 < length buf.old }
-    ensures heard { HearsPeer S.remaining peer.old peer.new id buf.new turns.old turns.new result }
+    ensures heard { HearsPeer S.remaining hangup peer.old peer.new id buf.new
+        turns.old turns.new result }
 {
-    let follows = follow(id, reading_of(&mut peer.stream, buf));
+    let reading = reading_of(&mut peer.stream, buf);
+    let follows = follow(id, reading_as(hangup, reading));
     peer.ended = peer.ended || follows.ended;
     peer.in_line = follows.again && turns.join(id);
     follows

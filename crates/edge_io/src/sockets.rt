@@ -6,7 +6,7 @@ ghost use Rattle.std.specs.BTreeMap.{get, Updates};
 ghost use Rattle.std.specs.Duration.{as_nanos};
 ghost use Rattle.std.specs.Ordering.{nat_cmp};
 ghost use Rattle.edge_io.specs.Acts.{is_event_of};
-ghost use Rattle.edge_io.specs.Hub.{FitsBuffer};
+ghost use Rattle.edge_io.specs.Hub.{FitsBuffer, TellsEnd};
 ghost use Rattle.edge_io.specs.Peers.{SendsTo, is_whole};
 ghost use Rattle.edge_io.specs.Sockets.{IsOn, nap_of};
 ghost use Rattle.edge_io.specs.declared.event.Event.TheVariants as events;
@@ -33,6 +33,8 @@ pub struct Sockets {
     door: Option<Door>,
     peers: Peers<TcpStream>,
     leaving: Leaving<TcpStream>,
+    /// An end of a peer is the loss of its connection.
+    hangup: bool,
 }
 
 impl Drop for Sockets {
@@ -42,6 +44,7 @@ impl Drop for Sockets {
             door: _,
             peers: _,
             leaving: _,
+            hangup: _,
         } = self;
     }
 }
@@ -54,11 +57,25 @@ impl Sockets {
             door: None,
             peers: Peers::new(alloc),
             leaving: Leaving::new(alloc),
+            hangup: false,
         }
     }
 
-    /// Listens at this address, in place of the one before; the connections stay.
-    pub fn open<N: Net>(&mut self, net: &N, address: &str) -> Result<(), Failed>
+    /// Listens at this address, in place of the one before; the connections stay. With `hangup` an
+    /// end of a peer is the loss of its connection from then on.
+    pub fn open<N: Net>(&mut self, net: &N, address: &str, hangup: bool) -> Result<(), Failed>
+        ensures hangup { OnOk result (self.new.hangup ≡ hangup) }
+        ensures kept { OnErr result (self.new.hangup ≡ self.old.hangup) }
+        ensures held { self.new.peers.held ≡ self.old.peers.held }
+    {
+        self.listen_at(net, address)?;
+        self.hangup = hangup;
+        Ok(())
+    }
+
+    /// Listens at this address, in place of the one before.
+    fn listen_at<N: Net>(&mut self, net: &N, address: &str) -> Result<(), Failed>
+        ensures same { self.new.hangup ≡ self.old.hangup }
         ensures held { self.new.peers.held ≡ self.old.peers.held }
     {
         let listener = listen(net, address_of(address)?)?;
@@ -78,6 +95,8 @@ impl Sockets {
         requires some { 0 < length buf.old }
         ensures fits { IfOk result (FitsBuffer buf.new) }
         ensures on { IfOk result IsOn }
+        ensures only { IfOk result (TellsEnd self.old.hangup) }
+        ensures same { self.new.hangup ≡ self.old.hangup }
     {
         let time = self.patience(busy);
         self.look(time)?;
@@ -100,6 +119,7 @@ impl Sockets {
         ensures still { self.new.peers.moved ≡ false }
         ensures held { self.new.peers.held ≡ self.old.peers.held }
         ensures line { self.new.peers.turns ≡ self.old.peers.turns }
+        ensures same { self.new.hangup ≡ self.old.hangup }
     {
         let time = nap(self.peers.turns.len(), self.peers.moved, busy);
         self.peers.moved = false;
@@ -109,6 +129,7 @@ impl Sockets {
     /// Lets those go that were left for too long.
     fn leave_over<C: Clock>(&mut self, clock: &C)
         ensures held { self.new.peers.held ≡ self.old.peers.held }
+        ensures same { self.new.hangup ≡ self.old.hangup }
     {
         if !self.leaving.is_empty() {
             self.leaving
@@ -117,7 +138,9 @@ impl Sockets {
     }
 
     /// Waits for so long, and puts in line who is ready.
-    fn look(&mut self, time: Duration) -> Result<(), Failed> {
+    fn look(&mut self, time: Duration) -> Result<(), Failed>
+        ensures same { self.new.hangup ≡ self.old.hangup }
+    {
         let Some(door) = &mut self.door else {
             return Err(Failed);
         };
@@ -141,17 +164,20 @@ impl Sockets {
         ensures on { IfSome result IsOn }
         ensures own { id ≢ 0 → IfSome result (λ e. is_event_of id e ≡ true) }
         ensures door { id ≡ 0 → IfSome result (λ e. e ≡ events.Opened self.new.peers.last) }
+        ensures only { IfSome result (TellsEnd self.old.hangup) }
+        ensures same { self.new.hangup ≡ self.old.hangup }
     {
         if id == DOOR {
             return self.admit();
         }
         self.leaving.drain(&mut self.peers.turns, id);
-        self.peers.hear(id, buf)
+        self.peers.hear(id, buf, self.hangup)
     }
 
     /// Takes in a connection that waits at the door, which stays in line while more may wait.
     fn admit(&mut self) -> Option<Event>
         ensures own { IfSome result (λ e. e ≡ events.Opened self.new.peers.last) }
+        ensures same { self.new.hangup ≡ self.old.hangup }
     {
         let Some(door) = &mut self.door else {
             return None;
@@ -174,6 +200,7 @@ impl Sockets {
             (Some (record { stream = stream; ended = false; in_line = false }))) }
         ensures none { result ≡ None → (q : ℕ) →
             get nat_cmp self.new.peers.held q ≡ get nat_cmp self.old.peers.held q }
+        ensures same { self.new.hangup ≡ self.old.hangup }
     {
         let Some(id) = self.peers.next_number() else {
             return None;
@@ -200,6 +227,7 @@ impl Sockets {
             get nat_cmp self.new.peers.held q ≡ get nat_cmp self.old.peers.held q }
         ensures moved { self.new.peers.moved ≡
             (self.old.peers.moved || is_whole result (length piece.now)) }
+        ensures same { self.new.hangup ≡ self.old.hangup }
     {
         self.peers.send(id, piece)
     }
@@ -209,6 +237,7 @@ impl Sockets {
     pub fn close<C: Clock>(&mut self, clock: &C, id: u64)
         ensures gone { Updates nat_cmp self.old.peers.held self.new.peers.held id None }
         ensures moved { self.new.peers.moved ≡ self.old.peers.moved }
+        ensures same { self.new.hangup ≡ self.old.hangup }
     {
         if let Some(peer) = self.peers.let_go(id) {
             self.leave(clock, peer);
@@ -219,6 +248,7 @@ impl Sockets {
     fn leave<C: Clock>(&mut self, clock: &C, peer: Peer<TcpStream>)
         ensures held { self.new.peers.held ≡ self.old.peers.held }
         ensures moved { self.new.peers.moved ≡ self.old.peers.moved }
+        ensures same { self.new.hangup ≡ self.old.hangup }
     {
         if peer.ended || hang_up(&peer.stream).is_err() {
             return;

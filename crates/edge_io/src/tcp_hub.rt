@@ -47,8 +47,11 @@ impl<'a, R: Net> TcpHub<'a, R> {
 impl<R: Net + Clock> Hub for TcpHub<'_, R> {
     ghost seen = { λ s. s };
 
-    fn open(&mut self, address: &str) -> Result<(), Failed> {
-        counted(self.sockets.open(self.rt, address), &mut self.faults)
+    fn open(&mut self, address: &str, hangup: bool) -> Result<(), Failed> {
+        counted(
+            self.sockets.open(self.rt, address, hangup),
+            &mut self.faults,
+        )
     }
 
     fn next(&mut self, buf: &mut [u8], busy: bool) -> Result<Event, Failed> {

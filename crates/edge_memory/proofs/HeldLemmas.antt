@@ -176,11 +176,11 @@ held-step h next act held steps = record {
     now id = ap (λ (acts : List Act). told id acts) steps.acts_are ∙ told-one id h.acts act
 
 -- an opening
-pub Steps-listens : (h next : Hold) (address : List ℕ) → IsHeld h → h.kept + (length address + 1) ≤ h.room →
-    next.acts ≡ h.acts ++ (Listens address ∷ []) → next.left ≡ h.left → next.live ≡ h.live → next.closed ≡ h.closed → next.room ≡ h.room
+pub Steps-listens : (h next : Hold) (address : List ℕ) (hangup : Bool) → IsHeld h → h.kept + (length address + 1) ≤ h.room →
+    next.acts ≡ h.acts ++ (Listens address hangup ∷ []) → next.left ≡ h.left → next.live ≡ h.live → next.closed ≡ h.closed → next.room ≡ h.room
     → next.kept ≡ h.kept + (length address + 1) → next.notes + 1 ≡ h.notes → h.bytes ≤ next.bytes + length address →
-    Steps h next (Listens address)
-Steps-listens h next address held fits acts left live closed room kept notes place = record {
+    Steps h next (Listens address hangup)
+Steps-listens h next address hangup held fits acts left live closed room kept notes place = record {
   acts_are = acts;
   room_is = room;
   kept_more = kept;

@@ -4,3 +4,4 @@ pub mod PlaceLemmas
 pub mod SceneLemmas
 pub mod SetLemmas
 pub mod TapeLemmas
+pub mod ToldLemmas

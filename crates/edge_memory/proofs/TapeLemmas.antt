@@ -18,7 +18,7 @@ within-more sent (n ∷ notes) note all one = (all.0, within-more sent notes not
 
 -- a note stays within where more was sent
 within-longer : (sent bytes : List ℕ) (note : Kept.Note) → IsNotedWithin sent note → IsNotedWithin (sent ++ bytes) note
-within-longer sent bytes (Kept.TheVariants.Listens from n) one = omega (arith, length-append sent bytes)
+within-longer sent bytes (Kept.TheVariants.Listens from n hangup) one = omega (arith, length-append sent bytes)
 within-longer sent bytes (Kept.TheVariants.Gave event place from) one = tt
 within-longer sent bytes (Kept.TheVariants.Took id from n) one = omega (arith, length-append sent bytes)
 within-longer sent bytes (Kept.TheVariants.Broke id) one = tt
@@ -46,7 +46,7 @@ slice-longer sent bytes from n within =
 -- a note stands for the same act where more was sent
 act-longer : (script : List Entry.Script) (sent bytes : List ℕ) (note : Kept.Note) → IsNotedWithin sent note →
     act_of script (sent ++ bytes) note ≡ act_of script sent note
-act-longer script sent bytes (Kept.TheVariants.Listens from n) one = ap Listens (slice-longer sent bytes from n one)
+act-longer script sent bytes (Kept.TheVariants.Listens from n hangup) one = ap (λ (xs : List ℕ). Listens xs hangup) (slice-longer sent bytes from n one)
 act-longer script sent bytes (Kept.TheVariants.Gave event place from) one = refl
 act-longer script sent bytes (Kept.TheVariants.Took id from n) one = ap (λ (xs : List ℕ). Took id xs) (slice-longer sent bytes from n one)
 act-longer script sent bytes (Kept.TheVariants.Broke id) one = refl
@@ -94,7 +94,7 @@ sent-event id t Over bytes = refl
 -- what was sent after one more note
 sent-note : (id : ℕ) (script : List Entry.Script) (sent : List ℕ) (t : Traffic) (note : Kept.Note) →
     (after_act id t (act_of script sent note)).sent ≡ t.sent ++ sent_by id sent note
-sent-note id script sent t (Kept.TheVariants.Listens from n) = sym (append-nil t.sent)
+sent-note id script sent t (Kept.TheVariants.Listens from n hangup) = sym (append-nil t.sent)
 sent-note id script sent t (Kept.TheVariants.Gave event place from) = sent-event id t event (noted_bytes script event place from)
     ∙ sym (append-nil _)
 sent-note id script sent t (Kept.TheVariants.Took to from n) =
@@ -146,7 +146,7 @@ listened_in kept (n ∷ notes) = listened_by kept n ++ listened_in kept notes
 -- one note more in front
 listened-note : (script : List Entry.Script) (kept : List ℕ) (note : Kept.Note) (acts : List Act) →
     listened (act_of script kept note ∷ acts) ≡ listened_by kept note ++ listened acts
-listened-note script kept (Kept.TheVariants.Listens from n) acts = refl
+listened-note script kept (Kept.TheVariants.Listens from n hangup) acts = refl
 listened-note script kept (Kept.TheVariants.Gave event place from) acts = refl
 listened-note script kept (Kept.TheVariants.Took id from n) acts = refl
 listened-note script kept (Kept.TheVariants.Broke id) acts = refl

@@ -1,6 +1,6 @@
 -- This project's own rule: what a hub in memory gives and takes, when a call on it fails, and what it then
 -- leaves.
-use Rattle.std.specs.Prelude.{◌≤◌, ◌+◌, ◌-◌, ◌⊎◌, ℕ, List, [], ◌∷◌, ◌++◌, length, take, drop, min, Contains, Some}
+use Rattle.std.specs.Prelude.{◌≤◌, ◌+◌, ◌-◌, ◌⊎◌, ℕ, Bool, List, [], ◌∷◌, ◌++◌, length, take, drop, min, Contains, Some}
 use Rattle.edge_io.specs.Acts.{Act, Listens, Gave, Took, Broke, Closed}
 use Rattle.edge_io.specs.Faults.{next_count}
 use Rattle.edge_io.specs.Hub.{HubSeen, where_live}
@@ -38,7 +38,7 @@ fresh_play script room piece failing = record {
 
 -- how much of the room an act takes: an event one; an opening and a send one, and one a byte
 abbrev pub room_of : Act → ℕ
-room_of (Listens address) = length address + 1
+room_of (Listens address hangup) = length address + 1
 room_of (Gave event bytes) = 1
 room_of (Took id bytes) = length bytes + 1
 room_of (Broke id) = 0
@@ -61,14 +61,17 @@ FailsNext s = Contains s.failing s.calls ⊎ (s.room ≤ room_used s.acts)
 abbrev pub after_fault : Play → Play
 after_fault s = record s { calls = next_count s.calls; faults = next_count s.faults }
 
--- the hub after its opening at this address
-abbrev pub after_open : Play → List ℕ → Play
-after_open s address = record s { acts = s.acts ++ (Listens address ∷ []); calls = next_count s.calls }
+-- the hub after its opening at this address, with an end of a peer as the loss of its connection or not
+abbrev pub after_open : Play → List ℕ → Bool → Play
+after_open s address hangup = record s {
+  acts = s.acts ++ (Listens address hangup ∷ []);
+  calls = next_count s.calls;
+}
 
 -- the addresses at which acts say that a hub listened, in their order, each with an end of line
 abbrev pub listened : List Act → List ℕ
 listened [] = []
-listened (Listens address ∷ acts) = (address ++ 10 ∷ []) ++ listened acts
+listened (Listens address hangup ∷ acts) = (address ++ 10 ∷ []) ++ listened acts
 listened (Gave event bytes ∷ acts) = listened acts
 listened (Took id bytes ∷ acts) = listened acts
 listened (Broke id ∷ acts) = listened acts

@@ -1,6 +1,6 @@
 -- This project's own rule: what the entries of a script give, one event after another.
 use Rattle.std.specs.Prelude.{◌≡◌, ◌==◌, ◌<◌, ℕ, zero, suc, Bool, false, ◌||◌, List, [], ◌∷◌, length, take, drop, min, if◌then◌else◌}
-use Rattle.edge_io.specs.Acts.{Act, told}
+use Rattle.edge_io.specs.Acts.{Act, told, hangs_up}
 use Rattle.edge_io.specs.declared.event.Event.{Event}
 use Rattle.edge_io.specs.declared.event.Event.TheVariants.{Opened, Bytes, Ended, Lost, Quiet, Over}
 use Rattle.edge_memory.specs.declared.script.Script as Entry
@@ -75,6 +75,20 @@ after_waits closed (Entry.TheVariants.Quiet ∷ rest) = Entry.TheVariants.Quiet 
 after_waits closed (Entry.TheVariants.AwaitClosed id most ∷ rest) =
     if closed id then after_waits closed rest else Entry.TheVariants.AwaitClosed id most ∷ rest
 
--- what a script gives next after these acts, no more than so many bytes
+-- what an event is told as: an end of a peer is the loss of its connection, where it is to be
+abbrev pub told_as : Bool → Event → Event
+told_as hangup (Opened id) = Opened id
+told_as hangup (Bytes id n) = Bytes id n
+told_as hangup (Ended id) = if hangup then Lost id else Ended id
+told_as hangup (Lost id) = Lost id
+told_as hangup Quiet = Quiet
+told_as hangup Over = Over
+
+-- the same of all that a script gives
+abbrev pub told_scene : Bool → Scene → Scene
+told_scene hangup given = record { event = told_as hangup given.event; bytes = given.bytes; left = given.left }
+
+-- what a script gives next after these acts, no more than so many bytes, as the hub was last opened
 abbrev pub next_scene : List Act → ℕ → List Entry.Script → Scene
-next_scene acts most script = front_scene most (after_waits (λ id. (told id acts).closed) script)
+next_scene acts most script =
+    told_scene (hangs_up acts) (front_scene most (after_waits (λ id. (told id acts).closed) script))

@@ -1,7 +1,7 @@
 -- This project's own rule: a script that is played, and what each act leaves of it.
 use Rattle.std.specs.Prelude.{◌≡◌, ◌==◌, ◌&&◌, ◌||◌, not, ℕ, Bool, List, [], ◌∷◌, ◌++◌}
-use Rattle.edge_io.specs.Acts.{Act, Gave, Took}
-use Rattle.edge_io.specs.Hub.{FitsBuffer, IsFreshAmong, bytes_given}
+use Rattle.edge_io.specs.Acts.{Act, Gave, Took, hangs_up}
+use Rattle.edge_io.specs.Hub.{FitsBuffer, IsFreshAmong, TellsEnd, bytes_given}
 use Rattle.edge_memory.specs.MemoryHub.{buffer_after}
 use Rattle.edge_memory.specs.Script.{Scene, next_scene}
 use Rattle.edge_io.specs.declared.event.Event.{Event}
@@ -33,6 +33,7 @@ pub record Plays (old new : Stage) (most : ℕ) (before after : List ℕ) (event
   pub stage : new ≡ after_play old (scene_next old most)
   pub fits : FitsBuffer after event
   pub fresh : IsFreshAmong old.acts event
+  pub only : TellsEnd (hangs_up old.acts) event
   pub given : bytes_given event after ≡ (scene_next old most).bytes
 
 -- the script after a send took these bytes

@@ -1,6 +1,6 @@
 -- What the fields of a script that is played stand for.
 use Rattle.std.specs.Prelude.{◌≡◌, ◌≤◌, ◌+◌, ◌-◌, ℕ, true, false, length, vec_len, vec_capacity}
-use Rattle.edge_io.specs.Acts.{told}
+use Rattle.edge_io.specs.Acts.{told, hangs_up}
 use Rattle.edge_memory.specs.Ids.{has}
 use Rattle.edge_memory.specs.MemoryHub.{room_used}
 use Rattle.edge_memory.specs.Place.{left_from, IsPlace}
@@ -37,9 +37,11 @@ pub record IsHeld (h : Hold) : Type 0 where
   pub are_closed : (id : ℕ) → (told id h.acts).closed ≡ has id h.closed
   pub to_come : (id : ℕ) → opens id h.left ≡ true → (told id h.acts).opened ≡ false
 
--- so it is with the fields, whose script is playable and whose lists have room
+-- so it is with the fields, whose script is playable and whose lists have room, and in which an end is a loss as
+-- the hub was last opened
 pub record IsSet (s : Inside) : Type 0 where
   pub held : IsHeld (hold_of s)
+  pub hangs : s.hangup ≡ hangs_up s.tape.acts
   pub playable : IsPlayable s.tape.script
   pub is_place : IsPlace s.tape.script s.place s.used
   pub live_room : vec_len s.live + length (left_from s.tape.script s.place s.used) ≤ vec_capacity s.live

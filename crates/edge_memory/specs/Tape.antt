@@ -53,7 +53,7 @@ noted_bytes script Over place from = []
 
 -- the act that a note stands for
 abbrev pub act_of : List Entry.Script → List ℕ → Kept.Note → Act
-act_of script kept (Kept.TheVariants.Listens from n) = Listens (take n (drop from kept))
+act_of script kept (Kept.TheVariants.Listens from n hangup) = Listens (take n (drop from kept)) hangup
 act_of script kept (Kept.TheVariants.Gave event place from) = Gave event (noted_bytes script event place from)
 act_of script kept (Kept.TheVariants.Took id from n) = Took id (take n (drop from kept))
 act_of script kept (Kept.TheVariants.Broke id) = Broke id
@@ -61,7 +61,7 @@ act_of script kept (Kept.TheVariants.Closed id) = Closed id
 
 -- the bytes of a note stand among those that were kept
 abbrev pub IsNotedWithin : List ℕ → Kept.Note → Type 0
-IsNotedWithin kept (Kept.TheVariants.Listens from n) = from + n ≤ length kept
+IsNotedWithin kept (Kept.TheVariants.Listens from n hangup) = from + n ≤ length kept
 IsNotedWithin kept (Kept.TheVariants.Gave event place from) = Unit {0}
 IsNotedWithin kept (Kept.TheVariants.Took id from n) = from + n ≤ length kept
 IsNotedWithin kept (Kept.TheVariants.Broke id) = Unit {0}
@@ -74,7 +74,7 @@ AreNotedWithin kept (note ∷ notes) = IsNotedWithin kept note × AreNotedWithin
 
 -- the bytes that a note says were sent to a connection
 abbrev pub sent_by : ℕ → List ℕ → Kept.Note → List ℕ
-sent_by id kept (Kept.TheVariants.Listens from n) = []
+sent_by id kept (Kept.TheVariants.Listens from n hangup) = []
 sent_by id kept (Kept.TheVariants.Gave event place from) = []
 sent_by id kept (Kept.TheVariants.Took to from n) = if to == id then take n (drop from kept) else []
 sent_by id kept (Kept.TheVariants.Broke at) = []
@@ -82,7 +82,7 @@ sent_by id kept (Kept.TheVariants.Closed at) = []
 
 -- the address at which a note says that the hub listened, with an end of line; nothing of another note
 abbrev pub listened_by : List ℕ → Kept.Note → List ℕ
-listened_by kept (Kept.TheVariants.Listens from n) = take n (drop from kept) ++ 10 ∷ []
+listened_by kept (Kept.TheVariants.Listens from n hangup) = take n (drop from kept) ++ 10 ∷ []
 listened_by kept (Kept.TheVariants.Gave event place from) = []
 listened_by kept (Kept.TheVariants.Took to from n) = []
 listened_by kept (Kept.TheVariants.Broke at) = []

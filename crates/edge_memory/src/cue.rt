@@ -4,7 +4,7 @@ ghost use Rattle.std.specs.Prelude.{◌≡◌, ◌<◌, ◌≤◌, ◌==◌, len
 ghost use Rattle.std.specs.List.{list_any};
 ghost use Rattle.edge_memory.specs.Place.{left_from, IsPlace, IsUsedWithin, IsCue, IsBytesCue, IsWaitCue, IsPassingCue, IsShot, IsEventWithin, place_then, is_met as is_met_by};
 ghost use Rattle.edge_memory.specs.Tape.{bytes_of, bytes_at, noted_bytes};
-ghost use Rattle.edge_memory.specs.Script.{after_waits, IsPlayable};
+ghost use Rattle.edge_memory.specs.Script.{after_waits, told_as, IsPlayable};
 
 use crate::script::Script;
 use edge_io::Event;
@@ -157,6 +157,16 @@ fn moved(after: Then, place: usize, end: usize) -> (usize, usize)
         Then::Stays { used } => (place, used),
         Then::Goes => (place + 1, 0),
         Then::Ends => (end, 0),
+    }
+}
+
+/// What an event is told as: with `hangup` an end of a peer is the loss of its connection.
+pub fn told_as(hangup: bool, event: Event) -> Event
+    ensures exact { result ≡ told_as hangup event }
+{
+    match event {
+        Event::Ended { id } if hangup => Event::Lost { id },
+        _ => event,
     }
 }
 

@@ -2,7 +2,7 @@
 
 ghost use Rattle.std.specs.Prelude.{◌≡◌, ◌<◌, ◌≤◌, ◌↔◌, [], ◌∷◌, length, IfOk, OnOk, OnErr, IsErr};
 ghost use Rattle.edge_io.specs.Acts.{Listens, told};
-ghost use Rattle.edge_io.specs.Hub.{FitsBuffer, IsFresh, Does, Gives, Takes, Fails, Breaks, Closes};
+ghost use Rattle.edge_io.specs.Hub.{FitsBuffer, IsFresh, TellsEndAfter, Does, Gives, Takes, Fails, Breaks, Closes};
 ghost use Rattle.edge_memory.specs.MemoryHub.{seen_of, fresh_play, listened, FailsToListen, FailsNext, scene_of, buffer_after, taken_of, after_open, after_scene, after_send, after_fault, after_failed_send, after_close};
 ghost use Rattle.edge_memory.specs.Script.{IsPlayable};
 
@@ -99,14 +99,14 @@ impl MemHub {
 impl Hub for MemHub {
     ghost seen = { seen_of };
 
-    fn open(&mut self, address: &str) -> Result<(), Failed>
+    fn open(&mut self, address: &str, hangup: bool) -> Result<(), Failed>
         ensures refused { IsErr result ↔ FailsToListen self.old address.now }
-        ensures written { OnOk result (self.new ≡ after_open self.old address.now) }
+        ensures written { OnOk result (self.new ≡ after_open self.old address.now hangup) }
         ensures counted { OnErr result (self.new ≡ after_fault self.old) }
 
         // What each hub promises.
         ensures value { OnOk result (Does (seen_of self.old) (seen_of self.new)
-            (Listens address.now ∷ [])) }
+            (Listens address.now hangup ∷ [])) }
         ensures kept { OnErr result (Fails (seen_of self.old) (seen_of self.new)) }
     {
         let call = self.calls;
@@ -115,7 +115,7 @@ impl Hub for MemHub {
             self.faults = next_count(self.faults);
             return Err(Failed);
         }
-        self.stage.listen(address.as_bytes());
+        self.stage.listen(address.as_bytes(), hangup);
         Ok(())
     }
 
@@ -133,6 +133,7 @@ impl Hub for MemHub {
         // What each hub promises.
         ensures fits { IfOk result (FitsBuffer buf.new) }
         ensures fresh { IfOk result (IsFresh (seen_of self.old).acts) }
+        ensures only { IfOk result (TellsEndAfter (seen_of self.old).acts) }
         ensures value { IfOk result (Gives (seen_of self.old) (seen_of self.new) buf.new) }
         ensures kept { OnErr result (Fails (seen_of self.old) (seen_of self.new)) }
     {

@@ -2,13 +2,14 @@
 
 use edge_io::Event;
 
-/// One act. The bytes of an event are those from `from` on of the script's entry `place`; those of
+/// One act. An opening says whether an end of a peer is a loss. The bytes of an event are those from `from` on of the script's entry `place`; those of
 /// an address and of a send stand from `from` on among the bytes that were kept.
 #[derive(Clone, Copy)]
 pub enum Note {
     Listens {
         from: usize,
         n: usize,
+        hangup: bool,
     },
     Gave {
         event: Event,

@@ -12,7 +12,7 @@ pub enum Script {
     Opened { id: u64 },
     /// These bytes come, as many in one event as the hub's most and the buffer allow.
     Bytes { id: u64, bytes: Name },
-    /// The peer sends no more.
+    /// The peer sends no more, which is the loss of its connection where the hub was opened so.
     Ended { id: u64 },
     /// The connection is gone.
     Lost { id: u64 },

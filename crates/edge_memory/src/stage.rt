@@ -8,7 +8,7 @@ ghost use Rattle.edge_memory.specs.MemoryHub.{listened, room_used};
 ghost use Rattle.edge_memory.specs.Script.{IsPlayable};
 ghost use Rattle.edge_memory.specs.Stage.{fresh_stage, Plays, after_take, after_mark, live_after, opened_by};
 
-use crate::cue::{behind_waits, bytes_in, shot_at};
+use crate::cue::{behind_waits, bytes_in, shot_at, told_as};
 use crate::ids::take_out;
 use crate::script::Script;
 use crate::tape::Tape;
@@ -25,6 +25,8 @@ pub struct Stage {
     kept: usize,
     place: usize,
     used: usize,
+    /// An end of a peer is the loss of its connection.
+    hangup: bool,
 }
 
 impl Drop for Stage {
@@ -37,6 +39,7 @@ impl Drop for Stage {
             kept: _,
             place: _,
             used: _,
+            hangup: _,
         } = self;
     }
 }
@@ -72,6 +75,7 @@ impl Stage {
             kept: 0,
             place: 0,
             used: 0,
+            hangup: false,
         })
     }
 
@@ -103,13 +107,14 @@ impl Stage {
         self.tape.listened(alloc)
     }
 
-    /// Notes that the hub listens at this address.
-    pub fn listen(&mut self, address: &[u8])
+    /// Notes that the hub listens at this address, from now on with an end of a peer as a loss or not.
+    pub fn listen(&mut self, address: &[u8], hangup: bool)
         requires room { room_used self.old.acts + length address.now < self.old.room }
-        ensures value { self.new ≡ after_mark self.old (Listens address.now ∷ []) }
+        ensures value { self.new ≡ after_mark self.old (Listens address.now hangup ∷ []) }
     {
-        self.tape.note_listening(address);
+        self.tape.note_listening(address, hangup);
         self.kept += address.len() + 1;
+        self.hangup = hangup;
     }
 
     /// Gives the next event, of at most so many bytes, and notes it.
@@ -126,13 +131,14 @@ impl Stage {
             self.used,
         );
         let shot = shot_at(self.tape.script(), place, used, most);
-        fill(buf, bytes_in(self.tape.script(), shot.event, place, used));
-        self.tape.note_event(shot.event, place, used);
-        follow(&mut self.live, shot.event);
+        let event = told_as(self.hangup, shot.event);
+        fill(buf, bytes_in(self.tape.script(), event, place, used));
+        self.tape.note_event(event, place, used);
+        follow(&mut self.live, event);
         self.kept += 1;
         self.place = shot.place;
         self.used = shot.used;
-        shot.event
+        event
     }
 
     /// Notes a send that took these bytes.

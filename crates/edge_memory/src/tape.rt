@@ -65,17 +65,19 @@ impl Tape {
         self.script.as_slice()
     }
 
-    /// Notes that the hub listens at this address.
-    pub fn note_listening(&mut self, address: &[u8])
+    /// Notes that the hub listens at this address, with an end of a peer as a loss or not.
+    pub fn note_listening(&mut self, address: &[u8], hangup: bool)
         requires room { 1 ≤ self.old.room }
         requires place { length address.now ≤ self.old.place }
-        ensures value { Notes self.old self.new (length address.now) (Listens address.now) }
+        ensures value { Notes self.old self.new (length address.now)
+            (Listens address.now hangup) }
     {
         let from = self.kept.len();
         append_reserved(&mut self.kept, address);
         self.notes.push_reserved(Note::Listens {
             from,
             n: address.len(),
+            hangup,
         });
     }
 
@@ -159,7 +161,7 @@ fn append_listened(lines: &mut Vec<u8>, note: &Note, kept: &[u8]) -> Result<(), 
     ensures value { OnOk result (lines.new.items ≡ lines.old.items ++ listened_by kept.now note.now) }
 {
     match *note {
-        Note::Listens { from, n } => {
+        Note::Listens { from, n, hangup: _ } => {
             lines.extend_from_slice(&kept[from..from + n])?;
             lines.push(b'\n')?;
             Ok(())

@@ -7,16 +7,21 @@ use std::io::{Read, Write};
 use std::net::{Ipv4Addr, Net, Shutdown, TcpStream};
 use std::test::Fail;
 
-/// Whether the hub opens on this port of the loopback.
-fn opens_at<H: Hub>(alloc: Global, hub: &mut H, port: u16) -> Result<bool, AllocError> {
+/// Whether the hub opens on this port of the loopback, with an end of a peer as a loss or not.
+fn opens_at<H: Hub>(
+    alloc: Global,
+    hub: &mut H,
+    port: u16,
+    hangup: bool,
+) -> Result<bool, AllocError> {
     let address = format!(in alloc; "127.0.0.1:{port}")?;
-    Ok(hub.open(address.as_str()).is_ok())
+    Ok(hub.open(address.as_str(), hangup).is_ok())
 }
 
 /// Opens the hub on a free port of the loopback, and tells it; 0 where none is free.
-fn opened<H: Hub>(alloc: Global, hub: &mut H) -> Result<u16, AllocError> {
+fn opened<H: Hub>(alloc: Global, hub: &mut H, hangup: bool) -> Result<u16, AllocError> {
     for port in 42_101u16..42_161 {
-        if opens_at(alloc, hub, port)? {
+        if opens_at(alloc, hub, port, hangup)? {
             return Ok(port);
         }
     }
@@ -62,7 +67,8 @@ impl Heard {
     }
 }
 
-/// Hears until so many bytes came and so many connections ended, at most a thousand events.
+/// Hears until so many bytes came and so many connections ended or were lost, at most a thousand
+/// events.
 fn hear_until<H: Hub>(
     heard: &mut Heard,
     hub: &mut H,
@@ -70,7 +76,7 @@ fn hear_until<H: Hub>(
     ended: u64,
 ) -> Result<(), AllocError> {
     for _ in 0..1000 {
-        if heard.bytes.len() < bytes || heard.ended < ended {
+        if heard.bytes.len() < bytes || heard.ended.saturating_add(heard.lost) < ended {
             heard.hear(hub)?;
         }
     }
@@ -125,8 +131,8 @@ fn exchanges<H: Hub>(rt: &HostRuntime, hub: &mut H, port: u16) -> io::Result<boo
 
 /// Whether a hub without an address is refused, and a fresh one is quiet; then its port.
 fn quiet_at<H: Hub>(alloc: Global, hub: &mut H) -> Result<(bool, u16), AllocError> {
-    let refused = hub.open("nowhere").is_err() && hub.next(&mut [0u8; 1], true).is_err();
-    let port = opened(alloc, hub)?;
+    let refused = hub.open("nowhere", false).is_err() && hub.next(&mut [0u8; 1], true).is_err();
+    let port = opened(alloc, hub, false)?;
     let quiet = hub.next(&mut [0u8; 1], true) == Ok(Event::Quiet);
     Ok((refused && quiet, port))
 }
@@ -137,6 +143,37 @@ fn a_head_comes_and_an_answer_goes_back(rt: HostRuntime) -> Result<(), Fail> {
     let (quiet, port) = quiet_at(rt.alloc(), &mut hub)?;
     let whole = exchanges(&rt, &mut hub, port)?;
     assert!(rt; quiet && whole);
+    Ok(())
+}
+
+/// Whether the end of a peer is told as a loss, after which the hub holds it no more, or as an end.
+fn is_told_as<H: Hub>(hub: &mut H, heard: &Heard, lost: bool) -> bool {
+    let held = hub.send(heard.last, b"late").is_ok();
+    if lost {
+        heard.lost == 1 && heard.ended == 0 && !held
+    } else {
+        heard.lost == 0 && heard.ended == 1 && held
+    }
+}
+
+/// Whether a hub that is opened so tells the end of a peer, after its whole request, accordingly.
+fn tells_the_end<H: Hub>(rt: &HostRuntime, hub: &mut H, hangup: bool) -> io::Result<bool> {
+    let port = opened(rt.alloc(), hub, hangup)?;
+    let mut peer = TcpStream::connect(rt, (Ipv4Addr::LOCALHOST, port))?;
+    let mut heard = Heard::new(rt.alloc());
+    let came = head_comes(hub, &mut peer, &mut heard)?;
+    peer.shutdown(Shutdown::Write)?;
+    hear_until(&mut heard, hub, 0, 1)?;
+    Ok(came && is_told_as(hub, &heard, hangup))
+}
+
+#[test]
+fn an_end_is_a_loss_where_the_hub_was_opened_so(rt: HostRuntime) -> Result<(), Fail> {
+    let mut hub = TcpHub::new(&rt, rt.alloc());
+    let ends = tells_the_end(&rt, &mut hub, false)?;
+    let mut other = TcpHub::new(&rt, rt.alloc());
+    let hangs_up = tells_the_end(&rt, &mut other, true)?;
+    assert!(rt; ends && hangs_up);
     Ok(())
 }
 
@@ -185,7 +222,7 @@ fn hears_all<H: Hub>(alloc: Global, hub: &mut H) -> io::Result<bool> {
 
 /// Whether a hub that is opened here hears all its peers.
 fn is_fair<H: Hub>(rt: &HostRuntime, hub: &mut H) -> io::Result<bool> {
-    let port = opened(rt.alloc(), hub)?;
+    let port = opened(rt.alloc(), hub, false)?;
     let mut peers = Vec::new(rt.alloc());
     add_peers(rt, &mut peers, port)?;
     hears_all(rt.alloc(), hub)

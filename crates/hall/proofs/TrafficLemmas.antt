@@ -61,7 +61,7 @@ Grows-more {t} {u} {v} first more = record {
 }
 
 grows_own : (t : Traffic) (act : Act) → Grows t (after_own t act)
-grows_own t (Listens address) = Grows-same t
+grows_own t (Listens address hangup) = Grows-same t
 grows_own t (Gave (Opened id) bytes) = record { came = (Grows-same t).came; ended = λ h. h }
 grows_own t (Gave (Bytes id n) bytes) = record { came = (bytes, refl); ended = λ h. h }
 grows_own t (Gave (Ended id) bytes) = record { came = (Grows-same t).came; ended = λ h. refl }
@@ -115,7 +115,7 @@ SendsNone-apart id acts more apart = subst (SendsNone (told id acts)) (sym (told
 -- ---- what was opened
 
 opened_by_own : (t : Traffic) (act : Act) → t.opened ≡ true → (after_own t act).opened ≡ true
-opened_by_own t (Listens address) was = was
+opened_by_own t (Listens address hangup) was = was
 opened_by_own t (Gave (Opened id) bytes) was = refl
 opened_by_own t (Gave (Bytes id n) bytes) was = was
 opened_by_own t (Gave (Ended id) bytes) was = was

@@ -1,5 +1,5 @@
 -- What the statuses of the whole program say: of the files, of the output, of the hub, and without a fault of the outside.
-use Rattle.std.proofs.Common.{◌≡◌, ℕ, inl, inr, List, length, Result, Ok, Err, refl, sym, ap, ◌∙◌, subst}
+use Rattle.std.proofs.Common.{◌≡◌, ℕ, Bool, inl, inr, List, length, Result, Ok, Err, refl, sym, ap, ◌∙◌, subst}
 use Rattle.command_words.specs.Command.{address_of, command_of}
 use Rattle.command_words.specs.declared.command.Command.{Command}
 use Rattle.command_words.specs.declared.command.Command as Form
@@ -92,12 +92,12 @@ module _ (named : Result Command ℕ) (old new : Reach)
     answer-said (Ok bytes) NoMemory all ends hub = absurd ends
 
     -- of the end of a server, where the output has the faults that it had
-    served-said : (address : List ℕ) (turns : ℕ) (offer : Offer) (status : Status) →
+    served-said : (address : List ℕ) (hangup : Bool) (turns : ℕ) (offer : Offer) (status : Status) →
         HasOpenedAll (length (file_words named)) old.files new.files →
-        IsServedAt address turns offer old.hub new.hub status → new.out.faults ≡ old.out.faults → Said named old new status
-    served-said address turns offer _ all (serves.shut fails) out =
+        IsServedAt address hangup turns offer old.hub new.hub status → new.out.faults ≡ old.out.faults → Said named old new status
+    served-said address hangup turns offer _ all (serves.shut fails) out =
         record { read = all; written = out; hub = fails.rose; complete = λ command is still calm quiet. absurd (quiet fails.rose) }
-    served-said address turns offer _ all (serves.served {opened = opened} {end = how} does to) out = go how to.served.ends
+    served-said address hangup turns offer _ all (serves.served {opened = opened} {end = how} does to) out = go how to.served.ends
       where
         go : (how : ServeEnd) → EndsBy how turns to.served.n to.served.over opened new.hub → Said named old new (status_of_end how)
         go end.Over ends = record { read = all; written = out; hub = ends.2 ∙ does.faults; complete = λ command is still calm quiet. tt }
@@ -121,7 +121,7 @@ serve-said command old new status (outcome.refused offers same) out =
     (offers-cause (Faulty (Ok (Form.TheVariants.Serve command))) command old.files new.files (Err status) offers) out
     (ap (λ (s : HubSeen). s.faults) same)
 serve-said command old new status (outcome.served {offer = offer} offers to) out =
-    served-said (Ok (Form.TheVariants.Serve command)) old new (address_of command.listen) command.turns offer status
+    served-said (Ok (Form.TheVariants.Serve command)) old new (address_of command.listen) command.hangup command.turns offer status
     (offers-cause (Faulty (Ok (Form.TheVariants.Serve command))) command old.files new.files (Ok offer) offers) to out
 
 -- of words that are at fault, where nothing is done

@@ -46,21 +46,22 @@ pub record IsServedTo (turns : ℕ) (offer : Offer) (opened : HubSeen) (end : Se
       GetsOwn offer.0 (EventOf served.run.turns) id served.acts
   pub grows : (before : List Act) → opened.acts ≡ Some before → GrowsByUploads served.run
 
--- an offer is served: the hub couldn't be opened; or it was, once and at this address, and then turns were
--- taken
-pub data IsServedAt (address : List ℕ) (turns : ℕ) (offer : Offer) (old new : HubSeen) : Status → Type 0 where
-  shut : Fails old new → IsServedAt address turns offer old new status.HubFault
+-- an offer is served: the hub couldn't be opened; or it was, once, at this address and with an end of a peer as
+-- the loss of its connection or not, and then turns were taken
+pub data IsServedAt (address : List ℕ) (hangup : Bool) (turns : ℕ) (offer : Offer) (old new : HubSeen) : Status →
+    Type 0 where
+  shut : Fails old new → IsServedAt address hangup turns offer old new status.HubFault
   served :
-      {opened : HubSeen} {end : ServeEnd} → Does old opened (Listens address ∷ []) →
-      IsServedTo turns offer opened end new → IsServedAt address turns offer old new (status_of_end end)
+      {opened : HubSeen} {end : ServeEnd} → Does old opened (Listens address hangup ∷ []) →
+      IsServedTo turns offer opened end new → IsServedAt address hangup turns offer old new (status_of_end end)
 
 -- what the command `serve` does: what it offers is refused, and the hub is left; or it is served at the
--- command's address
+-- command's address, with ends as the command says
 pub data IsServeOutcome (command : ServeCommand) (old new : FilesSeen) (hub_old hub_new : HubSeen) (status :
     Status) : Type 0 where
   refused : Offers command old new (Err status) → hub_new ≡ hub_old →
       IsServeOutcome command old new hub_old hub_new status
   served :
       {offer : Offer} → Offers command old new (Ok offer) →
-      IsServedAt (address_of command.listen) command.turns offer hub_old hub_new status →
+      IsServedAt (address_of command.listen) command.hangup command.turns offer hub_old hub_new status →
       IsServeOutcome command old new hub_old hub_new status

@@ -35,11 +35,11 @@ pub fn serve_answer<F: Files, H: Hub>(
     }
 }
 
-/// Opens the hub at the command's address, and serves.
+/// Opens the hub at the command's address and as the command says of ends, and serves.
 fn serve_at<H: Hub>(hall: Hall, command: &ServeCommand, hub: &mut H) -> Status
     requires empty { IsNew (offer_of hall) }
-    ensures exact { IsServedAt (address_of command.now.listen) command.now.turns (offer_of hall)
-        (H.seen hub.old) (H.seen hub.new) result }
+    ensures exact { IsServedAt (address_of command.now.listen) command.now.hangup command.now.turns
+        (offer_of hall) (H.seen hub.old) (H.seen hub.new) result }
 {
     match open_at(command, hub) {
         Ok(()) => status_of_end(served(hall, command.turns, hub)),
@@ -47,13 +47,14 @@ fn serve_at<H: Hub>(hall: Hall, command: &ServeCommand, hub: &mut H) -> Status
     }
 }
 
-/// Opens the hub at the command's address.
+/// Opens the hub at the command's address, with an end of a peer as the loss of its connection where
+/// the command says so.
 fn open_at<H: Hub>(command: &ServeCommand, hub: &mut H) -> Result<(), Failed>
     ensures value { OnOk result (Does (H.seen hub.old) (H.seen hub.new)
-        (Listens (address_of command.now.listen) ∷ [])) }
+        (Listens (address_of command.now.listen) command.now.hangup ∷ [])) }
     ensures kept { OnErr result (Fails (H.seen hub.old) (H.seen hub.new)) }
 {
-    hub.open(command.address())
+    hub.open(command.address(), command.hangup)
 }
 
 /// Serves from an opened hub.

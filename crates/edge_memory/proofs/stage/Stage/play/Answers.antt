@@ -7,9 +7,9 @@ invariant_of-self c =
     c.args.most c.shot_at-shot.result = record {
       behind = rw (← c.script.ensures.value, ← c.as_slice.ensures.value) c.behind_waits-place.ensures.exact;
       shot_is = rw (← c.script-2.ensures.value) c.shot_at-shot.ensures.exact;
-      noted = c.note_event.ensures.value;
-      follows = c.follow.ensures.exact;
-      few = c.follow.ensures.few;
+      noted = rw c.told_as-event.ensures.exact at c.note_event.ensures.value;
+      follows = rw c.told_as-event.ensures.exact at c.follow.ensures.exact;
+      few = rw c.told_as-event.ensures.exact at c.follow.ensures.few;
       capacity = c.follow.ensures.capacity;
     } in
     Set-played c.self.inside c.args.self.now _ _ _ _ c.args.most c.shot_at-shot.result c.self.invariant c.self.view_is played
@@ -21,13 +21,13 @@ returns c =
     c.args.most c.shot_at-shot.result = record {
       behind = rw (← c.script.ensures.value, ← c.as_slice.ensures.value) c.behind_waits-place.ensures.exact;
       shot_is = rw (← c.script-2.ensures.value) c.shot_at-shot.ensures.exact;
-      noted = c.note_event.ensures.value;
-      follows = c.follow.ensures.exact;
-      few = c.follow.ensures.few;
+      noted = rw c.told_as-event.ensures.exact at c.note_event.ensures.value;
+      follows = rw c.told_as-event.ensures.exact at c.follow.ensures.exact;
+      few = rw c.told_as-event.ensures.exact at c.follow.ensures.few;
       capacity = c.follow.ensures.capacity;
     } in
     record {
-      exact = Plays-played c.self.inside c.args.self.now _ _ _ _ c.args.most c.shot_at-shot.result c.self.invariant c.self.view_is played
-          c.args.buf.now c.fill.new.buf c.bytes_in.result.now c.requires.fits (rw (← c.script-3.ensures.value) c.bytes_in.ensures.exact)
-          c.fill.ensures.filled;
+      exact = rw c.told_as-event.ensures.exact (Plays-played c.self.inside c.args.self.now _ _ _ _ c.args.most c.shot_at-shot.result c.self.invariant c.self.view_is played
+          c.args.buf.now c.fill.new.buf c.bytes_in.result.now c.requires.fits (rw (← c.script-3.ensures.value, ← c.told_as-event.ensures.exact) c.bytes_in.ensures.exact)
+          c.fill.ensures.filled);
     }

@@ -1,4 +1,4 @@
-use Rattle.std.proofs.Common.{◌≡◌, ◌-◌, length, arith, refl, ap, subst, length-append, vec_len, vec_capacity}
+use Rattle.std.proofs.Common.{◌≡◌, ◌-◌, ℕ, List, length, arith, refl, ap, subst, length-append, vec_len, vec_capacity}
 use Rattle.edge_io.specs.Acts.{Listens}
 use Rattle.edge_memory.specs.Tape.{Tape, Notes}
 use Rattle.edge_memory.specs.TapeView.{tape_of}
@@ -21,10 +21,10 @@ returns c =
     record {
       value = subst (λ (old : Tape). Notes old
           (tape_of (record { script = c.self.inside.script; notes = c.push_reserved.new.self; kept = c.append_reserved.new.bytes }))
-          (length c.args.address.now) (Listens c.args.address.now)) c.self.view_is
+          (length c.args.address.now) (Listens c.args.address.now c.args.hangup)) c.self.view_is
           (record {
             script = refl;
-            acts = acts-kept Listens _ _ _ _ _ _ _ _ _ refl c.append_reserved.ensures.items c.push_reserved.ensures.items
+            acts = acts-kept (λ (xs : List ℕ). Listens xs c.args.hangup) _ _ _ _ _ _ _ _ _ refl c.append_reserved.ensures.items c.push_reserved.ensures.items
                 (omega (arith, c.len-from.ensures, c.self.inside.kept.ok.0)) refl c.self.invariant.within;
             room = omega (arith, c.push_reserved.ensures.len, c.push_reserved.ensures.capacity, c.requires.room, old_room);
             place = omega (arith, c.append_reserved.ensures.len, c.append_reserved.ensures.capacity, c.requires.place, old_place);

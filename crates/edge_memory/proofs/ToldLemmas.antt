@@ -1,0 +1,85 @@
+-- What stays of an event, however an end of a peer is told.
+use Rattle.std.proofs.Common.{◌≡◌, ◌==◌, ℕ, Bool, true, false, List, refl, cond}
+use Rattle.edge_io.specs.Acts.{Act, Traffic, Gave, after_act, after_event}
+use Rattle.edge_io.specs.Hub.{FitsBuffer, IsFreshAmong, TellsEnd, bytes_given}
+use Rattle.edge_memory.specs.Script.{told_as}
+use Rattle.edge_memory.specs.Stage.{opened_by}
+use Rattle.edge_memory.specs.Tape.{noted_bytes}
+use Rattle.edge_io.specs.declared.event.Event.{Event}
+use Rattle.edge_io.specs.declared.event.Event.TheVariants.{Opened, Bytes, Ended, Lost, Quiet, Over}
+use Rattle.edge_memory.specs.declared.script.Script.{Script}
+
+-- it has the same bytes of the script
+pub noted-told : (script : List Script) (hangup : Bool) (event : Event) (place used : ℕ) →
+    noted_bytes script (told_as hangup event) place used ≡ noted_bytes script event place used
+noted-told script hangup (Opened id) place used = refl
+noted-told script hangup (Bytes id n) place used = refl
+noted-told script true (Ended id) place used = refl
+noted-told script false (Ended id) place used = refl
+noted-told script hangup (Lost id) place used = refl
+noted-told script hangup Quiet place used = refl
+noted-told script hangup Over place used = refl
+
+-- it opens as many connections
+pub opened_by-told : (hangup : Bool) (event : Event) → opened_by (told_as hangup event) ≡ opened_by event
+opened_by-told hangup (Opened id) = refl
+opened_by-told hangup (Bytes id n) = refl
+opened_by-told true (Ended id) = refl
+opened_by-told false (Ended id) = refl
+opened_by-told hangup (Lost id) = refl
+opened_by-told hangup Quiet = refl
+opened_by-told hangup Over = refl
+
+-- it opens the same connections
+pub opened-told : (id : ℕ) (hangup : Bool) (event : Event) (bytes : List ℕ) (t : Traffic) →
+    (after_act id t (Gave (told_as hangup event) bytes)).opened ≡ (after_act id t (Gave event bytes)).opened
+opened-told id hangup (Opened at) bytes t = refl
+opened-told id hangup (Bytes at n) bytes t = refl
+opened-told id true (Ended at) bytes t =
+    elim (at == id)
+    as (λ b. (cond b (after_event t (Lost at) bytes) t).opened ≡ (cond b (after_event t (Ended at) bytes) t).opened)
+    [ true ↦ refl | false ↦ refl ]
+opened-told id false (Ended at) bytes t = refl
+opened-told id hangup (Lost at) bytes t = refl
+opened-told id hangup Quiet bytes t = refl
+opened-told id hangup Over bytes t = refl
+
+-- it fits the same buffers
+pub fits-told : (hangup : Bool) (event : Event) (buffer : List ℕ) → FitsBuffer buffer event → FitsBuffer buffer (told_as hangup event)
+fits-told hangup (Opened id) buffer fits = fits
+fits-told hangup (Bytes id n) buffer fits = fits
+fits-told true (Ended id) buffer fits = tt
+fits-told false (Ended id) buffer fits = tt
+fits-told hangup (Lost id) buffer fits = fits
+fits-told hangup Quiet buffer fits = fits
+fits-told hangup Over buffer fits = fits
+
+-- it is as new
+pub fresh-told : (hangup : Bool) (event : Event) (acts : List Act) → IsFreshAmong acts event → IsFreshAmong acts (told_as hangup event)
+fresh-told hangup (Opened id) acts fresh = fresh
+fresh-told hangup (Bytes id n) acts fresh = fresh
+fresh-told true (Ended id) acts fresh = tt
+fresh-told false (Ended id) acts fresh = tt
+fresh-told hangup (Lost id) acts fresh = fresh
+fresh-told hangup Quiet acts fresh = fresh
+fresh-told hangup Over acts fresh = fresh
+
+-- it gives the same bytes of a buffer
+pub given-told : (hangup : Bool) (event : Event) (buffer : List ℕ) → bytes_given (told_as hangup event) buffer ≡ bytes_given event buffer
+given-told hangup (Opened id) buffer = refl
+given-told hangup (Bytes id n) buffer = refl
+given-told true (Ended id) buffer = refl
+given-told false (Ended id) buffer = refl
+given-told hangup (Lost id) buffer = refl
+given-told hangup Quiet buffer = refl
+given-told hangup Over buffer = refl
+
+-- it tells an end only where that is no loss
+pub only-told : (hangup : Bool) (event : Event) → TellsEnd hangup (told_as hangup event)
+only-told hangup (Opened id) = tt
+only-told hangup (Bytes id n) = tt
+only-told true (Ended id) = tt
+only-told false (Ended id) = refl
+only-told hangup (Lost id) = tt
+only-told hangup Quiet = tt
+only-told hangup Over = tt
