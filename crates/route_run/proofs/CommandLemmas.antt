@@ -295,4 +295,4 @@ module _ (Faulty : ℕ → Type 0)
         Cause Faulty (file_words (Ok (Form.TheVariants.Serve command))) old new r
     offers-cause command =
         last-cause Faulty _ _ (world_words (serve_files command)) (world-cause (serve_files command))
-        (λ offered. settles-cause Faulty (Ok (offer_over offered)) (λ status none. cc))
+        (λ offered. settles-cause Faulty (Ok (offer_over command.labels offered)) (λ status none. cc))

@@ -1,5 +1,5 @@
 -- What a server offers: a world and profiles, taken in from files. This project's own rule.
-use Rattle.std.specs.Prelude.{◌≡◌, length, Ok}
+use Rattle.std.specs.Prelude.{◌≡◌, ℕ, length, Ok}
 use Rattle.command_words.specs.declared.command.ServeCommand.{ServeCommand}
 use Rattle.hall_seats.specs.State.{Service, State, empty_hall}
 use Rattle.hall.specs.View.{HallValue, service_of, state_of}
@@ -10,10 +10,11 @@ use Rattle.run_files.specs.World.{OfferedValue, TakesWorld, WorldFiles}
 abbrev pub Offer : Type 0
 Offer = Service × State
 
--- a world with profiles as an offer, to which nobody is connected yet
-abbrev pub offer_over : OfferedValue → Offer
-offer_over offered =
-    (record { world = offered.world; given = length offered.profiles }, empty_hall offered.profiles)
+-- a world with profiles as an offer, to which nobody is connected yet, and whose searches settle so many labels
+-- at most
+abbrev pub offer_over : ℕ → OfferedValue → Offer
+offer_over labels offered =
+    (record { world = offered.world; given = length offered.profiles; labels = labels }, empty_hall offered.profiles)
 
 -- nobody is connected yet
 abbrev pub IsNew : Offer → Type 0
@@ -31,7 +32,7 @@ serve_files command = record {
 -- what the command `serve` offers: the files of the tag table, of the profiles, of the map and of the tiles
 -- are taken in one after the other. The first refusal ends it
 abbrev pub Offers : ServeCommand → Stage Offer
-Offers command = Then (TakesWorld (serve_files command)) (λ offered. Settles (Ok (offer_over offered)))
+Offers command = Then (TakesWorld (serve_files command)) (λ offered. Settles (Ok (offer_over command.labels offered)))
 
 -- what a hall is, as an offer
 abbrev pub offer_of : HallValue → Offer

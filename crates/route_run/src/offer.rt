@@ -38,19 +38,20 @@ pub fn take_offer<F: Files>(
         tiles,
         files,
     ) {
-        Ok(offered) => hall_over(alloc, offered),
+        Ok(offered) => hall_over(alloc, offered, command.labels),
         Err(status) => Err(status),
     }
 }
 
-/// A hall over a world with profiles.
-fn hall_over(alloc: Global, offered: Offered) -> Result<Hall, Status>
+/// A hall over a world with profiles, whose searches settle so many labels at most.
+fn hall_over(alloc: Global, offered: Offered, labels: u64) -> Result<Hall, Status>
     requires given { AreGiven (names_of (offered_of offered).profiles) }
-    ensures exact { Answers offer_of (Ok (offer_over (offered_of offered))) Status.NoMemory result }
+    ensures exact { Answers offer_of (Ok (offer_over labels (offered_of offered))) Status.NoMemory
+        result }
     ensures new { IfOk result (λ hall. IsNew (offer_of hall)) }
 {
     let Offered { world, shelf } = offered;
-    match Hall::new(alloc, world, shelf) {
+    match Hall::new(alloc, world, shelf, labels) {
         Ok(hall) => Ok(hall),
         Err(_) => Err(Status::NoMemory),
     }

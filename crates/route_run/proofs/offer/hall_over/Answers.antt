@@ -7,5 +7,5 @@ use Rattle.route_run.proofs.offer.hall_over.Goals as goal
 pub returns-in-Ok : goal.returns-in-Ok
 returns-in-Ok c =
     let hall = c.in-Ok.hall in
-    let made = made-offer (offered_of c.args.offered) (service_of hall) (state_of hall) c.in-Ok.ensures.service c.in-Ok.ensures.empty in
-    record { exact = ap Ok made; new = is-new (offered_of c.args.offered) (service_of hall, state_of hall) made }
+    let made = made-offer c.args.labels (offered_of c.args.offered) (service_of hall) (state_of hall) c.in-Ok.ensures.service c.in-Ok.ensures.empty in
+    record { exact = ap Ok made; new = is-new c.args.labels (offered_of c.args.offered) (service_of hall, state_of hall) made }

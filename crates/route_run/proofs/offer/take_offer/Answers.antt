@@ -22,7 +22,7 @@ returns-in-Ok g c = record {
   exact = then-goes _ _ _ _ _ _ _ (world-of (serve_files c.args.command.now) _ _ _ _ _ c.as_slice-profiles.ensures.value
       c.as_slice-tiles.ensures.value
       c.in-Ok.ensures.taken)
-      (settles offer_of (Ok (offer_over (offered_of c.in-Ok.offered))) (g.F.Files.seen c.take_world.new.files) c.hall_over.result
+      (settles offer_of (Ok (offer_over c.args.command.now.labels (offered_of c.in-Ok.offered))) (g.F.Files.seen c.take_world.new.files) c.hall_over.result
       c.hall_over.ensures.exact);
   new = c.hall_over.ensures.new;
 }
