@@ -1,23 +1,32 @@
 -- The stages of binding, one after the other.
-use Rattle.std.proofs.Common.{◌≡◌, ◌∙◌, ◌<◌, ◌≤◌, ℕ, ℤ, suc, ◌+◌, ◌-◌, List, length, slice_get, Some, Vec, refl, sym, ap, subst, inl, inr, arith}
+use Rattle.std.proofs.Common.{◌≡◌, ◌∙◌, ◌<◌, ◌≤◌, ℕ, suc, ◌+◌, ◌-◌, List, [], length, slice_get, Some, Result, Ok, Vec, refl, sym, ap, subst, inl, inr, arith}
 use Rattle.std.proofs.lemmas.Bool.{cases_eq}
 use Rattle.std.proofs.lemmas.Option.{slice_get_within}
 use Rattle.std.specs.declared.alloc.Global.{Global}
 use Rattle.hgt_tiles.specs.declared.tile_set.Tiles.{Tiles}
-use Rattle.overpass_graph.specs.Maps.{MapValue}
+use Rattle.lookup_table.specs.First.{TagTable}
+use Rattle.overpass_graph.specs.Maps.{IsMap, MapValue}
+use Rattle.profile_code.specs.Flat.{Flat}
 use Rattle.profile_code.specs.declared.scratch.Scratch.{Scratch}
-use Rattle.way_class.specs.Bound.{AreHeights, AreRows, Columns}
+use Rattle.context_check.specs.Checked.{Subject}
+use Rattle.way_class.specs.Bound.{AreHeights, AreNodesBound, AreRows, AreWaysBound, Columns}
+use Rattle.way_class.specs.Facts.{Binding}
 use Rattle.way_class.specs.Lows.{AreLows}
+use Rattle.way_class.specs.Outcome.{IsLinked}
+use Rattle.way_class.specs.Parts.{Suits}
 use Rattle.way_class.specs.Rows.{AreBoundedRows}
 use Rattle.way_class.specs.Spending.{Advances, Spends, items_at}
-use Rattle.way_class.specs.Stages.{AreParts, HasClasses, HasColumns, IsWhole, IsWithin, WorksOn, columns_of, nodes_at, spent_of, ways_at, work_left}
+use Rattle.way_class.specs.Stages.{AreParts, EndsLinked, HasClasses, HasColumns, IsBoundSoFar, IsWhole, IsWithin, KeepsClasses, WorksOn, columns_of, may_end, nodes_at, spent_of, ways_at, work_left}
 use Rattle.way_class.specs.declared.binder.Binder.{Binder}
+use Rattle.way_class.specs.declared.bound.Bound.{Bound}
 use Rattle.way_class.specs.declared.charge.NodeClass.{NodeClass}
+use Rattle.way_class.specs.declared.error.BindError.{BindError}
 use Rattle.way_class.specs.declared.height.Height.{Height}
 use Rattle.way_class.specs.declared.nodes.Nodes.{Nodes}
 use Rattle.way_class.specs.declared.row.Row.{Row}
 use Rattle.way_class.specs.declared.side.WayClass.{WayClass}
 use Rattle.way_class.specs.declared.ways.Ways.{Ways}
+use Rattle.way_class.proofs.BoundLemmas.{IsAllBound}
 use Rattle.way_class.proofs.SpendingLemmas.{spends-beside, spends-both, spends-light}
 
 -- rows are right by any columns where there are none, and by columns that stayed where there are some
@@ -45,6 +54,42 @@ less-two ra a rb b rc c rd d p q r s t u first second = omega arith
 less-three : (ra a rb b rc c rd d re e rf f p q s t : ℕ) → rb + b ≤ ra + a → rd + d ≤ rc + c → rf + f ≤ re + e →
     (p + q + rb + rd + rf) + (s + t + b + d + f) ≤ (p + q + ra + rc + re) + (s + t + a + c + e)
 less-three ra a rb b rc c rd d re e rf f p q s t first second third = omega arith
+
+-- ---- The beginning
+
+-- where nothing is there, nothing is more than the map has
+pub begun-within : (map : MapValue) (b : Binder) → length b.ways.numbers.items ≡ 0 → length b.nodes.numbers.items ≡ 0 →
+    b.heights.items ≡ [] → b.rows ≡ [] → b.lows.items ≡ [] → IsWithin map b
+begun-within map b ways nodes heights rows lows =
+    let no_heights : length b.heights.items ≡ 0 = ap length heights in
+    let no_rows : length b.rows ≡ 0 = ap length rows in
+    let no_lows : length b.lows.items ≡ 0 = ap length lows in
+    record {
+      ways = omega (arith, ways);
+      nodes = omega (arith, nodes);
+      heights = omega (arith, no_heights);
+      rows = omega (arith, no_rows);
+      lows = omega (arith, no_lows);
+      rows_wait = λ some. absurd (omega (arith, no_rows, some));
+      lows_wait = λ some. absurd (omega (arith, no_lows, some));
+    }
+
+-- no rows are within their bounds
+none-bounded : AreBoundedRows []
+none-bounded link row at = absurd (cc)
+
+-- and what is there is right
+pub begun-parts : (map : MapValue) (tiles : Tiles) (b : Binder) → b.heights.items ≡ [] → b.rows ≡ [] → b.lows.items ≡ [] →
+    AreParts map tiles b
+begun-parts map tiles b heights rows lows =
+    let no_heights : length b.heights.items ≡ 0 = ap length heights in
+    let no_rows : length b.rows ≡ 0 = ap length rows in
+    record {
+      heights = record { count = refl; each = λ node below. absurd (omega (arith, no_heights, below)) };
+      rows = record { count = refl; each = λ link below. absurd (omega (arith, no_rows, below)) };
+      bounded = subst AreBoundedRows (sym rows) none-bounded;
+      lows = lows-by b.ways.kept.items.items b.nodes.kept.items.items b.rows b.lows.items (ap length lows);
+    }
 
 -- ---- Ways and nodes
 
@@ -280,3 +325,69 @@ module _ (map : MapValue) (b : Binder) (heights : Vec Height Global) (budget lef
         globals = refl;
         weight = refl;
       }
+
+-- ---- Both together
+
+-- the classes that stay are bound as before
+pub classes-kept : (subject : Subject) (map : MapValue) (before after : Binder) → KeepsClasses before after →
+    IsBoundSoFar subject map before → IsBoundSoFar subject map after
+classes-kept subject map before after kept bound = record {
+  ways = subst (λ (w : Ways). AreWaysBound subject map (length w.numbers.items) w) (sym kept.ways) bound.ways;
+  nodes = subst (λ (n : Nodes). AreNodesBound subject map (length n.numbers.items) n) (sym kept.nodes) bound.nodes;
+}
+
+-- work goes on by what went on
+pub works-both : (map : MapValue) (budget left rest : ℕ) (a b c : Binder) → WorksOn map budget left a b →
+    WorksOn map left rest b c → WorksOn map budget rest a c
+works-both map budget left rest a b c first second = record {
+  spends = spends-both a.weight budget left rest (spent_of a) (spent_of b) (spent_of c) first.spends
+      (subst (λ w. Spends w left rest (spent_of b) (spent_of c)) first.weight second.spends);
+  less = le-both _ _ _ first.less second.less;
+  globals = second.globals ∙ first.globals;
+  weight = second.weight ∙ first.weight;
+}
+  where
+    le-both : (x y z : ℕ) → y ≤ x → z ≤ y → z ≤ x
+    le-both x y z one two = omega arith
+
+-- what is whole is bound, as the parts of the facts of all links
+pub whole-bound : (subject : Subject) (tiles : Tiles) (map : MapValue) (b : Binder) → IsMap map → IsWhole map b →
+    AreParts map tiles b → IsBoundSoFar subject map b →
+    IsAllBound subject tiles map b.ways b.nodes b.heights.items b.rows
+whole-bound subject tiles map b lawful whole parts bound = record {
+  lawful = lawful;
+  ways_are = subst (λ n. AreWaysBound subject map n b.ways) whole.columns.classes.ways bound.ways;
+  nodes_are = subst (λ n. AreNodesBound subject map n b.nodes) whole.columns.classes.nodes bound.nodes;
+  heights_are = subst (λ n. AreHeights tiles map n b.heights.items) whole.columns.heights parts.heights;
+  rows_are = subst (λ n. AreRows map (columns_of b) n b.rows) whole.rows parts.rows;
+}
+
+-- what may end binding later might have ended it before
+pub ends-before : (flat : Flat) (table : TagTable) (map : MapValue) (tiles : Tiles) (before after : Binder)
+    (end : Result Bound BindError) → after.globals ≡ before.globals →
+    ((subject : Subject) → Suits flat table subject → IsBoundSoFar subject map before → IsBoundSoFar subject map after) →
+    may_end flat table map tiles after end → may_end flat table map tiles before end
+ends-before flat table map tiles before after end same on later = λ subject suits bound.
+    let binding : Binding = record { subject = subject; map = map; tiles = tiles } in
+    subst (λ globals. EndsLinked binding globals end) same (later subject suits (on subject suits bound))
+
+-- what is bound in the end is what binding may end with
+pub ends-bound : (flat : Flat) (table : TagTable) (map : MapValue) (tiles : Tiles) (before after : Binder) (bound : Bound) →
+    after.globals ≡ before.globals →
+    ((subject : Subject) → Suits flat table subject → IsBoundSoFar subject map before → IsBoundSoFar subject map after) →
+    ((subject : Subject) → IsBoundSoFar subject map after →
+    IsLinked (record { subject = subject; map = map; tiles = tiles }) after.globals bound) →
+    may_end flat table map tiles before (Ok bound)
+ends-bound flat table map tiles before after bound same on linked = λ subject suits so_far.
+    let binding : Binding = record { subject = subject; map = map; tiles = tiles } in
+    subst (λ globals. IsLinked binding globals bound) same (linked subject (on subject suits so_far))
+
+-- where all of a budget was spent, that much less is left
+pub less-left : (map : MapValue) (budget left : ℕ) (before after : Binder) → WorksOn map budget left before after →
+    left ≡ 0 → work_left map after + budget ≤ work_left map before
+less-left map budget left before after works zero =
+    less-all (work_left map after) (work_left map before) (spent_of before) (spent_of after) budget works.less
+    (works.spends.used zero)
+  where
+    less-all : (w v s t n : ℕ) → w + t ≤ v + s → s + n ≤ t → w + n ≤ v
+    less-all w v s t n one two = omega arith

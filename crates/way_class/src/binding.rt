@@ -2,22 +2,25 @@
 
 ghost use Rattle.std.specs.Prelude.{◌≡◌, ◌⊎◌, MatchResult, Some};
 ghost use Rattle.context_check.specs.Checked.{Subject};
+ghost use Rattle.profile_code.specs.Scratch.{HoldsGlobals};
 ghost use Rattle.way_class.specs.Facts.{Binding};
 ghost use Rattle.way_class.specs.Outcome.{IsBoundTo};
 ghost use Rattle.way_class.specs.Parts.{HasTags, Suits};
 ghost use Rattle.way_class.specs.Refusals.{first_refusal};
-ghost use Rattle.way_class.specs.Stages.{IsUnderWay, may_end};
+ghost use Rattle.way_class.specs.Stages.{EndsLinked, IsUnderWay, may_end};
 ghost use Rattle.way_class.specs.declared.error.BindError.TheVariants.{NoMemory};
 
 use crate::binder::Binder;
 use crate::bound::Bound;
 use crate::error::BindError;
+use fixed_num::Num;
 use hgt_tiles::Tiles;
 use item_list::Turn;
 use lookup_table::Table;
 use overpass_graph::Map;
 use profile_code::{Code, Scratch, run_global};
 use std::alloc::Global;
+use tasks::Stepped;
 
 /// How much one step spends at most.
 const BUDGET: u32 = 1048576;
@@ -40,10 +43,7 @@ pub fn bind(
 {
     let mut scratch = Scratch::new(alloc, code)?;
     match run_global(code, &mut scratch) {
-        Ok(globals) => {
-            let binder = Binder::new(alloc, code, map, globals, scratch)?;
-            bound_by(alloc, code, table, map, tiles, binder)
-        }
+        Ok(globals) => linked(alloc, code, table, map, tiles, globals, scratch),
         Err(fault) => Err(BindError::Global {
             variable: fault.variable,
             kind: fault.kind,
@@ -51,8 +51,28 @@ pub fn bind(
     }
 }
 
+/// The same after the global section, with its values.
+fn linked(
+    alloc: Global,
+    code: &Code,
+    table: &Table,
+    map: &Map,
+    tiles: &Tiles,
+    globals: [Num; 7],
+    scratch: Scratch,
+) -> Result<Bound, BindError>
+    requires held { HoldsGlobals code.now scratch }
+    requires fits { HasTags code.now table.now }
+    ensures exact { (subject : Subject) → Suits code.now table.now subject →
+        let binding : Binding = record { subject = subject; map = map.now; tiles = tiles.now } in
+        EndsLinked binding globals result }
+{
+    let binder = Binder::new(alloc, code, map, globals, scratch)?;
+    finished(alloc, code, table, map, tiles, binder)
+}
+
 /// What binding comes to, after all its steps.
-fn bound_by(
+fn finished(
     alloc: Global,
     code: &Code,
     table: &Table,
@@ -65,9 +85,10 @@ fn bound_by(
 {
     let mut binder = binder;
     'steps: loop {
-        match binder.step(alloc, code, table, map, tiles, BUDGET).turn {
-            Turn::More(next) => binder = next,
+        let Stepped { spent: _, turn } = binder.step(alloc, code, table, map, tiles, BUDGET);
+        match turn {
             Turn::Done(end) => return end,
+            Turn::More(next) => binder = next,
         }
     }
 }

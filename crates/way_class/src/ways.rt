@@ -84,6 +84,7 @@ pub(crate) fn more_ways(
 
 /// No ways.
 pub(crate) fn no_ways(alloc: Global) -> Ways
+    ensures none { length result.numbers.items ≡ 0 }
     ensures empty { (subject : Subject) (map : MapValue) → AreWaysBound subject map 0 result }
 {
     Ways {

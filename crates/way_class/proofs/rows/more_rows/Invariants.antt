@@ -9,9 +9,9 @@ invariant-segments l =
     let columns : Columns = record { ways = l.ways; nodes = l.nodes; heights = l.heights } in
     record {
       count : length l.rows ≡ 2 * l.segment;
-      exact : AreRows l.map columns (length l.initial.rows) l.initial.rows → AreRows l.map columns (2 * l.segment) l.rows;
-      bounded : AreBoundedRows l.initial.rows → AreBoundedRows l.rows;
-      advances : Advances 0 l.budget l.left (length l.map.links) (items_at (length l.map.links) (length l.initial.rows))
+      exact : AreRows l.map columns (length l.fn.rows) l.fn.rows → AreRows l.map columns (2 * l.segment) l.rows;
+      bounded : AreBoundedRows l.fn.rows → AreBoundedRows l.rows;
+      advances : Advances 0 l.budget l.left (length l.map.links) (items_at (length l.map.links) (length l.fn.rows))
           (items_at (length l.map.links) (length l.rows));
-      same : length l.initial.rows ≡ length l.map.links → l.rows ≡ l.initial.rows;
+      same : length l.fn.rows ≡ length l.map.links → l.rows ≡ l.fn.rows;
     }
