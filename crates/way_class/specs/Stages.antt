@@ -1,5 +1,5 @@
 -- How far binding is, and what it may end with (this project's own rule).
-use Rattle.std.specs.Prelude.{◌≡◌, ◌⊎◌, ◌<◌, ◌≤◌, ◌+◌, ◌-◌, ℕ, ℤ, suc, List, length, Some, Result, MatchResult}
+use Rattle.std.specs.Prelude.{◌≡◌, ◌⊎◌, ◌<◌, ◌≤◌, ◌+◌, ◌-◌, ℕ, ℤ, List, length, Some, Result, MatchResult}
 use Rattle.context_check.specs.Checked.{Subject}
 use Rattle.hgt_tiles.specs.declared.tile_set.Tiles.{Tiles}
 use Rattle.lookup_table.specs.First.{TagTable}
@@ -12,7 +12,7 @@ use Rattle.way_class.specs.Lows.{AreLows}
 use Rattle.way_class.specs.Outcome.{IsLinked, links_refusal}
 use Rattle.way_class.specs.Parts.{HasTags, Suits}
 use Rattle.way_class.specs.Rows.{AreBoundedRows}
-use Rattle.way_class.specs.Spending.{Progress, Spends, classes_at, items_at, weight_of}
+use Rattle.way_class.specs.Spending.{Progress, Spends, classes_at, weight_of}
 use Rattle.way_class.specs.declared.binder.Binder.{Binder}
 use Rattle.way_class.specs.declared.bound.Bound.{Bound}
 use Rattle.way_class.specs.declared.error.BindError.{BindError}

@@ -1,4 +1,4 @@
-use Rattle.std.proofs.Common.{◌≡◌, ◌∙◌, ◌*◌, ◌+◌, ◌<◌, ◌≤◌, ◌∷◌, [], length, length-append, refl, sym, ap, subst, arith}
+use Rattle.std.proofs.Common.{◌≡◌, ◌∙◌, ◌*◌, ◌+◌, ◌<◌, ◌≤◌, ◌∷◌, [], length, length-append, sym, ap, subst, arith}
 use Rattle.way_class.specs.Bound.{AreRows, Columns}
 use Rattle.way_class.specs.Rows.{AreBoundedRows, ahead_row, back_row}
 use Rattle.way_class.specs.Spending.{Advances, items_at}

@@ -1,4 +1,4 @@
-use Rattle.std.proofs.Common.{◌≡◌, ◌<◌, ◌≤◌, ◌∙◌, suc, ap, length, refl, sym, subst, arith}
+use Rattle.std.proofs.Common.{◌≡◌, ◌<◌, ◌∙◌, suc, ap, length, refl, sym, subst, arith}
 use Rattle.way_class.specs.Bound.{AreWaysBound}
 use Rattle.way_class.specs.Refusals.{way_refusal}
 use Rattle.way_class.specs.Stages.{ways_at}

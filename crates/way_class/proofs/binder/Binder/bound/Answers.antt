@@ -1,4 +1,4 @@
-use Rattle.std.proofs.Common.{◌≡◌, ◌∙◌, length, refl, sym, subst, arith}
+use Rattle.std.proofs.Common.{◌∙◌, refl, sym, subst, arith}
 use Rattle.way_class.specs.Lows.{AreLows}
 use Rattle.way_class.proofs.BoundLemmas.{all-free, facts-are, facts-there}
 use Rattle.way_class.proofs.StageLemmas.{whole-bound}

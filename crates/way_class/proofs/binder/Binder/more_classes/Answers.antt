@@ -1,4 +1,4 @@
-use Rattle.std.proofs.Common.{length, subst}
+use Rattle.std.proofs.Common.{subst}
 use Rattle.way_class.specs.Bound.{AreWaysBound}
 use Rattle.way_class.proofs.BoundLemmas.{refused-second}
 use Rattle.way_class.proofs.PartLemmas.{or-second}

@@ -1,4 +1,4 @@
-use Rattle.std.proofs.Common.{length, sym, subst}
+use Rattle.std.proofs.Common.{sym, subst}
 use Rattle.way_class.specs.Bound.{AreNodesBound, AreWaysBound}
 use Rattle.way_class.proofs.StageLemmas.{begun-parts, begun-within}
 use Rattle.way_class.proofs.binder.Binder.new.Goals as goal

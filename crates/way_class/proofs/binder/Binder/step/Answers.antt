@@ -1,4 +1,4 @@
-use Rattle.std.proofs.Common.{◌≡◌, ◌<◌, subst, arith}
+use Rattle.std.proofs.Common.{subst, arith}
 use Rattle.way_class.specs.Spending.{Spends}
 use Rattle.way_class.specs.Stages.{spent_of}
 use Rattle.way_class.proofs.StageLemmas.{ends-before, ends-bound, less-left}
