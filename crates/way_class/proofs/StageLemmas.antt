@@ -11,12 +11,13 @@ use Rattle.profile_code.specs.declared.scratch.Scratch.{Scratch}
 use Rattle.context_check.specs.Checked.{Subject}
 use Rattle.way_class.specs.Bound.{AreHeights, AreNodesBound, AreRows, AreWaysBound, Columns}
 use Rattle.way_class.specs.Facts.{Binding}
+use Rattle.way_class.specs.Links.{links_of}
 use Rattle.way_class.specs.Lows.{AreLows}
 use Rattle.way_class.specs.Outcome.{IsLinked}
 use Rattle.way_class.specs.Parts.{Suits}
 use Rattle.way_class.specs.Rows.{AreBoundedRows}
 use Rattle.way_class.specs.Spending.{Advances, Spends, items_at}
-use Rattle.way_class.specs.Stages.{AreParts, EndsLinked, HasClasses, HasColumns, IsBoundSoFar, IsWhole, IsWithin, KeepsClasses, WorksOn, columns_of, may_end, nodes_at, spent_of, ways_at, work_left}
+use Rattle.way_class.specs.Stages.{AreParts, EndsLinked, HasClasses, HasColumns, IsBoundSoFar, IsWhole, IsWithin, KeepsClasses, WorksOn, columns_of, MayEnd, nodes_at, spent_of, ways_at, work_left}
 use Rattle.way_class.specs.declared.binder.Binder.{Binder}
 use Rattle.way_class.specs.declared.bound.Bound.{Bound}
 use Rattle.way_class.specs.declared.charge.NodeClass.{NodeClass}
@@ -366,10 +367,13 @@ whole-bound subject tiles map b lawful whole parts bound = record {
 pub ends-before : (flat : Flat) (table : TagTable) (map : MapValue) (tiles : Tiles) (before after : Binder)
     (end : Result Bound BindError) → after.globals ≡ before.globals →
     ((subject : Subject) → Suits flat table subject → IsBoundSoFar subject map before → IsBoundSoFar subject map after) →
-    may_end flat table map tiles after end → may_end flat table map tiles before end
-ends-before flat table map tiles before after end same on later = λ subject suits bound.
-    let binding : Binding = record { subject = subject; map = map; tiles = tiles } in
-    subst (λ globals. EndsLinked binding globals end) same (later subject suits (on subject suits bound))
+    MayEnd flat table map tiles after end → MayEnd flat table map tiles before end
+ends-before flat table map tiles before after end same on later = record {
+  comes_to = λ subject suits bound.
+      let binding : Binding = record { subject = subject; map = map; tiles = tiles } in
+      subst (λ globals. EndsLinked binding globals end) same (later.comes_to subject suits (on subject suits bound));
+  count = later.count;
+}
 
 -- what is bound in the end is what binding may end with
 pub ends-bound : (flat : Flat) (table : TagTable) (map : MapValue) (tiles : Tiles) (before after : Binder) (bound : Bound) →
@@ -377,10 +381,13 @@ pub ends-bound : (flat : Flat) (table : TagTable) (map : MapValue) (tiles : Tile
     ((subject : Subject) → Suits flat table subject → IsBoundSoFar subject map before → IsBoundSoFar subject map after) →
     ((subject : Subject) → IsBoundSoFar subject map after →
     IsLinked (record { subject = subject; map = map; tiles = tiles }) after.globals bound) →
-    may_end flat table map tiles before (Ok bound)
-ends-bound flat table map tiles before after bound same on linked = λ subject suits so_far.
-    let binding : Binding = record { subject = subject; map = map; tiles = tiles } in
-    subst (λ globals. IsLinked binding globals bound) same (linked subject (on subject suits so_far))
+    (links_of bound).count ≡ length map.links → MayEnd flat table map tiles before (Ok bound)
+ends-bound flat table map tiles before after bound same on linked count = record {
+  comes_to = λ subject suits so_far.
+      let binding : Binding = record { subject = subject; map = map; tiles = tiles } in
+      subst (λ globals. IsLinked binding globals bound) same (linked subject (on subject suits so_far));
+  count = count;
+}
 
 -- where all of a budget was spent, that much less is left
 pub less-left : (map : MapValue) (budget left : ℕ) (before after : Binder) → WorksOn map budget left before after →

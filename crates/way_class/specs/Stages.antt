@@ -1,5 +1,5 @@
 -- How far binding is, and what it may end with (this project's own rule).
-use Rattle.std.specs.Prelude.{◌≡◌, ◌⊎◌, ◌<◌, ◌≤◌, ◌+◌, ◌-◌, ℕ, ℤ, List, length, Some, Result, MatchResult}
+use Rattle.std.specs.Prelude.{◌≡◌, ◌⊎◌, ◌<◌, ◌≤◌, ◌+◌, ◌-◌, ℕ, ℤ, List, length, Some, IfOk, Result, MatchResult}
 use Rattle.context_check.specs.Checked.{Subject}
 use Rattle.hgt_tiles.specs.declared.tile_set.Tiles.{Tiles}
 use Rattle.lookup_table.specs.First.{TagTable}
@@ -8,6 +8,7 @@ use Rattle.profile_code.specs.Flat.{Flat}
 use Rattle.profile_code.specs.Scratch.{HoldsGlobals}
 use Rattle.way_class.specs.Bound.{AreHeights, AreNodesBound, AreRows, AreWaysBound, Columns}
 use Rattle.way_class.specs.Facts.{Binding}
+use Rattle.way_class.specs.Links.{links_of}
 use Rattle.way_class.specs.Lows.{AreLows}
 use Rattle.way_class.specs.Outcome.{IsLinked, links_refusal}
 use Rattle.way_class.specs.Parts.{HasTags, Suits}
@@ -109,10 +110,11 @@ EndsLinked binding globals end =
     MatchResult end (IsLinked binding globals)
     (λ e. (e ≡ NoMemory) ⊎ (links_refusal binding.subject binding.map ≡ Some e))
 
--- what binding may end with: what it comes to for each profile of this code and this table for which what is bound
--- so far is right
-abbrev pub may_end : Flat → TagTable → MapValue → Tiles → Binder → Result Bound BindError → Type 0
-may_end flat table map tiles b end =
-    (subject : Subject) → Suits flat table subject → IsBoundSoFar subject map b →
-    let binding : Binding = record { subject = subject; map = map; tiles = tiles } in
-    EndsLinked binding b.globals end
+-- binding may end with this: with what it comes to for each profile of this code and this table for which what is
+-- bound so far is right; and with facts for the links of the map alone
+pub record MayEnd (flat : Flat) (table : TagTable) (map : MapValue) (tiles : Tiles) (b : Binder)
+    (end : Result Bound BindError) : Type 0 where
+  pub comes_to :
+      (subject : Subject) → Suits flat table subject → IsBoundSoFar subject map b →
+      EndsLinked (record { subject = subject; map = map; tiles = tiles }) b.globals end
+  pub count : IfOk end (λ bound. (links_of bound).count ≡ length map.links)

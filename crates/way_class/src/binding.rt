@@ -7,7 +7,7 @@ ghost use Rattle.way_class.specs.Facts.{Binding};
 ghost use Rattle.way_class.specs.Outcome.{IsBoundTo};
 ghost use Rattle.way_class.specs.Parts.{HasTags, Suits};
 ghost use Rattle.way_class.specs.Refusals.{first_refusal};
-ghost use Rattle.way_class.specs.Stages.{EndsLinked, IsUnderWay, may_end};
+ghost use Rattle.way_class.specs.Stages.{EndsLinked, IsUnderWay, MayEnd};
 ghost use Rattle.way_class.specs.declared.error.BindError.TheVariants.{NoMemory};
 
 use crate::binder::Binder;
@@ -81,7 +81,7 @@ fn finished(
     binder: Binder,
 ) -> Result<Bound, BindError>
     requires over { IsUnderWay code.now table.now map.now tiles.now binder }
-    ensures ends { may_end code.now table.now map.now tiles.now binder result }
+    ensures ends { MayEnd code.now table.now map.now tiles.now binder result }
 {
     let mut binder = binder;
     'steps: loop {

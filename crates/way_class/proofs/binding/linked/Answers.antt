@@ -11,5 +11,5 @@ returns c = record {
   exact = λ subject suits.
       let binding : Binding = record { subject = subject; map = c.args.map.now; tiles = c.args.tiles.now } in
       subst (λ globals. EndsLinked binding globals c.finished.result) c.in_ok-binder.ensures.value
-      (c.finished.ensures.ends subject suits (c.in_ok-binder.ensures.sound subject));
+      (c.finished.ensures.ends.comes_to subject suits (c.in_ok-binder.ensures.sound subject));
 }

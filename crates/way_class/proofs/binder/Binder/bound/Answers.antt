@@ -14,6 +14,7 @@ invariant_of-result c = record {
 
 pub returns : goal.returns
 returns c = record {
+  count = c.requires.whole.rows;
   exact = λ tiles subject parts bound.
       let map = c.args.map.now in
       let b = c.args.self in

@@ -12,7 +12,7 @@ bound-requires c = record {
 }
 
 pub returns-in-Err-clause-steps : goal.returns-in-Err-clause-steps
-returns-in-Err-clause-steps c = record { fits = omega arith; turn = c.in-Err.ensures.exact }
+returns-in-Err-clause-steps c = record { fits = omega arith; turn = record { comes_to = c.in-Err.ensures.exact; count = tt } }
 
 pub returns-then-left-eq0-clause-steps : goal.returns-then-left-eq0-clause-steps
 returns-then-left-eq0-clause-steps c = record {
@@ -36,5 +36,6 @@ returns-else-left-eq0-clause-steps c = record {
   fits = omega arith;
   turn = ends-bound c.args.code.now c.args.table.now c.args.map.now c.args.tiles.now c.args.self _ c.bound.result
       c.in-Ok.ensures.works.globals c.in-Ok.ensures.exact
-      (λ subject bound. c.bound.ensures.exact c.args.tiles.now subject c.in-Ok.ensures.over.parts bound);
+      (λ subject bound. c.bound.ensures.exact c.args.tiles.now subject c.in-Ok.ensures.over.parts bound)
+      c.bound.ensures.count;
 }
