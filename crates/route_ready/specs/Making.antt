@@ -54,7 +54,7 @@ pub record IsMade (bound : Bound) (kept : KeptTerms) (ready : Ready) : Type 0 wh
 
 -- it ends so
 abbrev pub EndsMade : Bound → KeptTerms → Result Ready RouteError → Type 0
-EndsMade bound kept end = MatchResult end (IsMade bound kept) (λ e. Empty {0})
+EndsMade bound kept end = MatchResult end (IsMade bound kept) (λ e. ⊥)
 
 -- ---- One after the other
 
