@@ -1,7 +1,6 @@
-use Rattle.std.proofs.Common.{◌≡◌, ◌<◌, refl, arith, subst, sym}
+use Rattle.std.proofs.Common.{◌<◌, arith, subst, sym}
 use Rattle.cost_model.proofs.ModeLemmas.{modes-step}
 use Rattle.cost_model.specs.Facts.{AreFacts}
-use Rattle.cost_model.specs.Modes.{modes_before}
 use Rattle.cost_model.specs.declared.facts.LinkFacts.{LinkFacts}
 use Rattle.way_class.specs.Links.{links_of, links_of-sound}
 use Rattle.route_ready.proofs.comparing.more_modes.Goals as goal

@@ -1,4 +1,4 @@
-use Rattle.std.proofs.Common.{◌≡◌, subst}
+use Rattle.std.proofs.Common.{subst}
 use Rattle.route_ready.proofs.ReadyLemmas.{lent-is}
 use Rattle.route_ready.specs.World.{world_of}
 use Rattle.route_ready.specs.Worlds.{WorldValue}
