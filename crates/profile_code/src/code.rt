@@ -1,5 +1,5 @@
 //! The flat code of a profile.
-ghost use Rattle.std.specs.Prelude.{◌≡◌};
+ghost use Rattle.std.specs.Prelude.{◌≡◌, length};
 ghost use Rattle.profile_code.specs.Flat.{FlatSection, IsSafe, own_section, section_of};
 
 use crate::instr::Instr;
@@ -165,6 +165,13 @@ impl Code {
         ensures sound { IsSafe self.now }
     {
         self.own(part).instrs()
+    }
+
+    /// How many operations a part's section has, of which an evaluation runs each at most once.
+    pub fn length(&self, part: Part) -> usize
+        ensures value { result ≡ length (own_section self.now part).instrs }
+    {
+        self.own_instrs(part).len()
     }
 
     /// The code of a part's section.

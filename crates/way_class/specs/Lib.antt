@@ -10,3 +10,5 @@ pub mod Bound
 pub mod Lows
 pub mod Links
 pub mod Outcome
+pub mod Spending
+pub mod Stages

@@ -3,6 +3,7 @@
 #![tactic(auto)]
 
 mod binder;
+mod binding;
 mod bound;
 mod charge;
 mod charges;
@@ -13,6 +14,7 @@ mod heights;
 mod lookups;
 mod lows;
 mod nodes;
+mod pace;
 mod paired;
 mod row;
 mod rows;
@@ -20,6 +22,7 @@ mod side;
 mod sides;
 mod ways;
 
-pub use binder::bind;
+pub use binder::Binder;
+pub use binding::bind;
 pub use bound::Bound;
 pub use error::{BindError, WayName};

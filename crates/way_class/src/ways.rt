@@ -1,10 +1,10 @@
 //! The classes of a map's ways.
 
-ghost use Rattle.std.specs.Prelude.{◌≡◌, ◌⊎◌, ◌<◌, ◌+◌, length, OnOk, MatchResult, Some};
+ghost use Rattle.std.specs.Prelude.{◌≡◌, ◌⊎◌, ◌<◌, ◌≤◌, ◌+◌, length, IfOk, OnOk, MatchResult, Some};
 ghost use Rattle.context_check.specs.Checked.{Subject};
 ghost use Rattle.item_list.specs.Answer.{answer_map};
 ghost use Rattle.map_tables.specs.Kept.{Extends};
-ghost use Rattle.overpass_graph.specs.Maps.{way_at};
+ghost use Rattle.overpass_graph.specs.Maps.{MapValue, way_at};
 ghost use Rattle.profile_code.specs.Correct.{IsCodeOf};
 ghost use Rattle.profile_code.specs.Flat.{tags_of};
 ghost use Rattle.profile_code.specs.Scratch.{HoldsGlobals};
@@ -14,10 +14,13 @@ ghost use Rattle.way_class.specs.Classes.{IsNumberOf, Keeps};
 ghost use Rattle.way_class.specs.Parts.{HasTags, IsKeyClass, IsWayClass, Suits, fields_of, key_refusal};
 ghost use Rattle.way_class.specs.Refusals.{first_below, way_error, way_refusal};
 ghost use Rattle.way_class.specs.Sides.{sided};
+ghost use Rattle.way_class.specs.Spending.{AddsOne, Advances};
+ghost use Rattle.way_class.specs.Stages.{ways_at};
 ghost use Rattle.way_class.specs.declared.error.BindError.TheVariants.{NoMemory};
 
 use crate::classes::Classes;
 use crate::error::BindError;
+use crate::pace::left_after;
 use crate::side::{WayClass, WaySide};
 use crate::sides::{WayFault, way_side};
 use lookup_table::{Part, Table, set_first};
@@ -32,32 +35,62 @@ pub(crate) struct Ways {
     pub(crate) numbers: Vec<u32>,
 }
 
-/// The classes of all ways of a map, or the first refusal.
-pub(crate) fn bind_ways(
+/// The classes of the next ways of a map, as many as a budget allows, or the first refusal. It gives
+/// what is left of the budget.
+pub(crate) fn more_ways(
     alloc: Global,
     code: &Code,
     table: &Table,
     map: &Map,
+    ways: &mut Ways,
     scratch: &mut Scratch,
-) -> Result<Ways, BindError>
+    weight: u32,
+    budget: u32,
+) -> Result<u32, BindError>
     requires held { HoldsGlobals code.now scratch.old }
     requires fits { HasTags code.now table.now }
-    ensures exact { (subject : Subject) → Suits code.now table.now subject → MatchResult result
-        (AreWaysBound subject map.now (length map.now.ways))
+    requires within { length ways.old.numbers.items ≤ length map.now.ways }
+
+    ensures exact { (subject : Subject) → Suits code.now table.now subject →
+        AreWaysBound subject map.now (length ways.old.numbers.items) ways.old →
+        MatchResult result
+        (λ _. AreWaysBound subject map.now (length ways.new.numbers.items) ways.new)
         (λ e. (e ≡ NoMemory) ⊎ (first_below (way_refusal subject map.now) (length map.now.ways) ≡
         Some e)) }
+    ensures advances { let most = length map.now.ways in
+        IfOk result (λ left. Advances weight budget left most (ways_at weight most ways.old)
+        (ways_at weight most ways.new)) }
+    ensures whole { IfOk result
+        (λ left. 0 < left → length ways.new.numbers.items ≡ length map.now.ways) }
+    ensures same { OnOk result
+        (length ways.old.numbers.items ≡ length map.now.ways → ways.new ≡ ways.old) }
     ensures kept { HoldsGlobals code.now scratch.new }
 {
-    let mut ways = Ways {
-        kept: Classes::new(alloc),
-        numbers: Vec::new(alloc),
-    };
-    'ways: for way in 0..map.ways() {
-        if let Err(e) = add_way(alloc, code, table, map, way, &mut ways, scratch) {
+    let count = map.ways();
+    let first = ways.numbers.len() as u32;
+    let mut left = budget;
+    'ways: for way in first..count {
+        if left == 0 {
+            return Ok(0);
+        }
+        let before = ways.kept.items.len();
+        if let Err(e) = add_way(alloc, code, table, map, way, ways, scratch) {
             return Err(e);
         }
+        left = left_after(left, weight, before, ways.kept.items.len());
     }
-    Ok(ways)
+    Ok(left)
+}
+
+/// No ways.
+pub(crate) fn no_ways(alloc: Global) -> Ways
+    ensures none { length result.numbers.items ≡ 0 }
+    ensures empty { (subject : Subject) (map : MapValue) → AreWaysBound subject map 0 result }
+{
+    Ways {
+        kept: Classes::new(alloc),
+        numbers: Vec::new(alloc),
+    }
 }
 
 /// Adds the class of the next way.
@@ -77,6 +110,10 @@ fn add_way(
         AreWaysBound subject map.now way ways.old →
         MatchResult result (λ _. AreWaysBound subject map.now (way + 1) ways.new)
         (λ e. (e ≡ NoMemory) ⊎ (way_refusal subject map.now way ≡ Some e)) }
+    ensures counts { OnOk result
+        (length ways.new.numbers.items ≡ length ways.old.numbers.items + 1) }
+    ensures adds { OnOk result
+        (AddsOne (length ways.old.kept.items.items) (length ways.new.kept.items.items)) }
     ensures kept { HoldsGlobals code.now scratch.new }
 {
     let number = way_number(alloc, code, table, map, way, &mut ways.kept, scratch)?;
@@ -106,6 +143,7 @@ fn way_number(
         Keeps (IsKeyClass subject) kept.old →
         OnOk result (Keeps (IsKeyClass subject) kept.new) }
     ensures grows { OnOk result (Extends kept.old.items.items kept.new.items.items) }
+    ensures adds { OnOk result (AddsOne (length kept.old.items.items) (length kept.new.items.items)) }
     ensures held { HoldsGlobals code.now scratch.new }
 {
     let mut key = table.encode(alloc, Part::Way, map.way_tags(way))?;
@@ -132,6 +170,7 @@ fn class_number(
         Keeps (IsKeyClass subject) kept.old →
         OnOk result (Keeps (IsKeyClass subject) kept.new) }
     ensures grows { OnOk result (Extends kept.old.items.items kept.new.items.items) }
+    ensures adds { OnOk result (AddsOne (length kept.old.items.items) (length kept.new.items.items)) }
     ensures held { HoldsGlobals code.now scratch.new }
 {
     if let Some(number) = kept.find(&key) {
