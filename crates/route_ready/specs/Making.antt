@@ -1,5 +1,5 @@
 -- A profile that is being made ready in turns: its links are bound, and then compared (this project's own rule).
-use Rattle.std.specs.Prelude.{◌≡◌, ◌⊎◌, ◌≤◌, ◌-◌, ℕ, length, IfOk, Result, Ok, Err, MatchResult}
+use Rattle.std.specs.Prelude.{◌≡◌, ◌⊎◌, ◌<◌, ◌≤◌, ◌+◌, ◌-◌, ◌/◌, ℕ, suc, length, IfOk, Result, Ok, Err, MatchResult}
 use Rattle.cost_model.specs.Modes.{modes_before}
 use Rattle.route_ready.specs.Readiness.{Readies, Terms}
 use Rattle.route_ready.specs.Refusals.{bind_error}
@@ -11,11 +11,11 @@ use Rattle.route_ready.specs.declared.linking.KeptTerms.{KeptTerms}
 use Rattle.route_ready.specs.declared.linking.Linking.{Linking}
 use Rattle.route_ready.specs.declared.ready.Ready.{Ready}
 use Rattle.route_ready.specs.declared.world.World.{World}
-use Rattle.tasks.specs.Chains.{AreOver, answers_in}
+use Rattle.tasks.specs.Chains.{AreOver, answers_in, left_in}
 use Rattle.tasks.specs.declared.chain.Chain.{Chain}
 use Rattle.way_class.specs.Facts.{Binding}
 use Rattle.way_class.specs.Links.{links_of}
-use Rattle.way_class.specs.Stages.{IsUnderWay, MayEnd, work_left}
+use Rattle.way_class.specs.Stages.{IsUnderWay, MayEnd, most_work, work_left}
 use Rattle.way_class.specs.declared.bound.Bound.{Bound}
 use Rattle.way_class.specs.declared.error.BindError.{BindError}
 
@@ -76,12 +76,24 @@ abbrev pub PreparingEnds : World → Chain Linking Comparing KeptTerms → Resul
 PreparingEnds world p end =
     answers_in (LinkingEnds world) (λ c. EndsMade c.bound c.terms) FollowsBinding p end
 
--- making it ready began: it goes on over the world, and all that it may end with are these terms, the refusal, or
--- want of memory
+-- how many turns of a budget are left
+abbrev pub preparing_left : World → (budget : ℕ) → Chain Linking Comparing KeptTerms → ℕ
+preparing_left world budget p =
+    left_in (λ l. linking_left world l / budget) (λ c. comparing_left c / budget)
+    (λ kept. length (world_of world).map.links / budget) p
+
+-- how many a profile takes at most, whatever it is
+abbrev pub most_turns : World → (budget : ℕ) → ℕ
+most_turns world budget =
+    suc (most_work (world_of world).map / budget + length (world_of world).map.links / budget)
+
+-- making it ready began: it goes on over the world, for no more turns than a profile takes at most, and all that it
+-- may end with are these terms, the refusal, or want of memory
 pub record IsBegun (world : World) (binding : Binding) (terms : Result Terms RouteError)
     (p : Chain Linking Comparing KeptTerms) : Type 0 where
   pub over : IsPreparing world p
   pub ends : (end : Result Ready RouteError) → PreparingEnds world p end → Readies binding terms end
+  pub most : (budget : ℕ) → 0 < budget → preparing_left world budget p ≤ most_turns world budget
 
 -- making it ready begins so, gives the refusal, or reports want of memory
 abbrev pub Begins :

@@ -2,7 +2,8 @@
 use Rattle.std.proofs.Common.{◌≡◌, ◌∙◌, ◌<◌, ◌≤◌, ℕ, suc, ◌+◌, ◌-◌, ◌*◌, refl, sym, ap, inl, inr, subst, arith}
 use Rattle.std.proofs.Math.Nat.{mul-suc}
 use Rattle.std.proofs.lemmas.Bool.{cases_eq}
-use Rattle.way_class.specs.Spending.{Advances, AddsOne, Progress, Spends, classes_at, items_at}
+use Rattle.profile_code.specs.Flat.{Flat}
+use Rattle.way_class.specs.Spending.{Advances, AddsOne, Progress, Spends, classes_at, items_at, weight_of}
 
 -- nothing is spent where nothing is done
 pub spends-none : (weight budget n : ℕ) → Spends weight budget budget n n
@@ -138,3 +139,8 @@ class-more weight budget left rest most numbers classes more next start are next
           grows = omega arith;
           within = omega arith;
         }
+
+-- an evaluation counts no more than a million and one
+pub weight-most : (flat : Flat) → weight_of flat ≤ 1000001
+unfolding weight_of
+weight-most flat = omega arith

@@ -1,5 +1,6 @@
 -- The stages of binding, one after the other.
-use Rattle.std.proofs.Common.{◌≡◌, ◌∙◌, ◌<◌, ◌≤◌, ℕ, ◌+◌, ◌-◌, List, [], length, Result, Ok, Vec, refl, sym, ap, subst, inl, inr, arith}
+use Rattle.std.proofs.Common.{suc, ◌*◌, ◌≡◌, ◌∙◌, ◌<◌, ◌≤◌, ℕ, ◌+◌, ◌-◌, List, [], length, Result, Ok, Vec, refl, sym, ap, subst, inl, inr, arith}
+use Rattle.std.proofs.Math.Nat.{mul-le-mul_right}
 use Rattle.std.proofs.lemmas.Bool.{cases_eq}
 use Rattle.std.proofs.lemmas.Option.{slice_get_within}
 use Rattle.std.specs.declared.alloc.Global.{Global}
@@ -16,8 +17,8 @@ use Rattle.way_class.specs.Lows.{AreLows}
 use Rattle.way_class.specs.Outcome.{IsLinked}
 use Rattle.way_class.specs.Parts.{Suits}
 use Rattle.way_class.specs.Rows.{AreBoundedRows}
-use Rattle.way_class.specs.Spending.{Advances, Spends, items_at}
-use Rattle.way_class.specs.Stages.{AreParts, EndsLinked, HasClasses, HasColumns, IsBoundSoFar, IsWhole, IsWithin, KeepsClasses, WorksOn, columns_of, MayEnd, nodes_at, spent_of, ways_at, work_left}
+use Rattle.way_class.specs.Spending.{Advances, Spends, items_at, weight_of}
+use Rattle.way_class.specs.Stages.{AreParts, EndsLinked, HasClasses, HasColumns, IsBoundSoFar, IsWhole, IsWithin, KeepsClasses, WorksOn, columns_of, MayEnd, nodes_at, spent_of, ways_at, most_work, work_left}
 use Rattle.way_class.specs.declared.binder.Binder.{Binder}
 use Rattle.way_class.specs.declared.bound.Bound.{Bound}
 use Rattle.way_class.specs.declared.charge.NodeClass.{NodeClass}
@@ -28,7 +29,7 @@ use Rattle.way_class.specs.declared.row.Row.{Row}
 use Rattle.way_class.specs.declared.side.WayClass.{WayClass}
 use Rattle.way_class.specs.declared.ways.Ways.{Ways}
 use Rattle.way_class.proofs.BoundLemmas.{IsAllBound}
-use Rattle.way_class.proofs.SpendingLemmas.{spends-beside, spends-both, spends-light}
+use Rattle.way_class.proofs.SpendingLemmas.{spends-beside, spends-both, spends-light, weight-most}
 
 -- rows are right by any columns where there are none, and by columns that stayed where there are some
 rows-by : (map : MapValue) (old new : Columns) (rows : List Row) → (0 < length rows → old ≡ new) →
@@ -91,6 +92,26 @@ begun-parts map tiles b heights rows lows =
       bounded = subst AreBoundedRows (sym rows) none-bounded;
       lows = lows-by b.ways.kept.items.items b.nodes.kept.items.items b.rows b.lows.items (ap length lows);
     }
+
+-- where nothing is there, no more is left to be spent than a map takes at most
+pub begun-most : (map : MapValue) (b : Binder) (flat : Flat) → b.weight ≡ weight_of flat →
+    length b.ways.numbers.items ≡ 0 → length b.nodes.numbers.items ≡ 0 → work_left map b ≤ most_work map
+begun-most map b flat weight ways nodes =
+    let unit : suc b.weight ≤ 1000002 = omega (arith, weight, weight-most flat) in
+    let of_ways : suc b.weight * (length map.ways - length b.ways.numbers.items) ≤ 1000002 * length map.ways =
+    most-of (suc b.weight) 1000002 (length map.ways) (length b.ways.numbers.items) unit ways in
+    let of_nodes : suc b.weight * (length map.nodes - length b.nodes.numbers.items) ≤ 1000002 * length map.nodes =
+    most-of (suc b.weight) 1000002 (length map.nodes) (length b.nodes.numbers.items) unit nodes in
+    sum-most _ _ (length map.ways) (length map.nodes) (length b.heights.items) (length map.links) (length b.rows)
+    (length b.lows.items) of_ways of_nodes
+  where
+    most-of : (unit most n done : ℕ) → unit ≤ most → done ≡ 0 → unit * (n - done) ≤ most * n
+    most-of unit most n done less none =
+        let whole : n ≡ n - done = omega (arith, none) in
+        subst (λ (k : ℕ). unit * k ≤ most * n) whole (mul-le-mul_right n less)
+    sum-most : (w v ways nodes h links r l : ℕ) → w ≤ 1000002 * ways → v ≤ 1000002 * nodes →
+        w + v + (nodes - h) + (links - r) + (links - l) ≤ 1000002 * (ways + nodes) + nodes + links + links
+    sum-most w v ways nodes h links r l one two = omega arith
 
 -- ---- Ways and nodes
 

@@ -1,5 +1,5 @@
 -- How far binding is, and what it may end with (this project's own rule).
-use Rattle.std.specs.Prelude.{◌≡◌, ◌⊎◌, ◌<◌, ◌≤◌, ◌+◌, ◌-◌, ℕ, ℤ, List, length, Some, IfOk, Result, MatchResult}
+use Rattle.std.specs.Prelude.{◌≡◌, ◌⊎◌, ◌<◌, ◌≤◌, ◌+◌, ◌-◌, ◌*◌, ℕ, ℤ, List, length, Some, IfOk, Result, MatchResult}
 use Rattle.context_check.specs.Checked.{Subject}
 use Rattle.hgt_tiles.specs.declared.tile_set.Tiles.{Tiles}
 use Rattle.lookup_table.specs.First.{TagTable}
@@ -89,6 +89,10 @@ abbrev pub work_left : MapValue → Binder → ℕ
 work_left map b = (ways_at b.weight (length map.ways) b.ways).rest + (nodes_at b.weight (length map.nodes) b.nodes).rest
     + (length map.nodes - length b.heights.items) + (length map.links - length b.rows)
     + (length map.links - length b.lows.items)
+
+-- how much binding a map takes at most, whatever the code: each way and node counts as an evaluation of the longest
+abbrev pub most_work : MapValue → ℕ
+most_work map = 1000002 * (length map.ways + length map.nodes) + length map.nodes + length map.links + length map.links
 
 -- the code's values and the classes stay
 pub record KeepsClasses (before after : Binder) : Type 0 where
