@@ -109,6 +109,7 @@ begun-most map b flat weight ways nodes =
     most-of unit most n done less none =
         let whole : n ≡ n - done = omega (arith, none) in
         subst (λ (k : ℕ). unit * k ≤ most * n) whole (mul-le-mul_right n less)
+
     sum-most : (w v ways nodes h links r l : ℕ) → w ≤ 1000002 * ways → v ≤ 1000002 * nodes →
         w + v + (nodes - h) + (links - r) + (links - l) ≤ 1000002 * (ways + nodes) + nodes + links + links
     sum-most w v ways nodes h links r l one two = omega arith
