@@ -2,6 +2,7 @@
 import difflib
 
 from profiles.context import of_section, unlisted
+from profiles.numbers import literal_of
 from profiles.words import OPERANDS, kind_of, look_of, shown
 
 WANTED = {'close': 'a `)`', 'then': '`then`', 'else': '`else`', 'name': 'the name of a variable', 'expression': 'a number, a name, a look or '
@@ -9,11 +10,13 @@ WANTED = {'close': 'a `)`', 'then': '`then`', 'else': '`else`', 'name': 'the nam
 
 
 class Adviser:
-    """Knows a profile's assignments and its table, and says what to do about its faults."""
+    """Knows a profile's assignments and its table, and says what to do about its faults. Where `convert` does it, it names it."""
 
-    def __init__(self, assignments, table):
+    def __init__(self, assignments, table, names_convert=True):
         self.assignments = assignments
         self.table = table
+        self.hint = '; `convert` does so' if names_convert else ''
+        self.partly = '; `convert` does so where it can' if names_convert else ''
 
     def advice(self, fault):
         """A sentence on a fault."""
@@ -32,7 +35,7 @@ class Adviser:
         if fault.expected == 'section':
             return f'no section is open; write {WANTED["section"]} before it'
         if fault.token.text.startswith(b'---model:'):
-            return 'there is one model alone; take this out, `convert` does'
+            return 'there is one model alone; take this out' + self.hint
         return f'the sections are {WANTED["section"]}; take this out, or write one of these'
 
     def on_bracket(self, fault):
@@ -44,10 +47,10 @@ class Adviser:
 
     def on_number(self, fault):
         if fault.expected == 'name':
-            return 'a name begins with a letter or `_`; write it so wherever it stands, `convert` does'
+            return 'a name begins with a letter or `_`; write it so wherever it stands' + self.hint
         if any(each.name.text == fault.token.text for each in self.assignments):
-            return 'a name begins with a letter or `_`; write it as where it is assigned'
-        return 'write a number as digits with at most one point between them, from -1000000000 to 1000000000; `convert` does where it can'
+            return 'a name begins with a letter or `_`; write it so wherever it stands' + self.hint
+        return 'write a number as digits with at most one point between them, from -1000000000 to 1000000000' + self.partly
 
     def on_token(self, fault):
         if fault.expected == 'front':
@@ -58,8 +61,23 @@ class Adviser:
         if fault.expected == 'name':
             return self.on_assigned(fault, kind)
         if kind == 'other':
-            return on_spelling(fault.token.text)
+            return self.on_spelling(fault.token.text)
         return f'an operand is missing; write {WANTED["expression"]} before this'
+
+    def on_spelling(self, text):
+        """An operand that isn't spelled as the language has it."""
+        if text.startswith(b'v:'):
+            return f'a tag has no number here; choose by its values, as in `switch {shown(text[2:])[1:-1]}=2 2 ..`' + self.hint
+        if b'=' in text:
+            return 'write a look as `tag=`, `tag=value` or `tag=value|value`, without an empty piece' + self.partly
+        if b':' in text:
+            return 'write the name without what stands before the `:`' + self.partly
+        if literal_of(text):
+            return 'write a number as digits with at most one point between them' + self.hint
+        assigned = [each for each in self.assignments if each.name.text == text]
+        if assigned:
+            return 'a name is a letter or `_` with letters, digits and `_` behind it; write it so wherever it stands' + self.hint
+        return 'this is neither a number, a name, a look nor an operator' + nearest(text, [each.name.text for each in self.assignments], 'names')
 
     def on_front(self, fault):
         """A token where an assignment or a section may stand."""
@@ -76,13 +94,13 @@ class Adviser:
         if kind == 'look':
             return f'write the name, a space and the value apart, as in `assign {text.split(b"=")[0].decode("utf-8", "replace")} = ..`'
         if kind == 'other':
-            return 'a name is a letter or `_` with letters, digits and `_` behind it; write it so wherever it stands, `convert` does'
+            return 'a name is a letter or `_` with letters, digits and `_` behind it; write it so wherever it stands' + self.hint
         return f'this is a word of the language; write {WANTED["name"]} before it'
 
     def on_wrong_section(self, fault):
         if fault.expected == 'global':
             return 'the global section has no tags; look at them in the section of ways or nodes'
-        return 'this counts for all ways alike; assign it in the global section, `convert` does where no tag decides about it'
+        return 'this counts for all ways alike; assign it in the global section' + self.partly
 
     def on_name(self, fault):
         """A name that isn't assigned where it is read."""
@@ -118,19 +136,6 @@ class Adviser:
 
     def on_costfactor(self, _):
         return 'the section of ways has to assign `costfactor`: what a metre costs'
-
-
-def on_spelling(text):
-    """What to do about an operand that isn't spelled as the language has it."""
-    if text.startswith(b'v:'):
-        return f'a tag has no number here; choose by its values, as in `switch {shown(text[2:])[1:-1]}=2 2 ..`, `convert` does'
-    if b'=' in text:
-        return 'write a look as `tag=`, `tag=value` or `tag=value|value`, without an empty piece, `convert` does'
-    if b':' in text:
-        return 'write the name without what stands before the `:`, `convert` does'
-    if text.lstrip(b'+.')[:1].isdigit():
-        return 'write a number as digits with at most one point between them, `convert` does'
-    return 'a name is a letter or `_` with letters, digits and `_` behind it; write it so wherever it stands, `convert` does where it is assigned'
 
 
 def nearest(word, words, what):

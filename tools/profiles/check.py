@@ -35,7 +35,7 @@ def is_profile_path(path):
     return _NAME.fullmatch(name[:-4] if name.endswith('.brf') else name) is not None
 
 
-def findings(profile_path, profile, table_path, table):
+def findings(profile_path, profile, table_path, table, names_convert=True):
     """All refusals, in the order in which the program would come to them."""
     found = []
     if not is_profile_path(profile_path):
@@ -47,7 +47,7 @@ def findings(profile_path, profile, table_path, table):
     found += [Finding(each.refusal, table_path, each.line, 1, '', each.advice) for each in in_order(read.faults)]
     if len(profile) > MOST_PROFILE:
         found.append(Finding('file too long', profile_path, 0, 0, '', f'a profile has at most {MOST_PROFILE:,} bytes'))
-    return found + profile_findings(profile_path, profile, read)
+    return found + profile_findings(profile_path, profile, read, names_convert)
 
 
 def in_order(faults):
@@ -55,10 +55,10 @@ def in_order(faults):
     return [each for each in faults if each.line] + [each for each in faults if not each.line]
 
 
-def profile_findings(path, text, table):
+def profile_findings(path, text, table, names_convert):
     """The refusals of a profile's text, then those of its names, tags and values."""
     reader = Reader(text)
-    adviser = Adviser(reader.assignments, table)
+    adviser = Adviser(reader.assignments, table, names_convert)
     found = []
     for fault in reader.faults + context_faults(reader.assignments, table):
         if fault.token is None:

@@ -30,6 +30,7 @@ class Reader:
 
     def __init__(self, text):
         self.tokens = tokens_of(text)
+        self.kinds = [kind_of(token.text) for token in self.tokens] + ['end']
         self.place = 0
         self.section = ''
         self.leaves = []
@@ -44,7 +45,7 @@ class Reader:
 
     @property
     def kind(self):
-        return kind_of(self.token.text) if self.token else 'end'
+        return self.kinds[self.place]
 
     def take(self):
         token = self.token

@@ -86,28 +86,39 @@ def changed_bytes(made, text):
 def made_expression(made, depth):
     """An expression of random operators and operands."""
     if depth == 0 or made.random() < 0.3:
-        return made.choice(TOKENS[-57:]) if made.random() < 0.1 else made.choice([b'1', b'far', b'highway=', b'rough', b'highway=track'])
+        return made.choice(TOKENS[25:]) if made.random() < 0.05 else made.choice([b'1', b'far', b'highway=', b'rough', b'highway=track'])
     form = made.choice([b'not %s', b'or %s %s', b'add %s %s', b'switch %s %s %s', b'if %s then %s else %s', b'( %s )', b'(%s)'])
     return form % tuple(made_expression(made, depth - 1) for _ in range(form.count(b'%s')))
 
 
 def made_profile(made, bases):
-    """The text of a profile: a whole one, a changed one, or one of random assignments."""
-    way = made.randrange(8)
+    """The text of a profile: a whole one, a changed one, one of random assignments or tokens, or a deep one."""
+    way = made.choices(['base', 'tokens', 'lines', 'bytes', 'assignments', 'words', 'deep'], [1, 8, 3, 3, 6, 2, 1])[0]
     base = made.choice(bases)
-    if way < 3:
+    if way == 'base':
+        return base
+    if way == 'tokens':
         return b''.join(changed(made, re.findall(rb'[^\s()]+|[()]|\s+', base), [b' ' + token + b' ' for token in TOKENS]))
-    if way == 3:
+    if way == 'lines':
         return b'\n'.join(changed(made, base.split(b'\n'), [b'assign x ' + made.choice(TOKENS), b'---context:node', b')']))
-    if way == 4:
+    if way == 'bytes':
         return changed_bytes(made, base)
-    if way == 5:
-        names = [b'far', b'rough', b'costfactor', b'turncost', b'uphillcost', b'x']
-        lines = [b'assign %s = %s' % (made.choice(names), made_expression(made, made.randint(0, 5))) for _ in range(made.randint(1, 6))]
-        return b'\n'.join([b'---context:way', b'assign far 1', b'assign rough highway=track', *lines, b'assign costfactor 1'])
-    if way == 6:
+    if way == 'assignments':
+        return made_assignments(made)
+    if way == 'words':
         return b' '.join(made.choice(TOKENS) for _ in range(made.randint(1, 12)))
     return deep_profile(made)
+
+
+def made_assignments(made):
+    """Assignments in any section of expressions that are mostly well formed."""
+    names = [b'far', b'rough', b'costfactor', b'turncost', b'uphillcost', b'x', b'initialcost']
+    lines = [b'---context:way', b'assign far 1', b'assign rough highway=track']
+    for _ in range(made.randint(1, 6)):
+        if made.random() < 0.2:
+            lines.append(made.choice([b'---context:global', b'---context:way', b'---context:node']))
+        lines.append(b'assign %s = %s' % (made.choice(names), made_expression(made, made.randint(0, 5))))
+    return b'\n'.join(lines + [b'---context:way', b'assign costfactor 1'])
 
 
 def deep_profile(made):

@@ -91,7 +91,7 @@ class AllFaults(unittest.TestCase):
 
     def test_all_at_once(self):
         text = PROFILE.replace(b'2.25', b'.5').replace(b'rough oneway=', b'rouh onway=').replace(b'gate|bollard', b'gates')
-        self.assertEqual([line.split(': ')[0] for line in lines_of(text)], ['p.brf:4:12', 'p.brf:9:18', 'p.brf:9:23', 'p.brf:12:29', 'first refusal'])
+        self.assertEqual([line.split(': ')[0] for line in lines_of(text)], ['p.brf:4:12', 'p.brf:9:17', 'p.brf:9:22', 'p.brf:12:29', 'first refusal'])
 
     def test_columns_are_characters(self):
         self.assertTrue(self.one('# süß\nassign größe\t2\nassign turncost 1'.encode()).startswith('p.brf:4:8: `größe`: token: '))
@@ -114,8 +114,11 @@ class AllFaults(unittest.TestCase):
         self.assertIn('ends inside an assignment', self.one(b'assign x'))
 
     def test_forms_that_convert_rewrites(self):
-        for form in (b'v:width', b'global:far', b'.5', b'1e3', b'1.', b'my-name', b'highway=|track', 'größe'.encode()):
-            self.assertIn('`convert` does', self.one(b'assign x ' + form), form)
+        for form in (b'v:width', b'global:far', b'.5', b'1e3', b'1.', b'highway=|track'):
+            self.assertIn('`convert` does so', self.one(b'assign x ' + form), form)
+        for name in (b'my-name', b'2x', 'größe'.encode()):
+            self.assertEqual([line.count('; `convert` does so') for line in self.faults(b'assign %s 1\nassign x %s' % (name, name))], [1, 1], name)
+        self.assertIn('neither a number, a name', self.one(b'assign x my-name'))
 
     def test_lines_of_tables(self):
         table = TABLE.replace(b'highway;2 track', b'  # c\nhighway track\n---context:way').replace(b'---minorversion:1\n', b'')
