@@ -1,20 +1,27 @@
 """What to do about each thing that the program refuses in a profile: a sentence for the author."""
 import difflib
 
-from profiles.context import of_section, unlisted
+from profiles.context import unlisted
 from profiles.numbers import literal_of
 from profiles.words import OPERANDS, kind_of, look_of, shown
 
 WANTED = {'close': 'a `)`', 'then': '`then`', 'else': '`else`', 'name': 'the name of a variable', 'expression': 'a number, a name, a look or '
           'an operator', 'section': '`---context:global`, `---context:way` or `---context:node`'}
 
+MOST_SUGGESTIONS = 100
+MOST_WORDS = 2000
+
 
 class Adviser:
     """Knows a profile's assignments and its table, and says what to do about its faults. Where `convert` does it, it names it."""
 
     def __init__(self, assignments, table, names_convert=True):
-        self.assignments = assignments
         self.table = table
+        self.assigned = {}
+        for each in assignments:
+            self.assigned.setdefault(each.section, {}).setdefault(each.name.text, each.name.line)
+        self.names = {name for names in self.assigned.values() for name in names}
+        self.suggestions = 0
         self.hint = '; `convert` does so' if names_convert else ''
         self.partly = '; `convert` does so where it can' if names_convert else ''
 
@@ -48,7 +55,7 @@ class Adviser:
     def on_number(self, fault):
         if fault.expected == 'name':
             return 'a name begins with a letter or `_`; write it so wherever it stands' + self.hint
-        if any(each.name.text == fault.token.text for each in self.assignments):
+        if fault.token.text in self.names:
             return 'a name begins with a letter or `_`; write it so wherever it stands' + self.hint
         return 'write a number as digits with at most one point between them, from -1000000000 to 1000000000' + self.partly
 
@@ -66,6 +73,8 @@ class Adviser:
 
     def on_spelling(self, text):
         """An operand that isn't spelled as the language has it."""
+        if text.startswith(b'---model:'):
+            return 'there is one model alone; take this out' + self.hint
         if text.startswith(b'v:'):
             return f'a tag has no number here; choose by its values, as in `switch {shown(text[2:])[1:-1]}=2 2 ..`' + self.hint
         if b'=' in text:
@@ -74,17 +83,16 @@ class Adviser:
             return 'write the name without what stands before the `:`' + self.partly
         if literal_of(text):
             return 'write a number as digits with at most one point between them' + self.hint
-        assigned = [each for each in self.assignments if each.name.text == text]
-        if assigned:
+        if text in self.names:
             return 'a name is a letter or `_` with letters, digits and `_` behind it; write it so wherever it stands' + self.hint
-        return 'this is neither a number, a name, a look nor an operator' + nearest(text, [each.name.text for each in self.assignments], 'names')
+        return 'this is neither a number, a name, a look nor an operator' + self.nearest(text, self.names, 'names')
 
     def on_front(self, fault):
         """A token where an assignment or a section may stand."""
         words = difflib.get_close_matches(fault.token.text.decode('latin-1'), ['assign'], 1, 0.7)
         if words:
             return 'did you mean `assign`?'
-        if not self.assignments:
+        if not self.assigned:
             return 'an assignment begins with `assign`, a section with `---context:`; take this out'
         return 'the assignment before it is whole; take this out, or look which operator is missing there'
 
@@ -105,16 +113,15 @@ class Adviser:
     def on_name(self, fault):
         """A name that isn't assigned where it is read."""
         name, section = fault.token.text, fault.expected
-        later = [each for each in of_section(self.assignments, section) if each.name.text == name]
-        if later:
-            return f'this is assigned at line {later[0].name.line} alone; assign it before it is read'
-        elsewhere = [each for each in self.assignments if each.name.text == name]
-        if elsewhere:
-            return (f'this is assigned in the section `{elsewhere[0].section}` alone, at line {elsewhere[0].name.line}; '
-                    f'assign it in `{section}` or `global`, before it is read')
-        names = {each.name.text for each in self.assignments if each.section in ('global', section)}
-        operators = [*OPERANDS, b'if', b'true', b'false']
-        return 'no section assigns this' + nearest(name, [*names, *operators], 'names') + '; assign it before it is read'
+        own = self.assigned.get(section, {})
+        if name in own:
+            return f'this is assigned at line {own[name]} alone; assign it before it is read'
+        for other, names in self.assigned.items():
+            if name in names:
+                return (f'this is assigned in the section `{other}` alone, at line {names[name]}; assign it in `{section}` or `global`, '
+                        'before it is read')
+        words = [*OPERANDS, b'if', b'true', b'false', *own, *self.assigned.get('global', {})]
+        return 'no section assigns this' + self.nearest(name, words, 'names') + '; assign it before it is read'
 
     def on_tag(self, fault):
         """A tag that the section's part of the table lacks."""
@@ -123,7 +130,7 @@ class Adviser:
         if tag in self.table.parts[other]:
             told = f'the table has `{shown(tag)[1:-1]}` among the tags of {other}s alone'
         else:
-            told = f'the table has no tag {shown(tag)} of {section}s' + nearest(tag, self.table.parts[section], 'tags')
+            told = f'the table has no tag {shown(tag)} of {section}s' + self.nearest(tag, self.table.parts[section], 'tags')
         return f'{told}; look at another tag, or add a line for it to the table behind `---context:{section}`'
 
     def on_value(self, fault):
@@ -131,15 +138,17 @@ class Adviser:
         tag, values = look_of(fault.token.text)
         listed = self.table.spellings(fault.expected, tag)
         missing = unlisted(values, listed)
-        told = ' and '.join(f'no value {shown(value)}' + nearest(value, listed, 'values') for value in missing)
+        told = ' and '.join(f'no value {shown(value)}' + self.nearest(value, listed, 'values') for value in missing)
         return f'the table has {told} of {shown(tag)}; add a line for it to the table, or take it out of the look'
 
     def on_costfactor(self, _):
         return 'the section of ways has to assign `costfactor`: what a metre costs'
 
-
-def nearest(word, words, what):
-    """The nearest of some words, as a piece of a sentence."""
-    spelled = {each.decode('utf-8', 'replace') for each in words}
-    near = difflib.get_close_matches(word.decode('utf-8', 'replace')[:80], sorted(spelled), 3, 0.6)
-    return f' (nearest {what}: {", ".join(f"`{each}`" for each in near)})' if near else ''
+    def nearest(self, word, words, what):
+        """The nearest of some words, as a piece of a sentence; nothing where that would take long."""
+        self.suggestions += 1
+        if self.suggestions > MOST_SUGGESTIONS or len(words) > MOST_WORDS:
+            return ''
+        spelled = {each.decode('utf-8', 'replace') for each in words if len(each) <= 80}
+        near = difflib.get_close_matches(word.decode('utf-8', 'replace')[:80], sorted(spelled), 3, 0.6)
+        return f' (nearest {what}: {", ".join(f"`{each}`" for each in near)})' if near else ''

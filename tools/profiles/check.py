@@ -7,7 +7,6 @@ from profiles.advice import Adviser
 from profiles.context import context_faults
 from profiles.syntax import Reader
 from profiles.table import Table
-from profiles.words import column_of
 
 MOST_TABLE = 1_048_576
 MOST_PROFILE = 262_144
@@ -23,10 +22,14 @@ class Finding(NamedTuple):
     shown: str
     advice: str
 
+    @property
+    def what(self):
+        """The token and its refusal, and what to do."""
+        told_why = f'{self.shown}: {self.refusal.rpartition(": ")[2]}' if self.shown else self.refusal
+        return f'{told_why}: {self.advice}'
+
     def __str__(self):
-        place = f'{self.path}:{self.line}:{self.column}: ' if self.line else f'{self.path}: '
-        kind = self.refusal.rpartition(': ')[2] if self.shown else self.refusal
-        return f'{place}{self.shown + ": " if self.shown else ""}{kind}: {self.advice}'
+        return (f'{self.path}:{self.line}:{self.column}: ' if self.line else f'{self.path}: ') + self.what
 
 
 def is_profile_path(path):
@@ -36,17 +39,17 @@ def is_profile_path(path):
 
 
 def findings(profile_path, profile, table_path, table, names_convert=True):
-    """All refusals, in the order in which the program would come to them."""
+    """All refusals, in the order in which the program would come to them. Behind a file that is too long nothing is looked at."""
     found = []
     if not is_profile_path(profile_path):
         found.append(Finding('usage: word 2', profile_path, 0, 0, '', f'{os.path.basename(profile_path)} is no name of a profile: 1 to 64 '
                              'letters, digits, `_` and `-`, not beginning with `custom_`, with or without `.brf`'))
     if len(table) > MOST_TABLE:
-        found.append(Finding('file too long', table_path, 0, 0, '', f'a tag table has at most {MOST_TABLE:,} bytes'))
+        return found + [Finding('file too long', table_path, 0, 0, '', f'a tag table has at most {MOST_TABLE:,} bytes')]
     read = Table(table)
     found += [Finding(each.refusal, table_path, each.line, 1, '', each.advice) for each in in_order(read.faults)]
     if len(profile) > MOST_PROFILE:
-        found.append(Finding('file too long', profile_path, 0, 0, '', f'a profile has at most {MOST_PROFILE:,} bytes'))
+        return found + [Finding('file too long', profile_path, 0, 0, '', f'a profile has at most {MOST_PROFILE:,} bytes')]
     return found + profile_findings(profile_path, profile, read, names_convert)
 
 
@@ -65,7 +68,7 @@ def profile_findings(path, text, table, names_convert):
             found.append(Finding(f'profile: {fault.kind}', path, 0, 0, '', adviser.advice(fault)))
         else:
             token = fault.token
-            found.append(Finding(f'profile line {token.line}: {fault.kind}', path, token.line, column_of(text, token.start), token.shown,
+            found.append(Finding(f'profile line {token.line}: {fault.kind}', path, token.line, token.column, token.shown,
                                  adviser.advice(fault)))
     return found
 

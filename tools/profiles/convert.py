@@ -34,6 +34,9 @@ class Conversion:
         self.edited.edits = before.edits
         self.reader = Reader(self.edited.text)
         self.names = self.odd_names()
+        self.first = {section: {} for section in ('', *SECTIONS)}
+        for each in self.reader.assignments:
+            self.first[each.section].setdefault(self.names.get(each.name.text, each.name.text), each.name.place)
         self.rewrite_names()
         for assignment in self.reader.assignments:
             for token in assignment.leaves:
@@ -52,14 +55,14 @@ class Conversion:
     def odd_names(self):
         """A name of the language for each other one that is assigned."""
         taken = {each.name.text for each in self.reader.assignments}
-        names = {}
+        names, counts = {}, {}
         for name in [each.name.text for each in self.reader.assignments]:
             if kind_of(name) in ('other', 'bad number') and name not in names and not re.search(rb'[:=]', name):
-                spelled = re.sub('[^A-Za-z0-9_]', '_', name.decode('utf-8', 'replace')).encode()
-                while not is_name(spelled) or spelled in taken:
-                    spelled = b'_' + spelled if spelled[:1].isdigit() else spelled + b'_'
-                names[name] = spelled
-                taken.add(spelled)
+                names[name] = spelled = as_name(name)
+                while names[name] in taken:
+                    counts[spelled] = counts.get(spelled, 1) + 1
+                    names[name] = spelled + b'_%d' % counts[spelled]
+                taken.add(names[name])
         return names
 
     def rewrite_names(self):
@@ -112,30 +115,22 @@ class Conversion:
     def rewrite_prefixed(self, assignment, token):
         """A name with a section before it."""
         prefix, _, name = token.text.partition(b':')
-        section, own = assignment.section, self.assigned_before(assignment)
-        name = self.names.get(name, name)
-        of_global, of_way = self.assigned('global'), self.assigned('way')
+        section, name = assignment.section, self.names.get(name, name)
         if prefix == b'way' and section == 'node' and name == b'nodeaccessgranted':
             self.replace(token, b'nodeaccessgranted=yes', f'{token.shown} becomes `nodeaccessgranted=yes`')
             return
+        is_global, is_own = name in self.first['global'], self.first[section].get(name, assignment.name.place) < assignment.name.place
         if prefix == b'global':
-            same = name in of_global and (section == 'global' or name not in own)
+            same = is_global and (section == 'global' or not is_own)
         elif prefix == b'way' and section == 'node':
-            same = name in of_global and name not in of_way and name not in own
+            same = is_global and name not in self.first['way'] and not is_own
         else:
-            same = prefix.decode('latin-1') == section and (name in own or name in of_global)
+            same = prefix.decode('latin-1') == section and (is_own or is_global)
         if same:
             self.replace(token, name, f'{token.shown} becomes {shown(name)}')
         elif prefix.decode('latin-1') in SECTIONS:
             self.cannot(token, f'in the section `{section}` no name stands for this: a section sees what it assigned before, and what the '
                         'global one assigns')
-
-    def assigned(self, section):
-        return {self.names.get(each.name.text, each.name.text) for each in self.reader.assignments if each.section == section}
-
-    def assigned_before(self, assignment):
-        own = [each for each in self.reader.assignments if each.section == assignment.section]
-        return {self.names.get(each.name.text, each.name.text) for each in own[:own.index(assignment)]}
 
     def give_defaults(self):
         """A name with an effect that is read before it is assigned."""
@@ -143,6 +138,12 @@ class Conversion:
             if fault.kind == 'unknown name' and fault.token.text in DEFAULTS.get(fault.expected, {}):
                 value = DEFAULTS[fault.expected][fault.token.text]
                 self.replace(fault.token, value.encode(), f'{fault.token.shown} becomes `{value}`, its value where nothing was assigned before')
+
+
+def as_name(text):
+    """A text with `_` for each character that no name has."""
+    name = re.sub('[^A-Za-z0-9_]', '_', text.decode('utf-8', 'replace')).encode()
+    return name if is_name(name) else b'_' + name
 
 
 def text_lines(text):

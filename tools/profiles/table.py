@@ -25,6 +25,7 @@ class Table:
 
     def __init__(self, text):
         self.parts = {'way': {}, 'node': {}}
+        self.spelled = {'way': {}, 'node': {}}
         self.part = ''
         self.opened = set()
         self.versions = {b'lookupversion': 0, b'minorversion': 0}
@@ -86,6 +87,7 @@ class Table:
             self.faults.append(TableFault(f'too many at line {line}', line, f'a tag has at most {MOST_VALUES:,} values'))
         else:
             tags[tag].append(spellings)
+            self.spelled[self.part].setdefault(tag, set()).update(spellings)
 
     def finish(self):
         """The faults of the whole, behind those of lines."""
@@ -100,8 +102,7 @@ class Table:
 
     def spellings(self, part, tag):
         """All spellings of the values of a tag; None where the part hasn't the tag."""
-        values = self.parts[part].get(tag)
-        return None if values is None else [spelling for value in values for spelling in value]
+        return self.spelled[part].get(tag)
 
 
 def is_utf8(text):

@@ -105,7 +105,7 @@ class TableConversion:
                 if kind_of(token.text) == 'look' and each.section in FIRST_TAGS:
                     tag, values = look_of(token.text)
                     listed = table.spellings(each.section, tag)
-                    lacking = [value for value in values if value != b'unknown' and value not in (listed or [])]
+                    lacking = [value for value in values if value != b'unknown' and value not in (listed or ())]
                     for value in lacking or ([b'yes'] if listed is None else []):
                         self.put_in(each.section, tag, value, name, added)
 
@@ -115,10 +115,10 @@ class TableConversion:
         if (part, line) in added or not TAG_WORD.fullmatch(line.split()[0]):
             return
         block = self.blocks[part]
-        if not any(other == part for other, _ in added):
+        if part not in added:
             block += [b'', b'# what ' + name.encode() + b' looks at besides']
         block.append(line)
-        added.add((part, line))
+        added.update([part, (part, line)])
         self.tell(0, f'{shown(line)} is put in behind `---context:{part}`: the profile looks at it')
 
     def written(self):

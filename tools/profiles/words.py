@@ -17,11 +17,12 @@ MOST = 10**15
 
 
 class Token(NamedTuple):
-    """A token: its place among the tokens, where it begins and ends in the text, and its line from 1."""
+    """A token: its place among the tokens, where it begins and ends in the text, and its line and column from 1, in characters."""
     place: int
     start: int
     end: int
     line: int
+    column: int
     text: bytes
 
     @property
@@ -37,20 +38,15 @@ def shown(text):
 
 def tokens_of(text):
     """The tokens of a text, without white space and comments."""
-    tokens, line = [], 1
+    tokens, line, column = [], 1, 1
     for found in _GAP_OR_TOKEN.finditer(text):
         piece = found.group()
-        if piece[0] in SPACE:
-            line += piece.count(b'\n')
-        elif not piece.startswith(b'#'):
-            tokens.append(Token(len(tokens), found.start(), found.end(), line, piece))
+        breaks = piece.count(b'\n')
+        if piece[0] not in SPACE and not piece.startswith(b'#'):
+            tokens.append(Token(len(tokens), found.start(), found.end(), line, column, piece))
+        line += breaks
+        column = len(piece.rpartition(b'\n')[2].decode('utf-8', 'replace')) + (1 if breaks else column)
     return tokens
-
-
-def column_of(text, start):
-    """The column of a place in a text, from 1, counted in characters."""
-    begin = text.rfind(b'\n', 0, start) + 1
-    return len(text[begin:start].decode('utf-8', 'replace')) + 1
 
 
 def millionths(text):

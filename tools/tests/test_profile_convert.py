@@ -78,7 +78,7 @@ class Forms(unittest.TestCase):
 
     def test_odd_names(self):
         text, edits = convert(GLOBAL + WAY + 'assign my-x 1\nassign my_x 2\nassign größe add my-x my_x\nassign 2b a.b'.encode())
-        self.assertIn(b'assign my_x_ 1\nassign my_x 2\nassign gr__e add my_x_ my_x\nassign _2b a.b', text)
+        self.assertIn(b'assign my_x_2 1\nassign my_x 2\nassign gr__e add my_x_2 my_x\nassign _2b a.b', text)
         self.assertEqual([each.line for each in edits], [5, 7, 8, 7])
 
     def test_what_stands_outside(self):
