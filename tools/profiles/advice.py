@@ -3,10 +3,11 @@ import difflib
 
 from profiles.context import unlisted
 from profiles.numbers import literal_of
-from profiles.words import OPERANDS, kind_of, look_of, shown
+from profiles.words import BYTE_ORDER_MARK, OPERANDS, kind_of, look_of, shown
 
-WANTED = {'close': 'a `)`', 'then': '`then`', 'else': '`else`', 'name': 'the name of a variable', 'expression': 'a number, a name, a look or '
-          'an operator', 'section': '`---context:global`, `---context:way` or `---context:node`'}
+WANTED = {'close': 'a `)`', 'then': '`then`', 'else': '`else`', 'name': 'the name of a variable',
+          'expression': 'a number, a name, a look or an operator',
+          'section': '`---context:global`, `---context:way` or `---context:node`'}
 
 MOST_SUGGESTIONS = 100
 MOST_WORDS = 2000
@@ -27,9 +28,9 @@ class Adviser:
 
     def advice(self, fault):
         """A sentence on a fault."""
-        by_kind = {'end': self.on_end, 'deep': self.on_deep, 'section': self.on_section, 'bracket': self.on_bracket, 'number': self.on_number,
-                   'token': self.on_token, 'wrong section': self.on_wrong_section, 'unknown name': self.on_name, 'unknown tag': self.on_tag,
-                   'unknown value': self.on_value, 'no costfactor': self.on_costfactor}
+        by_kind = {'end': self.on_end, 'deep': self.on_deep, 'section': self.on_section, 'bracket': self.on_bracket,
+                   'number': self.on_number, 'token': self.on_token, 'wrong section': self.on_wrong_section, 'unknown name': self.on_name,
+                   'unknown tag': self.on_tag, 'unknown value': self.on_value, 'no costfactor': self.on_costfactor}
         return by_kind[fault.kind](fault)
 
     def on_end(self, fault):
@@ -89,6 +90,8 @@ class Adviser:
 
     def on_front(self, fault):
         """A token where an assignment or a section may stand."""
+        if fault.token.text.startswith(BYTE_ORDER_MARK):
+            return 'a byte order mark stands before this; take it out' + self.hint
         words = difflib.get_close_matches(fault.token.text.decode('latin-1'), ['assign'], 1, 0.7)
         if words:
             return 'did you mean `assign`?'

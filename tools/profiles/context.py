@@ -4,6 +4,8 @@ from profiles.words import kind_of, look_of
 
 ELEVATION_NAMES = {b'uphillcost': '0', b'downhillcost': '0', b'uphillcutoff': '0', b'downhillcutoff': '0', b'elevationpenaltybuffer': '5',
                    b'elevationmaxbuffer': '10', b'elevationbufferreduce': '0'}
+WAY_EFFECTS = (b'costfactor', b'turncost', b'initialcost', b'initialclassifier', b'nodeaccessgranted', b'uphillcostfactor',
+               b'downhillcostfactor')
 SECTIONS = ('global', 'way', 'node')
 
 

@@ -1,18 +1,17 @@
 """Rewrites the published forms of a profile into those that the program takes; layout and comments stay."""
 import re
 
-from profiles.context import ELEVATION_NAMES, SECTIONS, context_faults
+from profiles.check import MOST_PROFILE
+from profiles.context import ELEVATION_NAMES, SECTIONS, WAY_EFFECTS, context_faults
 from profiles.edits import EditedText
 from profiles.numbers import literal_of
 from profiles.remarks import remark
 from profiles.slopes import move_elevation_names
 from profiles.syntax import Reader
-from profiles.words import is_name, kind_of, look_of, millionths, shown
+from profiles.words import BYTE_ORDER_MARK, is_name, kind_of, look_of, millionths, shown
 
-BYTE_ORDER_MARK = b'\xef\xbb\xbf'
-WAY_NAMES = {name: '0' for name in (
-    b'costfactor', b'turncost', b'initialcost', b'initialclassifier', b'nodeaccessgranted', b'uphillcostfactor', b'downhillcostfactor',
-    b'trafficsourcedensity', b'istrafficbackbone', b'priorityclassifier', b'classifiermask', b'maxspeed')}
+BESIDES = (b'trafficsourcedensity', b'istrafficbackbone', b'priorityclassifier', b'classifiermask', b'maxspeed')
+WAY_NAMES = {name: '0' for name in (*WAY_EFFECTS, *BESIDES)}
 DEFAULTS = {'global': {**ELEVATION_NAMES, b'considerTurnRestrictions': '0'}, 'way': {**ELEVATION_NAMES, **WAY_NAMES},
             'node': {b'initialcost': '0'}}
 
@@ -43,7 +42,9 @@ class Conversion:
                 self.rewrite_leaf(assignment, token)
         self.give_defaults()
         move_elevation_names(self)
-        remark(self.edited, Reader(self.edited.written()))
+        written = self.edited.written()
+        if len(written) <= MOST_PROFILE:
+            remark(self.edited, Reader(written))
 
     def replace(self, token, text, told, rides=False):
         self.edited.replace(token, text)
@@ -94,8 +95,8 @@ class Conversion:
         tag, _, values = token.text.partition(b'=')
         look = tag + b'=' + b'|'.join(piece for piece in values.split(b'|') if piece)
         if look_of(look):
-            self.replace(token, look, f'{token.shown} becomes {shown(look)}: BRouter passes over an empty piece; where it should mean that the '
-                         f'tag isn\'t set, write `or` and {shown(tag + b"=")} before it', True)
+            self.replace(token, look, f'{token.shown} becomes {shown(look)}: BRouter passes over an empty piece; where it should mean that '
+                         f'the tag isn\'t set, write `or` and {shown(tag + b"=")} before it', True)
 
     def rewrite_number_of_tag(self, section, token):
         """The number of a tag's value: a choice over the numbers that the table lists."""
@@ -106,11 +107,12 @@ class Conversion:
         if section == 'global':
             self.cannot(token, 'the global section has no tags')
         elif not numbers:
-            self.cannot(token, f'the table lists no numbers of {shown(tag)} behind `---context:{section}`; add lines as `{shown(tag)[1:-1]};0 2.5`')
+            self.cannot(token, f'the table lists no numbers of {shown(tag)} behind `---context:{section}`; add lines as '
+                        f'`{shown(tag)[1:-1]};0 2.5`')
         else:
             choice = b''.join(b'switch %s=%s %s ' % (tag, number, number) for number in numbers)
-            self.replace(token, choice + b'0', f'{token.shown} becomes a choice over the {len(numbers)} numbers of the table; it is 0 where '
-                         'the tag isn\'t set or has another value', True)
+            self.replace(token, choice + b'0', f'{token.shown} becomes a choice over the {len(numbers)} numbers of the table; it is 0 '
+                         'where the tag isn\'t set or has another value', True)
 
     def rewrite_prefixed(self, assignment, token):
         """A name with a section before it."""
@@ -137,7 +139,8 @@ class Conversion:
         for fault in context_faults(self.reader.assignments, self.table):
             if fault.kind == 'unknown name' and fault.token.text in DEFAULTS.get(fault.expected, {}):
                 value = DEFAULTS[fault.expected][fault.token.text]
-                self.replace(fault.token, value.encode(), f'{fault.token.shown} becomes `{value}`, its value where nothing was assigned before')
+                self.replace(fault.token, value.encode(),
+                             f'{fault.token.shown} becomes `{value}`, its value where nothing was assigned before')
 
 
 def as_name(text):
@@ -160,7 +163,8 @@ def leave_out(edited):
         if token.text.startswith(b'---model:'):
             edited.replace(token, b'')
             rides = not token.text.endswith(b'StdModel')
-            edited.tell(token.line, f'{token.shown} is left out' + (': there is one model alone, in which speed has no say' if rides else ''), rides)
+            why = ': there is one model alone, in which speed has no say' if rides else ''
+            edited.tell(token.line, f'{token.shown} is left out{why}', rides)
             continue
         if token.text.startswith(b'---context:'):
             is_open = kind_of(token.text) == 'section'

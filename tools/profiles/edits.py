@@ -45,7 +45,8 @@ class EditedText:
         """The text with all changes."""
         pieces, end = [], 0
         for token in self.tokens:
-            pieces += [self.text[end:token.start], self.before.get(token.place, b''), self.spelled(token), self.behind.get(token.place, b'')]
+            before, behind = self.before.get(token.place, b''), self.behind.get(token.place, b'')
+            pieces += [self.text[end:token.start], before, self.spelled(token), behind]
             end = token.end
         text = b''.join(pieces) + self.text[end:]
         if self.last_lines and not text.endswith(b'\n'):

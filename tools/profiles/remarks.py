@@ -8,10 +8,12 @@ NAMES = {
     b'downhillmaxslope': 'steeper descents cost no more here', b'downhillmaxslopecost': 'steeper descents cost no more here',
     b'pass2coefficient': 'there the search may pass over the best ride; here it never does',
     b'waypointCatchingRange': 'here a waypoint is mapped within 250 metres'}
+CLOSED = ('ways of a `costfactor` of 9999 and more are closed by a line at the end: BRouter rides on them, but maps no waypoint to '
+          'them, and here both would be possible')
 ESTIMATED = 'is never set on a map: the map reader makes no estimates, so the profile rides as where nothing is known'
 PROPOSED = 'is set for cycle routes that are only proposed too'
-SIGNS = ('turn restrictions don\'t count, as `considerTurnRestrictions` isn\'t assigned; in BRouter they count without it, but for those on '
-         'foot: write `assign considerTurnRestrictions = true` into the global section')
+SIGNS = ('turn restrictions don\'t count, as `considerTurnRestrictions` isn\'t assigned; in BRouter they count without it, but for '
+         'those on foot: write `assign considerTurnRestrictions = true` into the global section')
 
 
 def remark(edited, reader):
@@ -42,8 +44,7 @@ def remark_closed(edited, reader):
     ways = [each for each in of_section(reader.assignments, 'way') if each.name.text == b'costfactor']
     if found and closing_words(reader, ways[-1]) != CLOSING.split()[1:]:
         edited.last_lines.append(CLOSING)
-        edited.tell(found[0].line, 'ways of a `costfactor` of 9999 and more are closed by a line at the end: BRouter rides on them, but maps no '
-                    'waypoint to them, and here both would be possible', True)
+        edited.tell(found[0].line, CLOSED, True)
 
 
 def closing_words(reader, assignment):

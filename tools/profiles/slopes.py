@@ -1,8 +1,7 @@
 """Elevation names that the section of ways assigns: put into the global section, where no tag decides about them."""
-from profiles.context import ELEVATION_NAMES, of_section
+from profiles.context import ELEVATION_NAMES, WAY_EFFECTS, of_section
 from profiles.words import is_name, kind_of
 
-WAY_EFFECTS = (b'costfactor', b'turncost', b'initialcost', b'initialclassifier', b'nodeaccessgranted', b'uphillcostfactor', b'downhillcostfactor')
 MOST_HELPERS = 100
 BY_TAGS = 'a tag decides about this, and it counts for all ways alike; give one value for all ways, as in `{0}=60`'
 LATER = 'the global section goes on behind this; put all of it before the section of ways'

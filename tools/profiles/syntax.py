@@ -1,7 +1,8 @@
 """Reads a profile's text into assignments, and goes on behind each token that can't stand where it is."""
+import difflib
 from typing import NamedTuple, Optional
 
-from profiles.words import OPERANDS, SECTIONS, Token, kind_of, tokens_of
+from profiles.words import BYTE_ORDER_MARK, OPERANDS, SECTIONS, Token, kind_of, tokens_of
 
 MOST_DEPTH = 1000
 
@@ -62,16 +63,26 @@ class Reader:
         elif self.kind == 'assign':
             if not self.section:
                 self.refuse('section', 'section')
+                self.section = 'global'
             self.read_assignment()
         elif self.kind == 'close':
             self.refuse('bracket', 'front')
             self.skip(self.place + 1)
         elif self.token.text.startswith(b'---'):
             self.refuse('section', 'front')
-            self.take()
+            self.guess_section(self.take().text)
+        elif self.token.text.removeprefix(BYTE_ORDER_MARK) in SECTIONS:
+            self.refuse('token', 'front')
+            self.guess_section(self.take().text)
         else:
             self.refuse('number' if self.kind == 'bad number' else 'token', 'front')
             self.skip(self.place + 1)
+
+    def guess_section(self, text):
+        """Goes on in the section that was meant, where one is spelled nearly like this."""
+        spelled = text.removeprefix(BYTE_ORDER_MARK)[:80].decode('latin-1')
+        for near in difflib.get_close_matches(spelled, [word.decode() for word in SECTIONS], 1, 0.8):
+            self.section = SECTIONS[near.encode()]
 
     def skip(self, known):
         """Goes to the next assignment or section. What stands before it is looked at by itself from the place `known` on."""

@@ -1,10 +1,10 @@
 """Rewrites the published forms of a tag table into those that the program takes, and puts in what a profile looks at."""
 import re
 
-from profiles.convert import BYTE_ORDER_MARK, text_lines
+from profiles.convert import text_lines
 from profiles.edits import Edit
 from profiles.table import FIRST_TAGS, OPENERS, TAG_WORD, is_utf8
-from profiles.words import kind_of, look_of, shown
+from profiles.words import BYTE_ORDER_MARK, kind_of, look_of, shown
 
 VERSIONS = {b'---lookupversion:': b'10', b'---minorversion:': b'1'}
 _TAG = re.compile(rb'([^;=|]+)(?:;.*)?', re.DOTALL)

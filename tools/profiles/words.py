@@ -3,6 +3,7 @@ import re
 from typing import NamedTuple
 
 SPACE = b'\t\n\x0b\x0c\r '
+BYTE_ORDER_MARK = b'\xef\xbb\xbf'
 SECTIONS = {b'---context:global': 'global', b'---context:way': 'way', b'---context:node': 'node'}
 OPERATORS = (b'or', b'and', b'xor', b'multiply', b'divide', b'add', b'sub', b'max', b'min', b'equal', b'greater', b'lesser')
 OPERANDS = {b'not': 1, b'switch': 3, **{operator: 2 for operator in OPERATORS}}

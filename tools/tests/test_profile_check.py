@@ -45,7 +45,7 @@ class FirstRefusals(unittest.TestCase):
         seen = set()
         with tempfile.TemporaryDirectory() as room:
             profile_path, table_path = os.path.join(room, 'p.brf'), os.path.join(room, 'l.dat')
-            for profile, table in made_cases(20, 600):
+            for profile, table in made_cases(20, 400):
                 for path, text in ((profile_path, profile), (table_path, table)):
                     with open(path, 'wb') as file:
                         file.write(text)
@@ -91,7 +91,13 @@ class AllFaults(unittest.TestCase):
 
     def test_all_at_once(self):
         text = PROFILE.replace(b'2.25', b'.5').replace(b'rough oneway=', b'rouh onway=').replace(b'gate|bollard', b'gates')
-        self.assertEqual([line.split(': ')[0] for line in lines_of(text)], ['p.brf:4:12', 'p.brf:9:17', 'p.brf:9:22', 'p.brf:12:29', 'first refusal'])
+        self.assertEqual([line.split(': ')[0] for line in lines_of(text)],
+                         ['p.brf:4:12', 'p.brf:9:17', 'p.brf:9:22', 'p.brf:12:29', 'first refusal'])
+
+    def test_a_section_that_is_missing_is_told_once(self):
+        for head, first in ((b'', 'section'), (b'\xef\xbb\xbf---context:global\n', 'token'), (b'---context:globals\n', 'section')):
+            lines = lines_of(head + b'assign a 1\nassign b a\n---context:way assign costfactor b')
+            self.assertEqual([line.split(': ')[2 if ':1:1: ' in line else 1] for line in lines], [first, 'profile line 1'], lines)
 
     def test_columns_are_characters(self):
         self.assertTrue(self.one('# süß\nassign größe\t2\nassign turncost 1'.encode()).startswith('p.brf:4:8: `größe`: token: '))
@@ -117,7 +123,8 @@ class AllFaults(unittest.TestCase):
         for form in (b'v:width', b'global:far', b'.5', b'1e3', b'1.', b'highway=|track'):
             self.assertIn('`convert` does so', self.one(b'assign x ' + form), form)
         for name in (b'my-name', b'2x', 'größe'.encode()):
-            self.assertEqual([line.count('; `convert` does so') for line in self.faults(b'assign %s 1\nassign x %s' % (name, name))], [1, 1], name)
+            faults = self.faults(b'assign %s 1\nassign x %s' % (name, name))
+            self.assertEqual([line.count('; `convert` does so') for line in faults], [1, 1], name)
         self.assertIn('neither a number, a name', self.one(b'assign x my-name'))
 
     def test_lines_of_tables(self):

@@ -44,8 +44,9 @@ class Forms(unittest.TestCase):
         self.assertEqual(findings('p.brf', text, 'l.dat', TABLE), [])
 
     def test_numbers(self):
-        for published, taken in ((b'.5', b'0.5'), (b'+1', b'1'), (b'1.', b'1'), (b'1e3', b'1000'), (b'1.0f', b'1.0'), (b'-.5', b'-0.5'), (b'2D', b'2'),
-                                 (b'-1E-3', b'-0.001'), (b'+.25e+2F', b'25'), (b'0e9', b'0'), (b'1e9', b'1000000000'), (b'1.5', b'1.5')):
+        for published, taken in ((b'.5', b'0.5'), (b'+1', b'1'), (b'1.', b'1'), (b'1e3', b'1000'), (b'1.0f', b'1.0'), (b'-.5', b'-0.5'),
+                                 (b'2D', b'2'), (b'-1E-3', b'-0.001'), (b'+.25e+2F', b'25'), (b'0e9', b'0'),
+                                 (b'1e9', b'1000000000'), (b'1.5', b'1.5')):
             self.becomes(published, taken)
 
     def test_numbers_that_are_others(self):
@@ -69,7 +70,8 @@ class Forms(unittest.TestCase):
     def test_names_with_a_section(self):
         self.becomes(b'way:costfactor', b'costfactor')
         self.becomes(b'global:considerTurnRestrictions', b'considerTurnRestrictions')
-        self.becomes(b'1 ---context:node assign initialcost way:nodeaccessgranted', b'1 ---context:node assign initialcost nodeaccessgranted=yes')
+        node = b'1 ---context:node assign initialcost '
+        self.becomes(node + b'way:nodeaccessgranted', node + b'nodeaccessgranted=yes')
 
     def test_names_that_are_read_before_they_are_assigned(self):
         self.becomes(b'add turncost 1', b'add 0 1')
@@ -82,7 +84,8 @@ class Forms(unittest.TestCase):
         self.assertEqual([each.line for each in edits], [5, 7, 8, 7])
 
     def test_what_stands_outside(self):
-        text, edits = convert(b'\xef\xbb\xbf---model:btools.router.KinematicModel\njunk more # c\nx ' + GLOBAL + b'---context:foo a\nb c\n' + WAY)
+        head = b'\xef\xbb\xbf---model:btools.router.KinematicModel\njunk more # c\nx '
+        text, edits = convert(head + GLOBAL + b'---context:foo a\nb c\n' + WAY)
         self.assertEqual(text, b'\n# junk more # c\n ' + GLOBAL + b'# ---context:foo a\n# b c\n' + WAY)
         self.assertEqual([each.rides for each in edits], [False, True, False, False, False, False])
 
@@ -114,8 +117,9 @@ class ElevationNames(unittest.TestCase):
         self.assertEqual(findings('p.brf', done, 'l.dat', TABLE), [])
 
     def test_what_can_not_be_moved(self):
-        for way in (b'assign a highway=\nassign uphillcost a', b'assign a 1\nassign uphillcost a\nassign a 2', b'assign uphillcost costfactor',
-                    b'assign uphillcost v:width', b'assign uphillcost 1\nassign b uphillcost\nassign uphillcost 2',
+        for way in (b'assign a highway=\nassign uphillcost a', b'assign a 1\nassign uphillcost a\nassign a 2',
+                    b'assign uphillcost costfactor', b'assign uphillcost v:width',
+                    b'assign uphillcost 1\nassign b uphillcost\nassign uphillcost 2',
                     b'assign uphillcost 1\n---context:global assign uphillcost 2'):
             self.assertIn('wrong section', [kind for _, kind, _ in refusals(GLOBAL + WAY + way)], way)
 
@@ -160,7 +164,8 @@ class Remarks(unittest.TestCase):
         self.assertEqual(convert(done)[1], [], 'a second time')
 
     def test_what_is_not_closed(self):
-        self.assertEqual(self.told(GLOBAL + b'assign z 9999\n---context:way\nassign y 9999\nassign costfactor 9998.9 assign turncost 9999'), [])
+        way = b'---context:way\nassign y 9999\nassign costfactor 9998.9 assign turncost 9999'
+        self.assertEqual(self.told(GLOBAL + b'assign z 9999\n' + way), [])
 
     def test_costs_of_a_way(self):
         self.assertEqual(self.told(GLOBAL + WAY + b'assign initialcost 1000000\n---context:node assign initialcost 1000000')[0][0], 5)
@@ -168,8 +173,8 @@ class Remarks(unittest.TestCase):
 
     def test_tags_and_names(self):
         table = TABLE.replace(b'width;0 1 1.0', b'width;0 1 1.0\nestimated_noise_class;0 1\nroute_bicycle_rcn;0 yes')
-        told = self.told(GLOBAL + WAY + b'assign a estimated_noise_class=1\nassign a estimated_noise_class=\nassign b route_bicycle_rcn=yes\n'
-                         b'assign uphillmaxslope 8', table)
+        told = self.told(GLOBAL + WAY + b'assign a estimated_noise_class=1\nassign a estimated_noise_class=\n'
+                         b'assign b route_bicycle_rcn=yes\nassign uphillmaxslope 8', table)
         self.assertEqual([line for line, _ in told], [5, 7, 8])
 
     def test_turn_restrictions(self):
@@ -194,23 +199,28 @@ class Tables(unittest.TestCase):
 
     def test_lines(self):
         for published, taken in ((b'  # c', b'# c'), (b'highway primary', b'highway;0 primary'), (b'highway;x y', b'highway;0 y'),
-                                 (b'gr\xf6\xdfe;0 x', 'größe;0 x'.encode()), (b'# \xe4', '# ä'.encode()), (b' a;0 x', b' a;0 x'), (b'\t---x', b'---x')):
+                                 (b'gr\xf6\xdfe;0 x', 'größe;0 x'.encode()), (b'# \xe4', '# ä'.encode()), (b' a;0 x', b' a;0 x'),
+                                 (b'\t---x', b'---x')):
             text, edits = converted_table(TABLE.replace(b'surface;0 gravel', published))
             self.assertEqual(text, TABLE.replace(b'surface;0 gravel', taken))
             self.assertEqual(len(edits), published != taken, published)
 
     def test_parts_and_versions(self):
-        head, way, node = b'---lookupversion:10\n---minorversion:1\n', b'---context:way\nreversedirection;0 yes\n', b'---context:node\nnodeaccessgranted;0 yes\n'
+        head, way = b'---lookupversion:10\n---minorversion:1\n', b'---context:way\nreversedirection;0 yes\n'
+        node = b'---context:node\nnodeaccessgranted;0 yes\n'
         for published in (b'\xef\xbb\xbf' + head + way + node, head + way + node + b'---minorversion:2', way + node, head + way,
-                          b'---minorversion:1\n' + way + node + b'---lookupversion:10', b'---lookupversion: 10\n---minorversion:1\n' + way + node):
+                          b'---minorversion:1\n' + way + node + b'---lookupversion:10',
+                          b'---lookupversion: 10\n---minorversion:1\n' + way + node):
             self.assertEqual(converted_table(published)[0], head + way + node, published)
         self.assertEqual(converted_table(head + way + node + b'---context:way\na;0 b')[0], head + way + b'a;0 b\n' + node)
         self.assertEqual(converted_table(head + b'x;0 y\n' + way + node)[0], head + b'# x;0 y\n' + way + node)
-        self.assertEqual(converted_table(head + way + b'---context:foo\nx;0 y\n' + node)[0], head + way + b'---context:foo\n# x;0 y\n' + node)
+        foreign = b'---context:foo\n'
+        self.assertEqual(converted_table(head + way + foreign + b'x;0 y\n' + node)[0], head + way + foreign + b'# x;0 y\n' + node)
 
     def test_what_a_profile_looks_at(self):
         done = TableConversion(TABLE)
-        looks = Reader(b'---context:way assign costfactor or highway=|a or highway=motorway|track or lcn= or x=b|c|unknown x=b ---context:node assign y z=')
+        looks = Reader(b'---context:way assign costfactor or highway=|a or highway=motorway|track or lcn= or x=b|c|unknown x=b '
+                       b'---context:node assign y z=')
         done.put_in_looks(looks.assignments, Table(TABLE), 'p.brf')
         way, node = done.written().split(b'---context:node')
         self.assertTrue(way.endswith(b'\n\n# what p.brf looks at besides\nhighway;0 motorway\nlcn;0 yes\nx;0 b\nx;0 c\n'), way)

@@ -8,8 +8,7 @@ import subprocess
 import sys
 import tempfile
 
-if __name__ == '__main__':
-    sys.path.insert(0, os.path.dirname(os.path.dirname(os.path.abspath(__file__))))
+sys.path.insert(0, os.path.dirname(os.path.dirname(os.path.abspath(__file__))))
 
 from tests import program
 
@@ -42,11 +41,11 @@ class Tries:
     def path(self, name):
         return os.path.join(self.room, name)
 
-    def replies(self, profile, table):
+    def replies(self, profile, table, rides=RIDES):
         """The reply to each ride, by a profile's file under a table's file."""
         name = os.path.basename(profile)[:-4]
         return [program.run('route', f'lookups={table}', f'profile={profile}', f'map={TOWN}', f'tile={self.path("N49E008.hgt")}',
-                            f'query=lonlats={ride}&profile={name}&format=csv') for ride in RIDES]
+                            f'query=lonlats={ride}&profile={name}&format=csv') for ride in rides]
 
     def convert(self, *words):
         """The status of a conversion, and its lines."""
@@ -71,7 +70,9 @@ class Tries:
         """A profile that the program takes keeps its flat code; one with a closing line gets nothing but that."""
         source, out = os.path.join(program.EXAMPLES, f'{name}.brf'), self.path(f'taken-{name}.brf')
         status, lines = self.convert(source, LOOKUPS, out)
-        self.told(f'{name}.brf of the examples keeps its flat code', status == 0 and program.code(source, LOOKUPS) == program.code(out, LOOKUPS), lines)
+        before, _ = program.code(source, LOOKUPS)
+        same = status == 0 and before is not None and before == program.code(out, LOOKUPS)[0]
+        self.told(f'{name}.brf of the examples keeps its flat code', same, lines)
 
     def try_closing(self):
         """The flat code before the line that closes ways of costfactor 9999 stays."""
@@ -81,9 +82,9 @@ class Tries:
         self.convert(source, LOOKUPS, out)
         before, after = (program.code(each, LOOKUPS)[0].splitlines() for each in (source, out))
         self.told('a closing line comes behind the flat code', after[:len(before) - 1] == before[:-1] and len(after) > len(before), after)
-        rides = [program.run('route', f'lookups={LOOKUPS}', f'profile={each}', f'map={TOWN}',
-                             f'query=lonlats=8.52079,49.105517|8.5293,49.1112&profile={os.path.basename(each)[:-4]}&format=csv') for each in (source, out)]
-        self.told('no waypoint is mapped to a closed way', b'service=alley' in rides[0][1] and rides[1][0] == 0 and b'service=alley' not in rides[1][1], rides)
+        rides = [self.replies(each, LOOKUPS, ['8.52079,49.105517|8.5293,49.1112'])[0] for each in (source, out)]
+        alleys = [b'service=alley' in reply for _, reply, _ in rides]
+        self.told('no waypoint is mapped to a closed way', [rides[1][0], *alleys] == [0, True, False], rides)
 
     def try_table(self):
         """The table of the examples in the published forms gives the same rides when it is rewritten."""
