@@ -37,10 +37,11 @@ class Counts(Counter):
     def lines(self):
         """What was left out or changed, in a line each."""
         for name, number in self.left_out().items():
-            yield f'left out: {number:,} {LEFT_OUT[name]}'
+            yield f'left out, {LEFT_OUT[name]}: {number:,}'
         if self['cut_ways']:
-            yield f"cut: {self['cut_ways']:,} roads at {self['missing_nodes']:,} missing nodes, with {self['pieces']:,} pieces under ids of their own"
+            yield (f"cut, roads at nodes that are missing: {self['cut_ways']:,}, at {self['missing_nodes']:,} nodes;"
+                   f" pieces under ids of their own: {self['pieces']:,}")
         if self['split_segments']:
-            yield f"split: {self['split_segments']:,} segments by {self['inserted_nodes']:,} new nodes"
+            yield f"split, segments: {self['split_segments']:,}, by {self['inserted_nodes']:,} new nodes"
         if self['endless_segments']:
-            yield f"told: {self['endless_segments']:,} segments of more than 100 kilometres, which the program makes no link of"
+            yield f"kept, segments of more than 100 kilometres, of which the program makes no link: {self['endless_segments']:,}"

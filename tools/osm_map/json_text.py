@@ -1,5 +1,6 @@
 """Reads a large JSON text value by value, so that only a piece of it is in memory."""
 import json
+import re
 from decimal import Decimal
 
 from .faults import Refused
@@ -20,6 +21,7 @@ def _no_number(text):
 
 _DECODE = json.JSONDecoder(object_pairs_hook=_first_of_each, parse_float=Decimal, parse_constant=_no_number).raw_decode
 _WHITE = json.decoder.WHITESPACE.match
+_GOES_ON = re.compile('[-+.0-9eE]*').match     # what may still belong to a number
 
 
 class JsonText:
@@ -73,7 +75,7 @@ class JsonText:
                 why = fault.msg
             except (ValueError, RecursionError) as fault:
                 raise self.broken(str(fault).partition(';')[0]) from None
-            if (why or end == len(self.text)) and self._more():
+            if (why or _GOES_ON(self.text, end).end() == len(self.text)) and self._more():
                 continue
             if why:
                 raise self.broken(why if self.next() else 'it ends in the middle')
