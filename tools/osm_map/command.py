@@ -1,6 +1,7 @@
 """The command: words in, a map with what tells of it out, or the reason why there is none."""
 import json
 import os
+import signal
 import sys
 import tempfile
 from collections import namedtuple
@@ -46,8 +47,11 @@ def work_of(words):
         raise UsageFault(f'split={split}: whole metres from 1 to {MOST_SPLIT:,} are wanted')
     if named.get('tiles') == '':
         raise UsageFault('tiles=: a folder is wanted')
-    if os.path.exists(plain[1]) and os.path.exists(plain[0]) and os.path.samefile(*plain):
-        raise UsageFault(f'{plain[1]} is the input: the map needs another name')
+    for written in (plain[1], info_name(plain[1])):
+        if os.path.isdir(written):
+            raise UsageFault(f'{written} is a folder: the map needs another name')
+        if os.path.exists(written) and os.path.exists(plain[0]) and os.path.samefile(plain[0], written):
+            raise UsageFault(f'{written} is the input: the map needs another name')
     return Work(*plain, box_of(named['box']) if 'box' in named else None, int(split) if split else None, named.get('tiles'))
 
 
@@ -102,7 +106,7 @@ def make(work, progress, folder):
     info = info_of(work, draft, counts, text, box_of_nodes(draft, roads))
     if work.tiles:
         tiles = TileFolder(os.path.join(folder, 'tiles'))
-        progress.now('writing tiles', lambda: f'{tiles.written:,} written')
+        progress.now('writing tiles', lambda: f'{tiles.drawn:,} lines')
         tiles.write(lines, info)
     put_in_place(work, info, folder)
     return info, counts
@@ -133,6 +137,7 @@ def main(words):
     if words[:1] in (['--help'], ['-h']):
         print(HELP)
         return 0
+    signal.signal(signal.SIGTERM, lambda *_: sys.exit(128 + signal.SIGTERM))
     try:
         work = work_of(words)
         with Progress() as progress, tempfile.TemporaryDirectory(prefix='.osm2map-', dir=os.path.dirname(os.path.abspath(work.out))) as folder:

@@ -1,5 +1,4 @@
 """Writes the roads for a page by zoom and tile, so that it fetches only what is in view: GeoJSON of few classes far out, of all near by."""
-import json
 import os
 import shutil
 from array import array
@@ -62,7 +61,7 @@ class TileFolder:
     """A folder of tiles: parts of lines are put down by tile as they come, and made into tiles when a zoom is done."""
 
     def __init__(self, folder):
-        self.folder, self.waiting, self.held, self.written, self.left_out = folder, {}, 0, 0, 0
+        self.folder, self.waiting, self.held, self.drawn, self.left_out = folder, {}, 0, 0, 0
 
     def write(self, lines, info):
         """Writes all tiles of a map and their list."""
@@ -83,6 +82,7 @@ class TileFolder:
         head = b'%d{"type":"Feature","properties":%s,"geometry":{"type":"LineString","coordinates":[' % (
             rank, json_bytes({key: value for key, value in properties.items() if value}))
         tolerance = TOLERANCE[zoom] / 256
+        self.drawn += 1
         for points in lines.points_of(line, zoom):
             points = simplified(points, tolerance)
             if len(points) > 1 and not (zoom < ZOOMS[-1] and is_speck(points, tolerance)):
@@ -132,30 +132,22 @@ class TileFolder:
             kept.append(part[1:-1])
         with open(path + '.json', 'wb') as file:
             file.write(b'{"type":"FeatureCollection","features":[\n' + b',\n'.join(reversed(kept)) + b'\n]}\n')
-        self.written += 1
 
     def move_to(self, wanted):
         """Puts the folder in the place of an earlier one."""
         if os.path.exists(wanted):
-            os.rename(wanted, self.folder + '.before')
-        os.rename(self.folder, wanted)
+            shutil.move(wanted, self.folder + '.before')
+        shutil.move(self.folder, wanted)
         shutil.rmtree(self.folder + '.before', ignore_errors=True)
 
 
 def check_place(folder):
     """Refuses a folder that holds something else than tiles, since it would be replaced."""
-    if os.path.isdir(folder) and os.listdir(folder) and not is_tile_folder(folder):
+    above = os.path.dirname(os.path.abspath(folder))
+    if not os.path.isdir(above) or os.path.exists(folder) and not os.path.isdir(folder):
+        raise Refused(f'{folder}: this is no folder, nor a new one in a folder that is there')
+    if os.path.isdir(folder) and not set(os.listdir(folder)) <= {'index.json', *map(str, ZOOMS)}:
         raise Refused(f'{folder}: this folder holds other things than tiles, and isn\'t replaced')
-    if os.path.exists(folder) and not os.path.isdir(folder):
-        raise Refused(f'{folder}: this is no folder')
-
-
-def is_tile_folder(folder):
-    try:
-        with open(os.path.join(folder, 'index.json'), encoding='utf-8') as file:
-            return 'maxzoom' in json.load(file)
-    except (OSError, ValueError):
-        return False
 
 
 def is_speck(points, tolerance):

@@ -104,9 +104,18 @@ class Lines(unittest.TestCase):
         self.assertEqual(extract.members_of('w5@from,n-7@via,r3@a%20%b'), [('way', 5, 'from'), ('node', -7, 'via'), ('relation', 3, 'a b')])
         self.assertEqual(extract.members_of(''), [])
 
+    def test_the_lines_of_wanted_nodes_are_found_in_any_order(self):
+        draw = random.Random(8)
+        for wanted in ([], [5], list(range(-20, 20, 3)), [-2 ** 63, 0, 2 ** 63 - 1], sorted(draw.sample(range(-99, 99), 40))):
+            numbers = draw.sample(range(-100, 100), 150) + wanted
+            for order in (numbers, sorted(numbers), sorted(numbers, reverse=True)):
+                given = [b'n%d T x1 y2\n' % number for number in order]
+                self.assertEqual(list(extract.wanted_lines(given, array('q', wanted))),
+                                 [line for line, number in zip(given, order) if number in wanted])
+
     def test_formats_are_known_by_their_first_bytes(self):
-        for head, wanted in ((b'\x00\x00\x00\x0e\x0a\x09OSMHeader', 'pbf'), (b'\xef\xbb\xbf <?xml', 'osm'), (b'BZh9', 'osm.bz2'), (b'\x1f\x8b\x08', 'osm.gz'),
-                             (b'\xff\xe0\x04o5m2', 'o5m'), (b'n1 v1', None), (b'', None)):
+        for head, wanted in ((b'\x00\x00\x00\x0e\x0a\x09OSMHeader', 'pbf'), (b'\xef\xbb\xbf <?xml', 'osm'), (b'BZh9', 'osm.bz2'),
+                             (b'\x1f\x8b\x08', 'osm.gz'), (b'\xff\xe0\x04o5m2', 'o5m'), (b'n1 v1', None), (b'', None)):
             self.assertEqual(extract.format_of(head), wanted)
 
     def test_put_together_each_segment_is_there_once(self):

@@ -19,6 +19,7 @@ TOOL = os.path.join(TOP, 'tools', 'osm2map')
 LOOKUPS, PROFILE = (os.path.join(TOP, 'examples', name) for name in ('lookups.dat', 'trekking.brf'))
 SIDE = 40
 INNER = (8.415, 49.010, 8.445, 49.030)     # degrees: the box that is cut out of the made city
+EDGE = (8.415, 49.010, 8.418, 49.030)      # its western edge, where rides leave it
 BOX = ','.join(map(str, INNER))
 RIDES = 20
 FAILED = []
@@ -40,9 +41,10 @@ def convert(*words, **more):
     return done.returncode, done.stdout.decode(), done.stderr.decode()
 
 
-def ride(path, query, lookups=LOOKUPS, profile=PROFILE):
+def ride(path, query, lookups=LOOKUPS, profile=PROFILE, tile=None):
     """What the program answers on a map: its line of refusal, or else the lines of the reply."""
-    done = run(os.environ['PROGRAM'], 'route', f'lookups={lookups}', f'profile={profile}', f'map={path}', f'query={query}')
+    done = run(os.environ['PROGRAM'], 'route', f'lookups={lookups}', f'profile={profile}', f'map={path}', f'query={query}',
+               *([f'tile={tile}'] if tile else []))
     return done.stderr.decode().strip() if done.returncode else done.stdout.decode().splitlines()
 
 
@@ -60,12 +62,12 @@ def is_within(spots, box):
     return all(box[0] <= x <= box[2] and box[1] <= y <= box[3] for x, y in spots)
 
 
-def queries(box, count, seed):
-    """Pairs of places within a box."""
+def queries(city, seed, box=(-180, -90, 180, 90)):
+    """Queries from crossing to crossing of a city within a box: a waypoint on a node is moved to that node, whatever lies around it."""
     draw = random.Random(seed)
-    for _ in range(count):
-        spots = '|'.join(f'{draw.uniform(box[0], box[2]):.6f},{draw.uniform(box[1], box[3]):.6f}' for _ in range(2))
-        yield f'lonlats={spots}&profile=trekking&format=csv'
+    crossings = [node for row in city.crossings for node in row if is_within([(node['lon'], node['lat'])], box)]
+    for _ in range(RIDES):
+        yield 'lonlats=' + '|'.join(f"{node['lon']},{node['lat']}" for node in draw.sample(crossings, 2)) + '&profile=trekking&format=csv'
 
 
 def read_json(path):
@@ -106,9 +108,9 @@ def try_forms(room):
     shutil.move(f'{room}/city.json.map.info.json', f'{room}/whole.info.json')
 
 
-def try_meaning(room):
+def try_meaning(room, city):
     """The map that is made rides as the answer of Overpass itself does. All but the road that is only proposed counts there too."""
-    same = sum(ride(f'{room}/whole.json', query) == ride(f'{room}/plain.json', query) for query in queries(INNER, RIDES, 1))
+    same = sum(ride(f'{room}/whole.json', query) == ride(f'{room}/plain.json', query) for query in queries(city, 1))
     told(f'{RIDES} rides are those on the answer of Overpass as it is', same == RIDES, same)
 
 
@@ -124,13 +126,13 @@ def make_extracts(room):
     return found
 
 
-def try_extracts(room):
+def try_extracts(room, city):
     """Rides on an extract cost what they cost on the whole city where they stay in the box, and never less."""
-    asked = list(queries(INNER, RIDES, 2))
+    asked = [*queries(city, 2, INNER), *queries(city, 5, EDGE)]
     whole = [ride(f'{room}/whole.json', query) for query in asked]
     wanted = [cost_of(answer) for answer in whole]
     inside = [cost is not None and is_within(spots_of(answer), INNER) for cost, answer in zip(wanted, whole)]
-    told(f'{RIDES} rides on the whole city, {sum(inside)} of them within the box', RIDES // 2 < sum(inside) < RIDES, wanted)
+    told(f'{len(asked)} rides on the whole city, {sum(inside)} of them within the box', RIDES // 2 < sum(inside) < len(asked), wanted)
     for path in [*make_extracts(room), f'{room}/city.osm.pbf box', f'{room}/city.json box']:
         path, _, box = path.partition(' ')
         status, out, fault = convert(path, f'{room}/part.json', *([f'box={BOX}'] if box else []))
@@ -138,10 +140,12 @@ def try_extracts(room):
         name = os.path.basename(path) + (' by box=' if box else '')
         found = [cost_of(ride(f'{room}/part.json', query)) for query in asked]
         if 'simple' in name:
-            # This strategy leaves out each relation whose first member lies outside the box, and with it cycle routes.
-            told(f"{name}: {info['counts']['routes']} cycle routes are left; rides at no less", no_less(found, wanted, [False] * RIDES), found)
+            # This strategy leaves out each road that begins outside the box, and cycle routes, so waypoints go to other nodes.
+            rides = sum(cost is not None for cost in found)
+            told(f"{name}: {info['counts']['routes']} cycle routes are left; {rides} rides of {len(asked)}", rides > len(asked) // 2, found)
         else:
-            told(f"{name}: {info['counts']['routes']} cycle routes; rides as on the whole city, others at no less", no_less(found, wanted, inside), found)
+            told(f"{name}: {info['counts']['routes']} cycle routes; rides as on the whole city, others at no less",
+                 no_less(found, wanted, inside), found)
         if box or name in ('simple.osm.pbf', 'osmconvert.osm.pbf'):
             told(f"{name}: {info['changed']['cut_ways']} roads are cut at the border, and it is said",
                  info['changed']['cut_ways'] > 10 and 'cut, roads at' in out, out)
@@ -178,7 +182,7 @@ def try_split(room, city):
     beside = 'lonlats=' + '|'.join(f'{x:.6f},{y:.6f}' for x, y in spots) + '&profile=trekking&format=csv'
     told('without it a place on a straight kilometre is not mapped', ride(f'{room}/whole.json', beside) == 'not mapped: waypoint 0')
     told('with it there is a ride from there', cost_of(ride(f'{room}/split.json', beside)) is not None, ride(f'{room}/split.json', beside))
-    costs = [[cost_of(ride(f'{room}/{name}.json', query)) for query in between_crossings(city)] for name in ('whole', 'split')]
+    costs = [[cost_of(ride(f'{room}/{name}.json', query)) for query in queries(city, 3)] for name in ('whole', 'split')]
     apart = [abs(other - one) / one for one, other in zip(*costs) if one]
     told(f'{len(apart)} rides from crossing to crossing cost the same within a thousandth', len(apart) > RIDES // 2 and max(apart) < 0.001, costs)
     elements = read_json(f'{room}/split.json')['elements']
@@ -186,17 +190,10 @@ def try_split(room, city):
     ways = [element for element in elements if element['type'] == 'way']
     shared = [way['nodes'] for way in ways if set(city.straight['nodes'][1:]) <= set(way['nodes'])]
     inserted = [[number for number in nodes if number < 0] for nodes in shared]
-    told('a segment of two ways is split by the same nodes', len(shared) == 2 and set(inserted[1]) < set(inserted[0]) and len(inserted[1]) > 30, shared)
+    told('a segment of two ways is split by the same nodes',
+         len(shared) == 2 and set(inserted[1]) < set(inserted[0]) and len(inserted[1]) > 30, shared)
     ids = [element['id'] for element in elements if element['type'] == 'node']
     told('each node is there once', len(ids) == len(set(ids)))
-
-
-def between_crossings(city):
-    """Queries whose places are nodes, which are moved to the same nodes where others were put between them."""
-    draw = random.Random(3)
-    for _ in range(RIDES):
-        ends = [draw.choice(draw.choice(city.crossings)) for _ in range(2)]
-        yield 'lonlats=' + '|'.join(f"{end['lon']},{end['lat']}" for end in ends) + '&profile=trekking&format=csv'
 
 
 def longest_segment(elements):
@@ -220,8 +217,11 @@ def try_remarks(room, city):
         told(f'{name}: an incomplete answer is refused with what Overpass says',
              status == 2 and 'incomplete' in fault and 'timed out' in fault and not glob.glob(f'{room}/never*'), fault)
     write(f'{room}/dated.osm', city.xml(head='<meta osm_base="2025-05-05T05:05:05Z"/>'))
-    convert(f'{room}/dated.osm', f'{room}/dated.json')
-    told('the date of an answer in XML is taken', read_json(f'{room}/dated.info.json')['date'] == '2025-05-05T05:05:05Z')
+    for kind, words in (('.osm.pbf', ()), ('.o5m', ('--out-o5m',)), ('_plain.osm', ())):
+        run('osmconvert', f'{room}/city.osm', *words, '--timestamp=2025-05-05T05:05:05Z', f'-o={room}/dated{kind}')
+    for name in ('dated.osm', 'dated.osm.pbf', 'dated.o5m', 'dated_plain.osm'):
+        convert(f'{room}/{name}', f'{room}/dated.json')
+        told(f'{name}: the date in its head is taken', read_json(f'{room}/dated.info.json')['date'] == '2025-05-05T05:05:05Z')
 
 
 def try_progress(room):
@@ -229,14 +229,14 @@ def try_progress(room):
     stub = f'{room}/bin'
     os.mkdir(stub)
     real = shutil.which('osmium')
-    write(f'{stub}/osmium', f'#!/bin/sh\n[ "$1" = tags-filter ] && {{ {real} "$@" | {{ sed -u 1000q; sleep 5; cat; }}; exit; }}\nexec {real} "$@"\n')
+    write(f'{stub}/osmium', f'#!/bin/sh\n[ "$1" = cat ] && {{ {real} "$@" | {{ sed -u 1000q; sleep 5; cat; }}; exit; }}\nexec {real} "$@"\n')
     os.chmod(f'{stub}/osmium', 0o755)
     status, _, fault = convert(f'{room}/city.osm.pbf', f'{room}/slow.json', env={**os.environ, 'PATH': f"{stub}:{os.environ['PATH']}"})
     told('long work tells what it does on standard error', status == 0 and 'osm2map: reading' in fault and ' elements, ' in fault, fault)
 
 
-def try_faults(room):
-    """Each fault has its sentence and its status, and leaves what was there."""
+def make_faulty(room):
+    """Inputs that are refused, and what must not be touched."""
     write(f'{room}/empty', '')
     write(f'{room}/page.json', '<!DOCTYPE html>\n<html><body>The server is probably too busy</body></html>')
     for name in ('city.osm.pbf', 'city.osm', 'city.osm.bz2', 'city.json'):
@@ -244,33 +244,48 @@ def try_faults(room):
             write(f'{room}/broken.{name}', file.read()[:os.path.getsize(f'{room}/{name}') * 2 // 3])
     write(f'{room}/noise', bytes(range(256)) * 40)
     write(f'{room}/kept.json', 'as it was')
+    write(f'{room}/in.info.json', '{}')
     os.makedirs(f'{room}/other_things/x')
+
+
+def faulty_words(room, good, out):
+    """What is wrong, the status, a part of what is told, and the words."""
+    return (
+        ('no words', 1, 'an input, a map to write', []),
+        ('one word', 1, 'an input, a map to write', [good]),
+        ('a third word', 1, 'an input, a map to write', [good, out, 'x']),
+        ('a word twice', 1, 'an input, a map to write', [good, out, 'split=5', 'split=6']),
+        ('split=0', 1, 'split=0: whole metres', [good, out, 'split=0']),
+        ('split=5.5', 1, 'split=5.5: whole metres', [good, out, 'split=5.5']),
+        ('a box of three', 1, 'west,south,east,north', [good, out, 'box=1,2,3']),
+        ('a box of words', 1, 'west,south,east,north', [good, out, 'box=a,b,c,d']),
+        ('a box turned round', 1, 'west below east', [good, out, 'box=9,48,8,49']),
+        ('a box beyond the pole', 1, 'latitudes within 90', [good, out, 'box=8,48,9,91']),
+        ('a box of no numbers', 1, 'west,south,east,north', [good, out, 'box=nan,1,2,3']),
+        ('the map over its input', 1, 'is the input', [out, out]),
+        ('what tells of the map over its input', 1, 'is the input', [f'{room}/in.info.json', f'{room}/in.json']),
+        ('a folder where the map belongs', 1, 'is a folder', [good, room]),
+        ('no such input', 2, 'No such file', [f'{room}/nothing', out]),
+        ('a folder as input', 2, 'Is a directory', [room, out]),
+        ('a folder for the map that isn\'t there', 2, 'No such file', [good, f'{room}/nowhere/map.json']),
+        ('an empty file', 2, 'the file is empty', [f'{room}/empty', out]),
+        ('a page of the web', 2, 'no map: the service was busy', [f'{room}/page.json', out]),
+        ('noise', 2, 'osmium can\'t read it', [f'{room}/noise', out]),
+        ('a PBF cut off', 2, 'osmium can\'t read it: PBF error', [f'{room}/broken.city.osm.pbf', out]),
+        ('an XML cut off', 2, 'osmium can\'t read it: XML parsing error', [f'{room}/broken.city.osm', out]),
+        ('a bzip2 cut off', 2, 'osmium can\'t read it', [f'{room}/broken.city.osm.bz2', out]),
+        ('a JSON cut off', 2, 'no JSON text', [f'{room}/broken.city.json', out]),
+        ('a box beside the city', 2, 'nothing is left', [good, out, 'box=1,1,2,2']),
+        ('tiles over a file', 2, 'this is no folder', [good, out, f'tiles={out}']),
+        ('tiles in a folder that isn\'t there', 2, 'this is no folder', [good, out, f'tiles={room}/nowhere/tiles']),
+        ('tiles over other things', 2, 'isn\'t replaced', [good, out, f'tiles={room}/other_things']))
+
+
+def try_faults(room):
+    """Each fault has its sentence and its status, and leaves what was there."""
     good, out = f'{room}/city.osm.pbf', f'{room}/kept.json'
-    for name, status, part, words in (
-            ('no words', 1, 'an input, a map to write', []),
-            ('one word', 1, 'an input, a map to write', [good]),
-            ('a third word', 1, 'an input, a map to write', [good, out, 'x']),
-            ('a word twice', 1, 'an input, a map to write', [good, out, 'split=5', 'split=6']),
-            ('split=0', 1, 'split=0: whole metres', [good, out, 'split=0']),
-            ('split=5.5', 1, 'split=5.5: whole metres', [good, out, 'split=5.5']),
-            ('a box of three', 1, 'west,south,east,north', [good, out, 'box=1,2,3']),
-            ('a box of words', 1, 'west,south,east,north', [good, out, 'box=a,b,c,d']),
-            ('a box turned round', 1, 'west below east', [good, out, 'box=9,48,8,49']),
-            ('a box beyond the pole', 1, 'latitudes within 90', [good, out, 'box=8,48,9,91']),
-            ('a box of no numbers', 1, 'west,south,east,north', [good, out, 'box=nan,1,2,3']),
-            ('the map over its input', 1, 'is the input', [out, out]),
-            ('no such input', 2, 'No such file', [f'{room}/nothing', out]),
-            ('a folder as input', 2, 'Is a directory', [room, out]),
-            ('a folder for the map that isn\'t there', 2, 'No such file', [good, f'{room}/nowhere/map.json']),
-            ('an empty file', 2, 'the file is empty', [f'{room}/empty', out]),
-            ('a page of the web', 2, 'no map: the service was busy', [f'{room}/page.json', out]),
-            ('noise', 2, 'osmium can\'t read it', [f'{room}/noise', out]),
-            ('a PBF cut off', 2, 'osmium can\'t read it: PBF error', [f'{room}/broken.city.osm.pbf', out]),
-            ('an XML cut off', 2, 'osmium can\'t read it: XML parsing error', [f'{room}/broken.city.osm', out]),
-            ('a bzip2 cut off', 2, 'osmium can\'t read it', [f'{room}/broken.city.osm.bz2', out]),
-            ('a JSON cut off', 2, 'no JSON text', [f'{room}/broken.city.json', out]),
-            ('a box beside the city', 2, 'nothing is left', [good, out, 'box=1,1,2,2']),
-            ('tiles over other things', 2, 'isn\'t replaced', [good, out, f'tiles={room}/other_things'])):
+    make_faulty(room)
+    for name, status, part, words in faulty_words(room, good, out):
         found, _, fault = convert(*words)
         told(f'{name}: status {status}, told', found == status and part in fault and 'Traceback' not in fault, (found, fault))
     with open(out, encoding='utf-8') as file:
@@ -313,7 +328,8 @@ def try_tiles(room):
     wanted = sum(metres(spots[one], spots[other]) for way in elements if way['type'] == 'way' for one, other in zip(way['nodes'], way['nodes'][1:]))
     told('tiles of zoom 14 hold all metres of all roads within a thousandth', abs(total - wanted) < wanted / 1000, (total, wanted))
     ferries = [feature['properties'] for path in listed for feature in read_json(path)['features'] if 'ferry' in feature['properties']]
-    told('ferries are marked', len(ferries) > 4 and all(ferry == {'name': 'Fähre', 'ferry': True} or ferry == {'ferry': True} for ferry in ferries), ferries)
+    told('ferries are marked, and have no highway', len(ferries) > 4 and all({**ferry, 'name': 'Fähre'} == {'name': 'Fähre', 'ferry': True}
+                                                                            for ferry in ferries), ferries)
     write(f'{folder}/14/stale.json', '{}')
     convert(f'{room}/city.json', f'{room}/tiled.json', f'box={BOX}', f'tiles={folder}')
     told('tiles of an earlier map are replaced', not os.path.exists(f'{folder}/14/stale.json')
@@ -326,6 +342,24 @@ def bounds_of(path):
     side = 1 << zoom
     north, south = (math.degrees(math.atan(math.sinh(math.pi * (1 - 2 * edge / side)))) for edge in (row, row + 1))
     return column / side * 360 - 180 - 1e-5, south - 1e-5, (column + 1) / side * 360 - 180 + 1e-5, north + 1e-5
+
+
+def try_heights(room, city):
+    """A tile that GDAL makes of a raster has the heights of the raster, which here rises evenly to the east and to the north."""
+    rows = [' '.join(f'{height_at(7.9 + 0.0125 * (column + 0.5), 50.1 - 0.0125 * (row + 0.5)):.2f}' for column in range(96)) for row in range(96)]
+    write(f'{room}/heights.asc', '\n'.join(['ncols 96', 'nrows 96', 'xllcorner 7.9', 'yllcorner 48.9', 'cellsize 0.0125', *rows, '']))
+    run('gdal_translate', '-a_srs', 'EPSG:4326', f'{room}/heights.asc', f'{room}/heights.tif')
+    run(*'gdalwarp -t_srs EPSG:4326 -te 7.999583333 48.999583333 9.000416667 50.000416667 -ts 1201 1201 -r bilinear'.split(),
+        *'-ot Int16 -dstnodata -32768'.split(), f'{room}/heights.tif', f'{room}/degree.tif')
+    run('gdal_translate', '-of', 'SRTMHGT', f'{room}/degree.tif', f'{room}/N49E008.hgt')
+    answer = ride(f'{room}/whole.json', next(queries(city, 1)), tile=f'{room}/N49E008.hgt')
+    rows = [line.split('\t') for line in answer[1:] if line.split('\t')[0].isdigit()]
+    apart = [abs(float(row[2]) - height_at(int(row[0]) / 1e6, int(row[1]) / 1e6)) for row in rows]
+    told(f'a tile of heights by GDAL: {len(apart)} heights within a metre', len(apart) > 10 and max(apart) < 1, answer)
+
+
+def height_at(longitude, latitude):
+    return 100 + 2000 * (longitude - 8) + 1500 * (latitude - 49)
 
 
 def try_odd_maps(room):
@@ -351,14 +385,15 @@ def main():
         shown = [relation for relation in city.relations if 'state' not in relation['tags']]
         write(f'{room}/plain.json', json.dumps({'elements': [*city.nodes, *city.ways, *shown]}))
         try_forms(room)
-        try_meaning(room)
-        try_extracts(room)
+        try_meaning(room, city)
+        try_extracts(room, city)
         try_split(room, city)
         try_remarks(room, city)
         try_progress(room)
         try_faults(room)
         try_limit(room)
         try_tiles(room)
+        try_heights(room, city)
         try_odd_maps(room)
     return 1 if FAILED else 0
 
