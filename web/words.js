@@ -11,7 +11,7 @@ const KINDS = {
 
 const ROWS = [
   [/^not mapped: waypoint (\d+)$/, ([p]) => ({
-    text: `Waypoint ${p + 1} is farther than 250 metres from each road that the profile and the circles leave open.`, waypoints: [p] })],
+    text: `Waypoint ${p + 1}: no node of a road that the profile and the circles leave open is within 250 metres.`, waypoints: [p] })],
   [/^no track: leg (\d+)$/, ([leg]) => ({
     text: `No permitted ride leads from waypoint ${leg + 1} to waypoint ${leg + 2}. That is proved, no search gave up: a one-way, a gate, `
       + 'a turn restriction or a circle is in the way, or the map ends too early.', waypoints: [leg, leg + 1] })],
