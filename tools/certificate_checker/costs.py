@@ -1,30 +1,20 @@
-"""What a link costs at its place in a walk, and when one label makes another needless (docs/FORMULAS.md, "Heights and buffers", "What a
-link costs")."""
-from enum import Enum
-from typing import NamedTuple
+"""What a link costs at its place in a walk, by the buffers that the walk has filled (docs/FORMULAS.md, "Heights and buffers" and "What a
+link costs"). All costs are in millionths."""
+from collections import namedtuple
 
 from .geometry import turn_cosine
 from .numbers import MILLION, mil6
 from .profile import GLOBAL_NAMES
 from .refusals import Refusal
 
-DEFAULTS = dict.fromkeys(GLOBAL_NAMES, 0) | {b'elevationpenaltybuffer': 5 * MILLION, b'elevationmaxbuffer': 10 * MILLION}
-
-
-class Rates(NamedTuple):
-    """The whole parts of what a metre of climbing and descending costs; slopes in micrometres a metre; buffers in micrometres."""
-    up: int
-    down: int
-    up_cutoff: int
-    down_cutoff: int
-    penalty: int
-    most: int
-    reduction: int
+DEFAULTS = {b'elevationpenaltybuffer': 5 * MILLION, b'elevationmaxbuffer': 10 * MILLION}
+# what a metre of climbing and descending costs, slopes in micrometres a metre, and buffers in micrometres
+Rates = namedtuple('Rates', 'up down up_cutoff down_cutoff penalty most reduction')
 
 
 def rates_of(global_values):
     """The rates of the global values, or the refusal of the first that is negative, or of buffers out of order."""
-    values = [global_values.get(name, DEFAULTS[name]) for name in GLOBAL_NAMES]
+    values = [global_values.get(name, DEFAULTS.get(name, 0)) for name in GLOBAL_NAMES]
     for name, value in zip(GLOBAL_NAMES, values):
         if value < 0:
             raise Refusal(2, f'{name.decode()} is negative')
@@ -44,64 +34,40 @@ def step(buffer, added, reduction, penalty, most):
     return full - paid, paid, MILLION if reduction <= over else MILLION * over // reduction
 
 
-def turn_part(last, facts):
-    return facts.way.turncost * (MILLION - turn_cosine(last.arrow, facts.arrow)) // MILLION
-
-
-def initial_part(last, facts):
-    return facts.way.initialcost if last.way.classifier != facts.way.classifier else 0
-
-
 class Climb:
-    """What a link does to both buffers of a walk, and the parts of its cost that they change."""
+    """What a link does to the buffers of a walk, and the parts of its price that hang on them."""
 
     def __init__(self, facts, rates):
-        length = facts.arrow.length
-        self.rates, self.length = rates, length
+        self.facts, self.rates, length = facts, rates, facts.arrow.length
         self.down_added = -facts.rise - length * rates.down_cutoff // 1000
         self.up_added = facts.rise - length * rates.up_cutoff // 1000
         self.reduction = length * rates.reduction // 1000
-        way = facts.way
-        self.costfactor = way.costfactor
-        self.down_more, self.up_more = way.down_factor - way.costfactor, way.up_factor - way.costfactor
+        self.down_more, self.up_more = facts.down_factor - facts.costfactor, facts.up_factor - facts.costfactor
 
     def enter(self, down, up):
-        """The distance and elevation parts together, and both buffers behind the link."""
-        rates = self.rates
+        """The distance, elevation and node parts together, and both buffers behind the link."""
+        rates, facts = self.rates, self.facts
         down, down_paid, down_weight = step(down, self.down_added, self.reduction, rates.penalty, rates.most)
         up, up_paid, up_weight = step(up, self.up_added, self.reduction, rates.penalty, rates.most)
-        moved = (self.costfactor * MILLION + self.down_more * down_weight + self.up_more * up_weight) // MILLION
-        distance = self.length * max(0, moved) // 1000
-        return distance + down_paid * rates.down + up_paid * rates.up, down, up
+        factor = max(0, (facts.costfactor * MILLION + self.down_more * down_weight + self.up_more * up_weight) // MILLION)
+        return facts.arrow.length * factor // 1000 + down_paid * rates.down + up_paid * rates.up + facts.charge, down, up
+
+    def low_price(self):
+        """The least that entering the link costs, whatever walk enters it."""
+        factor = max(0, self.facts.costfactor + min(0, self.down_more) + min(0, self.up_more))
+        return self.facts.arrow.length * factor // 1000 + self.facts.charge
 
 
-def walk_cost(walk, facts, climbs):
-    """What a walk of links costs, from two empty buffers on."""
-    cost = down = up = 0
-    for last, link in zip([None, *walk], walk):
-        part, down, up = climbs[link].enter(down, up)
-        cost += part + facts[link].charge
-        if last is not None:
-            cost += turn_part(facts[last], facts[link]) + initial_part(facts[last], facts[link])
+def change(last, facts):
+    """The turn and initial parts of a link that is entered after another."""
+    turn = facts.turncost * (MILLION - turn_cosine(last.arrow, facts.arrow)) // MILLION
+    return turn + (facts.initialcost if last.classifier != facts.classifier else 0)
+
+
+def walk_cost(climbs):
+    """What a walk along links costs, from empty buffers on."""
+    cost, down, up = 0, 0, 0
+    for last, climb in zip([None, *climbs], climbs):
+        part, down, up = climb.enter(down, up)
+        cost += part + (change(last.facts, climb.facts) if last else 0)
     return cost
-
-
-def low_price(facts):
-    """What entering a link costs at least, whatever walk enters it: the low form of its distance part, and its charge."""
-    way = facts.way
-    factor = max(0, way.costfactor + min(0, way.down_factor - way.costfactor) + min(0, way.up_factor - way.costfactor))
-    return facts.arrow.length * factor // 1000 + facts.charge
-
-
-class Mode(Enum):
-    """How two labels of a link compare in one buffer: a greater one is paid for, may not be, or both have to be equal."""
-    COMPENSATED = 1
-    ORDERED = 2
-    EQUAL = 3
-
-
-def mode_of(differences):
-    """The mode of a buffer, by how much more than `costfactor` its factor is on each link."""
-    if all(it == 0 for it in differences):
-        return Mode.COMPENSATED
-    return Mode.ORDERED if all(it >= 0 for it in differences) else Mode.EQUAL

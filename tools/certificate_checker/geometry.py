@@ -1,20 +1,15 @@
 """Lengths, turns and circles on the map, in millimetres (docs/FORMULAS.md, "Lengths, turns, circles").
 
 A spot is a pair of longitude and latitude in microdegrees, an arrow its two parts to the east and north with its length."""
+from collections import namedtuple
 from math import isqrt
-from typing import NamedTuple
 
 from .numbers import MILLION, cut
 
 SCALE = 10**9
 LONGEST = 100_000_000
 FARTHEST = 300_000_000
-
-
-class Arrow(NamedTuple):
-    east: int
-    north: int
-    length: int
+Arrow = namedtuple('Arrow', 'east north length')
 
 
 def cosine(latitude):

@@ -2,7 +2,7 @@
 
 An object is a dictionary in which the first of repeated members counts, a text its bytes, and a number the bytes that spell it."""
 import re
-from typing import NamedTuple
+from collections import namedtuple
 
 DEEPEST = 64
 SPACE = re.compile(rb'[ \t\n\r]*')
@@ -19,18 +19,11 @@ CHARACTER_FRONT = re.compile(
 ESCAPE = re.compile(rb'\\u[dD][89abAB]..\\u[dD][c-fC-F]..|\\u....|\\.')
 SHORT = {b'b': b'\b', b'f': b'\f', b'n': b'\n', b'r': b'\r', b't': b'\t'}
 WORDS = {b't': (b'true', True), b'f': (b'false', False), b'n': (b'null', None)}
+Number = namedtuple('Number', 'text')
 
 
 class NotJson(Exception):
-    """No JSON text begins with the bytes up to this one and goes on like the text."""
-
-    def __init__(self, at):
-        super().__init__(at)
-        self.at = at
-
-
-class Number(NamedTuple):
-    text: bytes
+    """Some JSON text begins with so many bytes of the text, and none with the next one too."""
 
 
 def unescaped(match):

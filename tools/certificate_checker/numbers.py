@@ -7,7 +7,7 @@ DECIMAL = re.compile(rb'(-?)([0-9]+)(?:\.([0-9]+))?')
 
 
 class Fault(Exception):
-    """An arithmetic fault; its text is the kind as a refusal tells it."""
+    """A fault of arithmetic; its text is the kind as a refusal tells it."""
 
 
 def cut(dividend, divisor):
@@ -22,14 +22,6 @@ def in_range(count):
     return count
 
 
-def add(a, b):
-    return in_range(a + b)
-
-
-def subtract(a, b):
-    return in_range(a - b)
-
-
 def multiply(a, b):
     return in_range(cut(a * b, MILLION))
 
@@ -41,35 +33,26 @@ def divide(a, b):
 
 
 def decimal(text, most_digits, decimals):
-    """The sign of a decimal text and its digits up to so many decimals as one number, or None where it is none.
-
-    A whole part of more digits than `most_digits`, leading zeros apart, is out of every range and gives None too."""
+    """The sign of a decimal text, and its digits up to so many decimals as one number; None where it is no such text, or its whole
+    part has more digits than this."""
     match = DECIMAL.fullmatch(text)
-    if not match:
-        return None
-    whole = match[2].lstrip(b'0')
-    if len(whole) > most_digits:
+    if not match or len(match[2].lstrip(b'0')) > most_digits:
         return None
     behind = ((match[3] or b'') + b'0' * decimals)[:decimals]
-    return -1 if match[1] else 1, int(whole + behind)
+    return -1 if match[1] else 1, int(match[2].lstrip(b'0') + behind)
 
 
 def literal(text):
-    """The millionths of a literal of the profile language, cut after the sixth decimal; None where it is none or too large."""
+    """The millionths of a literal of the profile language, cut after the sixth decimal; None where it is none or out of range."""
     found = decimal(text, 10, 6)
-    if found is None or found[1] > MOST:
-        return None
-    return found[0] * found[1]
+    return found[0] * found[1] if found and found[1] <= MOST else None
 
 
 def coordinate(text, most):
     """The microdegrees of a coordinate, rounded half up at the sixth decimal; None where it is none or beyond `most`.
-
-    Rounding needs no digit behind the seventh decimal."""
+    The seventh decimal decides, whatever stands behind it."""
     found = decimal(text, 3, 7)
-    if found is None or (count := (found[1] + 5) // 10) > most:
-        return None
-    return found[0] * count
+    return found[0] * ((found[1] + 5) // 10) if found and (found[1] + 5) // 10 <= most else None
 
 
 def mil6(count):

@@ -1,31 +1,26 @@
 """The profile language by its trees: how a text is read, what is checked, and what it comes to (docs/FORMATS.md, "The routing profile").
 
-A tree is a tuple whose first item says its kind: `number`, `name`, `look`, or an operator's own word with its operands."""
+A tree is a tuple whose first item says its kind: `number`, `name`, `look`, or an operator's word with its operands behind it."""
 import re
-from typing import NamedTuple
+from collections import namedtuple
 
-from . import numbers
-from .numbers import MILLION, Fault
+from .numbers import MILLION, Fault, divide, in_range, literal, multiply
 from .refusals import Refusal
 
 SECTIONS = {b'---context:global': 'global', b'---context:way': 'way', b'---context:node': 'node'}
 GLOBAL_NAMES = (b'uphillcost', b'downhillcost', b'uphillcutoff', b'downhillcutoff', b'elevationpenaltybuffer',
                 b'elevationmaxbuffer', b'elevationbufferreduce')
-OPERANDS = {b'not': 1, b'switch': 3, b'if': 3, b'(': 1} | dict.fromkeys(
-    (b'or', b'and', b'xor', b'multiply', b'divide', b'add', b'sub', b'max', b'min', b'equal', b'greater', b'lesser'), 2)
+# of each operator the word before each operand, where there is one
+OPERANDS = {b'not': (b'',), b'switch': (b'', b'', b''), b'if': (b'', b'then', b'else'), b'(': (b'',)} | dict.fromkeys(
+    b'or and xor multiply divide add sub max min equal greater lesser'.split(), (b'', b''))
 TRUTHS = {b'true': MILLION, b'false': 0}
 WORDS = {b'assign', b'then', b'else', *OPERANDS, *TRUTHS}
-TOKEN = re.compile(rb'#[^\n]*|[()]|[^\s()#]+')
+TOKEN = re.compile(rb'[()]|[^\s()]+')
 NAME = re.compile(rb'[A-Za-z_][A-Za-z0-9_]*')
 LOOK = re.compile(rb'([^=]+)=(|[^|]+(?:\|[^|]+)*)')
 NUMERIC = re.compile(rb'[0-9]|-(?!--)')
 DEEPEST = 1000
-
-
-class Assignment(NamedTuple):
-    name: bytes
-    line: int
-    tree: tuple
+Assignment = namedtuple('Assignment', 'name line tree')
 
 
 def is_name(token):
@@ -33,161 +28,131 @@ def is_name(token):
 
 
 class Reader:
-    """The tokens of a profile's text with their lines, taken one by one."""
+    """The tokens of a profile's text with their lines, taken one by one; behind the last one stands None."""
 
     def __init__(self, text):
-        self.tokens, line, at = [], 1, 0
-        for match in TOKEN.finditer(text):
-            line += text.count(b'\n', at, match.start())
-            at = match.start()
-            if not match[0].startswith(b'#'):
-                self.tokens.append((match[0], line))
+        self.tokens = [(token, number) for number, line in enumerate(text.split(b'\n'), 1)
+                       for token in TOKEN.findall(line.split(b'#', 1)[0])]
+        self.tokens.append((None, self.tokens[-1][1] if self.tokens else 0))
         self.at = 0
 
-    def refuse(self, kind):
-        """The refusal of the token that was taken last."""
-        return Refusal(2, f'profile line {self.tokens[self.at - 1][1]}: {kind}')
-
     def take(self):
-        if self.at == len(self.tokens):
-            raise self.refuse('end')
         self.at += 1
+        if self.tokens[self.at - 1][0] is None:
+            raise self.refusal('end')
         return self.tokens[self.at - 1][0]
 
-    def refuse_other(self, token):
-        """The refusal of a token that can't stand where it is, for no reason of the place's own."""
-        is_bad_number = NUMERIC.match(token) and numbers.literal(token) is None
-        return self.refuse('number' if is_bad_number else 'token')
+    def line(self):
+        return self.tokens[self.at - 1][1]
+
+    def refusal(self, kind):
+        """The refusal of the token that was taken last."""
+        return Refusal(2, f'profile line {self.line()}: {kind}')
+
+    def unfit(self, token, closing='token'):
+        """The refusal of a token that can't stand where it is; that of a closing bracket depends on the place."""
+        is_bad_number = NUMERIC.match(token) and literal(token) is None
+        return self.refusal('number' if is_bad_number else closing if token == b')' else 'token')
 
     def profile(self):
         """The assignments of each section."""
-        sections, current = {'global': [], 'way': [], 'node': []}, None
-        while self.at < len(self.tokens):
+        sections, current = {name: [] for name in SECTIONS.values()}, None
+        while self.tokens[self.at][0] is not None:
             token = self.take()
             if token in SECTIONS:
                 current = sections[SECTIONS[token]]
-            elif token == b')':
-                raise self.refuse('bracket')
-            elif token.startswith(b'---') or token == b'assign' and current is None:
-                raise self.refuse('section')
-            elif token != b'assign':
-                raise self.refuse_other(token)
-            else:
+            elif token == b'assign' and current is not None:
                 current.append(self.assignment())
+            elif token == b'assign' or token.startswith(b'---'):
+                raise self.refusal('section')
+            else:
+                raise self.unfit(token, 'bracket')
         return sections
 
     def assignment(self):
-        name = self.take()
+        name, line = self.take(), self.line()
         if not is_name(name):
-            raise self.refuse_other(name)
-        line = self.tokens[self.at - 1][1]
-        if self.tokens[self.at:self.at + 1] and self.tokens[self.at][0] == b'=':
-            self.at += 1
+            raise self.unfit(name)
+        self.at += self.tokens[self.at][0] == b'='
         return Assignment(name, line, self.tree(1))
 
     def tree(self, depth):
         token = self.take()
-        line = self.tokens[self.at - 1][1]
-        look = LOOK.fullmatch(token)
-        if token == b')':
-            raise self.refuse('bracket')
-        if NUMERIC.match(token):
-            if (count := numbers.literal(token)) is None:
-                raise self.refuse('number')
-            found = ('number', count)
-        elif token in TRUTHS:
-            found = ('number', TRUTHS[token])
+        count, look, found = TRUTHS.get(token, literal(token)), LOOK.fullmatch(token), None
+        if count is not None:
+            found = 'number', count
+        elif NUMERIC.match(token) or not (look or is_name(token) or token in OPERANDS):
+            raise self.unfit(token, 'bracket')
         elif look:
-            found = ('look', look[1], look[2].split(b'|') if look[2] else [], line)
+            found = 'look', look[1], look[2].split(b'|') if look[2] else [], self.line()
         elif is_name(token):
-            found = ('name', token, line)
-        elif token not in OPERANDS:
-            raise self.refuse('token')
-        else:
-            found = None
+            found = 'name', token, self.line()
         if depth > DEEPEST:
-            raise self.refuse('deep')
+            raise self.refusal('deep')
         return found or self.operation(token, depth + 1)
 
     def operation(self, word, depth):
-        """An operator's operands, or what stands in brackets."""
-        if word == b'(':
-            inner = self.tree(depth)
-            if self.take() != b')':
-                raise self.refuse('bracket')
-            return inner
-        operands = [self.tree(depth)]
-        for between in (b'then', b'else') if word == b'if' else (b'',) * (OPERANDS[word] - 1):
-            if between and (token := self.take()) != between:
-                raise self.refuse_other(token)
+        """An operator with its operands, or what stands in brackets."""
+        operands = []
+        for before in OPERANDS[word]:
+            if before and (token := self.take()) != before:
+                raise self.unfit(token)
             operands.append(self.tree(depth))
-        return ('switch' if word == b'if' else word.decode(), *operands)
+        if word == b'(' and self.take() != b')':
+            raise self.refusal('bracket')
+        return operands[0] if word == b'(' else ('switch' if word == b'if' else word.decode(), *operands)
 
 
-def read_profile(text):
-    return Reader(text).profile()
+def read_profile(text, table):
+    """The assignments of each section of a text, or its first refusal; what isn't known under the tag table is one too."""
+    sections = Reader(text).profile()
+    check(sections, table)
+    return sections
 
 
 def check(sections, table):
     """Refuses the first thing in a profile that isn't known where it stands."""
-    global_names = {it.name for it in sections['global']}
-    for section in ('global', 'way', 'node'):
-        known = set() if section == 'global' else set(global_names)
-        for name, line, tree in sections[section]:
+    for section, assignments in sections.items():
+        known = set() if section == 'global' else {it.name for it in sections['global']}
+        for name, line, tree in assignments:
             if section == 'way' and name in GLOBAL_NAMES:
                 raise Refusal(2, f'profile line {line}: wrong section')
-            check_tree(tree, known, table.get(section))
+            if fault := fault_of(tree, known, table.get(section)):
+                raise Refusal(2, f'profile line {fault}')
             known.add(name)
     if all(it.name != b'costfactor' for it in sections['way']):
         raise Refusal(2, 'profile: no costfactor')
 
 
-def check_tree(tree, known, tags):
-    """Refuses the first name, tag or value of a tree, from the left, that isn't known; the global section has no tags."""
-    if tree[0] == 'name' and tree[1] not in known:
-        raise Refusal(2, f'profile line {tree[2]}: unknown name')
-    if tree[0] == 'look':
-        _, tag, values, line = tree
-        if tags is None:
-            raise Refusal(2, f'profile line {line}: wrong section')
-        if tag not in tags:
-            raise Refusal(2, f'profile line {line}: unknown tag')
-        if any(value != b'unknown' and value not in tags[tag].numbers for value in values):
-            raise Refusal(2, f'profile line {line}: unknown value')
-    if tree[0] not in ('number', 'name', 'look'):
-        for operand in tree[1:]:
-            check_tree(operand, known, tags)
+def fault_of(tree, known, tags):
+    """The line and the fault of the first part of a tree, from the left, that isn't known; the global section has no tags."""
+    match tree:
+        case 'number', _:
+            return None
+        case 'name', name, line:
+            return f'{line}: unknown name' if name not in known else None
+        case 'look', tag, values, line:
+            if tags is None or tag not in tags:
+                return f'{line}: unknown tag' if tags else f'{line}: wrong section'
+            return None if all(it == b'unknown' or it in tags[tag].numbers for it in values) else f'{line}: unknown value'
+    return next((fault for operand in tree[1:] if (fault := fault_of(operand, known, tags))), None)
 
 
-class ValueFault(Exception):
-    """The first fault of a section: its assignment's name and its kind."""
-
-    def __init__(self, name, kind):
-        super().__init__(name, kind)
-        self.line = f'{name.decode()}: {kind}'
-
-
-def values_of(assignments, outer, tags, set_numbers, overrides=()):
+def values_of(assignments, outer, tags, set_numbers, overrides):
     """What a section assigns, by name, where `outer` are the global values and `set_numbers` the tag numbers that aren't 0."""
     values, own = dict(outer), {}
-    overridden = dict(overrides)
     for name, _, tree in assignments:
         try:
-            own[name] = overridden[name] if name in overridden else value(tree, values, tags, set_numbers)
+            own[name] = values[name] = overrides[name] if name in overrides else value(tree, values, tags, set_numbers)
         except Fault as fault:
-            raise ValueFault(name, fault) from None
-        values[name] = own[name]
+            raise Fault(f'{name.decode()}: {fault}') from None
     return own
 
 
 BOTH = {
-    'xor': lambda a, b: MILLION * (bool(a) != bool(b)),
-    'multiply': numbers.multiply, 'divide': numbers.divide, 'add': numbers.add, 'sub': numbers.subtract,
-    'max': max, 'min': min,
-    'equal': lambda a, b: MILLION * (a == b),
-    'greater': lambda a, b: MILLION * (a > b),
-    'lesser': lambda a, b: MILLION * (a < b),
-}
+    'xor': lambda a, b: MILLION * (bool(a) != bool(b)), 'multiply': multiply, 'divide': divide,
+    'add': lambda a, b: in_range(a + b), 'sub': lambda a, b: in_range(a - b), 'max': max, 'min': min,
+    'equal': lambda a, b: MILLION * (a == b), 'greater': lambda a, b: MILLION * (a > b), 'lesser': lambda a, b: MILLION * (a < b)}
 
 
 def value(tree, values, tags, set_numbers):

@@ -1,6 +1,5 @@
 """The words of the command line and the query among them (docs/REFUSALS.md, "Words"; docs/FORMATS.md, "The query")."""
 import re
-from types import SimpleNamespace
 from urllib.parse import unquote_to_bytes
 
 from .numbers import coordinate, decimal, literal
@@ -19,7 +18,7 @@ def profile_name(path):
 
 
 def read_words(words):
-    """The value of each key with the place of its word, those of tiles as a list; the first word is the program's own."""
+    """The value and the place of the word of each key, those of tiles as a list; the first word is the program's own."""
     found = {'tile': []}
     for place, word in enumerate(words[1:], 1):
         key, _, value = word.partition('=')
@@ -36,32 +35,33 @@ def read_words(words):
 
 
 def place_of(text):
-    longitude, comma, latitude = text.partition(b',')
+    longitude, _, latitude = text.partition(b',')
     place = coordinate(longitude, 180_000_000), coordinate(latitude, 90_000_000)
     return None if None in place else place
 
 
 def circle_of(text):
     """The centre and the radius in millimetres of a circle."""
-    place, _, radius = text.rpartition(b',')
-    centre, length = place_of(place), decimal(radius, 6, 3)
-    return (centre, length[1]) if centre and length and length[1] <= FARTHEST_RADIUS and radius[:1] != b'-' else None
+    centre, _, radius = text.rpartition(b',')
+    place, length = place_of(centre), decimal(radius, 6, 3)
+    return (place, length[1]) if place and length and length[1] <= FARTHEST_RADIUS and radius[:1] != b'-' else None
 
 
-def within(text, least, most, digits):
-    """The number that at most so many digits spell, within its range; else None."""
-    return int(text) if text.isdigit() and len(text) <= digits and least <= int(text) <= most else None
+def whole(text, least, most):
+    """A number of no more digits than the most has, within its range."""
+    return int(text) if text.isdigit() and len(text) <= len(str(most)) and least <= int(text) <= most else None
 
 
-def list_of(name, text, most, read):
-    items = []
-    for item in text.split(b'|'):
-        if (value := read(item)) is None:
+def items(name, text, most, read):
+    """The items between bars; one more than the most is refused where it is of its form."""
+    found = []
+    for text in text.split(b'|'):
+        found.append(read(text))
+        if found[-1] is None:
             return None
-        if len(items) == most:
+        if len(found) > most:
             raise Refusal(1, f'query: too many in {name}')
-        items.append(value)
-    return items
+    return found
 
 
 def form_of(text):
@@ -71,40 +71,34 @@ def form_of(text):
 
 
 VALUES = {
-    'lonlats': lambda text: list_of('lonlats', text, MOST_PLACES, place_of) if b'|' in text else None,
+    'lonlats': lambda text: items('lonlats', text, MOST_PLACES, place_of) if b'|' in text else None,
     'profile': lambda text: text or None,
-    'nogos': lambda text: list_of('nogos', text, MOST_CIRCLES, circle_of) if text else [],
-    'alternativeidx': lambda text: within(text, 0, 3, 1),
+    'nogos': lambda text: items('nogos', text, MOST_CIRCLES, circle_of) if text else [],
+    'alternativeidx': lambda text: whole(text, 0, 3),
     'format': form_of,
-    'labels': lambda text: within(text, 1, 4_000_000_000, 10),
-    'runs': lambda text: within(text, 0, 1, 1),
-}
+    'labels': lambda text: whole(text, 1, 4_000_000_000),
+    'runs': lambda text: whole(text, 0, 1),
+    'profile:': literal}
 
 
 def read_query(query):
-    """What a query asks for, or the refusal of its first pair at fault, or else of what is missing."""
-    pieces = [piece for piece in query.split('&') if piece]
-    found, overrides = {}, {}
-    for number, piece in enumerate(pieces):
-        key, text = (unquote_to_bytes(it.replace('+', ' ')) for it in (piece + '=').split('=', 1))
-        text = text[:-1]
-        shown = 'profile:' if key.startswith(b'profile:') else key.decode('utf-8', 'replace')
-        if shown != 'profile:' and shown not in VALUES:
+    """The value of each key of a query, and under `profile:` that of each override; or the refusal of its first pair at fault."""
+    found = {'profile:': {}}
+    for number, piece in enumerate(filter(None, query.split('&'))):
+        key, _, text = (unquote_to_bytes(it.replace('+', ' ')) for it in piece.partition('='))
+        key, colon, name = key.decode('utf-8', 'replace').partition(':')
+        key, kept = key + colon, found['profile:'] if colon else found
+        if key not in VALUES:
             raise Refusal(1, f'query: unknown key at pair {number}')
-        if shown in found or key in overrides:
-            raise Refusal(1, f'query: repeated {shown}')
-        value = VALUES[shown](text) if shown in VALUES else literal(text) if is_name(key[8:]) else None
+        if (name.encode() if colon else key) in kept:
+            raise Refusal(1, f'query: repeated {key}')
+        value = None if colon and not is_name(name.encode()) else VALUES[key](text)
         if value is None:
-            raise Refusal(1, f'query: bad value of {shown}')
-        if shown == 'profile:' and len(overrides) == MOST_OVERRIDES:
-            raise Refusal(1, 'query: too many in profile:')
-        if shown == 'profile:':
-            overrides[key] = value
-        else:
-            found[shown] = value
-    for name in ('lonlats', 'profile'):
-        if name not in found:
-            raise Refusal(1, f'query: missing {name}')
-    return SimpleNamespace(places=found['lonlats'], profile=found['profile'], circles=found.get('nogos', []),
-                           alternative=found.get('alternativeidx', 0),
-                           overrides={key[8:]: value for key, value in overrides.items()})
+            raise Refusal(1, f'query: bad value of {key}')
+        if colon and len(kept) == MOST_OVERRIDES:
+            raise Refusal(1, f'query: too many in {key}')
+        kept[name.encode() if colon else key] = value
+    for key in ('lonlats', 'profile'):
+        if key not in found:
+            raise Refusal(1, f'query: missing {key}')
+    return found

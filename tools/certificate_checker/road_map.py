@@ -1,6 +1,8 @@
-"""The road map of an Overpass text: nodes, ways, links and turn restrictions (docs/FORMATS.md, "The road map")."""
+"""The road map of an Overpass text: nodes, ways, links and turn restrictions (docs/FORMATS.md, "The road map").
+
+A link is a segment of a way in one direction; it names its way and the nodes that it leaves and reaches by their ids."""
 import re
-from typing import NamedTuple
+from collections import namedtuple
 
 from . import json_text
 from .geometry import Arrow, arrow
@@ -10,176 +12,133 @@ from .refusals import Refusal
 
 MOST = 8_000_000
 WHOLE = re.compile(rb'-?[0-9]{1,19}')
-
-
-class Link(NamedTuple):
-    """A segment of a way in one direction, from node to node by their ids; `way` is a way's id."""
-    start: int
-    end: int
-    way: int
-    segment: int
-    back: bool
-    arrow: Arrow
-
-
-class Restriction(NamedTuple):
-    only: bool
-    from_ways: set
-    to_ways: set
-
-
-class Element:
-    """What the map keeps of the elements of one kind and id: their content, and the first tags that aren't empty."""
-
-    def __init__(self, content):
-        self.content, self.tags = content, {}
+Link = namedtuple('Link', 'start end way segment back arrow')
+Restriction = namedtuple('Restriction', 'is_only from_ways to_ways')
 
 
 class Shape(Exception):
     """An element isn't of its form."""
 
 
-def need(condition):
-    if not condition:
+def typed(value, kind):
+    if not isinstance(value, kind):
         raise Shape
+    return value
 
 
 def whole(value):
-    need(isinstance(value, Number) and WHOLE.fullmatch(value.text))
-    need(-2**63 <= int(value.text) < 2**63)
-    return int(value.text)
+    text = typed(value, Number).text
+    if not WHOLE.fullmatch(text) or not -2**63 <= int(text) < 2**63:
+        raise Shape
+    return int(text)
 
 
-def text_of(value):
-    need(isinstance(value, bytes))
-    return value
-
-
-def list_of(value):
-    need(isinstance(value, list))
-    return value
-
-
-def member(value):
-    need(isinstance(value, dict))
-    return text_of(value.get(b'type')), whole(value.get(b'ref')), text_of(value.get(b'role'))
+def content_of(kind, value):
+    """What an element has beside its id and tags."""
+    if kind == 'node':
+        return tuple(typed(value.get(name), Number).text for name in (b'lon', b'lat'))
+    if kind == 'way':
+        return [whole(it) for it in typed(value.get(b'nodes'), list)]
+    return [(typed(it.get(b'type'), bytes), whole(it.get(b'ref')), typed(it.get(b'role'), bytes))
+            for part in typed(value.get(b'members'), list) for it in [typed(part, dict)]]
 
 
 class RoadMap:
-    """The elements by kind and id in the order of the text; behind `finish` also the links and what may follow on what."""
+    """Elements by kind and id, in the order of the text: content and tags; behind `finish` also links and restrictions."""
 
     def __init__(self):
-        self.nodes, self.ways, self.relations = {}, {}, {}
-        self.segments = self.members = 0
+        self.content = {'node': {}, 'way': {}, 'relation': {}}
+        self.tags = {'node': {}, 'way': {}, 'relation': {}}
+        self.counts = dict.fromkeys(('nodes', 'ways', 'segments', 'members'), 0)
         self.links, self.leaving, self.restrictions = [], {}, {}
 
     def take(self, value):
         """Takes in an element, or refuses its first fault; its form comes first."""
-        need(isinstance(value, dict))
-        kind = text_of(value.get(b'type'))
-        if kind not in (b'node', b'way', b'relation'):
+        kind = typed(typed(value, dict).get(b'type'), bytes).decode()
+        if kind not in self.content:
             return
-        number = whole(value.get(b'id'))
-        tags = value.get(b'tags', {})
-        need(isinstance(tags, dict) and all(isinstance(it, bytes) for it in tags.values()))
-        if kind == b'node':
-            content = self.spot(number, value.get(b'lon'), value.get(b'lat'))
-        elif kind == b'way':
-            content = [whole(it) for it in list_of(value.get(b'nodes'))]
-        else:
-            content = [member(it) for it in list_of(value.get(b'members'))]
-        kept = {b'node': self.nodes, b'way': self.ways, b'relation': self.relations}[kind]
-        if number not in kept:
+        number, tags = whole(value.get(b'id')), typed(value.get(b'tags', {}), dict)
+        for text in tags.values():
+            typed(text, bytes)
+        content = content_of(kind, value)
+        if kind == 'node':
+            content = coordinate(content[0], 180_000_000), coordinate(content[1], 90_000_000)
+            if None in content:
+                raise Refusal(2, f'map: node {number} has a bad coordinate')
+        if number not in self.content[kind]:
             self.count(kind, content)
-            kept[number] = Element(content)
-        elif kept[number].content != content:
-            raise Refusal(2, f'map: {kind.decode()} {number} given twice')
-        kept[number].tags = kept[number].tags or tags
-
-    def spot(self, number, longitude, latitude):
-        need(isinstance(longitude, Number) and isinstance(latitude, Number))
-        spot = coordinate(longitude.text, 180_000_000), coordinate(latitude.text, 90_000_000)
-        if None in spot:
-            raise Refusal(2, f'map: node {number} has a bad coordinate')
-        return spot
+        elif self.content[kind][number] != content:
+            raise Refusal(2, f'map: {kind} {number} given twice')
+        self.content[kind][number] = content
+        self.tags[kind][number] = self.tags[kind].get(number) or tags
 
     def count(self, kind, content):
         """Counts a new element, or refuses one more than a map may have."""
-        if kind == b'way':
-            self.segments += max(len(content) - 1, 0)
-        elif kind == b'relation':
-            self.members += len(content)
-        for what, number in (('nodes', len(self.nodes) + (kind == b'node')), ('ways', len(self.ways) + (kind == b'way')),
-                             ('segments', self.segments), ('members', self.members)):
-            if number > MOST:
+        for what, more in {'node': [('nodes', 1)], 'way': [('ways', 1), ('segments', max(len(content) - 1, 0))],
+                           'relation': [('members', len(content))]}[kind]:
+            self.counts[what] += more
+            if self.counts[what] > MOST:
                 raise Refusal(2, f'map: too many {what}')
 
     def finish(self):
-        """Makes the links, in the order of ways, then of segments, forward before backward."""
-        for number, way in self.ways.items():
-            for node in way.content:
-                if node not in self.nodes:
+        """Makes links in the order of ways, then of segments, forward before backward, and takes in what relations say."""
+        spots, ways = self.content['node'], self.content['way']
+        for number, nodes in ways.items():
+            for node in nodes:
+                if node not in spots:
                     raise Refusal(2, f'map: way {number} lacks node {node}')
-        for number, way in self.ways.items():
-            for segment, (a, b) in enumerate(zip(way.content, way.content[1:])):
-                there = arrow(self.nodes[a].content, self.nodes[b].content)
+        for number, nodes in ways.items():
+            for segment, (a, b) in enumerate(zip(nodes, nodes[1:])):
+                there = arrow(spots[a], spots[b])
                 if a != b and there:
-                    self.links.append(Link(a, b, number, segment, False, there))
                     back = Arrow(-there.east, -there.north, there.length)
-                    self.links.append(Link(b, a, number, segment, True, back))
+                    self.links += Link(a, b, number, segment, False, there), Link(b, a, number, segment, True, back)
         for place, link in enumerate(self.links):
             self.leaving.setdefault(link.start, []).append(place)
-        for relation in self.relations.values():
-            if relation.tags.get(b'type') == b'route':
-                self.tag_route(relation)
-            elif relation.tags.get(b'type') == b'restriction':
-                self.restrict(relation)
+        for number, members in self.content['relation'].items():
+            tags = self.tags['relation'][number]
+            if tags.get(b'type') == b'route' and b'route' in tags and b'network' in tags:
+                self.add_route(b'route_%s_%s' % (tags[b'route'], tags[b'network']), members)
+            if tags.get(b'type') == b'restriction':
+                self.add_restriction(tags, members)
 
-    def tag_route(self, relation):
-        """Gives each way of a route its tag, behind the way's own tags."""
-        route, network = relation.tags.get(b'route'), relation.tags.get(b'network')
-        if route is None or network is None:
-            return
-        for kind, number, _ in relation.content:
-            if kind == b'way' and number in self.ways:
-                self.ways[number].tags.setdefault(b'route_%s_%s' % (route, network), b'yes')
+    def add_route(self, tag, members):
+        """Gives each way of a route its tag, behind the way's own tags, of which the first of a name counts."""
+        for kind, number, _ in members:
+            if kind == b'way' and number in self.tags['way']:
+                self.tags['way'][number].setdefault(tag, b'yes')
 
-    def restrict(self, relation):
-        """Keeps a turn restriction under its node."""
-        rule = relation.tags.get(b'restriction', b'')
-        excepted = [it.strip(b' ') for it in relation.tags.get(b'except', b'').split(b';')]
-        via = [(kind, number) for kind, number, role in relation.content if role == b'via']
-        ways = {wanted: {number for kind, number, role in relation.content
-                         if kind == b'way' and role == wanted and number in self.ways} for wanted in (b'from', b'to')}
-        if not rule.startswith((b'no_', b'only_')) or b'bicycle' in excepted or len(via) != 1 or not all(ways.values()):
-            return
-        kind, node = via[0]
-        if kind == b'node' and node in self.nodes:
-            kept = Restriction(rule.startswith(b'only_'), ways[b'from'], ways[b'to'])
-            self.restrictions.setdefault(node, []).append(kept)
+    def add_restriction(self, tags, members):
+        rule, excepted = tags.get(b'restriction', b''), tags.get(b'except', b'').split(b';')
+        via = [member[:2] for member in members if member[2] == b'via']
+        from_ways, to_ways = ({number for kind, number, role in members if (kind, role) == (b'way', wanted)
+                               and number in self.content['way']} for wanted in (b'from', b'to'))
+        is_rule = rule.startswith((b'no_', b'only_')) and b'bicycle' not in [it.strip(b' ') for it in excepted]
+        if is_rule and from_ways and to_ways and len(via) == 1 and via[0][0] == b'node' and via[0][1] in self.content['node']:
+            kept = Restriction(rule.startswith(b'only_'), from_ways, to_ways)
+            self.restrictions.setdefault(via[0][1], []).append(kept)
 
     def forbids(self, first, second):
         """Whether a restriction forbids a link after another that arrives where it leaves."""
         return any(first.way in it.from_ways and (
-            second.way not in it.to_ways if it.only else second.way in it.to_ways and first.way != second.way)
+            second.way not in it.to_ways if it.is_only else second.way in it.to_ways and first.way != second.way)
             for it in self.restrictions.get(first.end, ()))
 
 
 def elements(text):
     """The items of the array that is the value of the first member `elements`, each once it is whole."""
     reader, found = json_text.Reader(text), None
-    if reader.peek() == b'{':
-        for key in reader.members():
-            is_first = key == b'elements' and found is None
-            if is_first:
-                found = reader.peek() == b'['
-            if is_first and found:
-                for _ in reader.parts(b']'):
-                    yield reader.value()
-            else:
-                reader.value()
-    else:
+    if reader.peek() != b'{':
         reader.value()
+    else:
+        for key in reader.members():
+            if key == b'elements' and found is None:
+                found = reader.peek() == b'['
+                if found:
+                    for _ in reader.parts(b']'):
+                        yield reader.value()
+                    continue
+            reader.value()
     reader.end()
     if not found:
         raise Refusal(2, 'map: element 0 has the wrong shape')
@@ -194,6 +153,6 @@ def read_map(text):
     except Shape:
         raise Refusal(2, f'map: element {place} has the wrong shape') from None
     except json_text.NotJson as fault:
-        raise Refusal(2, f'map: not JSON at byte {fault.at}') from None
+        raise Refusal(2, f'map: not JSON at byte {fault.args[0]}') from None
     road_map.finish()
     return road_map
