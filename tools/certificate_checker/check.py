@@ -79,7 +79,6 @@ def answer(words):
 
 def main(words):
     """Prints the answer, or a refusal's line on standard error; gives the exit status."""
-    sys.setrecursionlimit(10_000)
     try:
         sys.stdout.write(answer(words))
         sys.stdout.flush()

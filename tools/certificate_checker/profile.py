@@ -2,6 +2,7 @@
 
 A tree is a tuple whose first item says its kind: `number`, `name`, `look`, or an operator's word with its operands behind it."""
 import re
+import sys
 from collections import namedtuple
 
 from .numbers import MILLION, Fault, divide, in_range, literal, multiply
@@ -21,6 +22,8 @@ LOOK = re.compile(rb'([^=]+)=(|[^|]+(?:\|[^|]+)*)')
 NUMERIC = re.compile(rb'[0-9]|-(?!--)')
 DEEPEST = 1000
 Assignment = namedtuple('Assignment', 'name line tree')
+# each depth takes two calls where a tree is read
+sys.setrecursionlimit(max(sys.getrecursionlimit(), 10 * DEEPEST))
 
 
 def is_name(token):

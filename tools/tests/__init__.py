@@ -1,0 +1,1 @@
+"""Tries of the tools."""
