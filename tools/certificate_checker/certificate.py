@@ -11,14 +11,9 @@ Leg = namedtuple('Leg', 'walk cost labels')
 Label = namedtuple('Label', 'link cost down up')
 
 
-class AtFault(Exception):
-    """A line isn't of its form."""
-
-
-def whole(text, limit):
-    if not DIGITS.fullmatch(text) or int(text) >= limit:
-        raise AtFault
-    return int(text)
+def are_below(limits, texts):
+    """Whether texts spell numbers without a needless zero, each below its limit."""
+    return all(DIGITS.fullmatch(text) and int(text) < limit for limit, text in zip(limits, texts))
 
 
 class Reader:
@@ -28,39 +23,32 @@ class Reader:
         self.names = {b'%d/%d/%s' % (it.way, it.segment, b'b' if it.back else b'f'): number for number, it in enumerate(links)}
         self.form, self.legs, self.walk, self.stage = 0, [], [], 'unbegun'
 
-    def link(self, name):
-        if name not in self.names:
-            raise AtFault
-        return self.names[name]
-
     def take(self, line):
+        """Takes in the next line, or says that it can't stand there."""
         match self.stage, line.split(b' '):
             case 'unbegun', [b'certificate', (b'1' | b'2') as form]:
                 self.form, self.stage = int(form), 'opened'
-            case 'opened' | 'labelled', [b'leg', *names]:
-                self.walk, self.stage = [self.link(it) for it in names], 'walked'
-            case 'walked', [b'cost', cost]:
-                self.legs.append(Leg(self.walk, whole(cost, COST_LIMIT), []))
+            case 'opened' | 'labelled', [b'leg', *names] if all(it in self.names for it in names):
+                self.walk, self.stage = [self.names[it] for it in names], 'walked'
+            case 'walked', [b'cost', cost] if are_below([COST_LIMIT], [cost]):
+                self.legs.append(Leg(self.walk, int(cost), []))
                 self.stage = 'labelled'
-            case 'labelled', [b'label', name, cost, down, up]:
-                label = self.link(name), whole(cost, COST_LIMIT), whole(down, BUFFER_LIMIT), whole(up, BUFFER_LIMIT)
-                self.legs[-1].labels.append(Label(*label))
+            case 'labelled', [b'label', name, *numbers] if name in self.names and len(numbers) == 3 and are_below(
+                    [COST_LIMIT, BUFFER_LIMIT, BUFFER_LIMIT], numbers):
+                self.legs[-1].labels.append(Label(self.names[name], *map(int, numbers)))
             case 'opened' | 'labelled', [b'end']:
                 self.stage = 'ended'
             case _:
-                raise AtFault
+                return False
+        return True
 
 
 def read_certificate(text, links):
     """The form and the legs of a text, or the refusal of its first line at fault."""
-    reader, number = Reader(links), 0
-    *lines, rest = text.split(b'\n')
-    try:
-        for number, line in enumerate(lines, 1):
-            reader.take(line)
-        number += 1
-        if rest or reader.stage != 'ended':
-            raise AtFault
-    except AtFault:
-        raise Refusal(2, f'certificate line {number}') from None
+    reader, (*lines, rest) = Reader(links), text.split(b'\n')
+    for number, line in enumerate(lines, 1):
+        if not reader.take(line):
+            raise Refusal(2, f'certificate line {number}')
+    if rest or reader.stage != 'ended':
+        raise Refusal(2, f'certificate line {len(lines) + 1}')
     return reader.form, reader.legs

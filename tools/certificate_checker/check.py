@@ -67,7 +67,7 @@ def answer(words):
         raise Refusal(1, 'usage: word 0')
     words = read_words(words)
     query = read_query(words['query'][0])
-    if query.get('alternativeidx', 0) != 0:
+    if query.get('alternativeidx', b'0') != b'0':
         raise Refusal(1, f"usage: word {words['query'][1]}")
     world = read_world(words)
     form, legs = take('certificate', words['certificate'], lambda text: read_certificate(text, world.road_map.links))
@@ -82,10 +82,8 @@ def main(words):
     try:
         sys.stdout.write(answer(words))
         sys.stdout.flush()
-    except Refusal as refusal:
+        return 0
+    except (Refusal, MemoryError) as fault:
+        refusal = fault if isinstance(fault, Refusal) else Refusal(10, 'out of memory')
         print(refusal.line, file=sys.stderr)
         return refusal.status
-    except MemoryError:
-        print('out of memory', file=sys.stderr)
-        return 10
-    return 0

@@ -31,9 +31,7 @@ class LeastUpTo:
 
 def mode_of(differences):
     """How two labels compare in a buffer, by how much its factor is above `costfactor` on each link of the map."""
-    if not any(differences):
-        return 'compensated'
-    return 'ordered' if min(differences) >= 0 else 'equal'
+    return 'compensated' if not any(differences) else 'ordered' if min(differences) >= 0 else 'equal'
 
 
 class Covering:

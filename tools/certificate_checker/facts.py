@@ -6,8 +6,7 @@ from .profile import values_of
 from .refusals import Refusal
 from .tags import FIRST_TAGS, FIRST_VALUE, numbers_of
 
-CLOSED_COSTFACTOR = 10_000 * MILLION
-CLOSED_CHARGE = 1_000_000 * MILLION
+CLOSED_COSTFACTOR, CLOSED_CHARGE = 10_000 * MILLION, 1_000_000 * MILLION
 PRICES = {'way': (b'costfactor', b'turncost', b'initialcost', b'uphillcostfactor', b'downhillcostfactor'), 'node': (b'initialcost',)}
 LinkFacts = namedtuple('LinkFacts', 'arrow rise costfactor turncost initialcost up_factor down_factor classifier charge')
 

@@ -7,8 +7,7 @@ from math import isqrt
 from .numbers import MILLION, cut
 
 SCALE = 10**9
-LONGEST = 100_000_000
-FARTHEST = 300_000_000
+LONGEST, FARTHEST = 100_000_000, 300_000_000
 Arrow = namedtuple('Arrow', 'east north length')
 
 

@@ -41,12 +41,8 @@ class Tiles:
             return None
         steps = STEPS[len(samples)]
         (i, fx), (j, fy) = divmod(a * steps, MILLION), divmod(b * steps, MILLION)
-
-        def sample(row, column):
-            at = 2 * ((steps - row) * (steps + 1) + column)
-            return int.from_bytes(samples[at:at + 2], 'big', signed=True)
-
-        corners = sample(j, i), sample(j, i + 1), sample(j + 1, i), sample(j + 1, i + 1)
+        places = [2 * ((steps - row) * (steps + 1) + column) for row in (j, j + 1) for column in (i, i + 1)]
+        corners = [int.from_bytes(samples[at:at + 2], 'big', signed=True) for at in places]
         if UNKNOWN in corners:
             return None
         south = (MILLION - fx) * corners[0] + fx * corners[1]

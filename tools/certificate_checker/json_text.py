@@ -108,7 +108,3 @@ class Reader:
             raise NotJson(CHARACTER_FRONT.match(self.text, self.at).end())
         self.at += 1
         return ESCAPE.sub(unescaped, whole[0])
-
-    def end(self):
-        if self.peek():
-            raise NotJson(self.at)

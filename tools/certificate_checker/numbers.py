@@ -1,8 +1,7 @@
 """Numbers as whole counts of millionths, and the texts that stand for them (docs/FORMULAS.md, "Numbers and texts")."""
 import re
 
-MILLION = 10**6
-MOST = 10**15
+MILLION, MOST = 10**6, 10**15
 DECIMAL = re.compile(rb'(-?)([0-9]+)(?:\.([0-9]+))?')
 
 
@@ -20,10 +19,6 @@ def in_range(count):
     if abs(count) > MOST:
         raise Fault('number too large')
     return count
-
-
-def multiply(a, b):
-    return in_range(cut(a * b, MILLION))
 
 
 def divide(a, b):

@@ -5,7 +5,7 @@ import re
 import sys
 from collections import namedtuple
 
-from .numbers import MILLION, Fault, divide, in_range, literal, multiply
+from .numbers import MILLION, Fault, cut, divide, in_range, literal
 from .refusals import Refusal
 
 SECTIONS = {b'---context:global': 'global', b'---context:way': 'way', b'---context:node': 'node'}
@@ -107,14 +107,8 @@ class Reader:
 
 
 def read_profile(text, table):
-    """The assignments of each section of a text, or its first refusal; what isn't known under the tag table is one too."""
+    """The assignments of each section of a text; or the refusal of its first token at fault, or else of what isn't known where it stands."""
     sections = Reader(text).profile()
-    check(sections, table)
-    return sections
-
-
-def check(sections, table):
-    """Refuses the first thing in a profile that isn't known where it stands."""
     for section, assignments in sections.items():
         known = set() if section == 'global' else {it.name for it in sections['global']}
         for name, line, tree in assignments:
@@ -125,6 +119,7 @@ def check(sections, table):
             known.add(name)
     if all(it.name != b'costfactor' for it in sections['way']):
         raise Refusal(2, 'profile: no costfactor')
+    return sections
 
 
 def fault_of(tree, known, tags):
@@ -137,7 +132,7 @@ def fault_of(tree, known, tags):
         case 'look', tag, values, line:
             if tags is None or tag not in tags:
                 return f'{line}: unknown tag' if tags else f'{line}: wrong section'
-            return None if all(it == b'unknown' or it in tags[tag].numbers for it in values) else f'{line}: unknown value'
+            return None if all(it == b'unknown' or it in tags[tag] for it in values) else f'{line}: unknown value'
     return next((fault for operand in tree[1:] if (fault := fault_of(operand, known, tags))), None)
 
 
@@ -153,7 +148,8 @@ def values_of(assignments, outer, tags, set_numbers, overrides):
 
 
 BOTH = {
-    'xor': lambda a, b: MILLION * (bool(a) != bool(b)), 'multiply': multiply, 'divide': divide,
+    'and': lambda _, b: MILLION * bool(b), 'or': lambda _, b: MILLION * bool(b),
+    'xor': lambda a, b: MILLION * (bool(a) != bool(b)), 'multiply': lambda a, b: in_range(cut(a * b, MILLION)), 'divide': divide,
     'add': lambda a, b: in_range(a + b), 'sub': lambda a, b: in_range(a - b), 'max': max, 'min': min,
     'equal': lambda a, b: MILLION * (a == b), 'greater': lambda a, b: MILLION * (a > b), 'lesser': lambda a, b: MILLION * (a < b)}
 
@@ -166,7 +162,7 @@ def value(tree, values, tags, set_numbers):
     if kind == 'name':
         return values[tree[1]]
     if kind == 'look':
-        wanted = {1 if it == b'unknown' else tags[tree[1]].numbers[it] for it in tree[2]} or {0}
+        wanted = {1 if it == b'unknown' else tags[tree[1]][it] for it in tree[2]} or {0}
         return MILLION * (set_numbers.get(tree[1], 0) in wanted)
     first = value(tree[1], values, tags, set_numbers)
     if kind == 'not':
@@ -175,5 +171,4 @@ def value(tree, values, tags, set_numbers):
         return value(tree[2 if first else 3], values, tags, set_numbers)
     if kind in ('and', 'or') and bool(first) == (kind == 'or'):
         return MILLION * bool(first)
-    second = value(tree[2], values, tags, set_numbers)
-    return MILLION * bool(second) if kind in ('and', 'or') else BOTH[kind](first, second)
+    return BOTH[kind](first, value(tree[2], values, tags, set_numbers))

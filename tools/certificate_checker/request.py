@@ -8,7 +8,7 @@ from .refusals import Refusal
 
 KEYS = ('lookups', 'profile', 'map', 'query', 'certificate')
 MOST_TILES, MOST_PLACES, MOST_CIRCLES, MOST_OVERRIDES = 64, 100, 64, 64
-FARTHEST_RADIUS = 100_000_000
+FARTHEST_RADIUS, MOST_LABELS = 100_000_000, 4_000_000_000
 PROFILE_NAME = re.compile(r'(?!custom_)[A-Za-z0-9_-]{1,64}')
 
 
@@ -47,9 +47,8 @@ def circle_of(text):
     return (place, length[1]) if place and length and length[1] <= FARTHEST_RADIUS and radius[:1] != b'-' else None
 
 
-def whole(text, least, most):
-    """A number of no more digits than the most has, within its range."""
-    return int(text) if text.isdigit() and len(text) <= len(str(most)) and least <= int(text) <= most else None
+def of_form(pattern):
+    return lambda text: text if re.fullmatch(pattern, text) else None
 
 
 def items(name, text, most, read):
@@ -64,20 +63,12 @@ def items(name, text, most, read):
     return found
 
 
-def form_of(text):
-    if text in (b'gpx', b'kml'):
-        raise Refusal(1, 'query: format not offered')
-    return text if text in (b'geojson', b'csv') else None
-
-
 VALUES = {
     'lonlats': lambda text: items('lonlats', text, MOST_PLACES, place_of) if b'|' in text else None,
     'profile': lambda text: text or None,
     'nogos': lambda text: items('nogos', text, MOST_CIRCLES, circle_of) if text else [],
-    'alternativeidx': lambda text: whole(text, 0, 3),
-    'format': form_of,
-    'labels': lambda text: whole(text, 1, 4_000_000_000),
-    'runs': lambda text: whole(text, 0, 1),
+    'alternativeidx': of_form(rb'[0-3]'), 'format': of_form(rb'geojson|csv'), 'runs': of_form(rb'[01]'),
+    'labels': lambda text: text if re.fullmatch(rb'[0-9]{1,10}', text) and 1 <= int(text) <= MOST_LABELS else None,
     'profile:': literal}
 
 
@@ -92,13 +83,14 @@ def read_query(query):
             raise Refusal(1, f'query: unknown key at pair {number}')
         if (name.encode() if colon else key) in kept:
             raise Refusal(1, f'query: repeated {key}')
+        if key == 'format' and text in (b'gpx', b'kml'):
+            raise Refusal(1, 'query: format not offered')
         value = None if colon and not is_name(name.encode()) else VALUES[key](text)
         if value is None:
             raise Refusal(1, f'query: bad value of {key}')
         if colon and len(kept) == MOST_OVERRIDES:
             raise Refusal(1, f'query: too many in {key}')
         kept[name.encode() if colon else key] = value
-    for key in ('lonlats', 'profile'):
-        if key not in found:
-            raise Refusal(1, f'query: missing {key}')
+    if missing := [key for key in ('lonlats', 'profile') if key not in found]:
+        raise Refusal(1, f'query: missing {missing[0]}')
     return found

@@ -7,8 +7,7 @@ from .covering import Covering, mode_of
 from .facts import bind, is_passable
 from .refusals import Refusal
 
-SNAP = 250_000
-LABEL_COST_LIMIT = 2**120
+SNAP, LABEL_COST_LIMIT = 250_000, 2**120
 
 
 class Ride:
@@ -39,12 +38,6 @@ class Ride:
             found.append(min(near)[1])
         return found
 
-    def onward(self, last):
-        """The open links that may follow a link."""
-        first = self.links[last]
-        return [link for link in self.road_map.leaving.get(first.end, ())
-                if self.is_open[link] and self.may_follow(first, self.links[link])]
-
     def may_follow(self, first, second):
         return first.end == second.start and first.start != second.end and not (
             self.has_restrictions and self.road_map.forbids(first, second))
@@ -52,10 +45,9 @@ class Ride:
     def is_walk(self, walk, start, target):
         """Whether links are a permitted walk between two nodes."""
         links = [self.links[it] for it in walk]
-        if not links:
-            return start == target
-        return (links[0].start == start and links[-1].end == target and all(self.is_open[it] for it in walk)
-                and all(map(self.may_follow, links, links[1:])))
+        return start == target if not links else (
+            links[0].start == start and links[-1].end == target and all(self.is_open[it] for it in walk)
+            and all(map(self.may_follow, links, links[1:])))
 
     def starts(self, node):
         """The labels of the walks of one link from a node."""
@@ -68,8 +60,10 @@ class Ride:
         known = {}
         for last, cost, down, up in labels:
             if last not in known:
+                first = self.links[last]
                 known[last] = [(link, costs.change(self.climbs[last].facts, self.climbs[link].facts), self.climbs[link].enter)
-                               for link in self.onward(last)]
+                               for link in self.road_map.leaving.get(first.end, ())
+                               if self.is_open[link] and self.may_follow(first, self.links[link])]
             for link, changed, enter in known[last]:
                 part, new_down, new_up = enter(down, up)
                 yield Label(link, cost + changed + part, new_down, new_up)

@@ -98,15 +98,12 @@ class RoadMap:
         for number, members in self.content['relation'].items():
             tags = self.tags['relation'][number]
             if tags.get(b'type') == b'route' and b'route' in tags and b'network' in tags:
-                self.add_route(b'route_%s_%s' % (tags[b'route'], tags[b'network']), members)
+                for kind, way, _ in members:
+                    if kind == b'way' and way in ways:
+                        # behind the way's own tags, of which the first of a name counts
+                        self.tags['way'][way].setdefault(b'route_%s_%s' % (tags[b'route'], tags[b'network']), b'yes')
             if tags.get(b'type') == b'restriction':
                 self.add_restriction(tags, members)
-
-    def add_route(self, tag, members):
-        """Gives each way of a route its tag, behind the way's own tags, of which the first of a name counts."""
-        for kind, number, _ in members:
-            if kind == b'way' and number in self.tags['way']:
-                self.tags['way'][number].setdefault(tag, b'yes')
 
     def add_restriction(self, tags, members):
         rule, excepted = tags.get(b'restriction', b''), tags.get(b'except', b'').split(b';')
@@ -139,7 +136,8 @@ def elements(text):
                         yield reader.value()
                     continue
             reader.value()
-    reader.end()
+    if reader.peek():
+        raise json_text.NotJson(reader.at)
     if not found:
         raise Refusal(2, 'map: element 0 has the wrong shape')
 

@@ -3,7 +3,8 @@ import unittest
 
 from certificate_checker import costs, geometry
 from certificate_checker.heights import Tiles
-from certificate_checker.numbers import Fault, coordinate, cut, divide, literal, mil6, multiply
+from certificate_checker.numbers import Fault, coordinate, cut, divide, literal, mil6
+from certificate_checker.profile import BOTH
 from certificate_checker.refusals import Refusal
 from tests.certificate_worlds import HILL, PLAIN, map_text, residential, ride, slope, tile, walk_of
 
@@ -64,9 +65,9 @@ class Numbers(unittest.TestCase):
 
     def test_quotients_are_cut_toward_zero(self):
         self.assertEqual([cut(7, 2), cut(-7, 2), cut(7, -2), cut(-7, -2)], [3, -3, -3, 3])
-        self.assertEqual(multiply(-1, 999_999), 0)
+        self.assertEqual(BOTH['multiply'](-1, 999_999), 0)
         self.assertEqual(divide(-1, 3_000_000), 0)
-        for refused, kind in ((lambda: divide(1, 0), 'division by zero'), (lambda: multiply(10**15, 2_000_000), 'number too large')):
+        for refused, kind in ((lambda: divide(1, 0), 'division by zero'), (lambda: BOTH['multiply'](10**15, 2_000_000), 'number too large')):
             with self.assertRaises(Fault) as caught:
                 refused()
             self.assertEqual(str(caught.exception), kind)

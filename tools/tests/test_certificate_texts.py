@@ -153,7 +153,7 @@ class Requests(Refused):
             self.refuses(f'query: {line}', read_query, query, status=1)
         found = read_query('&lonlats=-1,2|180.0%3000,-90&&profile=a+b&nogos=&profile:x=-1.5&alternativeidx=3')
         self.assertEqual(found, {'lonlats': [(-1_000_000, 2_000_000), (180_000_000, -90_000_000)], 'profile': b'a b', 'nogos': [],
-                                 'profile:': {b'x': -1_500_000}, 'alternativeidx': 3})
+                                 'profile:': {b'x': -1_500_000}, 'alternativeidx': b'3'})
 
 
 class Commands(unittest.TestCase):
