@@ -107,7 +107,8 @@ class Reader:
 
 
 def read_profile(text, table):
-    """The assignments of each section of a text; or the refusal of its first token at fault, or else of what isn't known where it stands."""
+    """The assignments of each section of a text; or the refusal of its first token at fault, or else of the first thing that isn't known
+    where it stands."""
     sections = Reader(text).profile()
     for section, assignments in sections.items():
         known = set() if section == 'global' else {it.name for it in sections['global']}

@@ -1,6 +1,6 @@
-"""Made towns and made profiles to ride in: crooked squares with tags, turn restrictions and a cycle route, and expressions of every form."""
-WAY_LOOKS = ('highway=track', 'highway=primary|residential', 'highway=cycleway', 'oneway=yes', 'reversedirection=yes', 'bicycle=no', 'bicycle=',
-             'junction=unknown', 'route_bicycle_rcn=yes', 'highway=unknown')
+"""Made towns and made profiles to ride in: crooked squares with tags, turn restrictions and a cycle route; expressions of every form."""
+WAY_LOOKS = ('highway=track', 'highway=primary|residential', 'highway=cycleway', 'oneway=yes', 'reversedirection=yes', 'bicycle=no',
+             'bicycle=', 'junction=unknown', 'route_bicycle_rcn=yes', 'highway=unknown')
 NODE_LOOKS = ('nodeaccessgranted=yes', 'barrier=gate', 'barrier=bollard|gate', 'bicycle=unknown', 'barrier=')
 NUMBERS = ('0', '1', '2', '0.5', '1.1', '3', '10', '-1', '0.000001', '60', '100', '7.3')
 TWO = 'or and xor multiply add sub max min equal greater lesser divide'.split()
@@ -12,7 +12,8 @@ FACTORS = ('', 'assign uphillcostfactor add costfactor max 0 {0}', 'assign downh
 CORNERS = ((0, 0), (0, 0), (-1500, -1200), (900_000, 300))
 NODE_TAGS = ('', '', '', ',"tags":{"barrier":"gate"}', ',"tags":{"barrier":"bollard","bicycle":"maybe"}',
              ',"tags":{"nodeaccessgranted":"yes","bicycle":"no"}')
-WAY_TAGS = ('"oneway":"yes"', '"oneway":"no"', '"bicycle":"no"', '"junction":"roundabout"', '"surface":"asphalt"', '"reversedirection":"yes"')
+WAY_TAGS = ('"oneway":"yes"', '"oneway":"no"', '"bicycle":"no"', '"junction":"roundabout"', '"surface":"asphalt"',
+            '"reversedirection":"yes"')
 
 
 def expression(draw, names, looks, depth=0):
@@ -20,7 +21,8 @@ def expression(draw, names, looks, depth=0):
     if depth > 4 or draw.random() < 0.35:
         return draw.choice((draw.choice(NUMBERS), draw.choice((*names, *looks))))
     parts = [expression(draw, names, looks, depth + 1) for _ in range(3)]
-    return draw.choice(('switch {0} {1} {2}', 'if {0} then {1} else ( {2} )', 'not {0}', *6 * [draw.choice(TWO) + ' {0} {1}'])).format(*parts)
+    two = draw.choice(TWO) + ' {0} {1}'
+    return draw.choice(('switch {0} {1} {2}', 'if {0} then {1} else ( {2} )', 'not {0}', *6 * [two])).format(*parts)
 
 
 def profile_text(draw):
@@ -36,7 +38,8 @@ def profile_text(draw):
     costfactor = draw.choice(('max 0.3 min 3 {0}', 'switch {0} 1 2', '1', 'switch and oneway=yes reversedirection=yes 10000 1.3'))
     way.append('assign costfactor ' + costfactor.format(made[0]))
     way.append(draw.choice(FACTORS).format(made[1]))
-    way += [it for it in (f"assign turncost {draw.choice(('90', '20.5', 'switch junction= 10 0'))}", 'assign initialcost switch highway=track 50 5',
+    turncost = draw.choice(('90', '20.5', 'switch junction= 10 0'))
+    way += [it for it in (f'assign turncost {turncost}', 'assign initialcost switch highway=track 50 5',
                           f'assign initialclassifier {made[2]}', f'assign nodeaccessgranted {made[3]}') if draw.random() < 0.5]
     node = draw.choice(('', 'assign initialcost switch and barrier=gate not nodeaccessgranted=yes 1000000 3',
                         f'assign initialcost max 0 {expression(draw, names[:1] if "x" in assigned else [], NODE_LOOKS)}'))
@@ -74,7 +77,8 @@ def town_text(draw):
     for number in range(draw.randrange(4)):
         from_way, to_way = draw.choice(list(ways)), draw.choice(list(ways))
         via = draw.choice([it for it in ways[from_way] if it in ways[to_way]] or ways[from_way])
-        rule, excepted = draw.choice(('no_left_turn', 'only_straight_on', 'xno_')), draw.choice(('', ',"except":"psv;bicycle"', ',"except":"psv"'))
+        rule = draw.choice(('no_left_turn', 'only_straight_on', 'xno_'))
+        excepted = draw.choice(('', ',"except":"psv;bicycle"', ',"except":"psv"'))
         elements.append(f'{{"type":"relation","id":{number},"members":[{{"type":"way","ref":{from_way},"role":"from"}},'
                         f'{{"type":"node","ref":{via},"role":"via"}},{{"type":"way","ref":{to_way},"role":"to"}}],'
                         f'"tags":{{"type":"restriction","restriction":"{rule}"{excepted}}}}}')

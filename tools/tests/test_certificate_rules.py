@@ -67,7 +67,8 @@ class Numbers(unittest.TestCase):
         self.assertEqual([cut(7, 2), cut(-7, 2), cut(7, -2), cut(-7, -2)], [3, -3, -3, 3])
         self.assertEqual(BOTH['multiply'](-1, 999_999), 0)
         self.assertEqual(divide(-1, 3_000_000), 0)
-        for refused, kind in ((lambda: divide(1, 0), 'division by zero'), (lambda: BOTH['multiply'](10**15, 2_000_000), 'number too large')):
+        for refused, kind in ((lambda: divide(1, 0), 'division by zero'),
+                              (lambda: BOTH['multiply'](10**15, 2_000_000), 'number too large')):
             with self.assertRaises(Fault) as caught:
                 refused()
             self.assertEqual(str(caught.exception), kind)

@@ -39,7 +39,8 @@ class TagTables(Refused):
         way = self.VERSIONS + b'---context:way\nreversedirection;0 yes\n'
         for line, text in (('lookup version', b'---lookupversion:10'), ('first tag of way part', self.VERSIONS),
                            ('lookup line 1', b'---lookupversion:\n'), ('lookup line 1', b'# \xff\n'), ('lookup line 1', b'a;1 b\n'),
-                           ('lookup line 5', way + b'a;x b\n'), ('lookup line 5', way + b'a;1\n'), ('lookup line 5', way + b' ---context:node\n'),
+                           ('lookup line 5', way + b'a;x b\n'), ('lookup line 5', way + b'a;1\n'),
+                           ('lookup line 5', way + b' ---context:node\n'),
                            ('lookup line 5', way + b'---context:way\n'), ('first tag of node part', way),
                            ('lookup version', way + b'---context:node\n---lookupversion:10\nnodeaccessgranted;0 yes\n'),
                            ('first tag of way part', self.VERSIONS + b'---context:way\nreversedirection;0 true yes\n'),
@@ -88,7 +89,8 @@ class Profiles(Refused):
     def test_what_trees_come_to(self):
         for text, wanted in ((b'add 1 and 0 divide 1 0', 10**6), (b'or 2 divide 1 0', 10**6), (b'switch 0 divide 1 0 3', 3 * 10**6),
                              (b'if highway=track|primary then 5 else 6', 5 * 10**6), (b'multiply -1 0.000001', -1),
-                             (b'add bicycle= bicycle=unknown', 10**6), (b'xor 2 0', 10**6), (b'not ( true )', 0), (b'max 1 min 2 3', 2 * 10**6)):
+                             (b'add bicycle= bicycle=unknown', 10**6), (b'xor 2 0', 10**6), (b'not ( true )', 0),
+                             (b'max 1 min 2 3', 2 * 10**6)):
             sections = self.read(b'---context:way assign costfactor ' + text)
             found = profile.values_of(sections['way'], {}, tags.read_table(LOOK)['way'], {b'highway': 4}, {})
             self.assertEqual(found[b'costfactor'], wanted, text)
@@ -103,7 +105,8 @@ class Maps(Refused):
         for fault, text in (
                 ('not JSON at byte 24', b'{"elements":[{"type":"no'), ('not JSON at byte 68', b'{"x":' + b'[' * 64),
                 ('not JSON at byte 0', b'\x1f\x8b'), ('element 0 has the wrong shape', b'{}'), ('element 0 has the wrong shape', b'[]'),
-                ('element 0 has the wrong shape', b'{"elements":1,"elements":[]}'), ('not JSON at byte 2', b'[01]'), ('not JSON at byte 3', b'[0.]'),
+                ('element 0 has the wrong shape', b'{"elements":1,"elements":[]}'), ('not JSON at byte 2', b'[01]'),
+                ('not JSON at byte 3', b'[0.]'),
                 ('element 1 has the wrong shape', b'{"elements":[{"type":"node","id":1}]}'),
                 ('element 1 has the wrong shape', b'{"elements":[1x'), ('not JSON at byte 15', b'{"elements":[1.x'),
                 ('element 2 has the wrong shape', b'{"elements":[{"type":"x"},{"type":5}'),
@@ -112,7 +115,8 @@ class Maps(Refused):
                 ('element 1 has the wrong shape', b'{"elements":[{"type":"node","id":9223372036854775808,"lat":1,"lon":0}]}'),
                 ('way 5 lacks node 1', b'{"elements":[{"type":"way","id":5,"nodes":[1]}]}'),
                 ('node 1 given twice', b'{"elements":[{"type":"node","id":1,"lat":1,"lon":0},{"type":"node","id":1,"lat":2,"lon":0}]}'),
-                ('not JSON at byte 8', b'{"x":"\xe2\x82\x28"}'), ('not JSON at byte 10', b'{"x":"\\u00g0"}'), ('not JSON at byte 6', b'{"x":"\n"}'),
+                ('not JSON at byte 8', b'{"x":"\xe2\x82\x28"}'), ('not JSON at byte 10', b'{"x":"\\u00g0"}'),
+                ('not JSON at byte 6', b'{"x":"\n"}'),
                 ('not JSON at byte 2', b'{}}'), ('not JSON at byte 3', b'trux'), ('not JSON at byte 5', b'{"x":')):
             self.refuses(f'map: {fault}', road_map.read_map, text)
 
@@ -136,7 +140,8 @@ class Requests(Refused):
     def test_words(self):
         words = ['check', 'lookups=a', 'profile=b.brf', 'map=c', f'query={RIDE}', 'certificate=d']
         self.assertEqual(read_words(words)['certificate'], ('d', 5))
-        for place, changed in ((5, words[:5]), (1, ['check', 'x']), (6, [*words, 'map=c']), (6, [*words, 'cost=1']), (2, ['x', words[1], 'map=']),
+        for place, changed in ((5, words[:5]), (1, ['check', 'x']), (6, [*words, 'map=c']), (6, [*words, 'cost=1']),
+                               (2, ['x', words[1], 'map=']),
                                (1, ['x', 'profile=custom_1.brf']), (1, ['x', 'profile=' + 65 * 'a']), (70, [*words, *65 * ['tile=x']])):
             self.refuses(f'usage: word {place}', read_words, changed, status=1)
 
@@ -145,7 +150,8 @@ class Requests(Refused):
                 ('unknown key at pair 0', 'a=1'), ('bad value of lonlats', 'lonlats=0,0'), ('missing profile', 'lonlats=0,0%7C0.001,0'),
                 ('missing lonlats', 'profile=a'), ('bad value of labels', RIDE + '&labels=0'), ('bad value of runs', RIDE + '&runs=2'),
                 ('repeated labels', RIDE + '&labels=1&labels=x'), ('format not offered', RIDE + '&format=gpx'),
-                ('too many in lonlats', 'lonlats=' + '|'.join(101 * ['0,0'])), ('bad value of lonlats', 'lonlats=' + '|'.join([*100 * ['0,0'], ''])),
+                ('too many in lonlats', 'lonlats=' + '|'.join(101 * ['0,0'])),
+                ('bad value of lonlats', 'lonlats=' + '|'.join([*100 * ['0,0'], ''])),
                 ('bad value of nogos', RIDE + '&nogos=0,0,-1'), ('bad value of nogos', RIDE + '&nogos=0,0,100000.001'),
                 ('bad value of profile:', RIDE + '&profile:=1'), ('bad value of profile:', RIDE + '&profile:not=1'),
                 ('repeated profile:', RIDE + '&profile:a=1&profile:a=x'), ('bad value of profile', 'profile='),
@@ -182,16 +188,20 @@ class Commands(unittest.TestCase):
 
     def test_why_a_certificate_is_refused(self):
         first, _, *rest = SHOWN.splitlines(keepends=True)
-        for why, text in (('step', SHOWN.replace('label 10/1/f 222640000 0 0\n', '')), ('start', SHOWN.replace('label 10/0/f 111320000 0 0\n', '')),
+        for why, text in (('step', SHOWN.replace('label 10/1/f 222640000 0 0\n', '')),
+                          ('start', SHOWN.replace('label 10/0/f 111320000 0 0\n', '')),
                           ('walk', SHOWN.replace('333960000', '333960001')), ('walk', first + 'leg 10/0/f 10/1/f\n' + ''.join(rest)),
-                          ('bounds', SHOWN.replace('end', f'label 10/2/f {2**120} 0 0\nend')), ('bounds', SHOWN.replace('0 0\nend', '0 10000001\nend')),
+                          ('bounds', SHOWN.replace('end', f'label 10/2/f {2**120} 0 0\nend')),
+                          ('bounds', SHOWN.replace('0 0\nend', '0 10000001\nend')),
                           ('goal', SHOWN.replace('end', 'label 10/2/f 333959999 0 0\nend'))):
             self.assertEqual(self.told(text), (13, '', f'certificate refused: leg 0, {why}\n'), text)
         self.assertEqual(self.told(SHOWN.replace('end\n', SHOWN[14:])), (13, '', 'certificate refused: leg 2, legs\n'))
 
     def test_lines_at_fault(self):
-        for line, text in ((6, SHOWN[:-4]), (6, SHOWN[:-1]), (7, SHOWN + '\n'), (7, SHOWN + ' '), (1, ''), (1, SHOWN[14:]), (2, SHOWN.replace('leg ', 'leg  ')),
-                           (3, SHOWN.replace('cost 3', 'cost 03')), (4, SHOWN.replace('10/0/f 11', '10/00/f 11')), (4, SHOWN.replace(' 0 0\n', ' 0\n')),
+        for line, text in ((6, SHOWN[:-4]), (6, SHOWN[:-1]), (7, SHOWN + '\n'), (7, SHOWN + ' '), (1, ''), (1, SHOWN[14:]),
+                           (2, SHOWN.replace('leg ', 'leg  ')), (3, SHOWN.replace('cost 3', 'cost 03')),
+                           (4, SHOWN.replace('10/0/f 11', '10/00/f 11')),
+                           (4, SHOWN.replace(' 0 0\n', ' 0\n')),
                            (1, SHOWN.replace('certificate 1', 'certificate 3')), (3, SHOWN.replace('333960000', str(2**127))),
                            (4, SHOWN.replace('111320000 0', f'111320000 {2**63}')), (2, SHOWN.replace('/f 10/1/f', '/f 10/3/f'))):
             self.assertEqual(self.told(text), (2, '', f'word 5: certificate line {line}\n'), text)
