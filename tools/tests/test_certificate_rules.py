@@ -2,6 +2,7 @@
 import unittest
 
 from certificate_checker import costs, geometry
+from certificate_checker.covering import mode_of
 from certificate_checker.heights import Tiles
 from certificate_checker.numbers import Fault, coordinate, cut, divide, literal, mil6
 from certificate_checker.profile import BOTH
@@ -90,13 +91,17 @@ class Geometry(unittest.TestCase):
             self.assertEqual(geometry.arrow(b, a).length, wanted)
         self.assertIsNone(geometry.arrow((0, 0), (0, 900_000)))
 
+    def test_degrees_to_the_east_are_shorter_in_the_middle_of_the_latitudes(self):
+        self.assertEqual(geometry.parts((0, 49_000_000), (1000, 49_002_000)), (73_031, 222_640))
+        self.assertEqual(geometry.parts((1000, 49_000_000), (0, 49_000_000)), (-73_032, 0))
+
     def test_a_circle_touches_by_a_millimetre(self):
         link = (0, 0), (10_000, 0), (5000, 100)
         self.assertTrue(geometry.touches(*link, 11_132))
         self.assertFalse(geometry.touches(*link, 11_131))
-        beside = (0, 0), (10_000, 0), (-100, 0)
-        self.assertTrue(geometry.touches(*beside, 11_132))
-        self.assertFalse(geometry.touches(*beside, 11_131))
+        for beside in (-100, 0), (10_100, 0), (-60, 80), (10_080, -60):
+            self.assertTrue(geometry.touches((0, 0), (10_000, 0), beside, 11_132), beside)
+            self.assertFalse(geometry.touches((0, 0), (10_000, 0), beside, 11_130), beside)
 
     def test_turns(self):
         east, north, nowhere = (geometry.arrow((0, 0), it) for it in ((1000, 0), (0, 1000), (0, 0)))
@@ -129,6 +134,12 @@ class Heights(unittest.TestCase):
 class Costs(unittest.TestCase):
     def test_a_step_pays_beyond_the_largest_buffer(self):
         self.assertEqual(costs.step(0, 25_000_000, 0, 5_000_000, 10_000_000), (10_000_000, 15_000_000, 10**6))
+
+    def test_a_step_pays_nothing_up_to_the_penalty_buffer(self):
+        self.assertEqual(costs.step(2, 3, 0, 5, 10), (5, 0, 0))
+        self.assertEqual(costs.step(2, 4, 0, 5, 10), (6, 0, 10**6))
+        self.assertEqual(costs.step(2, 6, 2, 5, 10), (6, 2, 10**6))
+        self.assertEqual(costs.step(2, -3, 0, 5, 10), (0, 0, 0))
 
     def test_a_weight_is_the_part_of_the_reduction(self):
         profile = b'---context:way assign costfactor 1 assign uphillcostfactor 3'
@@ -198,6 +209,22 @@ class Costs(unittest.TestCase):
         made = ride(b'---context:way assign costfactor 3 assign uphillcostfactor 1 assign downhillcostfactor 5'
                     b' ---context:node assign initialcost switch barrier=gate 7 0', text)
         self.assertEqual([it.low_price() for it in made.climbs], [118_320_000, 111_320_000])
+        made = ride(b'---context:way assign costfactor 3 assign uphillcostfactor 2.5 assign downhillcostfactor 1.5', text)
+        self.assertEqual([it.low_price() for it in made.climbs], [111_320_000, 111_320_000])
+
+    def test_another_class_of_way_costs_what_the_way_entered_says(self):
+        profile = b'---context:way assign costfactor 1 assign initialcost switch highway=primary 50 5 assign initialclassifier '
+        made = ride(profile + b'add 3 highway=primary', CORNER)
+        lengths = 3 * 111_320_000
+        self.assertEqual(cost(made, '10/0/f', '10/1/f', '12/0/f'), lengths + 5_000_000)
+        self.assertEqual(cost(made, '12/0/b', '10/1/b', '10/0/b'), lengths + 50_000_000)
+        self.assertEqual(cost(made, '11/0/f', '11/1/f', '12/0/f'), lengths)
+        # a classifier of 0 is the costfactor, which is 1 as the other one
+        self.assertEqual(cost(ride(profile + b'highway=primary', CORNER), '10/0/f', '10/1/f', '12/0/f'), lengths)
+
+    def test_modes_by_all_links(self):
+        self.assertEqual([mode_of(it) for it in ([0, 0], [], [0, 2], [3, 0, -1], [-1])],
+                         ['compensated', 'compensated', 'ordered', 'equal', 'equal'])
 
     def test_rates_and_buffers_out_of_order(self):
         for assigned, line in (
@@ -227,6 +254,14 @@ class Restrictions(unittest.TestCase):
         self.assertEqual(self.restricted(TURN, no_left), [True, True])
         self.assertEqual(self.restricted(turns, {**no_left, 'tags': {**no_left['tags'], 'except': 'psv; bicycle '}}), [True, True])
         self.assertEqual(self.restricted(turns, no_left, self.relation(21, 'only_right_turn', 11, 10)), [False, False])
+
+    def test_a_way_may_go_on_where_it_may_not_turn(self):
+        turns = b'---context:global assign considerTurnRestrictions 1 ' + TURN
+        along = self.relation(20, 'no_u_turn', 10, 10)
+        along['members'][1]['ref'] = 2
+        self.assertEqual(self.restricted(turns, along), [True, True])
+        along['members'][2]['ref'] = 12
+        self.assertEqual(self.restricted(turns, {**along, 'tags': {'type': 'restriction', 'restriction': 'only_left_turn'}}), [False, True])
 
     def test_a_via_has_to_be_one_node(self):
         turns = b'---context:global assign considerTurnRestrictions 1 ' + TURN

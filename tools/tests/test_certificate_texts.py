@@ -69,6 +69,7 @@ class Profiles(Refused):
                 ('token', b'---context:way assign a if 1 else 2'), ('token', b'---context:way assign a ---context:way'),
                 ('token', b'---context:way assign a b=|'), ('bracket', b'---context:way assign a 1 )'),
                 ('deep', b'---context:way assign costfactor ' + b'not ' * 1001 + b'1'),
+                ('deep', b'---context:way assign costfactor ' + b'not ' * 1000 + b'1'),
                 ('number', b'---context:way assign costfactor ' + b'not ' * 1000 + b'1x'),
                 ('bracket', b'---context:way assign costfactor ' + b'not ' * 1000 + b')')):
             self.refuses(f'profile line 1: {fault}', self.read, text)
@@ -94,6 +95,13 @@ class Profiles(Refused):
             sections = self.read(b'---context:way assign costfactor ' + text)
             found = profile.values_of(sections['way'], {}, tags.read_table(LOOK)['way'], {b'highway': 4}, {})
             self.assertEqual(found[b'costfactor'], wanted, text)
+
+    def test_a_name_is_the_last_value_before(self):
+        sections = self.read(b'---context:global assign a 5 assign b 7 ---context:way assign costfactor a assign a add a 1 assign a multiply a b'
+                             b' assign costfactor add costfactor a')
+        self.assertEqual(profile.values_of(sections['global'], {}, {}, {}, {b'b': 1}), {b'a': 5 * 10**6, b'b': 1})
+        outer = {b'a': 5 * 10**6, b'b': 7 * 10**6}
+        self.assertEqual(profile.values_of(sections['way'], outer, {}, {}, {}), {b'costfactor': 47 * 10**6, b'a': 42 * 10**6})
 
     def test_999_operators_are_not_too_deep(self):
         sections = self.read(b'---context:way assign costfactor ' + b'not ' * 999 + b'1')
