@@ -127,10 +127,11 @@ class Processes:
 
 
 class Load:
-    """Rides that some clients ask for one after the other, each from its own address or under one that a header tells."""
+    """Rides that some clients ask for one after the other, each from its own address or under one that a header tells. Each ride has other
+    words, so that none is answered by a reply that was kept."""
 
-    def __init__(self, host, port, clients, rides, pause=0.02, source=None, headers=None, path='/brouter?' + RIDE):
-        self.host, self.port, self.pause, self.path = host, port, pause, path
+    def __init__(self, host, port, clients, rides, pause=0.02, source=None, headers=None):
+        self.host, self.port, self.pause = host, port, pause
         self.source, self.headers = source or (lambda number: None), headers or (lambda number: {})
         self.answers, self.left, self.lock = [], rides, threading.Lock()
         self.threads = [threading.Thread(target=self.client, daemon=True) for _ in range(clients)]
@@ -154,7 +155,7 @@ class Load:
         place = self.source(number)
         asked = http.client.HTTPConnection(self.host, self.port, timeout=60, source_address=(place, 0) if place else None)
         try:
-            asked.request('GET', self.path, headers=self.headers(number))
+            asked.request('GET', f'/brouter?{RIDE}&labels={100000 + number}', headers=self.headers(number))
             answer = asked.getresponse()
             right = answer.status == 200 and cost(answer.read().decode()) == COST
             return 'right' if right else answer.status, answer.getheader('X-Map-Version')
