@@ -11,7 +11,7 @@ const KINDS = {
 
 const ROWS = [
   [/^not mapped: waypoint (\d+)$/, ([p]) => ({
-    text: `Waypoint ${p + 1} is farther than 250 metres from each road that the profile and the circles leave open.`, waypoints: [p] })],
+    text: `Waypoint ${p + 1}: no node of a road that the profile and the circles leave open is within 250 metres.`, waypoints: [p] })],
   [/^no track: leg (\d+)$/, ([leg]) => ({
     text: `No permitted ride leads from waypoint ${leg + 1} to waypoint ${leg + 2}. That is proved, no search gave up: a one-way, a gate, `
       + 'a turn restriction or a circle is in the way, or the map ends too early.', waypoints: [leg, leg + 1] })],
@@ -35,7 +35,20 @@ const ROWS = [
   [/^uploads full$/, () => ({ text: 'The server holds as many profiles as it can. Its operator has to start it anew.' })],
   [/^out of memory$/, () => ({ text: 'There wasn\'t enough memory for this request.' })],
   [/^body too long$/, () => ({ text: 'The text is too long: a profile has at most 262,144 bytes.' })],
-  [/^no answer$/, () => ({ text: 'The server doesn\'t answer.' })],
+  [/^head too long$/, () => ({ text: 'The question is too long for the server.' })],
+  [/^(path unknown|method not allowed|bad request)$/, (_, [line]) => ({ text: `The server doesn't offer this (${line}).` })],
+  [/^no answer$/, () => ({ text: 'The server doesn\'t answer. Is it running, and is its address right?' })],
+  [/^answer broke off$/, () => ({ text: 'The answer broke off. Ask again.' })],
+  [/^answer broken$/, () => ({ text: 'The answer isn\'t whole, or isn\'t JSON. Ask again.' })],
+  [/^answer is a page$/, () => ({ text: 'A web page came where an answer should be: another program listens at this address.' })],
+  [/^answer is no (\w+)$/, (_, [what]) => ({ text: `The answer holds no ${what}: another program listens at this address.` })],
+  [/^front 413$/, () => ({ text: 'The text is too long for the server.' })],
+  [/^front 429$/, () => ({ text: 'Too many requests in a short time. Ask again in a minute.' })],
+  [/^front (502|503|504)$/, ([status]) => ({ text: `The web server is there, but no route server answers it (status ${status}). Ask again in a moment.` })],
+  [/^front (\d+)$/, ([status]) => ({ text: `The web server answered with status ${status}, and not with a track.` })],
+  [/^no profile file$/, () => ({ text: 'The text of this profile can\'t be read here, so its variables aren\'t shown. Rides by it are found all the same.' })],
+  [/^packed profile broken$/, () => ({ text: 'The address holds a profile that can\'t be unpacked: the link was cut off or changed.' })],
+  [/^page at fault$/, () => ({ text: 'The page failed at this; its console tells where. Ask again, or load the page anew.' })],
 ];
 
 // The words for a refusal's line, with the waypoints or the line of a text that it names.
@@ -47,5 +60,5 @@ export function wordsOf(line) {
       return { waypoints: [], ...words(parts.map(Number), parts) };
     }
   }
-  return { waypoints: [], text: line || 'The server refused it.' };
+  return { waypoints: [], text: line ? `The server refused it: ${line}.` : 'The server refused it.' };
 }
