@@ -42,7 +42,11 @@ export class Answer {
     Object.assign(this, { ride, tracks });
     by('answer').hidden = !tracks.length;
     this.drawKey();
-    if (!tracks.length) return;
+    if (!tracks.length) {
+      by('figures').replaceChildren();
+      by('rows').replaceChildren();
+      return;
+    }
     const { reply } = tracks[0];
     this.told = rowsOf(reply);
     this.drawRepeats(reply);

@@ -26,17 +26,43 @@ class Cover {
     for (const cell of this.cellsOf(box)) this.cells.add(cell);
   }
 
-  // A line with so much room on both sides.
-  addLine(points, room) {
-    points.slice(1).forEach((to, number) => {
-      const from = points[number];
+  // Those parts of a line that are in a view, with so much room on both sides.
+  addLine(points, room, size) {
+    for (let number = 1; number < points.length; number++) {
+      const [from, to] = [points[number - 1], points[number]];
+      if (isBeside(from, to, size)) continue;
       const steps = Math.ceil(Math.hypot(to.x - from.x, to.y - from.y) / CELL) + 1;
       for (let step = 0; step <= steps; step++) {
         const [x, y] = [from.x + (to.x - from.x) * step / steps, from.y + (to.y - from.y) * step / steps];
-        this.add({ left: x - room, top: y - room, right: x + room, bottom: y + room });
+        if (x > -room && y > -room && x < size.x + room && y < size.y + room) {
+          this.add({ left: x - room, top: y - room, right: x + room, bottom: y + room });
+        }
       }
-    });
+    }
   }
+}
+
+// Whether both ends of a piece lie beyond the same side of a view.
+function isBeside(from, to, size) {
+  return Math.max(from.x, to.x) < 0 || Math.max(from.y, to.y) < 0 || Math.min(from.x, to.x) > size.x || Math.min(from.y, to.y) > size.y;
+}
+
+// The length in view of a line of a tile, and the middle of its longest piece there; null where nothing of it is in view.
+function seenOf({ points, starts }, line, side, corner, size) {
+  let [length, long, x, y] = [0, -1, 0, 0];
+  for (let at = starts[line]; at + 1 < starts[line + 1]; at++) {
+    const fromX = points[2 * at] * side + corner.x;
+    const fromY = points[2 * at + 1] * side + corner.y;
+    const toX = points[2 * at + 2] * side + corner.x;
+    const toY = points[2 * at + 3] * side + corner.y;
+    const middleX = (fromX + toX) / 2;
+    const middleY = (fromY + toY) / 2;
+    if (middleX < 0 || middleY < 0 || middleX > size.x || middleY > size.y) continue;
+    const piece = Math.hypot(toX - fromX, toY - fromY);
+    length += piece;
+    if (piece > long) [long, x, y] = [piece, middleX, middleY];
+  }
+  return long < 0 ? null : { length, x, y };
 }
 
 export class Names {
@@ -87,26 +113,18 @@ export class Names {
     return [...found].map(([name, spot]) => ({ name, ...spot })).sort((a, b) => b.length - a.length);
   }
 
-  gather({ points, starts, names }, side, corner, found) {
+  gather(lines, side, corner, found) {
     const size = this.map.getSize();
-    names.forEach((name, line) => {
-      if (!name) return;
-      let [length, middle] = [0, null];
-      for (let at = starts[line]; at + 1 < starts[line + 1]; at++) {
-        const [x, y, x2, y2] = [0, 1, 2, 3].map((each) => points[2 * at + each] * side + (each % 2 ? corner.y : corner.x));
-        const [mx, my] = [(x + x2) / 2, (y + y2) / 2];
-        if (mx < 0 || my < 0 || mx > size.x || my > size.y) continue;
-        const long = Math.hypot(x2 - x, y2 - y);
-        if (!middle || long > middle.long) middle = { x: mx, y: my, long };
-        length += long;
-      }
-      if (middle && length > (found.get(name)?.length ?? 0)) found.set(name, { x: middle.x, y: middle.y, length });
+    lines.names.forEach((name, line) => {
+      const seen = name ? seenOf(lines, line, side, corner, size) : null;
+      if (seen && seen.length > (found.get(name)?.length ?? 0)) found.set(name, seen);
     });
   }
 
   covered() {
     const cover = new Cover();
-    for (const line of this.lines) cover.addLine(line.map((each) => this.map.latLngToContainerPoint(each)), 8);
+    const size = this.map.getSize();
+    for (const line of this.lines) cover.addLine(line.map((each) => this.map.latLngToContainerPoint(each)), 8, size);
     for (const mark of this.marks) {
       const { x, y } = this.map.latLngToContainerPoint(mark);
       cover.add({ left: x - 15, top: y - 15, right: x + 15, bottom: y + 15 });

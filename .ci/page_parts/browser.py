@@ -32,6 +32,19 @@ def open_browser(room):
     return webdriver.Chrome(service=Service(shutil.which('chromedriver')), options=options)
 
 
+def schedule(process):
+    """How long the main thread of a process of a page ran and waited; nothing of other processes."""
+    try:
+        with open(f'/proc/{process}/cmdline', encoding='utf-8') as file:
+            if '--type=renderer' not in file.read():
+                return 0, 0
+        with open(f'/proc/{process}/schedstat', encoding='utf-8') as file:
+            ran, waited, _ = file.read().split()
+    except OSError:
+        return 0, 0
+    return int(ran), int(waited)
+
+
 class Page:
     """The page, with what a rider does and sees."""
 
@@ -107,6 +120,26 @@ class Page:
                                                                      'touchPoints': [{'x': x, 'y': y}]})
             time.sleep(0.05)
         self.driver.execute_cdp_cmd('Input.dispatchTouchEvent', {'type': 'touchEnd', 'touchPoints': []})
+
+    def threads(self):
+        """How long the main threads of the browser's pages ran and how long they waited for a processor, in nanoseconds."""
+        parents = {}
+        for name in filter(str.isdigit, os.listdir('/proc')):
+            try:
+                with open(f'/proc/{name}/stat', encoding='utf-8') as file:
+                    parents[int(name)] = int(file.read().rpartition(')')[2].split()[1])
+            except OSError:
+                continue
+        ours, top = {self.driver.service.process.pid}, 0
+        while len(ours) > top:
+            top = len(ours)
+            ours |= {process for process, parent in parents.items() if parent in ours}
+        return [sum(times) for times in zip(*(schedule(process) for process in ours))]
+
+    def share(self, before):
+        """The part of the time since then in which the page's threads, where they could run, had a processor."""
+        ran, waited = [now - then for now, then in zip(self.threads(), before)]
+        return ran / (ran + waited) if ran else 1
 
     def console(self):
         """What the console got since it was last asked, but for what a server refused: that is a line of it whatever a page does."""
