@@ -21,7 +21,7 @@ export class Editor {
     const count = this.text.value.split('\n').length;
     this.lines.replaceChildren(...Array.from({ length: count }, (_, number) => {
       const made = document.createElement('span');
-      made.textContent = `${number + 1}\n`;
+      made.textContent = number + 1;
       if (number + 1 === line) made.className = 'at-fault';
       return made;
     }));

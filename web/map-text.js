@@ -1,5 +1,7 @@
 // Roads from a map's text in Overpass JSON: a worker reads it once and hands out its lines tile by tile, as a folder of tiles does.
 
+const KEPT = 160;
+
 export class MapText {
   // The map at a path, as soon as its worker has read it.
   static async open(path) {
@@ -46,7 +48,7 @@ export class MapText {
     const lines = this.kept.get(name);
     this.kept.delete(name);
     this.kept.set(name, lines);
-    if (this.kept.size > 48) this.kept.delete(this.kept.keys().next().value);
+    if (this.kept.size > KEPT) this.kept.delete(this.kept.keys().next().value);
     return lines;
   }
 

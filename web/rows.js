@@ -4,6 +4,7 @@ import { costOf, PARTS } from './track.js';
 
 const ABOUT = '\u2248\u202f';
 const FEW = 24;
+const MOST_AT_ONCE = 200;
 
 function cell(content, name = 'td') {
   const made = document.createElement(name);
@@ -58,9 +59,28 @@ export class Rows {
     Object.assign(this, { rows, groups });
     this.most = rows.reduce((most, row) => Math.max(most, costOf(row)), 1);
     this.mostOfGroups = groups.reduce((most, group) => Math.max(most, group.cost), 1);
-    this.bodies = groups.map((group, number) => this.body(group, number));
-    this.table.replaceChildren(head(), ...this.bodies);
+    this.bodies = [];
+    this.table.replaceChildren(head());
+    this.more();
     if (rows.length <= FEW) groups.forEach((_, number) => this.fold(number, true));
+  }
+
+  // Draws some more groups, with a button behind them where others are left.
+  more() {
+    const made = this.groups.slice(this.bodies.length, this.bodies.length + MOST_AT_ONCE)
+      .map((group, number) => this.body(group, this.bodies.length + number));
+    this.bodies.push(...made);
+    this.table.tFoot?.remove();
+    this.table.append(...made);
+    const left = this.groups.length - this.bodies.length;
+    if (!left) return;
+    const button = document.createElement('button');
+    button.type = 'button';
+    button.textContent = `${left} more`;
+    button.addEventListener('click', () => this.more());
+    const place = cell(button);
+    place.colSpan = 5;
+    this.table.createTFoot().insertRow().append(place);
   }
 
   body(group, number) {

@@ -2,7 +2,7 @@
 
 import { LineGatherer, squareOf } from './roads.js';
 
-const KEPT = 48;
+const KEPT = 160;
 
 const isBox = (box) => Array.isArray(box) && box.length === 4 && box.every(Number.isFinite);
 const isText = (value) => typeof value === 'string';

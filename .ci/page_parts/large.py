@@ -93,6 +93,12 @@ def try_long(page):
     groups = len(page.all('#rows tr.group'))
     told('its rows stand in groups, folded', rows > 100 and 0 < groups < rows and not page.all('#rows tr.row'), (rows, groups))
     page.picture('15-long')
+    left = groups
+    while page.all('#rows tfoot button'):
+        page.all('#rows tfoot button')[0].click()
+        left = len(page.all('#rows tr.group'))
+    lengths = page.run("return [...document.querySelectorAll('#rows tr.group td:first-child')].map((each) => Number(each.textContent))")
+    told('and add up to its length', abs(sum(lengths) - float(wanted['properties']['track-length'])) <= left, (sum(lengths), left))
 
 
 def try_far(page):

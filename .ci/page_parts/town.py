@@ -1,4 +1,5 @@
 """Tries of the page on the town: what is shown is what the server answers, and what a rider does changes it as he means."""
+import math
 import os
 
 from selenium.webdriver.common.action_chains import ActionChains
@@ -11,6 +12,15 @@ from page_parts.telling import told
 RIDE = 'lonlats=8.5156,49.1114|8.5198,49.115&profile=trekking'
 HILL = 'lonlats=8.5293,49.1112|8.5297,49.1211&profile=careful'
 BRIDGES = 'lonlats=8.5181,49.1069|8.506,49.1134|8.5005,49.1117&profile=trekking'
+
+# How many names of roads are laid out, and over how many of them a track goes.
+COVERED = """const { names, tracks, map } = document.getElementById('map').rideMap;
+const points = tracks.lines().flatMap((line) => line.slice(1).flatMap((to, number) => {
+  const [from, end] = [line[number], to].map((each) => map.latLngToContainerPoint(each));
+  return Array.from({ length: 100 }, (_, step) => from.add(end.subtract(from).multiplyBy(step / 99)));
+}));
+return [names.placed.length, names.placed.filter((box) => points.some(({ x, y }) =>
+  x > box.left && x < box.right && y > box.top && y < box.bottom)).length];"""
 
 
 def try_shown(page):
@@ -60,11 +70,9 @@ def try_groups(page):
     folded = len(page.all('#rows tr.row'))
     page.all('#rows tr.group button')[0].click()
     told('a group folds and opens', len(page.all('#rows tr.row')) > folded)
-    over = page.run("""const { names, tracks, map } = document.getElementById('map').rideMap;
-        const points = tracks.lines().flat().map((each) => map.latLngToContainerPoint(each));
-        return [names.placed.length, names.placed.filter((box) => points.some(({ x, y }) =>
-          x > box.left && x < box.right && y > box.top && y < box.bottom)).length];""")
-    told('names are laid out, and none over the track', page.until(lambda: over[0] > 0) and over[1] == 0, over)
+    page.until(lambda: page.run(COVERED)[0] > 0)
+    names, over = page.run(COVERED)
+    told('names are laid out, and none over the track', names > 0 and over == 0, (names, over))
 
 
 def grip_spot(page):
@@ -139,7 +147,8 @@ def try_choices(page):
     key = [each.text for each in page.all('#key li')]
     told('and a colour key', key == ['careful', 'trekking'], key)
     first, second = page.lines('track')[0], page.lines('track beside')[0]
-    told('where they lie on one road, they are drawn apart', first[0] != second[0], (first[0], second[0]))
+    spots = [page.spot_of(*each[-1]) for each in (first, second)]
+    told('where they end on one road, they are drawn apart', 6 < math.dist(*spots) < 20, spots)
     page.picture('05-two-profiles')
 
 

@@ -65,6 +65,9 @@ def try_written(page):
     told('and their texts', 'The mood of the day' in page.told('variables') and '%' not in page.told('variables'))
     Select(page.all('#variables select[name=mood]')[0]).select_by_visible_text('wild')
     told('a choice changes the ride', page.until(lambda: page.costs()[0] != alone) and 'profile:mood=2' in page.address(), page.costs())
+    page.by('ask-table').click()
+    told('a table is reckoned by it too', page.until(lambda: len(page.all('#costs td')) == 4) and page.told('costs').count(page.costs()[0]) >= 1,
+         (page.told('costs'), page.told('table-told')))
     told('no name of an upload is in the address', 'custom_' not in page.address(), page.address())
     return page.address(), page.costs()
 
