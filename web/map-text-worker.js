@@ -4,7 +4,7 @@ import { CLASSES, LineGatherer, classOf, squareOf } from './roads.js';
 
 const DEEP = 14;
 const FEW = 20000;
-const MOST_BYTES = 128 * 1024 * 1024;
+const MOST_BYTES = 128e6;
 
 let ways = [];
 let cells = new Map();
