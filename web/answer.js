@@ -9,6 +9,7 @@ import { drawLegend, Rows } from './rows.js';
 import { streetNames } from './street-names.js';
 import { climbOf, distancesOf, repeatedBy, rowsOf } from './track.js';
 
+const SOON = 300;
 const BEST = ['the best ride', 'alternative 1', 'alternative 2'];
 
 function figure(name, className, ...content) {
@@ -100,12 +101,17 @@ export class Answer {
     by('certificate').value = proofCommands(this.ride, this.settings.command, this.profiles.fileOf(this.ride.profile));
   }
 
-  // Draws the rows by streets, as soon as these are known.
+  // Draws the rows by streets, and by kinds of road until the streets are known where that takes a while.
   async drawRows() {
     const { tracks, told, source } = this;
     if (!tracks.length) return;
-    const names = await streetNames(source, tracks[0].reply, told).catch(() => told.map(() => ''));
-    if (tracks === this.tracks && source === this.source) this.rows.draw(told, groupsOf(told, names));
+    const draw = (names) => {
+      if (tracks === this.tracks && source === this.source) this.rows.draw(told, groupsOf(told, names));
+    };
+    const later = setTimeout(draw, SOON, []);
+    const names = await streetNames(source, tracks[0].reply, told).catch(() => []);
+    clearTimeout(later);
+    draw(names);
   }
 
   // Takes the roads, when they are there, for the names of streets.

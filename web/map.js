@@ -10,7 +10,7 @@ import { Tracks } from './tracks.js';
 const CLICK = 250;
 
 const escaped = (text) => text.replace(/[&<>"]/g, (mark) => `&#${mark.charCodeAt(0)};`);
-const LINK = `<a href="https://www.openstreetmap.org/copyright" rel="noreferrer">${OPENSTREETMAP}</a>`;
+const LINK = `<a href="https://www.openstreetmap.org/copyright" target="_blank" rel="noreferrer">${OPENSTREETMAP}</a>`;
 const attributionOf = (text) => escaped(text).replace(OPENSTREETMAP, LINK);
 
 export class RideMap {

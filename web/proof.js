@@ -10,8 +10,8 @@ export function proofWords({ alternative }, rank) {
     : 'No permitted ride from each of these waypoints to the next costs less by this profile and its values, on the map that the server '
       + 'has read.';
   return [least,
-    'The program that answers carries a proof of this for all maps, profiles and requests, which a machine has checked; no tests stand in for it.',
-    'You need not trust this server to run that program: these lines write a certificate of the best ride, and check it without any search.'].join(' ');
+    'That is proved of the program route_serve, for all maps, profiles and requests, and a machine has checked the proof.',
+    'You need not trust that this server runs it: these lines write a certificate of the best ride, and check it without any search.'].join(' ');
 }
 
 export const proofCommands = (ride, start, file) => certificateOf(ride, start, file);

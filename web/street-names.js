@@ -28,27 +28,34 @@ function nearestName({ points, starts, names, highways }, highway, x, y, most) {
   return found;
 }
 
+// Where the middle of each piece of a track lies, in tiles of a zoom.
+const middlesOf = (coordinates, zoom) => coordinates.slice(1).map(([lon, lat], number) => {
+  const [lonBefore, latBefore] = coordinates[number];
+  return squareOf((lon + lonBefore) / 2, (lat + latBefore) / 2).map((side) => side * 2 ** zoom);
+});
+
+// The first tiles in which some of the places lie.
+async function tilesOf(source, zoom, places) {
+  const names = [...new Set(places.map(([east, south]) => `${Math.floor(east)}/${Math.floor(south)}`))].slice(0, MOST_TILES);
+  return new Map(await Promise.all(names.map(async (name) => [name, await source.tile(zoom, ...name.split('/').map(Number)).catch(() => null)])));
+}
+
 async function byPlaces(source, coordinates, rows) {
   const zoom = source.zoomFor(19);
-  const scale = 2 ** zoom;
-  const tiles = new Map();
-  const names = [];
-  for (const [number, row] of rows.entries()) {
-    const [[lon, lat], [lon2, lat2]] = [coordinates[number], coordinates[number + 1]];
-    const [east, south] = squareOf((lon + lon2) / 2, (lat + lat2) / 2).map((side) => side * scale);
+  const places = middlesOf(coordinates, zoom);
+  const tiles = await tilesOf(source, zoom, places);
+  return rows.map(({ wayTags }, number) => {
+    const [east, south] = places[number];
     const [x, y] = [Math.floor(east), Math.floor(south)];
-    const name = `${x}/${y}`;
-    if (!tiles.has(name)) tiles.set(name, tiles.size < MOST_TILES ? await source.tile(zoom, x, y).catch(() => null) : null);
-    const most = NEAR * scale / (40075017 * Math.cos(lat * Math.PI / 180));
-    const lines = tiles.get(name);
-    names.push(lines ? nearestName(lines, highwayOf(row.wayTags), east - x, south - y, most) : '');
-  }
-  return names;
+    const lines = tiles.get(`${x}/${y}`);
+    const most = NEAR * 2 ** zoom / (40075017 * Math.cos(coordinates[number][1] * Math.PI / 180));
+    return lines ? nearestName(lines, highwayOf(wayTags), east - x, south - y, most) : '';
+  });
 }
 
 // A name, or an empty text, for each row of a track.
 export async function streetNames(source, reply, rows) {
-  if (!source) return rows.map(() => '');
+  if (!source) return [];
   if (!source.namesOfWays) return byPlaces(source, reply.geometry.coordinates, rows);
   const ids = reply.properties.walk.flat().map(([way]) => way);
   const names = await source.namesOfWays(ids);

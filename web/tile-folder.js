@@ -7,8 +7,8 @@ const KEPT = 160;
 const isBox = (box) => Array.isArray(box) && box.length === 4 && box.every(Number.isFinite);
 const isText = (value) => typeof value === 'string';
 
-async function jsonOf(path) {
-  const answer = await fetch(path);
+async function jsonOf(path, options) {
+  const answer = await fetch(path, options);
   if (!answer.ok) throw new Error(`status ${answer.status}`);
   return answer.json();
 }
@@ -28,7 +28,7 @@ export function linesOfTile(collection, zoom, x, y) {
 export class TileFolder {
   // The folder at a path, by its index.
   static async open(path) {
-    const index = await jsonOf(`${path}/index.json`);
+    const index = await jsonOf(`${path}/index.json`, { cache: 'no-cache' });
     const zooms = Object.keys(index?.tiles ?? {}).map(Number).filter(Number.isInteger).sort((a, b) => a - b);
     if (!isBox(index?.box) || !zooms.length) throw new Error('index.json isn\'t that of a folder of tiles');
     return new TileFolder(path, index, zooms);

@@ -2,6 +2,7 @@
 holds still while it is zoomed and moved, and how much it keeps. Times are reckoned without those in which the page waited for a processor,
 since other programs may keep all of them busy."""
 import os
+import shutil
 import subprocess
 import sys
 import time
@@ -108,6 +109,15 @@ def try_far(page):
     told('from far out the box of the roads is drawn', len(page.all('path.box')) == 1 and page.run(DRAWN)[1] == 0, page.run(DRAWN))
 
 
+def try_missing(page, front):
+    """Tiles that are missing are told, and the ride is shown."""
+    shutil.rmtree(f'{front.files}/roads/14')
+    page.driver.execute_cdp_cmd('Network.clearBrowserCache', {})
+    page.open(SHORT)
+    told('missing tiles are told, and the ride is shown', page.tells('Some roads are missing: status 404', 'map-told')
+         and page.until(lambda: page.costs()), page.told('map-told'))
+
+
 def try_text(page, front):
     """Without tiles the map's text is drawn by a worker, and the page stays at hand."""
     front.settings(map='files/large.json')
@@ -130,4 +140,5 @@ def tries(page, front):
     try_moves(page)
     try_long(page)
     try_far(page)
+    try_missing(page, front)
     try_text(page, front)

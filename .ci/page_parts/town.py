@@ -195,6 +195,12 @@ def try_table(page):
     page.by('ride-round').click()
     told('it is ridden by a click', page.until(lambda: page.address().split('&')[0].count('|') == 3) and page.shows('5673.988330'), page.costs())
     told('and a table of another ride is gone', page.told('costs') == '')
+    many = '|'.join(f'{8.5056 + 0.001 * number:.4f},49.1114' for number in range(10))
+    page.open(f'lonlats={many}&profile=trekking')
+    page.until(lambda: len(page.costs()) == 1)
+    page.by('ask-table').click()
+    told('of more than nine waypoints no round is told', page.tells('at most 9 waypoints', 'table-told') and len(page.all('#costs td')) == 100
+         and not page.by('ride-round').is_displayed(), page.told('table-told'))
 
 
 def try_rounds(page):
