@@ -2,11 +2,10 @@
 
 import { button, by, made } from './dom.js';
 
-function waypointItem({ lon, lat }, at, waypoints, changes, isFault) {
-  const item = made('li', isFault ? 'at-fault' : '', `${lat.toFixed(5)}, ${lon.toFixed(5)} `,
+function waypointItem({ lon, lat }, at, changes, isFault) {
+  return made('li', isFault ? 'at-fault' : '', `${lat.toFixed(5)}, ${lon.toFixed(5)} `,
     button('\u2191', `Waypoint ${at + 1} earlier`, () => at && changes.swapWaypoints(at - 1, at)),
     button('\u00d7', `Remove waypoint ${at + 1}`, () => changes.removeWaypoint(at)));
-  return item;
 }
 
 function circleItem(circle, at, changes) {
@@ -18,7 +17,7 @@ function circleItem(circle, at, changes) {
 }
 
 export function drawLists({ waypoints, circles }, faults, changes) {
-  by('waypoints').replaceChildren(...waypoints.map((place, at) => waypointItem(place, at, waypoints, changes, faults.includes(at))));
+  by('waypoints').replaceChildren(...waypoints.map((place, at) => waypointItem(place, at, changes, faults.includes(at))));
   by('circles').replaceChildren(...circles.map((circle, at) => circleItem(circle, at, changes)));
 }
 

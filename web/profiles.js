@@ -31,7 +31,7 @@ function newMark() {
 
 // The text that is sent. It assigns a name of its own, by which a later ride shows that the server still has this very text: one that
 // was started anew gives the same name to another's. A text that begins with no section is refused as it stands.
-export function markedText(text, mark) {
+function markedText(text, mark) {
   return beginsWithSection(text) ? `---context:global assign ${mark} 0 ${text}` : text;
 }
 

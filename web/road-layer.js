@@ -34,46 +34,42 @@ function touches(points, from, to, scale, right, down, size) {
 }
 
 // From the lowest to the topmost.
-const order = ['water', 'rail', 'path', 'track', 'ferry', 'street', 'cycle', 'side', 'main'].map((name) => CLASSES.findIndex((each) => each.name === name));
+const ORDER = ['water', 'rail', 'path', 'track', 'ferry', 'street', 'cycle', 'side', 'main']
+  .map((name) => CLASSES.findIndex((each) => each.name === name));
 
+// Draws the lines of a source's tile on a canvas of the map: `parts` of these to a side are one of those.
+function drawLines(canvas, lines, coords, parts, size) {
+  const density = canvas.width / size;
+  const context = canvas.getContext('2d');
+  context.scale(density, density);
+  context.lineJoin = context.lineCap = 'round';
+  for (const kind of ORDER) {
+    if (!lines.classes.includes(kind)) continue;
+    const { name, width, dashed } = CLASSES[kind];
+    context.strokeStyle = colour(name);
+    context.lineWidth = width * widthFactor(coords.z);
+    context.setLineDash(dashed ? [6, 5] : []);
+    context.stroke(pathOf(lines, kind, size * parts, (coords.x % parts) * size, (coords.y % parts) * size, size));
+  }
+}
+
+// `failed` is told why a tile of the source can't be had.
 export function makeRoadLayer(source, failed) {
   const Layer = L.GridLayer.extend({
-    // A tile of the map is a part of a tile of the source.
     createTile(coords, done) {
       const size = this.getTileSize().x;
       const canvas = document.createElement('canvas');
-      const density = window.devicePixelRatio || 1;
-      canvas.width = canvas.height = size * density;
+      canvas.width = canvas.height = size * (window.devicePixelRatio || 1);
       const zoom = source.zoomFor(coords.z);
       if (zoom === null) {
         setTimeout(() => done(null, canvas));
         return canvas;
       }
       const parts = 2 ** (coords.z - zoom);
-      const [x, y] = [Math.floor(coords.x / parts), Math.floor(coords.y / parts)];
-      source.tile(zoom, x, y).then((lines) => {
-        if (lines) this.drawLines(canvas, density, lines, coords, parts, size);
-        done(null, canvas);
-      }).catch((error) => {
-        failed(error);
-        done(null, canvas);
-      });
+      source.tile(zoom, Math.floor(coords.x / parts), Math.floor(coords.y / parts)).then((lines) => {
+        if (lines) drawLines(canvas, lines, coords, parts, size);
+      }).catch(failed).then(() => done(null, canvas));
       return canvas;
-    },
-
-    drawLines(canvas, density, lines, coords, parts, size) {
-      const context = canvas.getContext('2d');
-      context.scale(density, density);
-      context.lineJoin = context.lineCap = 'round';
-      const scale = size * parts;
-      for (const kind of order) {
-        if (!lines.classes.includes(kind)) continue;
-        const { name, width, dashed } = CLASSES[kind];
-        context.strokeStyle = colour(name);
-        context.lineWidth = width * widthFactor(coords.z);
-        context.setLineDash(dashed ? [6, 5] : []);
-        context.stroke(pathOf(lines, kind, scale, (coords.x % parts) * size, (coords.y % parts) * size, size));
-      }
     },
   });
   return new Layer({ noWrap: true, keepBuffer: 1, updateWhenZooming: false, minZoom: 0, maxZoom: 19 });

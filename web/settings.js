@@ -34,7 +34,7 @@ async function textOfSettings() {
 }
 
 // The settings of a text, with a sentence for each thing that is wrong in it.
-export function settingsOf(text) {
+function settingsOf(text) {
   let read;
   try {
     read = JSON.parse(text);

@@ -14,7 +14,7 @@ async function jsonOf(path, options) {
 }
 
 // The lines of a tile's text; what is no line is passed over.
-export function linesOfTile(collection, zoom, x, y) {
+function linesOfTile(collection, zoom, x, y) {
   const gatherer = new LineGatherer(zoom, x, y);
   for (const { geometry, properties } of Array.isArray(collection?.features) ? collection.features : []) {
     if (geometry?.type !== 'LineString' || !Array.isArray(geometry.coordinates)) continue;

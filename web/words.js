@@ -43,10 +43,11 @@ const ROWS = [
   [/^answer is a page$/, () => ({ text: 'A web page came where an answer should be: another program listens at this address.' })],
   [/^answer is no (\w+)$/, (_, [what]) => ({ text: `The answer holds no ${what}: another program listens at this address.` })],
   [/^front 413$/, () => ({ text: 'The text is too long for the server.' })],
-  [/^front 429$/, () => ({ text: 'Too many requests in a short time. Ask again in a minute.' })],
-  [/^front (502|503|504)$/, ([status]) => ({ text: `The web server is there, but no route server answers it (status ${status}). Ask again in a moment.` })],
+  [/^(front 429|too many requests)$/, () => ({ text: 'Too many requests in a short time. Ask again in a minute.' })],
+  [/^(front 50[234]|no process answers)$/, () => ({ text: 'The web server is there, but no route server answers it. Ask again in a moment.' })],
   [/^front (\d+)$/, ([status]) => ({ text: `The web server answered with status ${status}, and not with a track.` })],
-  [/^no profile file$/, () => ({ text: 'The text of this profile can\'t be read here, so its variables aren\'t shown. Rides by it are found all the same.' })],
+  [/^no profile file$/, () => ({
+    text: 'The text of this profile can\'t be read here, so its variables aren\'t shown. Rides by it are found all the same.' })],
   [/^packed profile broken$/, () => ({ text: 'The address holds a profile that can\'t be unpacked: the link was cut off or changed.' })],
   [/^page at fault$/, () => ({ text: 'The page failed at this; its console tells where. Ask again, or load the page anew.' })],
 ];

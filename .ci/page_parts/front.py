@@ -65,8 +65,10 @@ class Front:
         """nginx by the file of `dist/` with its folders replaced."""
         room = self.room
         with open(os.path.join(TOP, 'dist', 'nginx.conf'), encoding='utf-8') as file:
-            text = file.read().replace('/var/log/nginx/', room + '/')
-        text = text.replace('/srv/route_serve/web', self.web).replace('/srv/route_serve/', self.files + '/')
+            text = file.read()
+        for folder, ours in (('/srv/route_serve/web', self.web), ('/srv/route_serve/', self.files + '/'), ('/var/log/nginx/', room + '/'),
+                             ('/var/lib/nginx/', room + '/'), ('/run/route_serve/', room + '/run/')):
+            text = text.replace(folder, ours)
         with open(f'{room}/front.conf', 'w', encoding='utf-8') as file:
             file.write(text)
         paths = ''.join(f'{kind}_temp_path {room}/{kind};\n' for kind in ('client_body', 'proxy', 'fastcgi', 'uwsgi', 'scgi'))

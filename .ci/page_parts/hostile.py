@@ -103,7 +103,7 @@ class Servers:
 
 WAYS = [('page', 'A web page came'), ('empty', 'The answer holds no track'), ('null', 'The answer holds no track'),
         ('nothing', 'isn\'t JSON'), ('broken', 'isn\'t whole'), ('cut', 'broke off'), ('shapeless', 'The answer holds no track'),
-        ('fault', 'status 500'), ('refusal', f'The server refused it: odd {NASTY}'), ('closing', 'status 502')]
+        ('fault', 'status 500'), ('refusal', f'The server refused it: odd {NASTY}'), ('closing', 'no route server answers it')]
 
 
 def ask_again(page):
@@ -155,7 +155,7 @@ def try_silent(page):
 def try_dead(page, front):
     """A dead server, and a dead front."""
     ask_again(page)
-    told('no server behind the front is told', page.tells('no route server answers it (status 502)') and page.is_bad(), page.told())
+    told('no server behind the front is told', page.tells('no route server answers it') and page.is_bad(), page.told())
     front.nginx.terminate()
     front.nginx.wait()
     ask_again(page)
@@ -168,8 +168,8 @@ def try_dead(page, front):
 
 def try_settings(page, front):
     """A page whose settings, map or profiles are missing says so, and rides."""
-    cases = [('', 'settings.json is empty'), ('{', 'settings.json isn\'t JSON'), ('[]', 'isn\'t an object'), ('{"map": 7, "odd": 1}', '\u201cmap\u201d isn\'t a text'),
-             ('{}', 'names no profile')]
+    cases = [('', 'settings.json is empty'), ('{', 'settings.json isn\'t JSON'), ('[]', 'isn\'t an object'),
+             ('{"map": 7, "odd": 1}', '\u201cmap\u201d isn\'t a text'), ('{}', 'names no profile')]
     for text, words in cases:
         front.write('settings.json', text)
         page.open(RIDE)
@@ -205,7 +205,8 @@ def try_server(page, front):
     """Only a server that settings.json lists is asked, and it is told where rides go."""
     front.settings()
     page.open(RIDE, '?server=http://127.0.0.1:17778')
-    told('a server that isn\'t listed isn\'t asked', page.tells('It isn\'t asked', 'server-told') and page.shows('799.132265'), page.told('server-told'))
+    told('a server that isn\'t listed isn\'t asked', page.tells('It isn\'t asked', 'server-told') and page.shows('799.132265'),
+         page.told('server-told'))
     front.settings(servers=['http://127.0.0.1:17778'])
     page.open(RIDE, '?server=http://127.0.0.1:17778')
     told('a listed one is told', page.tells('rides and profiles go to http://127.0.0.1:17778', 'server-told'), page.told('server-told'))

@@ -209,7 +209,8 @@ def try_rounds(page):
     import('/round.js').then(({ cheapestRound }) => {
       let seed = 7;
       const draw = () => (seed = (seed * 48271) % 2147483647) % 900 + 1;
-      const orders = (rest) => (rest.length ? rest.flatMap((each) => orders(rest.filter((other) => other !== each)).map((way) => [each, ...way])) : [[]]);
+      const orders = (rest) => (rest.length ? rest.flatMap((each) => (
+        orders(rest.filter((other) => other !== each)).map((way) => [each, ...way]))) : [[]]);
       const wrong = [];
       for (let count = 2; count <= 7; count++) for (let turn = 0; turn < 12; turn++) {
         const table = Array.from({ length: count }, (_, from) => Array.from({ length: count }, (_, to) => (
