@@ -21,7 +21,7 @@ export class Editor {
     const count = this.text.value.split('\n').length;
     this.lines.replaceChildren(...Array.from({ length: count }, (_, number) => {
       const made = document.createElement('span');
-      made.textContent = `${number + 1}\n`;
+      made.textContent = number + 1;
       if (number + 1 === line) made.className = 'at-fault';
       return made;
     }));
@@ -32,7 +32,11 @@ export class Editor {
     const before = this.text.value.split('\n').slice(0, line - 1);
     const start = before.reduce((sum, each) => sum + each.length + 1, 0);
     const end = start + (this.text.value.split('\n')[line - 1] ?? '').length;
-    this.text.focus();
+    this.text.focus({ preventScroll: true });
     this.text.setSelectionRange(start, end);
+    const height = this.text.scrollHeight / this.text.value.split('\n').length;
+    this.text.scrollTop = Math.max(0, (line - 0.5) * height - this.text.clientHeight / 2);
+    this.text.scrollLeft = 0;
+    this.text.scrollIntoView({ block: 'nearest' });
   }
 }

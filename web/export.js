@@ -4,22 +4,22 @@ import { queryOf, textOf } from './ride.js';
 
 const escaped = (text) => text.replace(/[&<>"]/g, (mark) => `&#${mark.charCodeAt(0)};`);
 
-export function gpxOf(reply) {
+export function gpxOf(reply, title) {
   const points = reply.geometry.coordinates.map(([lon, lat, height]) => (
     `   <trkpt lat="${lat}" lon="${lon}">${height === undefined ? '' : `<ele>${height}</ele>`}</trkpt>`));
   return ['<?xml version="1.0" encoding="UTF-8"?>',
     '<gpx version="1.1" creator="route_serve" xmlns="http://www.topografix.com/GPX/1/1">',
-    ` <trk><name>${escaped(reply.properties.name)}</name>`, '  <trkseg>', ...points, '  </trkseg>', ' </trk>', '</gpx>', ''].join('\n');
+    ` <trk><name>${escaped(title)}</name>`, '  <trkseg>', ...points, '  </trkseg>', ' </trk>', '</gpx>', ''].join('\n');
 }
 
-// The command that answers a ride, with the file of its profile.
-export function commandOf(ride, start, file) {
-  return `${start} profile=${file} \\\n  'query=${textOf(queryOf(ride, ride.profile))}'`;
+// The command that answers a ride, with the file of its profile, which has the profile's name.
+export function commandOf(ride, start, name) {
+  return `${start} profile=${name}.brf \\\n  'query=${textOf(queryOf(ride, ride.profile, name))}'`;
 }
 
 // The command that writes a certificate of a ride's best track, and the one that checks it.
-export function certificateOf(ride, start, file) {
-  const line = (name) => commandOf({ ...ride, alternative: 0 }, start.replace(/ route(?= |$)/, ` ${name}`), file);
+export function certificateOf(ride, start, name) {
+  const line = (command) => commandOf({ ...ride, alternative: 0 }, start.replace(/ route(?= |$)/, ` ${command}`), name);
   return `${line('certify')} > ride.certificate\n${line('check')} \\\n  certificate=ride.certificate`;
 }
 

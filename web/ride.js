@@ -1,7 +1,11 @@
-// A ride: what the rider asks for. The address of the page keeps it whole.
+// A ride: what the rider asks for. The address of the page keeps it whole, with the profiles that were written on the page.
 
 export const MOST_WAYPOINTS = 100;
 export const MOST_CIRCLES = 64;
+export const WRITTEN = '~';
+
+// A profile is named by its name at the server, or, behind a tilde, by its packed text.
+export const isWritten = (profile) => profile.startsWith(WRITTEN);
 
 export function emptyRide(profile) {
   return { waypoints: [], circles: [], profile, beside: '', alternative: 0, values: {} };
@@ -11,13 +15,13 @@ const degrees = (number) => number.toFixed(6).replace(/\.?0+$/, '');
 const place = ({ lon, lat }) => `${degrees(lon)},${degrees(lat)}`;
 const circle = (each) => `${place(each)},${Math.round(each.radius)}`;
 
-// The pairs that the server is asked with, for one of the ride's two profiles.
-export function queryOf(ride, profile) {
-  const pairs = [['lonlats', ride.waypoints.map(place).join('|')], ['profile', profile]];
+// The pairs that the server is asked with, for one of the ride's two profiles, which the server knows by the name.
+export function queryOf(ride, profile, name = profile) {
+  const pairs = [['lonlats', ride.waypoints.map(place).join('|')], ['profile', name]];
   if (ride.circles.length) pairs.push(['nogos', ride.circles.map(circle).join('|')]);
   if (ride.alternative) pairs.push(['alternativeidx', String(ride.alternative)]);
   if (profile === ride.profile) {
-    for (const [name, value] of Object.entries(ride.values)) pairs.push([`profile:${name}`, value]);
+    for (const [variable, value] of Object.entries(ride.values)) pairs.push([`profile:${variable}`, value]);
   }
   return pairs;
 }
@@ -40,7 +44,8 @@ function placesOf(text) {
     .filter(([lon, lat]) => Math.abs(lon) <= 180 && Math.abs(lat) <= 90);
 }
 
-// The ride of an address; what it doesn't tell is as in an empty one.
+// The ride of an address; what it doesn't tell is as in an empty one. A name that one server gave to an upload means nothing to
+// another, so it isn't taken.
 export function rideOf(address, profile) {
   const ride = emptyRide(profile);
   for (const [key, value] of new URLSearchParams(address)) {
@@ -48,10 +53,12 @@ export function rideOf(address, profile) {
     else if (key === 'nogos') {
       ride.circles = placesOf(value).filter((each) => each[2] >= 0).slice(0, MOST_CIRCLES)
         .map(([lon, lat, radius]) => ({ lon, lat, radius }));
-    } else if (key === 'profile') ride.profile = value;
-    else if (key === 'beside') ride.beside = value;
-    else if (key === 'alternativeidx') ride.alternative = Math.min(3, Math.max(0, Number.parseInt(value, 10) || 0));
+    } else if (key === 'alternativeidx') ride.alternative = Math.min(3, Math.max(0, Number.parseInt(value, 10) || 0));
     else if (key.startsWith('profile:')) ride.values[key.slice('profile:'.length)] = value;
+    else if ((key === 'profile' || key === 'beside') && !/^custom_/.test(value)) ride[key] = value;
   }
   return ride;
 }
+
+// Whether an address names a profile that only the server of its writer knew.
+export const namesUpload = (address) => /(^|&)(profile|beside)=custom_/.test(address);

@@ -1,66 +1,48 @@
-// The ways of a map in Overpass JSON, drawn by class, with their names.
+// The classes of roads, and lines of roads as numbers: what a tile holds, whichever source it comes from.
 
-const CLASSES = [
-  [/^(motorway|trunk|primary)(_link)?$/, 'main', 5],
-  [/^(secondary|tertiary)(_link)?$/, 'side', 4],
-  [/^(cycleway)$/, 'cycle', 3],
-  [/^(track|bridleway)$/, 'track', 2.5],
-  [/^(path|footway|pedestrian|steps)$/, 'path', 2],
+// How a class is drawn: its form of `highway`, its colour's name, its width, and whether it is dashed.
+export const CLASSES = [
+  { form: /^(motorway|trunk|primary)(_link)?$/, name: 'main', width: 5, dashed: false, from: 8 },
+  { form: /^(secondary|tertiary)(_link)?$/, name: 'side', width: 4, dashed: false, from: 10 },
+  { form: /^cycleway$/, name: 'cycle', width: 3, dashed: false, from: 12 },
+  { form: /^(track|bridleway)$/, name: 'track', width: 2.5, dashed: true, from: 14 },
+  { form: /^(path|footway|pedestrian|steps)$/, name: 'path', width: 2, dashed: true, from: 14 },
+  { form: /^waterway$/, name: 'water', width: 2, dashed: false, from: 10 },
+  { form: /^railway$/, name: 'rail', width: 1.5, dashed: false, from: 12 },
+  { form: /(?!)/, name: 'ferry', width: 2, dashed: true, from: 8 },
+  { form: /^/, name: 'street', width: 3, dashed: false, from: 12 },
 ];
+const FERRY = CLASSES.findIndex(({ name }) => name === 'ferry');
 
-function classOf(tags) {
-  if (tags.route === 'ferry') return ['ferry', 2];
-  for (const [form, name, weight] of CLASSES) if (form.test(tags.highway ?? '')) return [name, weight];
-  return ['street', 3];
+export const classOf = (highway, ferry) => (ferry ? FERRY : CLASSES.findIndex(({ form }) => form.test(highway ?? '')));
+
+// A place in the square of the web's mercator map, from 0 to 1 to the east and to the south.
+export function squareOf(lon, lat) {
+  const sine = Math.sin(Math.max(-85.0511, Math.min(85.0511, lat)) * Math.PI / 180);
+  return [lon / 360 + 0.5, 0.5 - Math.log((1 + sine) / (1 - sine)) / (4 * Math.PI)];
 }
 
-const colour = (name) => getComputedStyle(document.documentElement).getPropertyValue(`--road-${name}`).trim();
-
-// The lines of a text, each with its tags.
-export function linesOf(text) {
-  const places = new Map();
-  const lines = [];
-  for (const element of text.elements) if (element.type === 'node') places.set(element.id, [element.lat, element.lon]);
-  for (const element of text.elements) {
-    if (element.type !== 'way') continue;
-    const points = element.nodes.map((id) => places.get(id)).filter(Boolean);
-    if (points.length > 1) lines.push({ id: element.id, points, tags: element.tags ?? {} });
+// Gathers lines of a tile. A point is kept as its place in the tile, whose side is 1.
+export class LineGatherer {
+  constructor(zoom, x, y) {
+    Object.assign(this, { scale: 2 ** zoom, x, y });
+    this.points = [];
+    this.starts = [0];
+    this.classes = [];
+    this.names = [];
+    this.highways = [];
   }
-  return lines;
-}
 
-// Hides each name that would lie on one before it.
-export function thinOut(names) {
-  const shown = [];
-  names.eachLayer((marker) => {
-    const label = marker.getElement();
-    if (!label) return;
-    label.style.visibility = 'visible';
-    const box = label.getBoundingClientRect();
-    const isFree = shown.every((other) => box.right < other.left || other.right < box.left || box.bottom < other.top || other.bottom < box.top);
-    if (isFree) shown.push(box);
-    else label.style.visibility = 'hidden';
-  });
-}
+  add(squares, { highway, name, ferry }) {
+    for (const [east, south] of squares) this.points.push(east * this.scale - this.x, south * this.scale - this.y);
+    this.starts.push(this.points.length / 2);
+    this.classes.push(classOf(highway, ferry));
+    this.names.push(name ?? '');
+    this.highways.push(highway ?? '');
+  }
 
-// A layer of lines on a canvas, and the names of the longest line of each name.
-export function roadsOf(lines) {
-  const renderer = L.canvas({ padding: 0.3 });
-  const roads = L.layerGroup();
-  const longest = new Map();
-  for (const { id, points, tags } of lines) {
-    const [name, weight] = classOf(tags);
-    const dashed = name === 'track' || name === 'path' || name === 'ferry' ? '6 4' : null;
-    const line = L.polyline(points, { renderer, color: colour(name), weight, dashArray: dashed, interactive: false, way: id });
-    roads.addLayer(line);
-    if (tags.name && (longest.get(tags.name)?.points.length ?? 0) < points.length) longest.set(tags.name, { points });
+  lines() {
+    return { points: Float32Array.from(this.points), starts: Uint32Array.from(this.starts), classes: Uint8Array.from(this.classes),
+      names: this.names, highways: this.highways };
   }
-  const names = L.layerGroup();
-  for (const [name, { points }] of longest) {
-    const label = L.divIcon({ className: 'road-name', html: '', iconSize: null });
-    const marker = L.marker(points[points.length >> 1], { icon: label, interactive: false, keyboard: false, alt: '' });
-    marker.on('add', () => { marker.getElement().textContent = name; });
-    names.addLayer(marker);
-  }
-  return { roads, names };
 }

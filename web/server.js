@@ -1,69 +1,43 @@
-// Asks the server: one request at a time, and of those that wait the last one wins.
+// The server's paths: each is asked by a function, and whatever goes wrong is a refusal with a line.
 
-import { queryOf, textOf } from './ride.js';
-
-export class Refused extends Error {
-  constructor(status, line) {
-    super(line);
-    this.status = status;
-    this.line = line;
-  }
-}
+import { costsOf, Refused, trackOf, uploadOf } from './reply.js';
+import { textOf } from './ride.js';
 
 export class Server {
   constructor(base) {
     this.base = base.replace(/\/$/, '');
-    this.busy = false;
-    this.waiting = null;
   }
 
   // The text of an answer, or why there is none.
-  async fetched(path, options) {
+  async fetched(path, signal, options = {}) {
     let answer;
     try {
-      answer = await fetch(this.base + path, options);
-    } catch {
-      throw new Refused(0, 'no answer');
+      answer = await fetch(this.base + path, { ...options, signal });
+    } catch (error) {
+      throw signal?.aborted ? error : new Refused('no answer');
     }
-    const text = await answer.text();
-    if (!answer.ok) throw new Refused(answer.status, text.trim());
-    return text;
+    let text;
+    try {
+      text = await answer.text();
+    } catch (error) {
+      throw signal?.aborted ? error : new Refused('answer broke off', answer.status);
+    }
+    if (answer.ok) return text;
+    const line = text.trim();
+    throw new Refused(!line || line.startsWith('<') || line.includes('\n') ? `front ${answer.status}` : line.slice(0, 500), answer.status);
   }
 
-  // The tracks of a ride, one for each of its profiles.
-  async tracks(ride) {
-    const found = [];
-    for (const profile of [ride.profile, ride.beside].filter(Boolean)) {
-      const text = await this.fetched(`/brouter?${textOf(queryOf(ride, profile))}`);
-      found.push({ profile, text, reply: JSON.parse(text).features[0] });
-    }
-    return found;
+  async track(pairs, signal) {
+    const text = await this.fetched(`/brouter?${textOf(pairs)}`, signal);
+    return { text, reply: trackOf(text) };
   }
 
-  // Asks for a ride, unless a later one is asked for before this one's turn comes.
-  async ask(ride, tell) {
-    this.waiting = { ride, tell };
-    if (this.busy) return;
-    this.busy = true;
-    while (this.waiting) {
-      const asked = this.waiting;
-      this.waiting = null;
-      let tracks = null;
-      let refused = null;
-      try {
-        tracks = await this.tracks(asked.ride);
-      } catch (error) {
-        if (!(error instanceof Refused)) throw error;
-        refused = error;
-      }
-      if (!this.waiting) asked.tell(tracks, refused);
-    }
-    this.busy = false;
+  async table(pairs, count, signal) {
+    return costsOf(await this.fetched(`/brouter/table?${textOf(pairs)}`, signal), count);
   }
 
   // Sends a profile, as plain text so that no browser asks before, and gives its name.
-  async send(text) {
-    const answer = await this.fetched('/brouter/profile', { method: 'POST', body: text });
-    return JSON.parse(answer).profileid;
+  async send(text, signal) {
+    return uploadOf(await this.fetched('/brouter/profile', signal, { method: 'POST', body: text }));
   }
 }

@@ -35,7 +35,21 @@ const ROWS = [
   [/^uploads full$/, () => ({ text: 'The server holds as many profiles as it can. Its operator has to start it anew.' })],
   [/^out of memory$/, () => ({ text: 'There wasn\'t enough memory for this request.' })],
   [/^body too long$/, () => ({ text: 'The text is too long: a profile has at most 262,144 bytes.' })],
-  [/^no answer$/, () => ({ text: 'The server doesn\'t answer.' })],
+  [/^head too long$/, () => ({ text: 'The question is too long for the server.' })],
+  [/^(path unknown|method not allowed|bad request)$/, (_, [line]) => ({ text: `The server doesn't offer this (${line}).` })],
+  [/^no answer$/, () => ({ text: 'The server doesn\'t answer. Is it running, and is its address right?' })],
+  [/^answer broke off$/, () => ({ text: 'The answer broke off. Ask again.' })],
+  [/^answer broken$/, () => ({ text: 'The answer isn\'t whole, or isn\'t JSON. Ask again.' })],
+  [/^answer is a page$/, () => ({ text: 'A web page came where an answer should be: another program listens at this address.' })],
+  [/^answer is no (\w+)$/, (_, [what]) => ({ text: `The answer holds no ${what}: another program listens at this address.` })],
+  [/^front 413$/, () => ({ text: 'The text is too long for the server.' })],
+  [/^(front 429|too many requests)$/, () => ({ text: 'Too many requests in a short time. Ask again in a minute.' })],
+  [/^(front 50[234]|no process answers)$/, () => ({ text: 'The web server is there, but no route server answers it. Ask again in a moment.' })],
+  [/^front (\d+)$/, ([status]) => ({ text: `The web server answered with status ${status}, and not with a track.` })],
+  [/^no profile file$/, () => ({
+    text: 'The text of this profile can\'t be read here, so its variables aren\'t shown. Rides by it are found all the same.' })],
+  [/^packed profile broken$/, () => ({ text: 'The address holds a profile that can\'t be unpacked: the link was cut off or changed.' })],
+  [/^page at fault$/, () => ({ text: 'The page failed at this; its console tells where. Ask again, or load the page anew.' })],
 ];
 
 // The words for a refusal's line, with the waypoints or the line of a text that it names.
@@ -47,5 +61,5 @@ export function wordsOf(line) {
       return { waypoints: [], ...words(parts.map(Number), parts) };
     }
   }
-  return { waypoints: [], text: line || 'The server refused it.' };
+  return { waypoints: [], text: line ? `The server refused it: ${line}.` : 'The server refused it.' };
 }

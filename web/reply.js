@@ -1,0 +1,54 @@
+// Reads what the server answers, and refuses what no route server answers.
+
+export class Refused extends Error {
+  constructor(line, status = 0) {
+    super(line);
+    this.line = line;
+    this.status = status;
+  }
+}
+
+const isNumbers = (list) => Array.isArray(list) && list.length >= 2 && list.every(Number.isFinite);
+const isLegs = (legs) => Array.isArray(legs) && legs.every((leg) => Array.isArray(leg) && leg.every(isNumbers));
+const NAMES = ['Distance', 'CostPerKm', 'ElevCost', 'TurnCost', 'NodeCost', 'InitialCost', 'WayTags', 'NodeTags'];
+
+function isMessages(messages) {
+  return Array.isArray(messages) && messages.length > 0 && messages.every(Array.isArray)
+    && NAMES.every((name) => messages[0].includes(name));
+}
+
+function parsed(text) {
+  try {
+    return JSON.parse(text);
+  } catch {
+    throw new Refused(/^\s*</.test(text) ? 'answer is a page' : 'answer broken');
+  }
+}
+
+// The track of a reply in GeoJSON.
+export function trackOf(text) {
+  const track = parsed(text)?.features?.[0];
+  const { properties, geometry } = track ?? {};
+  const isTrack = properties && typeof properties.cost === 'string' && typeof properties['track-length'] === 'string'
+    && isMessages(properties.messages) && isLegs(properties.walk) && Array.isArray(properties.earlier) && properties.earlier.every(isLegs)
+    && Array.isArray(geometry?.coordinates) && geometry.coordinates.length >= 2 && geometry.coordinates.every(isNumbers);
+  if (!isTrack) throw new Refused('answer is no track');
+  return track;
+}
+
+// The costs of a table of so many waypoints: texts of numbers, and null where no ride leads.
+export function costsOf(text, count) {
+  const costs = parsed(text)?.costs;
+  const isCost = (cost) => cost === null || (typeof cost === 'string' && /^\d+\.\d{6}$/.test(cost));
+  const isTable = Array.isArray(costs) && costs.length === count
+    && costs.every((row) => Array.isArray(row) && row.length === count && row.every(isCost));
+  if (!isTable) throw new Refused('answer is no table');
+  return costs;
+}
+
+// The name under which an upload was stored.
+export function uploadOf(text) {
+  const name = parsed(text)?.profileid;
+  if (typeof name !== 'string' || !/^custom_\d+$/.test(name)) throw new Refused('answer is no upload');
+  return name;
+}
