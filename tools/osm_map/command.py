@@ -5,6 +5,7 @@ import signal
 import sys
 import tempfile
 from collections import namedtuple
+from contextlib import closing
 
 from .coordinates import box_of
 from .counts import Counts
@@ -88,11 +89,9 @@ def make(work, progress, folder):
     if work.tiles:
         check_place(work.tiles)
     counts = Counts()
-    draft = Draft(folder, work.box, counts)
-    progress.now(f'reading {work.input}', lambda: f'{draft.read:,} elements')
-    read(work.input, draft)
-    with open(os.path.join(folder, 'map'), 'wb') as file:
-        text = MapText(file, folder)
+    with open(os.path.join(folder, 'map'), 'wb') as file, closing(Draft(folder, work.box, counts)) as draft, closing(MapText(file, folder)) as text:
+        progress.now(f'reading {work.input}', lambda: f'{draft.read:,} elements')
+        read(work.input, draft)
         lines = Lines(draft) if work.tiles else None
         roads = Roads(draft, work.split, counts, text.add_way)
         progress.now('making roads', lambda: f"{counts['ways']:,} ways")
@@ -103,11 +102,12 @@ def make(work, progress, folder):
         take_relations(draft, roads, counts, text.add_relation)
         progress.now('writing the map', lambda: f'{text.bytes / 1e6:,.0f} MB')
         text.write(draft.date, nodes_of(draft, roads))
-    info = info_of(work, draft, counts, text, box_of_nodes(draft, roads))
+        info = info_of(work, draft, counts, text, box_of_nodes(draft, roads))
     if work.tiles:
         tiles = TileFolder(os.path.join(folder, 'tiles'))
         progress.now('writing tiles', lambda: f'{tiles.drawn:,} lines')
         tiles.write(lines, info)
+        counts['left_out_of_tiles'] = tiles.left_out
     put_in_place(work, info, folder)
     return info, counts
 

@@ -43,5 +43,7 @@ class Counts(Counter):
                    f" pieces under ids of their own: {self['pieces']:,}")
         if self['split_segments']:
             yield f"split, segments: {self['split_segments']:,}, by {self['inserted_nodes']:,} new nodes"
+        if self['left_out_of_tiles']:
+            yield f"left out, lines of the least classes in tiles that would be too large: {self['left_out_of_tiles']:,}"
         if self['endless_segments']:
             yield f"kept, segments of more than 100 kilometres, of which the program makes no link: {self['endless_segments']:,}"
