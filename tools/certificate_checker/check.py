@@ -83,7 +83,10 @@ def main(words):
         sys.stdout.write(answer(words))
         sys.stdout.flush()
         return 0
-    except (Refusal, MemoryError) as fault:
+    except (Refusal, MemoryError, OSError) as fault:
         refusal = fault if isinstance(fault, Refusal) else Refusal(10, 'out of memory')
+        if isinstance(fault, OSError):
+            # what the output didn't take isn't offered again at the end
+            sys.stdout, refusal = None, Refusal(9, 'write fault')
         print(refusal.line, file=sys.stderr)
         return refusal.status

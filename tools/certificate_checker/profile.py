@@ -37,25 +37,22 @@ class Reader:
         self.tokens = [(token, number) for number, line in enumerate(text.split(b'\n'), 1)
                        for token in TOKEN.findall(line.split(b'#', 1)[0])]
         self.tokens.append((None, self.tokens[-1][1] if self.tokens else 0))
-        self.at = 0
+        self.at = self.line = 0
 
     def take(self):
+        token, self.line = self.tokens[self.at]
         self.at += 1
-        if self.tokens[self.at - 1][0] is None:
+        if token is None:
             raise self.refusal('end')
-        return self.tokens[self.at - 1][0]
-
-    def line(self):
-        return self.tokens[self.at - 1][1]
+        return token
 
     def refusal(self, kind):
         """The refusal of the token that was taken last."""
-        return Refusal(2, f'profile line {self.line()}: {kind}')
+        return Refusal(2, f'profile line {self.line}: {kind}')
 
     def unfit(self, token, closing='token'):
         """The refusal of a token that can't stand where it is; that of a closing bracket depends on the place."""
-        is_bad_number = NUMERIC.match(token) and literal(token) is None
-        return self.refusal('number' if is_bad_number else closing if token == b')' else 'token')
+        return self.refusal('number' if NUMERIC.match(token) and literal(token) is None else closing if token == b')' else 'token')
 
     def profile(self):
         """The assignments of each section."""
@@ -73,7 +70,7 @@ class Reader:
         return sections
 
     def assignment(self):
-        name, line = self.take(), self.line()
+        name, line = self.take(), self.line
         if not is_name(name):
             raise self.unfit(name)
         self.at += self.tokens[self.at][0] == b'='
@@ -87,9 +84,9 @@ class Reader:
         elif NUMERIC.match(token) or not (look or is_name(token) or token in OPERANDS):
             raise self.unfit(token, 'bracket')
         elif look:
-            found = 'look', look[1], look[2].split(b'|') if look[2] else [], self.line()
+            found = 'look', look[1], look[2].split(b'|') if look[2] else [], self.line
         elif is_name(token):
-            found = 'name', token, self.line()
+            found = 'name', token, self.line
         if depth > DEEPEST:
             raise self.refusal('deep')
         return found or self.operation(token, depth + 1)

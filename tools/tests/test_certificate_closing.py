@@ -7,7 +7,7 @@ from unittest.mock import patch
 from certificate_checker import costs
 from certificate_checker.certificate import Label, Leg
 from certificate_checker.covering import Covering, LeastUpTo
-from tests.certificate_worlds import map_text, ride, tile
+from tests.certificate_worlds import map_text, residential, ride, tile, walk_of
 
 PROFILES = {
     'plain': '---context:way assign costfactor switch highway=track 3 1',
@@ -152,6 +152,17 @@ class Closing(unittest.TestCase):
             for form, shown in ((1, leg), (2, leg), (2, short)):
                 self.assertIsNone(made.fault(form, shown, start, target), (name, form))
         self.assertGreater(fewer, 200)
+
+    def test_a_leg_from_a_node_to_itself_costs_nothing(self):
+        text = map_text({1: (0, 0), 2: (1000, 0), 3: (1000, 1000)}, {10: residential(1, 2, 3, 1)})
+        for costfactor, wanted in ((1, 'walk'), (0, None)):
+            made = ride(f'---context:way assign costfactor {costfactor}'.encode(), text)
+            around = walk_of(made, '10/0/f', '10/1/f', '10/2/f')
+            leg = Leg(around, costs.walk_cost([made.climbs[it] for it in around]), [])
+            for form in (1, 2):
+                self.assertEqual(made.fault(form, leg, 1, 1), wanted)
+                self.assertIsNone(made.fault(form, Leg([], 0, []), 1, 1))
+                self.assertEqual(made.fault(form, Leg([], 0, []), 1, 2), 'walk')
 
     def test_each_label_that_is_needed_is_missed(self):
         missed = dict.fromkeys(('start', 'step'), 0)

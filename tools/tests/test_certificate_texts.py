@@ -97,8 +97,8 @@ class Profiles(Refused):
             self.assertEqual(found[b'costfactor'], wanted, text)
 
     def test_a_name_is_the_last_value_before(self):
-        sections = self.read(b'---context:global assign a 5 assign b 7 ---context:way assign costfactor a assign a add a 1 assign a multiply a b'
-                             b' assign costfactor add costfactor a')
+        sections = self.read(b'---context:global assign a 5 assign b 7 ---context:way assign costfactor a assign a add a 1'
+                             b' assign a multiply a b assign costfactor add costfactor a')
         self.assertEqual(profile.values_of(sections['global'], {}, {}, {}, {b'b': 1}), {b'a': 5 * 10**6, b'b': 1})
         outer = {b'a': 5 * 10**6, b'b': 7 * 10**6}
         self.assertEqual(profile.values_of(sections['way'], outer, {}, {}, {}), {b'costfactor': 47 * 10**6, b'a': 42 * 10**6})
@@ -225,6 +225,14 @@ class Commands(unittest.TestCase):
         self.assertEqual(self.told(SHOWN, RIDE + '&profile:x=1'), (2, '', 'override 0: unknown name\n'))
         self.assertEqual(self.told(SHOWN, RIDE.replace('0.003', '0.1')), (4, '', 'not mapped: waypoint 1\n'))
         self.assertEqual(self.told(SHOWN, RIDE, 'four.json', 'tile=look'), (2, '', 'word 6: tile name\n'))
+
+    @unittest.skipUnless(os.path.exists('/dev/full'), 'there is no output that takes nothing')
+    def test_an_output_that_takes_nothing(self):
+        self.write('c', SHOWN.encode())
+        words = ['lookups=look', 'profile=plain.brf', 'map=four.json', f'query={RIDE}', 'certificate=c']
+        with open('/dev/full', 'w', encoding='utf8') as full:
+            done = subprocess.run([sys.executable, TOOL, *words], cwd=self.room.name, stdout=full, stderr=subprocess.PIPE, check=False)
+        self.assertEqual((done.returncode, done.stderr), (9, b'write fault\n'))
 
     def test_facts_that_are_refused(self):
         for profile_text, status, line in (
