@@ -5,8 +5,9 @@ import os
 import shutil
 import threading
 import time
+import urllib.request
 
-from page_parts.front import PORTS
+from page_parts.front import FRONT, PORTS
 from page_parts.telling import told
 from page_parts.town import RIDE
 
@@ -203,6 +204,13 @@ def try_maps(page, front):
 
 def try_server(page, front):
     """Only a server that settings.json lists is asked, and it is told where rides go."""
+    with urllib.request.urlopen(FRONT) as got:
+        policy = got.headers['Content-Security-Policy'] or ''
+    told('the front\'s policy allows no inline scripts or styles', "default-src 'none'" in policy and 'unsafe' not in policy, policy)
+    page.open(RIDE)
+    page.run('const made = document.createElement("script"); made.textContent = "window.hit = 2"; document.body.append(made);')
+    told('and the browser keeps to it', page.run('return window.hit') is None)
+    page.driver.get_log('browser')
     front.settings()
     page.open(RIDE, '?server=http://127.0.0.1:17778')
     told('a server that isn\'t listed isn\'t asked', page.tells('It isn\'t asked', 'server-told') and page.shows('799.132265'),
