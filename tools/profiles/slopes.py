@@ -65,11 +65,13 @@ class Slopes:
         return ''
 
     def give_value(self, assignment, value):
-        """Puts a value in the place of an assignment's expression."""
+        """Puts a value in the place of an assignment's expression, where it has one."""
         tokens = self.edited.tokens[assignment.name.place + 1:assignment.last.place + 1]
-        first, *rest = tokens[1:] if tokens[0].text == b'=' else tokens
-        self.edited.replace(first, value)
-        for token in rest:
+        expression = tokens[1:] if tokens and tokens[0].text == b'=' else tokens
+        if not expression:
+            return
+        self.edited.replace(expression[0], value)
+        for token in expression[1:]:
             self.edited.replace(token, b'')
         self.edited.tell(assignment.name.line, f'{assignment.name.shown} gets the value `{value.decode()}`, on all ways', True)
 

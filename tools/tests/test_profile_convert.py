@@ -123,6 +123,10 @@ class ElevationNames(unittest.TestCase):
                     b'assign uphillcost 1\n---context:global assign uphillcost 2'):
             self.assertIn('wrong section', [kind for _, kind, _ in refusals(GLOBAL + WAY + way)], way)
 
+    def test_without_an_expression(self):
+        for end in (b'', b' =', b' = )', b'\nassign x 1'):
+            self.assertTrue(refusals(GLOBAL + WAY + b'assign uphillcost' + end, uphillcost=b'25'), end)
+
     def test_read_before(self):
         text = GLOBAL + b'assign uphillcost 1\n' + WAY + b'assign b uphillcost\nassign uphillcost 2'
         self.assertEqual([kind for _, kind, _ in refusals(text)], ['wrong section'])
