@@ -14,6 +14,7 @@ from osm_map import counts, extract, json_text, lines, map_text, progress, tiles
 from osm_map.coordinates import box_of, of_decimal, of_seven_decimals
 from osm_map.counts import Counts
 from osm_map.draft import Draft
+from osm_map.encoding import json_bytes
 from osm_map.faults import Refused, UsageFault
 from osm_map.ids import LEAST_ID, Ids, NewIds
 from osm_map.relations import take_relations
@@ -40,6 +41,13 @@ class Coordinates(unittest.TestCase):
         self.assertEqual(box_of('8,-49.5,8.5,49'), (8_000_000, -49_500_000, 8_500_000, 49_000_000))
         for text in ('', '8,49,8.5', '8,49,8.5,50,1', '8,49,8,50', '8,50,9,49', '8,49,inf,50', '8,49,181,50', 'x,49,9,50'):
             self.assertRaises(UsageFault, box_of, text)
+
+
+class Texts(unittest.TestCase):
+
+    def test_half_a_surrogate_pair_stays_its_escape(self):
+        self.assertEqual(json_bytes({'name': 'Ü 😀'}), '{"name":"Ü 😀"}'.encode())
+        self.assertEqual(json_bytes({'name': 'Ü \ud83d'}), b'{"name":"\\u00dc \\ud83d"}')
 
 
 class IdsByPlace(unittest.TestCase):
@@ -256,6 +264,14 @@ class Maps(unittest.TestCase):
         self.assertEqual(found, {10: [1, 2], -1: [2, 3], 11: [2, 4]})
         turns = {(one[0], other[0]) for those, _ in relations for one, other in forbidden(found, those, tags)}
         self.assertEqual(turns, {(10, 11), (-1, 11), (11, 10), (11, -1)})
+
+    def test_routes_without_effect_are_left_out(self):
+        tags = {'type': 'route', 'route': 'bicycle', 'network': 'rcn'}
+        plain, missing = [('way', 10, '')], [('way', 99, ''), ('node', 1, 'guidepost')]
+        routes = [(plain, tags), (plain, {**tags, 'network': 'lcn', 'state': 'proposed'}), (plain, {'type': 'route', 'route': 'bicycle'}), (missing, tags)]
+        draft = self.draft({1: (0, 1), 2: (0, 2)}, {10: [1, 2]}, routes)
+        self.assertEqual(self.made(draft)[1], [(plain, tags)])
+        self.assertEqual([draft.counts[name] for name in ('routes', 'proposed_routes', 'empty_routes')], [1, 1, 2])
 
     def test_limits_are_told(self):
         with patch.object(counts, 'MOST_ELEMENTS', 3):
