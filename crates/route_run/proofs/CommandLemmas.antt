@@ -39,7 +39,7 @@ use Rattle.run_answers.specs.First.{first_in, first_of}
 use Rattle.run_answers.specs.Grid.{IsGridAnswerBy, IsPricedAnswer, IsShortestAnswer, question_by}
 use Rattle.run_answers.specs.Hills.{IsHillsAnswer}
 use Rattle.run_answers.specs.Make.{made_by}
-use Rattle.run_answers.specs.Refused.{IsRefusal, IsTold}
+use Rattle.run_answers.specs.Refused.{IsRefusal}
 use Rattle.run_answers.specs.Route.{IsReplied, any_in, route_files}
 use Rattle.run_answers.specs.Table.{IsTabled}
 use Rattle.run_answers.specs.Within.{IsNearbyTold}
@@ -91,12 +91,6 @@ module _ (Faulty : ℕ → Type 0)
         IsInner Faulty status
     refusal-inner Refuses profile status (inl none) = subst (IsInner Faulty) (sym none) tt
     refusal-inner Refuses profile status (inr tells) = subst (IsInner Faulty) (sym tells.is) tt
-
-    -- what is told as a refusal of a question
-    told-inner : (Tells : Question → List ℕ → Type 0) (Refuses : Question → RouteError → Type 0) (question : Question) (status : Status) →
-        IsTold Tells Refuses question (Err status) → IsInner Faulty status
-    told-inner Tells Refuses question status is =
-        refusal-inner (Refuses question) (Some question.binding.subject.sections) status is
 
     -- the refusal of a request by a profile, where there is one
     answered-inner : (answers : Question → Result (List ℕ) Status → Type 0) →
@@ -278,14 +272,14 @@ module _ (Faulty : ℕ → Type 0)
         settles-cause Faulty (Ok (made_by command)) (λ status none. cc) old new r is
     command-cause (Form.TheVariants.Code command) may old new r is = code-cause command old new r is
     command-cause (Form.TheVariants.Route command) may old new r is =
-        query-cause any_in IsReplied command (any-inner command.query) (told-inner _ _) old new r is
+        query-cause any_in IsReplied command (any-inner command.query) (λ question status is_told. refusal-inner _ _ status is_told) old new r is
     command-cause (Form.TheVariants.Certify command) may old new r is =
-        query-cause first_in IsWritten command (first-inner command.query (may command.query.word refl)) (told-inner _ _) old new r is
+        query-cause first_in IsWritten command (first-inner command.query (may command.query.word refl)) (λ question status is_told. refusal-inner _ _ status is_told) old new r is
     command-cause (Form.TheVariants.Check command) may old new r is = check-cause command (may command.route.query.word refl) old new r is
     command-cause (Form.TheVariants.Table command) may old new r is =
-        query-cause any_in IsTabled command (any-inner command.query) (told-inner _ _) old new r is
+        query-cause any_in IsTabled command (any-inner command.query) (λ question status is_told. refusal-inner _ _ status is_told) old new r is
     command-cause (Form.TheVariants.Within command) may old new r is =
-        query-cause any_in (IsNearbyTold command.cost) command.route (any-inner command.route.query) (told-inner _ _) old new r is
+        query-cause any_in (IsNearbyTold command.cost) command.route (any-inner command.route.query) (λ question status is_told. refusal-inner _ _ status is_told) old new r is
     command-cause (Form.TheVariants.Hills command) may old new r is =
         leaves-cause Faulty (IsHillsAnswer command) (refusal-inner _ _) old new r is
     command-cause (Form.TheVariants.Serve command) may old new r is = absurd is
