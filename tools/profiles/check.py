@@ -4,9 +4,10 @@ import re
 from typing import NamedTuple
 
 from profiles.advice import Adviser
-from profiles.context import context_faults
+from profiles.context import context_faults, of_section
 from profiles.syntax import Reader
 from profiles.table import Table
+from profiles.values import ride_faults
 
 MOST_TABLE = 1_048_576
 MOST_PROFILE = 262_144
@@ -71,6 +72,17 @@ def profile_findings(path, text, table, names_convert):
             found.append(Finding(f'profile line {token.line}: {fault.kind}', path, token.line, token.column, token.shown,
                                  adviser.advice(fault)))
     return found
+
+
+def ride_findings(path, text):
+    """What every ride by a profile is refused for, by the values of its global section; nothing where that can't be read."""
+    if len(text) > MOST_PROFILE:
+        return []
+    reader = Reader(text)
+    of_global = context_faults(of_section(reader.assignments, 'global'), None)
+    if reader.faults or any(fault.expected == 'global' for fault in of_global):
+        return []
+    return [Finding(refusal, path, name.line, name.column, '', advice) for refusal, name, advice in ride_faults(reader)]
 
 
 def told(found):
