@@ -156,12 +156,12 @@ def try_variables(page):
     """The variables of a profile are fields of their kinds."""
     page.open(HILL)
     page.shows('4029.960701')
-    told('numbers of a profile are fields', page.until(lambda: page.all('#variables input[name=fear_of_hills][type=number]')))
+    told('numbers of a profile are fields', page.until(lambda: page.all('#variables input[name=uphillcutoff][type=number]')))
     told('yes and no are boxes', len(page.all('#variables input[name=by_night][type=checkbox]')) == 1)
     told('with the author\'s text', 'how much climbing counts' in page.told('variables'))
-    field = page.all('#variables input[name=fear_of_hills]')[0]
-    field.send_keys(Keys.CONTROL, 'a')
-    field.send_keys('0', Keys.TAB)
+    choices = Select(page.all('#variables select[name=fear_of_hills]')[0])
+    told('and his choices', [each.text for each in choices.options][:3] == ['not', 'as usual', 'twice'], [each.text for each in choices.options])
+    choices.select_by_visible_text('not')
     told('a value for one changes the track', page.shows('2612.630020') and 'profile:fear_of_hills=0' in page.address(), page.costs())
     shared = page.address()
     page.open(shared)
