@@ -14,7 +14,8 @@ impl Scale {
     ghost use Rattle.std.specs.Prelude.{◌≡◌, ◌<◌};
     ghost use Rattle.nogo_areas.specs.Fences.{step_of};
 
-    /// The finest scale that has room for all of these distances.
+    /// The finest scale that has room for all of these distances. Its first step lies below
+    /// them all, so that a place nearer than each of them is told apart from the nearest.
     pub(crate) fn over(distances: &[u32]) -> Scale {
         let mut first = u32::MAX;
         let mut last = 0;
@@ -23,9 +24,10 @@ impl Scale {
             last = last.max(distance);
         }
         let bits = 32_u32.saturating_sub(last.saturating_sub(first).leading_zeros());
+        let shift = bits.saturating_sub(10).min(31);
         Scale {
-            first,
-            shift: bits.saturating_sub(10).min(31),
+            first: first.saturating_sub(1 << shift),
+            shift,
         }
     }
 
