@@ -3,14 +3,13 @@ use Rattle.std.specs.Prelude.{◌≡◌, ◌⊎◌, ◌<◌, ◌≤◌, ◌+◌,
 use Rattle.cost_model.specs.Modes.{modes_before}
 use Rattle.route_ready.specs.Readiness.{Readies, Terms}
 use Rattle.route_ready.specs.Refusals.{bind_error}
-use Rattle.route_ready.specs.World.{world_of}
+use Rattle.route_ready.specs.Worlds.{WorldValue}
 use Rattle.route_ready.specs.declared.comparing.Comparing.{Comparing}
 use Rattle.route_ready.specs.declared.error.RouteError.{RouteError}
 use Rattle.route_ready.specs.declared.error.RouteError.TheVariants.{NoMemory}
 use Rattle.route_ready.specs.declared.linking.KeptTerms.{KeptTerms}
 use Rattle.route_ready.specs.declared.linking.Linking.{Linking}
 use Rattle.route_ready.specs.declared.ready.Ready.{Ready}
-use Rattle.route_ready.specs.declared.world.World.{World}
 use Rattle.tasks.specs.Chains.{AreOver, answers_in, left_in}
 use Rattle.tasks.specs.declared.chain.Chain.{Chain}
 use Rattle.way_class.specs.Facts.{Binding}
@@ -22,18 +21,18 @@ use Rattle.way_class.specs.declared.error.BindError.{BindError}
 -- ---- The links are bound
 
 -- a profile's links are being bound in a world
-abbrev pub IsLinking : World → Linking → Type 0
+abbrev pub IsLinking : WorldValue → Linking → Type 0
 IsLinking world l =
-    IsUnderWay l.code (world_of world).table (world_of world).map (world_of world).tiles l.binder
+    IsUnderWay l.code world.table world.map world.tiles l.binder
 
 -- what binding may end with
-abbrev pub LinkingEnds : World → Linking → Result Bound BindError → Type 0
+abbrev pub LinkingEnds : WorldValue → Linking → Result Bound BindError → Type 0
 LinkingEnds world l end =
-    MayEnd l.code (world_of world).table (world_of world).map (world_of world).tiles l.binder end
+    MayEnd l.code world.table world.map world.tiles l.binder end
 
 -- how much it may still spend
-abbrev pub linking_left : World → Linking → ℕ
-linking_left world l = work_left (world_of world).map l.binder
+abbrev pub linking_left : WorldValue → Linking → ℕ
+linking_left world l = work_left world.map l.binder
 
 -- ---- The modes of their facts are found
 
@@ -59,8 +58,8 @@ EndsMade bound kept end = MatchResult end (IsMade bound kept) (λ e. ⊥)
 -- ---- One after the other
 
 -- what was bound has the facts of all links of a world
-abbrev pub HasAllLinks : World → Result Bound BindError → Type 0
-HasAllLinks world given = IfOk given (λ bound. (links_of bound).count ≡ length (world_of world).map.links)
+abbrev pub HasAllLinks : WorldValue → Result Bound BindError → Type 0
+HasAllLinks world given = IfOk given (λ bound. (links_of bound).count ≡ length world.map.links)
 
 -- what follows where binding ended so: a profile that is ready, or the refusal
 abbrev pub FollowsBinding : KeptTerms → Result Bound BindError → Result Ready RouteError → Type 0
@@ -68,28 +67,28 @@ FollowsBinding kept (Ok bound) end = EndsMade bound kept end
 FollowsBinding kept (Err e) end = end ≡ Err (bind_error e)
 
 -- a profile is being made ready for a world
-abbrev pub IsPreparing : World → Chain Linking Comparing KeptTerms → Type 0
+abbrev pub IsPreparing : WorldValue → Chain Linking Comparing KeptTerms → Type 0
 IsPreparing world p = AreOver (IsLinking world) IsComparing (LinkingEnds world) (λ kept. HasAllLinks world) p
 
 -- what making it ready may end with
-abbrev pub PreparingEnds : World → Chain Linking Comparing KeptTerms → Result Ready RouteError → Type 0
+abbrev pub PreparingEnds : WorldValue → Chain Linking Comparing KeptTerms → Result Ready RouteError → Type 0
 PreparingEnds world p end =
     answers_in (LinkingEnds world) (λ c. EndsMade c.bound c.terms) FollowsBinding p end
 
 -- how many turns of a budget are left
-abbrev pub preparing_left : World → (budget : ℕ) → Chain Linking Comparing KeptTerms → ℕ
+abbrev pub preparing_left : WorldValue → (budget : ℕ) → Chain Linking Comparing KeptTerms → ℕ
 preparing_left world budget p =
     left_in (λ l. linking_left world l / budget) (λ c. comparing_left c / budget)
-    (λ kept. length (world_of world).map.links / budget) p
+    (λ kept. length world.map.links / budget) p
 
 -- how many a profile takes at most, whatever it is
-abbrev pub most_turns : World → (budget : ℕ) → ℕ
+abbrev pub most_turns : WorldValue → (budget : ℕ) → ℕ
 most_turns world budget =
-    suc (most_work (world_of world).map / budget + length (world_of world).map.links / budget)
+    suc (most_work world.map / budget + length world.map.links / budget)
 
 -- making it ready began: it goes on over the world, for no more turns than a profile takes at most, and all that it
 -- may end with are these terms, the refusal, or want of memory
-pub record IsBegun (world : World) (binding : Binding) (terms : Result Terms RouteError)
+pub record IsBegun (world : WorldValue) (binding : Binding) (terms : Result Terms RouteError)
     (p : Chain Linking Comparing KeptTerms) : Type 0 where
   pub over : IsPreparing world p
   pub ends : (end : Result Ready RouteError) → PreparingEnds world p end → Readies binding terms end
@@ -97,6 +96,6 @@ pub record IsBegun (world : World) (binding : Binding) (terms : Result Terms Rou
 
 -- making it ready begins so, gives the refusal, or reports want of memory
 abbrev pub Begins :
-    World → Binding → Result Terms RouteError → Result (Chain Linking Comparing KeptTerms) RouteError → Type 0
+    WorldValue → Binding → Result Terms RouteError → Result (Chain Linking Comparing KeptTerms) RouteError → Type 0
 Begins world binding terms result =
     MatchResult result (IsBegun world binding terms) (λ e. (e ≡ NoMemory) ⊎ (terms ≡ Err e))

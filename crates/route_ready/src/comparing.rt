@@ -148,7 +148,7 @@ impl Follows for Comparing {
 
     type Given = Result<Bound, BindError>;
 
-    ghost CanBegin = { λ world _ given. HasAllLinks world given };
+    ghost CanBegin = { λ world _ given. HasAllLinks (world_of world) given };
 
     ghost follows = { λ _ kept given end. FollowsBinding kept given end };
 

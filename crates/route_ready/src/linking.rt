@@ -2,6 +2,7 @@
 
 ghost use Rattle.std.specs.Prelude.{◌≡◌, ◌≤◌, ◌/◌, length};
 ghost use Rattle.route_ready.specs.Making.{IsLinking, LinkingEnds, linking_left};
+ghost use Rattle.route_ready.specs.World.{world_of};
 ghost use Rattle.tasks.specs.Steps.{Steps};
 
 use crate::world::World;
@@ -40,10 +41,10 @@ impl Linking {
         world: &World,
         budget: u32,
     ) -> Stepped<Linking, Result<Bound, BindError>>
-        requires over { IsLinking world.now self }
+        requires over { IsLinking (world_of world.now) self }
         requires some { 1 ≤ budget }
-        ensures steps { Steps (IsLinking world.now) (LinkingEnds world.now)
-            (linking_left world.now) (λ _. 0) budget self result }
+        ensures steps { Steps (IsLinking (world_of world.now)) (LinkingEnds (world_of world.now))
+            (linking_left (world_of world.now)) (λ _. 0) budget self result }
     {
         let Linking { code, binder } = self;
         let (table, map, tiles) = (world.table(), world.map(), world.tiles());
@@ -66,11 +67,11 @@ impl Step for Linking {
 
     type Answer = Result<Bound, BindError>;
 
-    ghost IsOver = { λ world l. IsLinking world l };
+    ghost IsOver = { λ world l. IsLinking (world_of world) l };
 
-    ghost answers = { λ world l end. LinkingEnds world l end };
+    ghost answers = { λ world l end. LinkingEnds (world_of world) l end };
 
-    ghost work_left = { λ world l. linking_left world l };
+    ghost work_left = { λ world l. linking_left (world_of world) l };
 
     ghost free_left = { λ _ _. 0 };
 
@@ -89,11 +90,11 @@ impl Task for Linking {
 
     type Answer = Result<Bound, BindError>;
 
-    ghost IsOver = { λ world l. IsLinking world l };
+    ghost IsOver = { λ world l. IsLinking (world_of world) l };
 
-    ghost answers = { λ world l end. LinkingEnds world l end };
+    ghost answers = { λ world l end. LinkingEnds (world_of world) l end };
 
-    ghost turns_left = { λ world budget l. linking_left world l / budget };
+    ghost turns_left = { λ world budget l. linking_left (world_of world) l / budget };
 
     fn take_turn(
         self,

@@ -24,7 +24,7 @@ returns-in-Ok c =
     c.in-Ok.ensures.exact in
     record {
       begins = check-passed (world_of c.args.world.now) (subject_of c.in-Ok.checked) (subject c.args.world.now.table)
-          (λ binding terms. Begins c.args.world.now binding terms c.accepted.result)
+          (λ binding terms. Begins (world_of c.args.world.now) binding terms c.accepted.result)
           same none c.accepted.ensures.begins;
     }
 
