@@ -2,6 +2,7 @@
 are counted."""
 import collections
 import http.client
+import itertools
 import os
 import shutil
 import signal
@@ -128,8 +129,9 @@ class Processes:
 
 
 class Load:
-    """Rides that some clients ask for one after the other, each from its own address or under one that a header tells. Each ride has other
-    words, so that none is answered by a reply that was kept."""
+    """Rides that some clients ask for one after the other, each from its own address or under one that a header tells. Each ride of all
+    loads has other words, so that none is answered by a reply that was kept."""
+    words = itertools.count(100000)
 
     def __init__(self, host, port, clients, rides, pause=0.02, source=None, headers=None):
         self.host, self.port, self.pause = host, port, pause
@@ -156,7 +158,7 @@ class Load:
         place = self.source(number)
         asked = http.client.HTTPConnection(self.host, self.port, timeout=60, source_address=(place, 0) if place else None)
         try:
-            asked.request('GET', f'/brouter?{RIDE}&labels={100000 + number}', headers=self.headers(number))
+            asked.request('GET', f'/brouter?{RIDE}&labels={next(self.words)}', headers=self.headers(number))
             answer = asked.getresponse()
             right = answer.status == 200 and cost(answer.read().decode()) == COST
             return 'right' if right else answer.status, answer.getheader('X-Map-Version')

@@ -101,12 +101,12 @@ export class Profiles {
   }
 
   // The name and the pairs by which the server is asked for a ride by a profile; a written one is sent first where it wasn't yet.
-  async wordsFor(profile, signal) {
+  async wordsFor(profile, ride, signal) {
     if (!isWritten(profile)) return { name: profile, pairs: [] };
     if (!this.sent.has(profile)) {
       const mark = newMark();
       const text = await this.textOf(profile);
-      this.keep(profile, { name: await this.server.send(markedText(text, mark), signal), mark });
+      this.keep(profile, { name: await this.server.send(markedText(text, mark), ride, signal), mark });
     }
     const { name, mark } = this.sent.get(profile);
     return { name, pairs: [[`profile:${mark}`, '0']] };
@@ -123,14 +123,14 @@ export class Profiles {
     return isWritten(profile) && (refused.line === 'profile unknown' || refused.line === 'override 0: unknown name');
   }
 
-  // Answers a question by a profile: `ask` is given its name and pairs. A written one that is lost is sent again, once.
-  async asked(profile, signal, ask) {
+  // Answers a question on a ride by a profile: `ask` is given its name and pairs. A written one that is lost is sent again, once.
+  async asked(profile, ride, signal, ask) {
     try {
-      return await ask(await this.wordsFor(profile, signal));
+      return await ask(await this.wordsFor(profile, ride, signal));
     } catch (error) {
       if (!(error instanceof Refused) || !this.isLost(profile, error)) throw error;
       this.keep(profile, null);
-      return ask(await this.wordsFor(profile, signal));
+      return ask(await this.wordsFor(profile, ride, signal));
     }
   }
 }

@@ -15,6 +15,9 @@ const degrees = (number) => number.toFixed(6).replace(/\.?0+$/, '');
 const place = ({ lon, lat }) => `${degrees(lon)},${degrees(lat)}`;
 const circle = (each) => `${place(each)},${Math.round(each.radius)}`;
 
+// The pair that tells where a ride begins; none where it has no waypoint.
+export const placeOf = ({ waypoints }) => waypoints.slice(0, 1).map((first) => ['lonlats', place(first)]);
+
 // The pairs that the server is asked with, for one of the ride's two profiles, which the server knows by the name.
 export function queryOf(ride, profile, name = profile) {
   const pairs = [['lonlats', ride.waypoints.map(place).join('|')], ['profile', name]];

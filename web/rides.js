@@ -19,7 +19,8 @@ export class Rides {
   }
 
   async track(ride, profile, signal) {
-    const track = await this.profiles.asked(profile, signal, (words) => this.server.track(pairsOf(ride, profile, words), signal));
+    const track = await this.profiles.asked(profile, ride, signal,
+      (words) => this.server.track(pairsOf(ride, profile, words), signal));
     this.keep(ride, profile, track.reply);
     return { profile, ...track };
   }
@@ -61,7 +62,7 @@ export class Rides {
   costs(ride, signal, waitsFor) {
     const plain = { ...ride, alternative: 0 };
     waitsFor(`Searching from ${ride.waypoints.length} waypoints by ${this.profiles.titleOf(ride.profile)}`);
-    return this.profiles.asked(ride.profile, signal,
+    return this.profiles.asked(ride.profile, ride, signal,
       (words) => this.server.table(pairsOf(plain, ride.profile, words), ride.waypoints.length, signal));
   }
 }

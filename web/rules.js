@@ -55,7 +55,7 @@ export class Rules {
     const profile = await this.profiles.write(this.editor.text.value);
     const { refused, ended } = await this.asking.ask((signal, waitsFor) => {
       waitsFor('Sending it');
-      return this.profiles.wordsFor(profile, signal);
+      return this.profiles.wordsFor(profile, this.ride, signal);
     });
     if (ended) return;
     if (refused) {

@@ -1,7 +1,7 @@
 // The server's paths: each is asked by a function, and whatever goes wrong is a refusal with a line.
 
 import { costsOf, Refused, trackOf, uploadOf } from './reply.js';
-import { textOf } from './ride.js';
+import { placeOf, textOf } from './ride.js';
 
 export class Server {
   constructor(base) {
@@ -36,8 +36,10 @@ export class Server {
     return costsOf(await this.fetched(`/brouter/table?${textOf(pairs)}`, signal), count);
   }
 
-  // Sends a profile, as plain text so that no browser asks before, and gives its name.
-  async send(text, signal) {
-    return uploadOf(await this.fetched('/brouter/profile', signal, { method: 'POST', body: text }));
+  // Sends a profile for a ride, as plain text so that no browser asks before, and gives its name. A front of several regions looks
+  // where the ride begins.
+  async send(text, ride, signal) {
+    const place = textOf(placeOf(ride));
+    return uploadOf(await this.fetched(`/brouter/profile${place && `?${place}`}`, signal, { method: 'POST', body: text }));
   }
 }

@@ -82,7 +82,7 @@ class Front:
     def start_processes(self, words=None):
         """Two processes, on the town where no other words are given."""
         words = words or ['lookups=lookups.dat', 'map=town.json', 'tile=N49E008.hgt', 'profile=trekking.brf', 'profile=road.brf',
-                          'profile=careful.brf']
+                          'profile=careful.brf', 'profile=gravel.brf']
         self.held = [subprocess.Popen([program(), 'serve', *words, f'listen=127.0.0.1:{port}', 'hangup=1'], cwd=self.files) for port in PORTS]
         for port in PORTS:
             wait_for(port)

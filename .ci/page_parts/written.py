@@ -48,7 +48,7 @@ def try_fault(page):
     page.picture('09-broken-profile')
 
 
-def try_written(page):
+def try_written(page, front):
     """A profile that is taken is used at once, and lives in the address."""
     page.open(RIDE)
     page.shows('799.132265')
@@ -57,6 +57,10 @@ def try_written(page):
          and page.costs()[1] == '799.132265' and page.until(lambda: 'profile=~' in page.address()), (page.costs(), page.address()))
     alone = reply(RIDE.replace('trekking', upload(PUBLISHED)))['properties']['cost']
     told('and its cost is that of the text alone', page.costs()[0] == alone, (page.costs(), alone))
+    with open(f'{front.room}/rides.log', encoding='utf-8') as file:
+        sent = [line.split('"')[1] for line in file if '"POST ' in line]
+    told('it was sent with the first waypoint, by which a front of several regions goes',
+         'POST /brouter/profile?lonlats=8.5156,49.1114 HTTP/1.1' in sent, sent)
     told('two tracks are drawn', len(page.lines('track')) == len(page.lines('track beside')) == 1)
     told('its author\'s fields have their kinds', len(page.all('#variables input[type=checkbox][name=avoid_steps]')) == 1
          and len(page.all('#variables input[type=number][name=weight]')) == 1 and not page.all('#variables [name=reckoned]'))
@@ -100,6 +104,6 @@ def try_bomb(page):
 
 def tries(page, front):
     try_fault(page)
-    address, costs = try_written(page)
+    address, costs = try_written(page, front)
     try_again(page, front, address, costs)
     try_bomb(page)

@@ -1,13 +1,13 @@
 -- The numbers of a command that was read are within their limits, its places in its grid, its profiles have names of their
 -- own, and where it listens is an address.
-use Rattle.std.proofs.Common.{◌≡◌, ℕ, ◌<◌, ◌≤◌, ◌+◌, inl, inr, true, Option, Some, None, option_map, Result, Ok, Err, MatchResult, IfOk, List, [], length, refl, arith, subst}
+use Rattle.std.proofs.Common.{◌≡◌, ◌==◌, ℕ, ◌<◌, ◌≤◌, ◌+◌, inl, inr, true, Option, Some, None, option_map, Result, Ok, Err, MatchResult, IfOk, List, [], length, refl, arith, subst}
 use Rattle.std.proofs.lemmas.Bool.Decides.{nat_tests}
 use Rattle.command_words.specs.Addresses.{SpellsAddress, is_address}
 use Rattle.command_words.specs.Given.{Given, Named}
 use Rattle.command_words.specs.Rows.{keys_of, most_labels, most_turns}
 use Rattle.command_words.specs.Value.{number_in, place_in, product_in}
 use Rattle.command_words.specs.Reader.{entry_with, entries_after, entries_of}
-use Rattle.command_words.specs.Command.{lies_in, files_with, sizes_with, sizes_in, grid_by, grid_over, grid_with, hills_with, complete, command_with, code_with, make_with, file_in, files_in, check_by, within_by, ride_in, ride_over, serve_with, turns_in, hangup_in, labels_in}
+use Rattle.command_words.specs.Command.{lies_in, files_with, sizes_with, sizes_in, grid_by, grid_over, grid_with, hills_with, complete, command_with, code_with, make_with, file_in, files_in, check_by, within_by, ride_in, ride_over, serve_with, number_or}
 use Rattle.command_words.proofs.AddressLemmas.{address-spelled}
 use Rattle.command_words.proofs.EntryLemmas.{AllFit, split, err-not_ok, after-fit, whole-read, with-fit}
 use Rattle.command_words.proofs.ServeLemmas.{after-once, profiles-fit}
@@ -158,20 +158,13 @@ within-fit : (after : ℕ) (route : Option RouteCommand) (entries : List Given) 
 within-fit after (Some route) entries command fit e = within_by-fit after route (entry_with Cost entries) command fit e
 within-fit after None entries command fit e = absurd (err-not_ok after command e)
 
--- a server takes a number of events within its limits
-turns-fit : (turns : Option Given) → ((e : Given) → turns ≡ Some e → (1 ≤ number_in e.value) × (number_in e.value ≤ most_turns)) →
-    (1 ≤ turns_in turns) × (turns_in turns ≤ most_turns)
-unfolding turns_in
-turns-fit None fit = (omega arith, omega arith)
-turns-fit (Some turns) fit = fit turns refl
-
--- a search of a server settles a number of labels within its limits
-labels-fit : (labels : Option Given) →
-    ((e : Given) → labels ≡ Some e → (1 ≤ number_in e.value) × (number_in e.value ≤ most_labels)) →
-    (1 ≤ labels_in labels) × (labels_in labels ≤ most_labels)
-unfolding labels_in
-labels-fit None fit = (omega arith, omega arith)
-labels-fit (Some labels) fit = fit labels refl
+-- a number that may be missing is within its limits, where the greatest stands for a missing one
+number_or-fit : (entry : Option Given) (most : ℕ) → 1 ≤ most →
+    ((e : Given) → entry ≡ Some e → (1 ≤ number_in e.value) × (number_in e.value ≤ most)) →
+    (1 ≤ number_or entry most) × (number_or entry most ≤ most)
+unfolding number_or
+number_or-fit None most some fit = (some, omega arith)
+number_or-fit (Some entry) most some fit = fit entry refl
 
 -- a hilly grid is within its limits
 hills_with-fit : (after : ℕ) (sizes : Option Sizes) (command : Command) → AreSized sizes →
@@ -206,13 +199,13 @@ serve_with-fit after (Some lookups) (Some roads) profiles tiles listen turns han
       profiles = profiles;
       tiles = tiles;
       listen = option_map file_in listen;
-      turns = turns_in turns;
-      hangup = hangup_in hangup;
-      labels = labels_in labels;
+      turns = number_or turns most_turns;
+      hangup = number_or hangup 0 == 1;
+      labels = number_or labels most_labels;
     } in
     let same : Form.TheVariants.Serve made ≡ command = cc in
-    let limits = turns-fit turns a in
-    let settled = labels-fit labels b in
+    let limits = number_or-fit turns most_turns (omega arith) a in
+    let settled = number_or-fit labels most_labels (omega arith) b in
     subst IsFit same (record {
       some_turns = limits.0;
       turns = limits.1;

@@ -1,6 +1,6 @@
 -- The command that a list of words is, or the place of the word at fault. This project's own rule.
 use Rattle.std.specs.List.{find}
-use Rattle.std.specs.Prelude.{ℕ, ◌+◌, ◌==◌, Bool, false, cond, ◌&&◌, nat_lt, Option, Some, None, option_map, Result, Ok, Err, List, [], ◌∷◌, length, map, codes}
+use Rattle.std.specs.Prelude.{ℕ, ◌+◌, ◌==◌, Bool, cond, ◌&&◌, nat_lt, Option, Some, None, option_map, Result, Ok, Err, List, [], ◌∷◌, length, map, codes}
 use Rattle.std.specs.Str.{bytes_eq}
 use Rattle.command_words.specs.Given.{Given, Named}
 use Rattle.command_words.specs.Reader.{entries_of, entries_with, entry_with}
@@ -146,20 +146,10 @@ hills_with after (Some sizes) =
     Ok (Form.TheVariants.Hills (record { seed = sizes.seed; w = sizes.w; h = sizes.h }))
 hills_with after None = Err after
 
--- how many events a server takes at most by an entry that may be missing
-unfoldable pub turns_in : Option Given → ℕ
-turns_in None = most_turns
-turns_in (Some turns) = number_in turns.value
-
--- an end of a peer is the loss of its connection, by an entry that may be missing
-unfoldable pub hangup_in : Option Given → Bool
-hangup_in None = false
-hangup_in (Some hangup) = number_in hangup.value == 1
-
--- how many labels a search may settle for an alternative of a leg, by an entry that may be missing
-unfoldable pub labels_in : Option Given → ℕ
-labels_in None = most_labels
-labels_in (Some labels) = number_in labels.value
+-- the number of an entry, or this one where the entry is missing
+unfoldable pub number_or : Option Given → ℕ → ℕ
+number_or None missing = missing
+number_or (Some entry) missing = number_in entry.value
 
 -- where a server listens by a word that may be missing
 unfoldable pub address_of : Option Named → List ℕ
@@ -176,9 +166,9 @@ serve_with after (Some lookups) (Some roads) profiles tiles listen turns hangup 
       profiles = profiles;
       tiles = tiles;
       listen = option_map file_in listen;
-      turns = turns_in turns;
-      hangup = hangup_in hangup;
-      labels = labels_in labels;
+      turns = number_or turns most_turns;
+      hangup = number_or hangup 0 == 1;
+      labels = number_or labels most_labels;
     }))
 serve_with after lookups roads profiles tiles listen turns hangup labels = Err after
 

@@ -1,7 +1,7 @@
 //! The command of a name and of what the words after it give.
 
 ghost use Rattle.std.specs.Prelude.{◌≡◌, option_map};
-ghost use Rattle.command_words.specs.Command.{complete, file_in, files_in, files_with, grid_by, hangup_in, labels_in, lies_in, ride_by, ride_in, ride_over, sizes_in, turns_in};
+ghost use Rattle.command_words.specs.Command.{complete, file_in, files_in, files_with, grid_by, lies_in, number_or, ride_by, ride_in, ride_over, sizes_in};
 ghost use Rattle.command_words.specs.Refusals.{now_of};
 ghost use Rattle.command_words.specs.declared.rows.CommandName.{CommandName};
 ghost use Rattle.command_words.specs.declared.rows.Key.{Key};
@@ -281,9 +281,9 @@ fn complete_serve<'a>(
             profiles,
             tiles,
             listen: file_of(entry_with(entries, Key::Listen)),
-            turns: turns_of(entry_with(entries, Key::Turns)),
-            hangup: hangup_of(entry_with(entries, Key::Hangup)),
-            labels: labels_of(entry_with(entries, Key::Labels)),
+            turns: number_or(entry_with(entries, Key::Turns), MOST_TURNS),
+            hangup: number_or(entry_with(entries, Key::Hangup), 0) == 1,
+            labels: number_or(entry_with(entries, Key::Labels), MOST_LABELS),
         })),
         _ => Err(after),
     }
@@ -299,36 +299,14 @@ fn file_of<'a>(entry: Option<&Entry<'a>>) -> Option<FileWord<'a>>
     }
 }
 
-/// How many events a server takes at most by an entry that may be missing.
-#[tactic(auto, unfolding(crate::specs::Command::turns_in))]
-fn turns_of(entry: Option<&Entry>) -> u64
-    ensures exact { result ≡ turns_in (option_map now_of entry.entry) }
+/// The number of an entry, or this one where the entry is missing.
+#[tactic(auto, unfolding(crate::specs::Command::number_or))]
+fn number_or(entry: Option<&Entry>, missing: u64) -> u64
+    ensures exact { result ≡ number_or (option_map now_of entry.entry) missing }
 {
     match entry {
         Some(entry) => entry.number(),
-        None => MOST_TURNS,
-    }
-}
-
-/// Whether an end of a peer is the loss of its connection, by an entry that may be missing.
-#[tactic(auto, unfolding(crate::specs::Command::hangup_in))]
-fn hangup_of(entry: Option<&Entry>) -> bool
-    ensures exact { result ≡ hangup_in (option_map now_of entry.entry) }
-{
-    match entry {
-        Some(entry) => entry.number() == 1,
-        None => false,
-    }
-}
-
-/// How many labels a search may settle for an alternative of a leg, by an entry that may be missing.
-#[tactic(auto, unfolding(crate::specs::Command::labels_in))]
-fn labels_of(entry: Option<&Entry>) -> u64
-    ensures exact { result ≡ labels_in (option_map now_of entry.entry) }
-{
-    match entry {
-        Some(entry) => entry.number(),
-        None => MOST_LABELS,
+        None => missing,
     }
 }
 

@@ -17,9 +17,9 @@ use Rattle.edge_memory.specs.declared.stage.Stage.TheInside.{Inside}
 use Rattle.edge_memory.proofs.HeldLemmas.{held-step, Steps-listens, Steps-took, Steps-broke, Steps-closed, length-shorter, live-event, closed-event}
 use Rattle.edge_memory.proofs.SceneLemmas.{waits-same, opens-waits, length-waits, playable-waits, playable-left, front-opens, front-few, come-scene, fresh-scene, fits-event, given-event}
 use Rattle.edge_memory.proofs.PlaceLemmas.{noted}
-use Rattle.edge_memory.proofs.ToldLemmas.{noted-told, opened_by-told, opened-told, fits-told, fresh-told, given-told, only-told}
+use Rattle.edge_memory.proofs.ToldLemmas.{noted-told, opened_by-told, opened-told, holds-told, given-told, only-told}
 use Rattle.edge_io.proofs.CallerLemmas.{hangs_up-one}
-use Rattle.edge_io.specs.Hub.{IsFreshAmong, TellsEnd}
+use Rattle.edge_io.specs.Hub.{FitsBuffer, IsFreshAmong, TellsEnd}
 
 -- whether an end is a loss after one more act
 hangs-more : (old tape : Tape) (bytes : ℕ) (act : Act) → Notes old tape bytes act → hangs_up tape.acts ≡ hangs_up_by act (hangs_up old.acts)
@@ -223,9 +223,9 @@ module _ (s : Inside) (self : Stage) (tape : Tape) (live : Vec ℕ Global) (plac
         is = told_is;
         buffer = filled ∙ ap (λ (xs : List ℕ). xs ++ drop (length xs) buffer) (bytes_are ∙ sym given_is);
         stage = stage_is;
-        fits = fits-told s.hangup shot.event after
+        fits = holds-told (FitsBuffer after) s.hangup shot.event (λ id holds. tt)
             (fits-event shot.event rest buffer after most played.shot_is.bytes played.shot_is.below room own_filled);
-        fresh = fresh-told s.hangup shot.event s.tape.acts
+        fresh = holds-told (IsFreshAmong s.tape.acts) s.hangup shot.event (λ id holds. tt)
             (subst (λ (e : Event). IsFreshAmong s.tape.acts e) event_is
             (fresh-scene most behind_them s.tape.acts
             (λ id opened. set.held.to_come id (sym (opens-waits (λ at. (told at s.tape.acts).closed) id entries) ∙ opened))));

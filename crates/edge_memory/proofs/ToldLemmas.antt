@@ -1,7 +1,7 @@
 -- What stays of an event, however an end of a peer is told.
 use Rattle.std.proofs.Common.{◌≡◌, ◌==◌, ℕ, Bool, true, false, List, refl, cond}
-use Rattle.edge_io.specs.Acts.{Act, Traffic, Gave, after_act, after_event}
-use Rattle.edge_io.specs.Hub.{FitsBuffer, IsFreshAmong, TellsEnd, bytes_given}
+use Rattle.edge_io.specs.Acts.{Traffic, Gave, after_act, after_event}
+use Rattle.edge_io.specs.Hub.{TellsEnd, bytes_given}
 use Rattle.edge_memory.specs.Script.{told_as}
 use Rattle.edge_memory.specs.Stage.{opened_by}
 use Rattle.edge_memory.specs.Tape.{noted_bytes}
@@ -44,25 +44,16 @@ opened-told id hangup (Lost at) bytes t = refl
 opened-told id hangup Quiet bytes t = refl
 opened-told id hangup Over bytes t = refl
 
--- it fits the same buffers
-pub fits-told : (hangup : Bool) (event : Event) (buffer : List ℕ) → FitsBuffer buffer event → FitsBuffer buffer (told_as hangup event)
-fits-told hangup (Opened id) buffer fits = fits
-fits-told hangup (Bytes id n) buffer fits = fits
-fits-told true (Ended id) buffer fits = tt
-fits-told false (Ended id) buffer fits = tt
-fits-told hangup (Lost id) buffer fits = fits
-fits-told hangup Quiet buffer fits = fits
-fits-told hangup Over buffer fits = fits
-
--- it is as new
-pub fresh-told : (hangup : Bool) (event : Event) (acts : List Act) → IsFreshAmong acts event → IsFreshAmong acts (told_as hangup event)
-fresh-told hangup (Opened id) acts fresh = fresh
-fresh-told hangup (Bytes id n) acts fresh = fresh
-fresh-told true (Ended id) acts fresh = tt
-fresh-told false (Ended id) acts fresh = tt
-fresh-told hangup (Lost id) acts fresh = fresh
-fresh-told hangup Quiet acts fresh = fresh
-fresh-told hangup Over acts fresh = fresh
+-- what holds of it holds of it as it is told, where it holds of a loss if of the end
+pub holds-told : (P : Event → Type 0) (hangup : Bool) (event : Event) → ((id : ℕ) → P (Ended id) → P (Lost id)) → P event →
+    P (told_as hangup event)
+holds-told P hangup (Opened id) lost holds = holds
+holds-told P hangup (Bytes id n) lost holds = holds
+holds-told P true (Ended id) lost holds = lost id holds
+holds-told P false (Ended id) lost holds = holds
+holds-told P hangup (Lost id) lost holds = holds
+holds-told P hangup Quiet lost holds = holds
+holds-told P hangup Over lost holds = holds
 
 -- it gives the same bytes of a buffer
 pub given-told : (hangup : Bool) (event : Event) (buffer : List ℕ) → bytes_given (told_as hangup event) buffer ≡ bytes_given event buffer
