@@ -7,7 +7,7 @@ use Rattle.command_words.specs.Given.{Given, Named}
 use Rattle.command_words.specs.Rows.{keys_of, most_labels, most_turns}
 use Rattle.command_words.specs.Value.{number_in, place_in, product_in}
 use Rattle.command_words.specs.Reader.{entry_with, entries_after, entries_of}
-use Rattle.command_words.specs.Command.{lies_in, files_with, sizes_with, sizes_in, grid_by, grid_over, grid_with, hills_with, complete, command_with, code_with, make_with, file_in, files_in, check_by, within_by, ride_in, ride_over, serve_with, turns_in, hangup_in, labels_in}
+use Rattle.command_words.specs.Command.{lies_in, files_with, sizes_with, sizes_in, grid_by, grid_over, grid_with, hills_with, complete, command_with, code_with, make_with, file_in, files_in, check_by, within_by, ride_in, ride_over, serve_with, turns_in, flag_in, labels_in}
 use Rattle.command_words.proofs.AddressLemmas.{address-spelled}
 use Rattle.command_words.proofs.EntryLemmas.{AllFit, split, err-not_ok, after-fit, whole-read, with-fit}
 use Rattle.command_words.proofs.ServeLemmas.{after-once, profiles-fit}
@@ -21,13 +21,14 @@ use Rattle.command_words.specs.declared.command.GridCommand.{GridCommand}
 use Rattle.command_words.specs.declared.command.HillsCommand.{HillsCommand}
 use Rattle.command_words.specs.declared.command.MakeCommand.{MakeCommand}
 use Rattle.command_words.specs.declared.command.RouteCommand.{RouteCommand}
+use Rattle.command_words.specs.declared.command.CertifyCommand.{CertifyCommand}
 use Rattle.command_words.specs.declared.command.CheckCommand.{CheckCommand}
 use Rattle.command_words.specs.declared.command.ServeCommand.{ServeCommand}
 use Rattle.command_words.specs.declared.command.WithinCommand.{WithinCommand}
 use Rattle.command_words.specs.declared.completing.Sizes.{Sizes}
 use Rattle.command_words.specs.declared.rows.CommandName.{CommandName}
 use Rattle.command_words.specs.declared.rows.CommandName.TheVariants as Name
-use Rattle.command_words.specs.declared.rows.Key.TheVariants.{Seed, Width, Height, From, To, What, Lookups, Profile, Map, Tile, Listen, Turns, Hangup, Labels, Certificate, Cost}
+use Rattle.command_words.specs.declared.rows.Key.TheVariants.{Seed, Width, Height, From, To, What, Lookups, Profile, Map, Tile, Listen, Turns, Hangup, Labels, Certificate, Cost, Bound}
 use Rattle.command_words.specs.declared.value.Place.{Place}
 
 in_grid : (w h : ℕ) (place : Place) → lies_in w h place ≡ true → (place.x < w) × (place.y < h)
@@ -136,7 +137,8 @@ route-fit after None entries command e = absurd (err-not_ok after command e)
 certify-fit : (after : ℕ) (route : Option RouteCommand) (entries : List Given) (command : Command) →
     ride_over after Name.Certify route entries ≡ Ok command → IsFit command
 certify-fit after (Some route) entries command e =
-    let same : Form.TheVariants.Certify route ≡ command = cc in
+    let made : CertifyCommand = record { route = route; bound = flag_in (entry_with Bound entries) } in
+    let same : Form.TheVariants.Certify made ≡ command = cc in
     subst IsFit same tt
 certify-fit after None entries command e = absurd (err-not_ok after command e)
 
@@ -207,7 +209,7 @@ serve_with-fit after (Some lookups) (Some roads) profiles tiles listen turns han
       tiles = tiles;
       listen = option_map file_in listen;
       turns = turns_in turns;
-      hangup = hangup_in hangup;
+      hangup = flag_in hangup;
       labels = labels_in labels;
     } in
     let same : Form.TheVariants.Serve made ≡ command = cc in

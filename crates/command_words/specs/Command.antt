@@ -9,7 +9,7 @@ use Rattle.command_words.specs.Value.{number_in, place_in, product_in}
 use Rattle.command_words.specs.declared.rows.CommandName.{CommandName}
 use Rattle.command_words.specs.declared.rows.CommandName.TheVariants.{Grid, Make, Code, Route, Certify, Check, Table, Within, Hills, Serve}
 use Rattle.command_words.specs.declared.rows.Key.{Key}
-use Rattle.command_words.specs.declared.rows.Key.TheVariants.{Seed, Width, Height, From, To, What, Lookups, Profile, Map, Query, Tile, Listen, Turns, Hangup, Labels, Certificate, Cost}
+use Rattle.command_words.specs.declared.rows.Key.TheVariants.{Seed, Width, Height, From, To, What, Lookups, Profile, Map, Query, Tile, Listen, Turns, Hangup, Labels, Certificate, Cost, Bound}
 use Rattle.command_words.specs.declared.command.Command.{Command}
 use Rattle.command_words.specs.declared.command.Command as Form
 use Rattle.command_words.specs.declared.command.CodeCommand.{CodeCommand}
@@ -113,6 +113,11 @@ ride_in entries =
     ride_with (entry_with Lookups entries) (entry_with Profile entries) (entry_with Map entries)
     (entry_with Query entries) (files_in Tile entries)
 
+-- a number is 1, by an entry that may be missing
+unfoldable pub flag_in : Option Given → Bool
+flag_in None = false
+flag_in (Some flag) = number_in flag.value == 1
+
 -- the command that checks a certificate for a query, or the place after the last word where it is missing
 abbrev pub check_by : ℕ → RouteCommand → Option Given → Result Command ℕ
 check_by after route (Some certificate) =
@@ -129,7 +134,8 @@ within_by after route None = Err after
 -- the command of this name for a query, or the place after the last word where what it takes beside is
 -- missing; `route` where the name is that of no other such command
 abbrev pub ride_by : ℕ → CommandName → RouteCommand → List Given → Result Command ℕ
-ride_by after Certify route entries = Ok (Form.TheVariants.Certify route)
+ride_by after Certify route entries =
+    Ok (Form.TheVariants.Certify (record { route = route; bound = flag_in (entry_with Bound entries) }))
 ride_by after Check route entries = check_by after route (entry_with Certificate entries)
 ride_by after Table route entries = Ok (Form.TheVariants.Table route)
 ride_by after Within route entries = within_by after route (entry_with Cost entries)
@@ -150,11 +156,6 @@ hills_with after None = Err after
 unfoldable pub turns_in : Option Given → ℕ
 turns_in None = most_turns
 turns_in (Some turns) = number_in turns.value
-
--- an end of a peer is the loss of its connection, by an entry that may be missing
-unfoldable pub hangup_in : Option Given → Bool
-hangup_in None = false
-hangup_in (Some hangup) = number_in hangup.value == 1
 
 -- how many labels a search may settle for an alternative of a leg, by an entry that may be missing
 unfoldable pub labels_in : Option Given → ℕ
@@ -177,7 +178,7 @@ serve_with after (Some lookups) (Some roads) profiles tiles listen turns hangup 
       tiles = tiles;
       listen = option_map file_in listen;
       turns = turns_in turns;
-      hangup = hangup_in hangup;
+      hangup = flag_in hangup;
       labels = labels_in labels;
     }))
 serve_with after lookups roads profiles tiles listen turns hangup labels = Err after

@@ -1,14 +1,14 @@
 //! The command of a name and of what the words after it give.
 
 ghost use Rattle.std.specs.Prelude.{◌≡◌, option_map};
-ghost use Rattle.command_words.specs.Command.{complete, file_in, files_in, files_with, grid_by, hangup_in, labels_in, lies_in, ride_by, ride_in, ride_over, sizes_in, turns_in};
+ghost use Rattle.command_words.specs.Command.{complete, file_in, files_in, files_with, flag_in, grid_by, labels_in, lies_in, ride_by, ride_in, ride_over, sizes_in, turns_in};
 ghost use Rattle.command_words.specs.Refusals.{now_of};
 ghost use Rattle.command_words.specs.declared.rows.CommandName.{CommandName};
 ghost use Rattle.command_words.specs.declared.rows.Key.{Key};
 
 use crate::command::{
-    CheckCommand, CodeCommand, Command, GridCommand, HillsCommand, MakeCommand, RouteCommand,
-    ServeCommand, WithinCommand,
+    CertifyCommand, CheckCommand, CodeCommand, Command, GridCommand, HillsCommand, MakeCommand,
+    RouteCommand, ServeCommand, WithinCommand,
 };
 use crate::entry::{Entry, FileWord};
 use crate::reader::entry_with;
@@ -238,7 +238,10 @@ fn ride_by<'a>(
     ensures exact { result ≡ ride_by after command route.entry entries.now }
 {
     match command {
-        CommandName::Certify => Ok(Command::Certify(route)),
+        CommandName::Certify => Ok(Command::Certify(CertifyCommand {
+            route,
+            bound: flag_of(entry_with(entries, Key::Bound)),
+        })),
         CommandName::Check => match entry_with(entries, Key::Certificate) {
             Some(certificate) => Ok(Command::Check(CheckCommand {
                 route,
@@ -282,7 +285,7 @@ fn complete_serve<'a>(
             tiles,
             listen: file_of(entry_with(entries, Key::Listen)),
             turns: turns_of(entry_with(entries, Key::Turns)),
-            hangup: hangup_of(entry_with(entries, Key::Hangup)),
+            hangup: flag_of(entry_with(entries, Key::Hangup)),
             labels: labels_of(entry_with(entries, Key::Labels)),
         })),
         _ => Err(after),
@@ -310,10 +313,10 @@ fn turns_of(entry: Option<&Entry>) -> u64
     }
 }
 
-/// Whether an end of a peer is the loss of its connection, by an entry that may be missing.
-#[tactic(auto, unfolding(crate::specs::Command::hangup_in))]
-fn hangup_of(entry: Option<&Entry>) -> bool
-    ensures exact { result ≡ hangup_in (option_map now_of entry.entry) }
+/// Whether a number is 1, by an entry that may be missing.
+#[tactic(auto, unfolding(crate::specs::Command::flag_in))]
+fn flag_of(entry: Option<&Entry>) -> bool
+    ensures exact { result ≡ flag_in (option_map now_of entry.entry) }
 {
     match entry {
         Some(entry) => entry.number() == 1,
