@@ -1,5 +1,5 @@
 -- A space of a leg in which no segment is used, and whose lower bound says nothing.
-use Rattle.std.proofs.Common.{◌≡◌, ℕ, ℤ, pos, Bool, false, ◌&&◌, int_le, nat_lt, List, [], get_or, Option, Some, None, ap, ◌∙◌, subst, arith}
+use Rattle.std.proofs.Common.{◌≡◌, ℕ, ℤ, pos, ◌<◌, Bool, false, ◌&&◌, int_le, nat_lt, List, [], get_or, Option, Some, None, ap, ◌∙◌, subst, arith}
 use Rattle.std.proofs.Math.Logic.{∥∥₁_elim}
 use Rattle.std.proofs.Props.{props}
 use Rattle.std.proofs.lemmas.List.{get_or_past}
@@ -26,13 +26,19 @@ least-none roads prices target node None none = absurd none
 least-none roads prices target node (Some sum) is =
     let none : sum ≡ 0 = omega (arith, is.within) in ap Some none
 
--- so the bound of a lawful search up to that radius says nothing
-pub radius-blind : (task : Task) → IsTask task → task.radius ≡ Some 0 → IsBlind (rules_of task)
-radius-blind task lawful same state valid =
-    let node = task.leg.ride.roads.to state.link in
-    let is = lawful.low node (lawful.roads.to_in state.link (carried-is task.leg state valid).0) in
+-- so the bound of a lawful search up to that radius is 0 behind each link of the map
+pub none-behind : (task : Task) → IsTask task → task.radius ≡ Some 0 → (link : ℕ) → link < task.leg.ride.roads.links →
+    task.low (task.leg.ride.roads.to link) ≡ Some 0
+none-behind task lawful same link within =
+    let node = task.leg.ride.roads.to link in
+    let is = lawful.low node (lawful.roads.to_in link within) in
     ∥∥₁_elim (subst (λ r. IsRemainingUpTo task.leg task.used r node (task.low node)) same is) (hlevel props)
     (λ h. least-none task.leg.ride.roads _ task.leg.target node (task.low node) h)
+
+-- it says nothing
+pub radius-blind : (task : Task) → IsTask task → task.radius ≡ Some 0 → IsBlind (rules_of task)
+radius-blind task lawful same state valid =
+    none-behind task lawful same state.link (carried-is task.leg state valid).0
 
 -- ---- The test of a state
 

@@ -39,6 +39,8 @@ impl<G: TerrainOf> BikeSpace<G> {
 
         // It is lawful, and its lower bound says nothing.
         ensures wakes { IfOk result (λ space. Wakes (G.terrain terrain) space.kept) }
+        ensures radius { IfOk result (λ space.
+            (task_of (G.terrain terrain) space.kept).radius ≡ Some 0) }
         ensures blind { IfOk result (λ space.
             IsBlind (rules_of (task_of (G.terrain terrain) space.kept))) }
     {

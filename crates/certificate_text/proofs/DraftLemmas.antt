@@ -3,6 +3,7 @@ use Rattle.std.proofs.Common.{◌≡◌, ℕ, true, false, List, [], ◌∷◌, 
 use Rattle.std.proofs.lemmas.List.{map-append}
 use Rattle.overpass_graph.specs.Maps.{MapValue, IsMap}
 use Rattle.certificate_text.specs.declared.certificate.Entry.{Entry}
+use Rattle.certificate_text.specs.declared.certificate.LowerBound.{LowerBound}
 use Rattle.certificate_text.specs.declared.draft.Draft.{Draft}
 use Rattle.certificate_text.specs.declared.draft.Place.{Place}
 use Rattle.certificate_text.specs.declared.draft.Place.TheVariants as place_
@@ -26,21 +27,21 @@ pub label-push : (legs : List LegValue) (walk : List ℕ) (cost : ℕ) (entries 
     forms_at place_.Labelled legs (record { walk = walk; cost = cost; entries = entries ++ entry ∷ [] })
     ≡ forms_at place_.Labelled legs (record { walk = walk; cost = cost; entries = entries }) ++ (Label entry ∷ [])
 label-push legs walk cost entries entry =
-    ap (λ fs. Head ∷ (legs_forms legs ++ (Leg walk ∷ Cost cost ∷ fs))) (map-append Label entries (entry ∷ []))
-    ∙ ap (λ fs. Head ∷ fs) (sym (append_assoc (legs_forms legs) (Leg walk ∷ Cost cost ∷ labels_of entries) (Label entry ∷ [])))
+    ap (λ fs. legs_forms legs ++ (Leg walk ∷ Cost cost ∷ fs)) (map-append Label entries (entry ∷ []))
+    ∙ sym (append_assoc (legs_forms legs) (Leg walk ∷ Cost cost ∷ labels_of entries) (Label entry ∷ []))
 
 -- the cost of the leg
 pub cost-push : (legs : List LegValue) (walk : List ℕ) (cost : ℕ) (old : LegValue) → old.walk ≡ walk →
     forms_at place_.Labelled legs (record { walk = walk; cost = cost; entries = [] })
     ≡ forms_at place_.Walked legs old ++ (Cost cost ∷ [])
 cost-push legs walk cost old walk_is =
-    ap (λ (w : List ℕ). Head ∷ (legs_forms legs ++ (Leg w ∷ Cost cost ∷ []))) (sym walk_is)
-    ∙ ap (λ fs. Head ∷ fs) (sym (append_assoc (legs_forms legs) (Leg old.walk ∷ []) (Cost cost ∷ [])))
+    ap (λ (w : List ℕ). legs_forms legs ++ (Leg w ∷ Cost cost ∷ [])) (sym walk_is)
+    ∙ sym (append_assoc (legs_forms legs) (Leg old.walk ∷ []) (Cost cost ∷ []))
 
 -- a line behind a leg that is done
 pub closed-push : (legs : List LegValue) (leg : LegValue) (form : Form) →
-    Head ∷ (legs_forms (legs ++ leg ∷ []) ++ (form ∷ [])) ≡ forms_at place_.Labelled legs leg ++ (form ∷ [])
-closed-push legs leg form = ap (λ fs. Head ∷ (fs ++ (form ∷ []))) (legs-push legs leg)
+    legs_forms (legs ++ leg ∷ []) ++ (form ∷ []) ≡ forms_at place_.Labelled legs leg ++ (form ∷ [])
+closed-push legs leg form = ap (λ fs. fs ++ (form ∷ [])) (legs-push legs leg)
 
 -- ---- Taken lines
 
@@ -85,11 +86,11 @@ end-not place_.Walked not_opened not_labelled stands = stands
 end-not place_.Labelled not_opened not_labelled stands = not_labelled refl
 end-not place_.Ended not_opened not_labelled stands = stands
 
-pub head-not : (p : Place) → Stands (stage_at p) Head → ⊥
-head-not place_.Opened stands = stands
-head-not place_.Walked stands = stands
-head-not place_.Labelled stands = stands
-head-not place_.Ended stands = stands
+pub head-not : (p : Place) (bound : LowerBound) → Stands (stage_at p) (Head bound) → ⊥
+head-not place_.Opened bound stands = stands
+head-not place_.Walked bound stands = stands
+head-not place_.Labelled bound stands = stands
+head-not place_.Ended bound stands = stands
 
 -- ---- Texts of lines
 

@@ -4,7 +4,9 @@ use Rattle.std.specs.Prelude.{codes, decimal}
 use Rattle.std.specs.List.{AllByRecursion}
 use Rattle.std.proofs.lemmas.List.{append_cancel_left}
 use Rattle.overpass_graph.specs.Maps.{MapValue, IsMap}
-use Rattle.certificate_text.specs.Lines.{Form, Head, Leg, Cost, Label, End, line_of, lines_of, walk_text, entry_text, IsForm, AreLinks, Stage, Stands, AreStanding, stage_after, stage_from}
+use Rattle.certificate_text.specs.declared.certificate.LowerBound.{LowerBound}
+use Rattle.certificate_text.specs.declared.certificate.LowerBound.TheVariants.{Zero, Least}
+use Rattle.certificate_text.specs.Lines.{Form, Head, Leg, Cost, Label, End, head_text, line_of, lines_of, walk_text, entry_text, IsForm, AreLinks, Stage, Stands, AreStanding, stage_after, stage_from}
 use Rattle.certificate_text.specs.Parts.{HasNo, Reads, ReadsTo}
 use Rattle.certificate_text.proofs.ByteLemmas.{some-none, no-append, no-within, cut-same}
 use Rattle.certificate_text.proofs.NumberLemmas.{decimal-no, decimal-own}
@@ -16,7 +18,7 @@ use Rattle.certificate_text.proofs.WalkLemmas.{walk-own, walk-no}
 -- what a line tells that begins as a leg
 pub leg-told : (map : MapValue) (text rest : List ℕ) (form : Form) → IsForm map form → codes "leg" ++ text ≡ line_of map form ++ (10 ∷ rest) →
     (walk : List ℕ) × (AreLinks map walk × (text ≡ walk_text map walk ++ (10 ∷ rest)))
-leg-told map text rest Head fits same = let h : 108 ≡ 99 = ap (λ (t : List ℕ). get_or t 0 0) same in absurd (omega (arith, h))
+leg-told map text rest (Head b) fits same = let h : 108 ≡ 99 = ap (λ (t : List ℕ). get_or t 0 0) same in absurd (omega (arith, h))
 leg-told map text rest (Leg w) fits same = (w, (fits, append_cancel_left (codes "leg") text (walk_text map w ++ (10 ∷ rest)) same))
 leg-told map text rest (Cost n) fits same = let h : 108 ≡ 99 = ap (λ (t : List ℕ). get_or t 0 0) same in absurd (omega (arith, h))
 leg-told map text rest (Label e) fits same = let h : 101 ≡ 97 = ap (λ (t : List ℕ). get_or t 1 0) same in absurd (omega (arith, h))
@@ -39,37 +41,50 @@ leg-none map text line after is cut none form rest fits same =
 -- a text that begins as no line
 pub no-line : (map : MapValue) (text : List ℕ) → ((rest : List ℕ) → text ≡ codes "label " ++ rest → ⊥) →
     ((rest : List ℕ) → text ≡ codes "cost " ++ rest → ⊥) → ((rest : List ℕ) → text ≡ codes "leg" ++ rest → ⊥) →
-    ((rest : List ℕ) → text ≡ codes "end\n" ++ rest → ⊥) → ((rest : List ℕ) → text ≡ codes "certificate 1\n" ++ rest → ⊥) →
+    ((rest : List ℕ) → text ≡ codes "end\n" ++ rest → ⊥) → ReadsTo 10 head_text (λ _. Unit {0}) text None →
     ReadsTo 10 (line_of map) (IsForm map) text None
-no-line map text no_label no_cost no_leg no_end no_head Head rest fits same = no_head rest same
+no-line map text no_label no_cost no_leg no_end no_head (Head bound) rest fits same = no_head bound rest tt same
 no-line map text no_label no_cost no_leg no_end no_head (Leg walk) rest fits same = no_leg (walk_text map walk ++ (10 ∷ rest)) same
 no-line map text no_label no_cost no_leg no_end no_head (Cost cost) rest fits same = no_cost (decimal cost ++ (10 ∷ rest)) same
 no-line map text no_label no_cost no_leg no_end no_head (Label entry) rest fits same = no_label (entry_text map entry ++ (10 ∷ rest)) same
 no-line map text no_label no_cost no_leg no_end no_head End rest fits same = no_end rest same
 
+-- a text that begins with neither first line begins with none
+pub head-none : (text : List ℕ) → ((rest : List ℕ) → text ≡ codes "certificate 1\n" ++ rest → ⊥) →
+    ((rest : List ℕ) → text ≡ codes "certificate 2\n" ++ rest → ⊥) → ReadsTo 10 head_text (λ _. Unit {0}) text None
+head-none text no_zero no_least Zero rest fits same = no_zero rest same
+head-none text no_zero no_least Least rest fits same = no_least rest same
+
+-- a first line says one lower bound
+head-own : (a b : LowerBound) → head_text a ≡ head_text b → a ≡ b
+head-own Zero Zero same = refl
+head-own Zero Least same = let h : 49 ≡ 50 = ap (λ (t : List ℕ). get_or t 12 0) same in absurd (omega (arith, h))
+head-own Least Zero same = let h : 50 ≡ 49 = ap (λ (t : List ℕ). get_or t 12 0) same in absurd (omega (arith, h))
+head-own Least Least same = refl
+
 -- lines of one text are of one form
 pub line-own : (map : MapValue) (f g : Form) → IsMap map → IsForm map f → IsForm map g → line_of map f ≡ line_of map g → f ≡ g
-line-own map Head Head is fits_f fits_g same = refl
-line-own map Head (Leg v) is fits_f fits_g same = let h : 99 ≡ 108 = ap (λ (t : List ℕ). get_or t 0 0) same in absurd (omega (arith, h))
-line-own map Head (Cost m) is fits_f fits_g same = let h : 101 ≡ 111 = ap (λ (t : List ℕ). get_or t 1 0) same in absurd (omega (arith, h))
-line-own map Head (Label d) is fits_f fits_g same = let h : 99 ≡ 108 = ap (λ (t : List ℕ). get_or t 0 0) same in absurd (omega (arith, h))
-line-own map Head End is fits_f fits_g same = let h : 99 ≡ 101 = ap (λ (t : List ℕ). get_or t 0 0) same in absurd (omega (arith, h))
-line-own map (Leg w) Head is fits_f fits_g same = let h : 108 ≡ 99 = ap (λ (t : List ℕ). get_or t 0 0) same in absurd (omega (arith, h))
+line-own map (Head b) (Head d) is fits_f fits_g same = ap Head (head-own b d same)
+line-own map (Head b) (Leg v) is fits_f fits_g same = let h : 99 ≡ 108 = ap (λ (t : List ℕ). get_or t 0 0) same in absurd (omega (arith, h))
+line-own map (Head b) (Cost m) is fits_f fits_g same = let h : 101 ≡ 111 = ap (λ (t : List ℕ). get_or t 1 0) same in absurd (omega (arith, h))
+line-own map (Head b) (Label d) is fits_f fits_g same = let h : 99 ≡ 108 = ap (λ (t : List ℕ). get_or t 0 0) same in absurd (omega (arith, h))
+line-own map (Head b) End is fits_f fits_g same = let h : 99 ≡ 101 = ap (λ (t : List ℕ). get_or t 0 0) same in absurd (omega (arith, h))
+line-own map (Leg w) (Head b) is fits_f fits_g same = let h : 108 ≡ 99 = ap (λ (t : List ℕ). get_or t 0 0) same in absurd (omega (arith, h))
 line-own map (Leg w) (Leg v) is fits_f fits_g same = ap Leg (walk-own map w v is fits_f fits_g (append_cancel_left (codes "leg") (walk_text map w) (walk_text map v) same))
 line-own map (Leg w) (Cost m) is fits_f fits_g same = let h : 108 ≡ 99 = ap (λ (t : List ℕ). get_or t 0 0) same in absurd (omega (arith, h))
 line-own map (Leg w) (Label d) is fits_f fits_g same = let h : 101 ≡ 97 = ap (λ (t : List ℕ). get_or t 1 0) same in absurd (omega (arith, h))
 line-own map (Leg w) End is fits_f fits_g same = let h : 108 ≡ 101 = ap (λ (t : List ℕ). get_or t 0 0) same in absurd (omega (arith, h))
-line-own map (Cost n) Head is fits_f fits_g same = let h : 111 ≡ 101 = ap (λ (t : List ℕ). get_or t 1 0) same in absurd (omega (arith, h))
+line-own map (Cost n) (Head b) is fits_f fits_g same = let h : 111 ≡ 101 = ap (λ (t : List ℕ). get_or t 1 0) same in absurd (omega (arith, h))
 line-own map (Cost n) (Leg v) is fits_f fits_g same = let h : 99 ≡ 108 = ap (λ (t : List ℕ). get_or t 0 0) same in absurd (omega (arith, h))
 line-own map (Cost n) (Cost m) is fits_f fits_g same = ap Cost (decimal-own n m (omega (arith, fits_f)) (omega (arith, fits_g)) (append_cancel_left (codes "cost ") (decimal n) (decimal m) same))
 line-own map (Cost n) (Label d) is fits_f fits_g same = let h : 99 ≡ 108 = ap (λ (t : List ℕ). get_or t 0 0) same in absurd (omega (arith, h))
 line-own map (Cost n) End is fits_f fits_g same = let h : 99 ≡ 101 = ap (λ (t : List ℕ). get_or t 0 0) same in absurd (omega (arith, h))
-line-own map (Label e) Head is fits_f fits_g same = let h : 108 ≡ 99 = ap (λ (t : List ℕ). get_or t 0 0) same in absurd (omega (arith, h))
+line-own map (Label e) (Head b) is fits_f fits_g same = let h : 108 ≡ 99 = ap (λ (t : List ℕ). get_or t 0 0) same in absurd (omega (arith, h))
 line-own map (Label e) (Leg v) is fits_f fits_g same = let h : 97 ≡ 101 = ap (λ (t : List ℕ). get_or t 1 0) same in absurd (omega (arith, h))
 line-own map (Label e) (Cost m) is fits_f fits_g same = let h : 108 ≡ 99 = ap (λ (t : List ℕ). get_or t 0 0) same in absurd (omega (arith, h))
 line-own map (Label e) (Label d) is fits_f fits_g same = ap Label (entry-own map e d is fits_f fits_g (append_cancel_left (codes "label ") (entry_text map e) (entry_text map d) same))
 line-own map (Label e) End is fits_f fits_g same = let h : 108 ≡ 101 = ap (λ (t : List ℕ). get_or t 0 0) same in absurd (omega (arith, h))
-line-own map End Head is fits_f fits_g same = let h : 101 ≡ 99 = ap (λ (t : List ℕ). get_or t 0 0) same in absurd (omega (arith, h))
+line-own map End (Head b) is fits_f fits_g same = let h : 101 ≡ 99 = ap (λ (t : List ℕ). get_or t 0 0) same in absurd (omega (arith, h))
 line-own map End (Leg v) is fits_f fits_g same = let h : 101 ≡ 108 = ap (λ (t : List ℕ). get_or t 0 0) same in absurd (omega (arith, h))
 line-own map End (Cost m) is fits_f fits_g same = let h : 101 ≡ 99 = ap (λ (t : List ℕ). get_or t 0 0) same in absurd (omega (arith, h))
 line-own map End (Label d) is fits_f fits_g same = let h : 101 ≡ 108 = ap (λ (t : List ℕ). get_or t 0 0) same in absurd (omega (arith, h))
@@ -95,7 +110,8 @@ no-tested c (x ∷ xs) test = by_test (x == c) refl test (no-tested c xs)
 -- a line has no line end
 pub line-no : (map : MapValue) (form : Form) → IsMap map → IsForm map form → HasNo 10 (line_of map form)
 unfolding differs
-line-no map Head is fits = no-tested 10 (codes "certificate 1") refl
+line-no map (Head Zero) is fits = no-tested 10 (head_text Zero) refl
+line-no map (Head Least) is fits = no-tested 10 (head_text Least) refl
 line-no map (Leg walk) is fits =
     no-append 10 (codes "leg") (walk_text map walk) (no-tested 10 (codes "leg") refl) (walk-no map walk is fits)
 line-no map (Cost cost) is fits =

@@ -1,5 +1,5 @@
 -- Texts that are read line after line.
-use Rattle.std.proofs.Common.{◌≡◌, ℕ, ◌+◌, ◌^◌, ◌<◌, ◌≤◌, true, List, [], ◌∷◌, ◌++◌, length, nat_eq, map, None, Result, Ok, Err, refl, sym, ap, ◌∙◌, subst, arith, append_assoc, append-nil}
+use Rattle.std.proofs.Common.{◌≡◌, ℕ, ◌+◌, ◌^◌, ◌<◌, ◌≤◌, true, false, List, [], ◌∷◌, ◌++◌, length, nat_eq, map, None, Result, Ok, Err, refl, sym, ap, ◌∙◌, subst, arith, append_assoc, append-nil}
 use Rattle.std.specs.Prelude.{IfOk, codes}
 use Rattle.std.specs.List.{AllByRecursion}
 use Rattle.std.proofs.lemmas.Bool.{ne_eqb}
@@ -8,61 +8,67 @@ use Rattle.overpass_graph.specs.Maps.{MapValue}
 use Rattle.certificate_text.specs.declared.certificate.Certificate.{Certificate}
 use Rattle.certificate_text.specs.declared.certificate.Entry.{Entry}
 use Rattle.certificate_text.specs.declared.error.CertError.{CertError}
+use Rattle.certificate_text.specs.declared.certificate.LowerBound.{LowerBound}
 use Rattle.certificate_text.specs.declared.draft.Draft.{Draft}
 use Rattle.certificate_text.specs.declared.draft.Place.{Place}
 use Rattle.certificate_text.specs.declared.draft.Place.TheVariants as place_
-use Rattle.certificate_text.specs.Drafts.{stage_at, forms_at, forms_now, is_ended, IsRead, ReadsOn, IsReading}
-use Rattle.certificate_text.specs.Lines.{Form, Head, Leg, Cost, Label, End, line_of, lines_of, link_text, walk_text, IsForm, IsEntry, Unbegun, Opened, Ended, Stands, AreStanding, stage_from, IsFirstFault}
-use Rattle.certificate_text.specs.Texts.{LegValue, leg_of, leg_forms, legs_forms, labels_of, forms_of, certificate_text, legs_of, AreLegs, IsTextOf, AreShort, ReadsText}
+use Rattle.certificate_text.specs.Drafts.{begun, stage_at, forms_at, forms_now, is_ended, IsRead, ReadsOn, IsReading}
+use Rattle.certificate_text.specs.Lines.{Form, Head, Leg, Cost, Label, End, head_text, line_of, lines_of, link_text, walk_text, IsForm, IsEntry, Unbegun, Opened, Ended, Stands, AreStanding, stage_from, IsFirstFault}
+use Rattle.certificate_text.specs.Parts.{ReadsTo}
+use Rattle.certificate_text.specs.Texts.{CertificateValue, LegValue, leg_of, leg_forms, legs_forms, labels_of, forms_of, certificate_text, legs_of, AreLegs, IsTextOf, AreShort, ReadsText}
 use Rattle.certificate_text.proofs.NumberLemmas.{not-both}
 use Rattle.certificate_text.proofs.LineLemmas.{lines-append, line-some, standing-push, stage-push, standing-fits}
 
 -- ---- While lines are read
 
 -- the first line was read
-pub reading-first : (map : MapValue) (text : List ℕ) (number : ℕ) (draft : Draft) → forms_now draft ≡ Head ∷ [] →
+pub reading-first : (map : MapValue) (text : List ℕ) (bound : LowerBound) (number : ℕ) (draft : Draft) → forms_now draft ≡ [] →
     stage_at draft.place ≡ Opened → number ≡ 2 → length text + 2 < 2 ^ 32 →
-    IsReading map (lines_of map (Head ∷ []) ++ text) number text draft
-reading-first map text number draft forms place number_is few = record {
-  text_is = ap (λ fs. lines_of map fs ++ text) (sym forms);
-  number_is = number_is ∙ ap (λ (fs : List Form). length fs + 1) (sym forms);
-  standing = subst (AreStanding map Unbegun) (sym forms) (tt, (tt, tt));
-  stage = ap (stage_from Unbegun) forms ∙ sym place;
-  few = omega (arith, few, number_is);
-}
+    IsReading map (lines_of map (Head bound ∷ []) ++ text) bound number text draft
+reading-first map text bound number draft none place number_is few =
+    let forms : begun bound draft ≡ Head bound ∷ [] = ap (λ fs. Head bound ∷ fs) none in
+    record {
+      text_is = ap (λ fs. lines_of map fs ++ text) (sym forms);
+      number_is = number_is ∙ ap (λ (fs : List Form). length fs + 1) (sym forms);
+      standing = subst (AreStanding map Unbegun) (sym forms) (tt, (tt, tt));
+      stage = ap (stage_from Unbegun) forms ∙ sym place;
+      few = omega (arith, few, number_is);
+    }
 
 -- the first line of what is left is read
-module _ (map : MapValue) (text : List ℕ) (number : ℕ) (rest : List ℕ) (draft new : Draft) (so : IsReading map text number rest draft) where
+module _ (map : MapValue) (text : List ℕ) (bound : LowerBound) (number : ℕ) (rest : List ℕ) (draft new : Draft)
+    (so : IsReading map text bound number rest draft) where
   -- less is left
   pub read-shorter : (after : List ℕ) → IsRead map draft new rest after → length after < length rest
   read-shorter after read =
       omega (arith, ap length read.text_is, length-append (line_of map read.form) (10 ∷ after))
 
   -- where it is taken, reading goes on behind it
-  pub reading-next : (after : List ℕ) (next : ℕ) → IsRead map draft new rest after → next ≡ number + 1 → IsReading map text next after new
+  pub reading-next : (after : List ℕ) (next : ℕ) → IsRead map draft new rest after → next ≡ number + 1 →
+      IsReading map text bound next after new
   reading-next after next read next_is =
-      let forms : forms_now new ≡ forms_now draft ++ (read.form ∷ []) = read.taken.forms in
+      let forms : begun bound new ≡ begun bound draft ++ (read.form ∷ []) = ap (λ fs. Head bound ∷ fs) read.taken.forms in
       let here : rest ≡ lines_of map (read.form ∷ []) ++ after =
       read.text_is ∙ sym (append_assoc (line_of map read.form) (10 ∷ []) after) in
-      let stands : Stands (stage_from Unbegun (forms_now draft)) read.form =
+      let stands : Stands (stage_from Unbegun (begun bound draft)) read.form =
       subst (λ s. Stands s read.form) (sym so.stage) read.taken.stands in
-      let count : length (forms_now new) ≡ length (forms_now draft) + 1 =
-      ap length forms ∙ length-append (forms_now draft) (read.form ∷ []) in
+      let count : length (begun bound new) ≡ length (begun bound draft) + 1 =
+      ap length forms ∙ length-append (begun bound draft) (read.form ∷ []) in
       record {
-        text_is = so.text_is ∙ ap (λ t. lines_of map (forms_now draft) ++ t) here
-            ∙ sym (append_assoc (lines_of map (forms_now draft)) (lines_of map (read.form ∷ [])) after)
-            ∙ ap (λ t. t ++ after) (sym (lines-append map (forms_now draft) (read.form ∷ [])) ∙ ap (lines_of map) (sym forms));
+        text_is = so.text_is ∙ ap (λ t. lines_of map (begun bound draft) ++ t) here
+            ∙ sym (append_assoc (lines_of map (begun bound draft)) (lines_of map (read.form ∷ [])) after)
+            ∙ ap (λ t. t ++ after) (sym (lines-append map (begun bound draft) (read.form ∷ [])) ∙ ap (lines_of map) (sym forms));
         number_is = omega (arith, next_is, so.number_is, count);
         standing = subst (AreStanding map Unbegun) (sym forms)
-            (standing-push map Unbegun (forms_now draft) read.form so.standing stands read.fits);
-        stage = ap (stage_from Unbegun) forms ∙ stage-push Unbegun (forms_now draft) read.form ∙ sym read.taken.place;
+            (standing-push map Unbegun (begun bound draft) read.form so.standing stands read.fits);
+        stage = ap (stage_from Unbegun) forms ∙ stage-push Unbegun (begun bound draft) read.form ∙ sym read.taken.place;
         few = omega (arith, so.few, next_is, read-shorter after read);
       }
 
   -- where no line that can stand there begins it, it is the first at fault
   pub reading-fault : 0 < length rest → ReadsOn map draft new rest None → IsFirstFault map text number
   reading-fault some none = record {
-    before = forms_now draft;
+    before = begun bound draft;
     rest = rest;
     text_is = so.text_is;
     number = so.number_is;
@@ -86,10 +92,10 @@ is-ended place_.Labelled test = absurd cc
 is-ended place_.Ended test = refl
 
 -- where nothing is left before the last line, the next line is at fault
-pub reading-short : (map : MapValue) (text : List ℕ) (number : ℕ) (rest : List ℕ) (draft : Draft) →
-    IsReading map text number rest draft → rest ≡ [] → (is_ended draft.place ≡ true → ⊥) → IsFirstFault map text number
-reading-short map text number rest draft so empty other = record {
-  before = forms_now draft;
+pub reading-short : (map : MapValue) (text : List ℕ) (bound : LowerBound) (number : ℕ) (rest : List ℕ) (draft : Draft) →
+    IsReading map text bound number rest draft → rest ≡ [] → (is_ended draft.place ≡ true → ⊥) → IsFirstFault map text number
+reading-short map text bound number rest draft so empty other = record {
+  before = begun bound draft;
   rest = rest;
   text_is = so.text_is;
   number = so.number_is;
@@ -127,24 +133,27 @@ legs-fit map (leg ∷ legs) all =
 abbrev draft_legs : Draft → List LegValue
 draft_legs draft = map leg_of draft.legs.items
 
+-- what a draft says that was read to its end
+abbrev drafted : LowerBound → Draft → CertificateValue
+drafted bound draft = record { bound = bound; legs = draft_legs draft }
+
 -- a text that is read to its end is that of a certificate
-pub reading-whole : (map : MapValue) (text : List ℕ) (number : ℕ) (rest : List ℕ) (draft : Draft) →
-    IsReading map text number rest draft → rest ≡ [] → is_ended draft.place ≡ true → IsTextOf map text (draft_legs draft)
+pub reading-whole : (map : MapValue) (text : List ℕ) (bound : LowerBound) (number : ℕ) (rest : List ℕ) (draft : Draft) →
+    IsReading map text bound number rest draft → rest ≡ [] → is_ended draft.place ≡ true → IsTextOf map text (drafted bound draft)
 unfolding certificate_text
-reading-whole map text number rest draft so empty last =
+reading-whole map text bound number rest draft so empty last =
     let legs = draft_legs draft in
-    let forms : forms_now draft ≡ forms_of legs =
-    ap (λ p. forms_at p legs (leg_of draft.leg)) (ended draft.place last) in
-    let all = standing-fits map Unbegun (forms_of legs) (subst (AreStanding map Unbegun) forms so.standing) in
+    let forms : begun bound draft ≡ forms_of (drafted bound draft) =
+    ap (λ p. Head bound ∷ forms_at p legs (leg_of draft.leg)) (ended draft.place last) in
+    let all = standing-fits map Unbegun (forms_of (drafted bound draft)) (subst (AreStanding map Unbegun) forms so.standing) in
     record {
       legs_are = legs-fit map legs (all-before (IsForm map) (legs_forms legs) (End ∷ []) all.1);
-      text_is = so.text_is ∙ ap (λ t. lines_of map (forms_now draft) ++ t) empty ∙ append-nil (lines_of map (forms_now draft))
+      text_is = so.text_is ∙ ap (λ t. lines_of map (begun bound draft) ++ t) empty ∙ append-nil (lines_of map (begun bound draft))
           ∙ ap (lines_of map) forms;
     }
 
--- a text that doesn't begin with the first line
-pub headless : (map : MapValue) (text : List ℕ) → ((rest : List ℕ) → text ≡ codes "certificate 1\n" ++ rest → ⊥) →
-    IsFirstFault map text 1
+-- a text that doesn't begin with a first line
+pub headless : (map : MapValue) (text : List ℕ) → ReadsTo 10 head_text (λ _. Unit {0}) text None → IsFirstFault map text 1
 headless map text other = record {
   before = [];
   rest = text;
@@ -156,7 +165,7 @@ headless map text other = record {
 }
   where
     by_form : (form : Form) (more : List ℕ) → Stands Unbegun form → text ≡ line_of map form ++ (10 ∷ more) → ⊥
-    by_form Head more stands same = other more same
+    by_form (Head bound) more stands same = other bound more tt same
     by_form (Leg walk) more stands same = stands
     by_form (Cost cost) more stands same = stands
     by_form (Label entry) more stands same = stands
@@ -167,6 +176,11 @@ pub none-told : (xs : List ℕ) → true ≡ nat_eq (length xs) 0 → xs ≡ []
 none-told [] test = refl
 none-told (x ∷ xs) test =
     absurd (not-both (nat_eq (length (x ∷ xs)) 0) (ne_eqb (length (x ∷ xs)) 0 (λ h. absurd (omega (arith, h)))) (sym test))
+
+-- a list that is told not to be empty has an item
+pub some-told : (xs : List ℕ) → false ≡ nat_eq (length xs) 0 → 0 < length xs
+some-told [] test = absurd cc
+some-told (x ∷ xs) test = omega arith
 
 -- ---- Walks that a text tells are short
 
@@ -212,5 +226,5 @@ pub read-short : (map : MapValue) (text : List ℕ) (r : Result Certificate Cert
 unfolding certificate_text
 read-short map text (Ok certificate) reads few =
     legs-short map (legs_of certificate) (End ∷ [])
-    (omega (arith, few, ap length reads.text_is, line-length map Head (legs_forms (legs_of certificate) ++ (End ∷ []))))
+    (omega (arith, few, ap length reads.text_is, line-length map (Head certificate.bound) (legs_forms (legs_of certificate) ++ (End ∷ []))))
 read-short map text (Err e) reads few = tt

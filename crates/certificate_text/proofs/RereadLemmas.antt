@@ -4,10 +4,11 @@ use Rattle.std.specs.List.{AllByRecursion}
 use Rattle.overpass_graph.specs.Maps.{MapValue, IsMap}
 use Rattle.certificate_text.specs.declared.certificate.Certificate.{Certificate}
 use Rattle.certificate_text.specs.declared.certificate.Entry.{Entry}
+use Rattle.certificate_text.specs.declared.certificate.LowerBound.{LowerBound}
 use Rattle.certificate_text.specs.declared.error.CertError.{CertError}
 use Rattle.certificate_text.specs.declared.error.CertError.TheVariants.{Line, NoMemory}
 use Rattle.certificate_text.specs.Lines.{Form, Head, Leg, Cost, Label, End, line_of, lines_of, IsEntry, Stage, Unbegun, Opened, Labelled, Ended, Stands, AreStanding, stage_from, IsFirstFault}
-use Rattle.certificate_text.specs.Texts.{LegValue, legs_forms, labels_of, forms_of, certificate_text, legs_of, AreLegs, IsTextOf, ReadsText, IsSame}
+use Rattle.certificate_text.specs.Texts.{CertificateValue, LegValue, legs_forms, labels_of, forms_of, certificate_text, value_of, AreLegs, IsTextOf, ReadsText, IsSame}
 use Rattle.certificate_text.proofs.LineLemmas.{line-some, lines-same, stage-push, standing-fits, standing-at}
 
 -- ---- What was written is read again
@@ -50,27 +51,27 @@ legs-stand map stage (leg ∷ legs) free fits =
     )
 
 -- so do those of a certificate
-forms-stand : (map : MapValue) (legs : List LegValue) → AreLegs map legs → AreStanding map Unbegun (forms_of legs)
-forms-stand map legs fits = (tt, (tt, legs-stand map Opened legs free-opened fits))
+forms-stand : (map : MapValue) (value : CertificateValue) → AreLegs map value.legs → AreStanding map Unbegun (forms_of value)
+forms-stand map value fits = (tt, (tt, legs-stand map Opened value.legs free-opened fits))
 
 -- the last line is the last
-forms-end : (legs : List LegValue) → stage_from Unbegun (forms_of legs) ≡ Ended
-forms-end legs = stage-push Opened (legs_forms legs) End
+forms-end : (value : CertificateValue) → stage_from Unbegun (forms_of value) ≡ Ended
+forms-end value = stage-push Opened (legs_forms value.legs) End
 
 -- the text of a certificate has no first fault
-pub reread-refused : (map : MapValue) (text : List ℕ) (legs : List LegValue) (line : ℕ) → IsMap map → AreLegs map legs →
-    text ≡ certificate_text map legs → IsFirstFault map text line → ⊥
+pub reread-refused : (map : MapValue) (text : List ℕ) (value : CertificateValue) (line : ℕ) → IsMap map → AreLegs map value.legs →
+    text ≡ certificate_text map value → IsFirstFault map text line → ⊥
 unfolding certificate_text
-reread-refused map text legs line is fits same at =
-    let stand = forms-stand map legs fits in
-    let on = lines-same map at.before (forms_of legs) at.rest is (standing-fits map Unbegun at.before at.standing)
-    (standing-fits map Unbegun (forms_of legs) stand) (sym at.text_is ∙ same) in
+reread-refused map text value line is fits same at =
+    let stand = forms-stand map value fits in
+    let on = lines-same map at.before (forms_of value) at.rest is (standing-fits map Unbegun at.before at.standing)
+    (standing-fits map Unbegun (forms_of value) stand) (sym at.text_is ∙ same) in
     by_more on.more on.forms on.rest_is stand
   where
-    by_more : (more : List Form) → forms_of legs ≡ at.before ++ more → at.rest ≡ lines_of map more →
-        AreStanding map Unbegun (forms_of legs) → ⊥
+    by_more : (more : List Form) → forms_of value ≡ at.before ++ more → at.rest ≡ lines_of map more →
+        AreStanding map Unbegun (forms_of value) → ⊥
     by_more [] forms rest stand =
-        at.open_end rest (ap (stage_from Unbegun) (sym (append-nil at.before) ∙ sym forms) ∙ forms-end legs)
+        at.open_end rest (ap (stage_from Unbegun) (sym (append-nil at.before) ∙ sym forms) ∙ forms-end value)
     by_more (g ∷ gs) forms rest stand =
         let there = standing-at map Unbegun at.before g gs (subst (AreStanding map Unbegun) forms stand) in
         at.fault g (lines_of map gs) there.0 there.1 rest
@@ -79,7 +80,7 @@ reread-refused map text legs line is fits same at =
 abbrev NoLabel : List Form → Type 0
 NoLabel [] = Unit {0}
 NoLabel (Label entry ∷ fs) = ⊥
-NoLabel (Head ∷ fs) = Unit {0}
+NoLabel (Head bound ∷ fs) = Unit {0}
 NoLabel (Leg walk ∷ fs) = Unit {0}
 NoLabel (Cost cost ∷ fs) = Unit {0}
 NoLabel (End ∷ fs) = Unit {0}
@@ -129,26 +130,32 @@ legs-own (x ∷ xs) (y ∷ ys) same =
         ∙ ap (λ (c : ℕ). record { walk = y.walk; cost = c; entries = x.entries }) cost
         ∙ ap (λ (es : List Entry). record { walk = y.walk; cost = y.cost; entries = es }) entries
 
+-- certificates of the same lines say the same
+values-own : (x y : CertificateValue) → forms_of x ≡ forms_of y → x ≡ y
+values-own x y same =
+    let both = head-same (Head x.bound) (Head y.bound) _ _ same in
+    let bound : x.bound ≡ y.bound = let h = both.0 in cc in
+    ap (λ (b : LowerBound). record { bound = b; legs = x.legs }) bound
+    ∙ ap (λ (ls : List LegValue). record { bound = y.bound; legs = ls }) (legs-own x.legs y.legs both.1)
+
 -- certificates of one text are one
-pub text-own : (map : MapValue) (text : List ℕ) (own legs : List LegValue) → IsMap map → IsTextOf map text own → AreLegs map legs →
-    text ≡ certificate_text map legs → own ≡ legs
+pub text-own : (map : MapValue) (text : List ℕ) (own value : CertificateValue) → IsMap map → IsTextOf map text own →
+    AreLegs map value.legs → text ≡ certificate_text map value → own ≡ value
 unfolding certificate_text
-text-own map text own legs is of fits same =
-    let stand = forms-stand map legs fits in
+text-own map text own value is of fits same =
+    let stand = forms-stand map value fits in
     let stand_own = forms-stand map own of.legs_are in
-    let on = lines-same map (forms_of own) (forms_of legs) [] is (standing-fits map Unbegun (forms_of own) stand_own)
-    (standing-fits map Unbegun (forms_of legs) stand) (append-nil (lines_of map (forms_of own)) ∙ sym of.text_is ∙ same) in
+    let on = lines-same map (forms_of own) (forms_of value) [] is (standing-fits map Unbegun (forms_of own) stand_own)
+    (standing-fits map Unbegun (forms_of value) stand) (append-nil (lines_of map (forms_of own)) ∙ sym of.text_is ∙ same) in
     by_more on.more on.forms on.rest_is
   where
-    by_more : (more : List Form) → forms_of legs ≡ forms_of own ++ more → [] ≡ lines_of map more → own ≡ legs
-    by_more [] forms rest =
-        legs-own own legs
-        (sym ((head-same Head Head _ _ (forms ∙ append-nil (forms_of own))).1))
+    by_more : (more : List Form) → forms_of value ≡ forms_of own ++ more → [] ≡ lines_of map more → own ≡ value
+    by_more [] forms rest = values-own own value (sym (forms ∙ append-nil (forms_of own)))
     by_more (g ∷ gs) forms rest = absurd (line-some (line_of map g) (lines_of map gs) (sym rest))
 
 -- what is read of the text of a certificate is the same one
-pub reread : (map : MapValue) (text : List ℕ) (legs : List LegValue) (r : Result Certificate CertError) → IsMap map → AreLegs map legs →
-    text ≡ certificate_text map legs → ReadsText map text r → IsSame legs r
-reread map text legs (Ok certificate) is fits same reads = text-own map text (legs_of certificate) legs is reads fits same
-reread map text legs (Err NoMemory) is fits same reads = refl
-reread map text legs (Err (Line line)) is fits same reads = absurd (reread-refused map text legs line is fits same reads)
+pub reread : (map : MapValue) (text : List ℕ) (value : CertificateValue) (r : Result Certificate CertError) → IsMap map →
+    AreLegs map value.legs → text ≡ certificate_text map value → ReadsText map text r → IsSame value r
+reread map text value (Ok certificate) is fits same reads = text-own map text (value_of certificate) value is reads fits same
+reread map text value (Err NoMemory) is fits same reads = refl
+reread map text value (Err (Line line)) is fits same reads = absurd (reread-refused map text value line is fits same reads)

@@ -4,10 +4,11 @@ use Rattle.std.specs.Prelude.{codes}
 use Rattle.std.specs.List.{AllByRecursion}
 use Rattle.std.proofs.lemmas.List.{map-append, take_more, take_all, flat_map_more}
 use Rattle.overpass_graph.specs.Maps.{MapValue}
+use Rattle.certificate_text.specs.declared.certificate.Certificate.{Certificate}
 use Rattle.certificate_text.specs.declared.certificate.Entry.{Entry}
 use Rattle.certificate_text.specs.declared.certificate.Proof.{Proof}
-use Rattle.certificate_text.specs.Lines.{Label, End, lines_of, link_text, walk_text}
-use Rattle.certificate_text.specs.Texts.{leg_of, leg_forms, legs_forms, labels_of, certificate_text, IsLeg}
+use Rattle.certificate_text.specs.Lines.{Label, End, head_text, lines_of, link_text, walk_text}
+use Rattle.certificate_text.specs.Texts.{leg_of, leg_forms, legs_forms, labels_of, certificate_text, value_of, IsLeg}
 use Rattle.certificate_text.proofs.DraftLemmas.{legs-push}
 use Rattle.certificate_text.proofs.LineLemmas.{lines-append}
 
@@ -68,13 +69,16 @@ legs-more map_value legs place proof d first mid new below is so_far added =
     ∙ ap (lines_of map_value) (sym forms))
 
 -- the first line, all legs and the last line
-pub all-written : (map_value : MapValue) (legs : List Proof) (place : ℕ) (mid new : List ℕ) → length legs ≤ place →
-    mid ≡ codes "certificate 1\n" ++ lines_of map_value (legs_forms (map leg_of (take place legs))) → new ≡ mid ++ codes "end\n" →
-    new ≡ certificate_text map_value (map leg_of legs)
+pub all-written : (map_value : MapValue) (certificate : Certificate) (place : ℕ) (mid new : List ℕ) →
+    length certificate.legs.items ≤ place →
+    mid ≡ (head_text certificate.bound ++ (10 ∷ [])) ++ lines_of map_value (legs_forms (map leg_of (take place certificate.legs.items))) →
+    new ≡ mid ++ codes "end\n" → new ≡ certificate_text map_value (value_of certificate)
 unfolding certificate_text
-all-written map_value legs place mid new past so_far added =
+all-written map_value certificate place mid new past so_far added =
+    let legs = certificate.legs.items in
+    let first : List ℕ = head_text certificate.bound ++ (10 ∷ []) in
     let all : take place legs ≡ legs = take_all place legs past in
     let before = legs_forms (map leg_of legs) in
-    two-parts (codes "certificate 1\n") (lines_of map_value before) (codes "end\n") mid new
-    (so_far ∙ ap (λ ps. codes "certificate 1\n" ++ lines_of map_value (legs_forms (map leg_of ps))) all) added
-    ∙ ap (λ t. codes "certificate 1\n" ++ t) (sym (lines-append map_value before (End ∷ [])))
+    two-parts first (lines_of map_value before) (codes "end\n") mid new
+    (so_far ∙ ap (λ ps. first ++ lines_of map_value (legs_forms (map leg_of ps))) all) added
+    ∙ ap (λ t. first ++ t) (sym (lines-append map_value before (End ∷ [])))

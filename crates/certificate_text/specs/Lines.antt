@@ -6,16 +6,28 @@ use mir.Syntax.{w64}
 use Rattle.overpass_graph.specs.Maps.{MapValue}
 use Rattle.overpass_graph.specs.Names.{name_of, name_text}
 use Rattle.certificate_text.specs.declared.certificate.Entry.{Entry}
+use Rattle.certificate_text.specs.declared.certificate.LowerBound.{LowerBound}
+use Rattle.certificate_text.specs.declared.certificate.LowerBound.TheVariants.{Zero, Least}
 
--- what a line says: the first one, a leg with its walk, what the walk costs, a label, or the last one
+-- what a line says: the first one, with a lower bound, a leg with its walk, what the walk costs, a label, or the
+-- last one
 pub data Form : Type 0 where
-  Head : Form
+  Head : LowerBound → Form
   Leg : List ℕ → Form
   Cost : ℕ → Form
   Label : Entry → Form
   End : Form
 
 -- ---- What stands in a line
+
+-- the number of a certificate's form, as a digit: 1 where the lower bound is 0 everywhere, 2 where it is the least sum
+abbrev pub digit_of : LowerBound → ℕ
+digit_of Zero = 49
+digit_of Least = 50
+
+-- the form of a certificate
+abbrev pub head_text : LowerBound → List ℕ
+head_text bound = codes "certificate " ++ (digit_of bound ∷ [])
 
 -- a link as `way/segment/f`, or `way/segment/b` where it goes backward
 abbrev pub link_text : MapValue → ℕ → List ℕ
@@ -39,7 +51,7 @@ entry_text map entry = link_text map entry.link ++ (32 ∷ weights_text entry.co
 
 -- a line without its end
 abbrev pub line_of : MapValue → Form → List ℕ
-line_of map Head = codes "certificate 1"
+line_of map (Head bound) = head_text bound
 line_of map (Leg walk) = codes "leg" ++ walk_text map walk
 line_of map (Cost cost) = codes "cost " ++ decimal cost
 line_of map (Label entry) = codes "label " ++ entry_text map entry
@@ -77,7 +89,7 @@ pub record IsEntry (map : MapValue) (entry : Entry) : Type 0 where
 
 -- a line that may be written
 abbrev pub IsForm : MapValue → Form → Type 0
-IsForm map Head = Unit {0}
+IsForm map (Head bound) = Unit {0}
 IsForm map (Leg walk) = AreLinks map walk
 IsForm map (Cost cost) = IsCost cost
 IsForm map (Label entry) = IsEntry map entry
@@ -95,7 +107,7 @@ pub data Stage : Type 0 where
 
 -- what a line says of the next one
 abbrev pub stage_after : Form → Stage
-stage_after Head = Opened
+stage_after (Head bound) = Opened
 stage_after (Leg walk) = Walked
 stage_after (Cost cost) = Labelled
 stage_after (Label entry) = Labelled
@@ -109,7 +121,7 @@ stage_from stage (form ∷ forms) = stage_from (stage_after form) forms
 -- a line may stand here: the first one at the beginning, a leg behind it and behind a leg, a cost behind a
 -- walk, a label behind a cost and behind a label, the last one where a leg may stand
 abbrev pub Stands : Stage → Form → Type 0
-Stands Unbegun Head = Unit {0}
+Stands Unbegun (Head bound) = Unit {0}
 Stands Opened (Leg walk) = Unit {0}
 Stands Opened End = Unit {0}
 Stands Walked (Cost cost) = Unit {0}

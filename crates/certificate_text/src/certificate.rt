@@ -26,8 +26,19 @@ impl Drop for Proof {
     }
 }
 
-/// The legs of a track, each with what shows it least.
+/// The lower bound of what is still to pay, by which labels rank: a list of labels has to cover
+/// what costs, together with that, less than the walk.
+#[derive(Clone, Copy)]
+pub enum LowerBound {
+    /// 0 everywhere, so that a rank is a cost.
+    Zero,
+    /// The least sum of low prices to the end of the leg.
+    Least,
+}
+
+/// The legs of a track, each with what shows it least by a lower bound.
 #[derive(Drop)]
 pub struct Certificate {
+    pub bound: LowerBound,
     pub legs: Vec<Proof>,
 }

@@ -1,10 +1,11 @@
 //! The legs that were read so far.
 
-ghost use Rattle.std.specs.Prelude.{◌≡◌, ◌∷◌, ◌++◌, [], IfOk, OnOk, option_map};
+ghost use Rattle.std.specs.Prelude.{◌≡◌, ◌∷◌, ◌++◌, [], IfOk, OnOk, map, option_map};
 ghost use Rattle.certificate_text.specs.Drafts.{ReadsOn, Takes, form_of, forms_now, is_ended, stage_at};
-ghost use Rattle.certificate_text.specs.Lines.{Cost, End, Head, Label, Leg, Opened};
+ghost use Rattle.certificate_text.specs.Lines.{Cost, End, Label, Leg, Opened};
+ghost use Rattle.certificate_text.specs.Texts.{leg_of, value_of};
 
-use crate::certificate::{Certificate, Entry, Proof};
+use crate::certificate::{Certificate, Entry, LowerBound, Proof};
 use crate::line::{Line, read_line};
 use crate::rooms::labels_in;
 use overpass_graph::Map;
@@ -52,7 +53,7 @@ fn no_leg(alloc: Global) -> Proof {
 impl Draft {
     /// No legs yet.
     pub(crate) fn new(alloc: Global) -> Draft
-        ensures value { forms_now result ≡ Head ∷ [] }
+        ensures value { forms_now result ≡ [] }
         ensures place { stage_at result.place ≡ Opened }
     {
         Draft {
@@ -94,7 +95,7 @@ impl Draft {
             Line::Cost { cost } => self.take_cost(alloc, cost, after),
             Line::Leg { walk } => self.take_leg(alloc, walk),
             Line::End => self.take_end(alloc),
-            Line::Head => Ok(false),
+            Line::Head { bound: _ } => Ok(false),
         }
     }
 
@@ -186,15 +187,18 @@ impl Draft {
         }
     }
 
-    /// The certificate of all legs.
-    pub(crate) fn certificate(self) -> Certificate
-        ensures value { result.legs.items ≡ self.legs.items }
+    /// The certificate of all legs, by this lower bound.
+    pub(crate) fn certificate(self, bound: LowerBound) -> Certificate
+        ensures value { value_of result ≡ record {
+          bound = bound;
+          legs = map leg_of self.legs.items;
+        } }
     {
         let Draft {
             legs,
             leg: _,
             place: _,
         } = self;
-        Certificate { legs }
+        Certificate { bound, legs }
     }
 }

@@ -15,7 +15,7 @@ mod rooms;
 mod walks;
 mod writing;
 
-pub use certificate::{Certificate, Entry, Proof};
+pub use certificate::{Certificate, Entry, LowerBound, Proof};
 pub use error::CertError;
 pub use reading::read;
 pub use writing::write;

@@ -2,10 +2,10 @@
 
 ghost use Rattle.std.specs.Prelude.{◌≡◌, ◌++◌, IfOk, codes, option_map};
 ghost use Rattle.certificate_text.specs.Drafts.{form_of};
-ghost use Rattle.certificate_text.specs.Lines.{IsForm, line_of};
-ghost use Rattle.certificate_text.specs.Parts.{ReadsTo};
+ghost use Rattle.certificate_text.specs.Lines.{IsForm, head_text, line_of};
+ghost use Rattle.certificate_text.specs.Parts.{ReadsTo, told};
 
-use crate::certificate::Entry;
+use crate::certificate::{Entry, LowerBound};
 use crate::cuts::{behind, cut};
 use crate::labels::entry_of;
 use crate::numbers::cost_before;
@@ -16,8 +16,8 @@ use std::alloc::{AllocError, Global};
 /// What a line says.
 #[derive(Drop)]
 pub(crate) enum Line {
-    /// The first one.
-    Head,
+    /// The first one, with the lower bound of the certificate.
+    Head { bound: LowerBound },
     /// A leg, with its walk.
     Leg { walk: Vec<u32> },
     /// What the walk costs.
@@ -49,9 +49,25 @@ pub(crate) fn read_line<'a>(
     if let Some(rest) = behind(text, b"end\n") {
         return Ok(Some((Line::End, rest)));
     }
-    match behind(text, b"certificate 1\n") {
-        Some(rest) => Ok(Some((Line::Head, rest))),
+    match head(text) {
+        Some(found) => {
+            let (bound, rest) = found;
+            Ok(Some((Line::Head { bound }, rest)))
+        }
         None => Ok(None),
+    }
+}
+
+/// The lower bound that a text's first line says of a certificate, and what follows the line.
+pub(crate) fn head(text: &[u8]) -> Option<(LowerBound, &[u8])>
+    ensures exact { ReadsTo 10 head_text (λ _. Unit {0}) text.now (told result) }
+{
+    if let Some(rest) = behind(text, b"certificate 1\n") {
+        return Some((LowerBound::Zero, rest));
+    }
+    match behind(text, b"certificate 2\n") {
+        Some(rest) => Some((LowerBound::Least, rest)),
+        None => None,
     }
 }
 

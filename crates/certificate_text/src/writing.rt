@@ -2,12 +2,12 @@
 
 ghost use Rattle.std.specs.Prelude.{◌≡◌, ◌∷◌, ◌++◌, [], IfOk, OnOk};
 ghost use Rattle.overpass_graph.specs.Names.{letter_of, step_text};
-ghost use Rattle.certificate_text.specs.Lines.{AreLinks, IsEntry, IsLink, buffers_text, entry_text, lines_of, link_text, walk_text, weights_text};
+ghost use Rattle.certificate_text.specs.Lines.{AreLinks, IsEntry, IsLink, buffers_text, entry_text, head_text, lines_of, link_text, walk_text, weights_text};
 ghost use Rattle.certificate_text.specs.Lines.{Label};
-ghost use Rattle.certificate_text.specs.Texts.{AreLegs, IsLeg, certificate_text, labels_of, leg_forms, leg_of, legs_of};
+ghost use Rattle.certificate_text.specs.Texts.{AreLegs, IsLeg, certificate_text, labels_of, leg_forms, leg_of, legs_of, value_of};
 ghost use Rattle.std.specs.List.{AllByRecursion};
 
-use crate::certificate::{Certificate, Entry, Proof};
+use crate::certificate::{Certificate, Entry, LowerBound, Proof};
 use item_list::{append_bytes, append_number, append_signed, append_wide, bytes_of};
 use overpass_graph::{Link, Map};
 use std::alloc::{AllocError, Global};
@@ -16,14 +16,24 @@ use std::alloc::{AllocError, Global};
 pub fn write(alloc: Global, certificate: &Certificate, map: &Map) -> Result<Vec<u8>, AllocError>
     requires legs { AreLegs map.now (legs_of certificate.now) }
     ensures exact { IfOk result
-        (λ text. text.items ≡ certificate_text map.now (legs_of certificate.now)) }
+        (λ text. text.items ≡ certificate_text map.now (value_of certificate.now)) }
 {
-    let mut text = bytes_of(alloc, b"certificate 1\n")?;
+    let mut text = bytes_of(alloc, first_line(certificate.bound))?;
     'legs: for place in 0..certificate.legs.len() {
         append_leg(&mut text, map, &certificate.legs[place])?;
     }
     append_bytes(&mut text, b"end\n")?;
     Ok(text)
+}
+
+/// The first line of a certificate's text, which says its lower bound.
+fn first_line(bound: LowerBound) -> &'static [u8]
+    ensures exact { result.now ≡ head_text bound ++ (10 ∷ []) }
+{
+    match bound {
+        LowerBound::Zero => b"certificate 1\n",
+        LowerBound::Least => b"certificate 2\n",
+    }
 }
 
 /// Appends the lines of a leg.

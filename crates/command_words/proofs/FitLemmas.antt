@@ -21,13 +21,14 @@ use Rattle.command_words.specs.declared.command.GridCommand.{GridCommand}
 use Rattle.command_words.specs.declared.command.HillsCommand.{HillsCommand}
 use Rattle.command_words.specs.declared.command.MakeCommand.{MakeCommand}
 use Rattle.command_words.specs.declared.command.RouteCommand.{RouteCommand}
+use Rattle.command_words.specs.declared.command.CertifyCommand.{CertifyCommand}
 use Rattle.command_words.specs.declared.command.CheckCommand.{CheckCommand}
 use Rattle.command_words.specs.declared.command.ServeCommand.{ServeCommand}
 use Rattle.command_words.specs.declared.command.WithinCommand.{WithinCommand}
 use Rattle.command_words.specs.declared.completing.Sizes.{Sizes}
 use Rattle.command_words.specs.declared.rows.CommandName.{CommandName}
 use Rattle.command_words.specs.declared.rows.CommandName.TheVariants as Name
-use Rattle.command_words.specs.declared.rows.Key.TheVariants.{Seed, Width, Height, From, To, What, Lookups, Profile, Map, Tile, Listen, Turns, Hangup, Labels, Certificate, Cost}
+use Rattle.command_words.specs.declared.rows.Key.TheVariants.{Seed, Width, Height, From, To, What, Lookups, Profile, Map, Tile, Listen, Turns, Hangup, Labels, Certificate, Cost, Bound}
 use Rattle.command_words.specs.declared.value.Place.{Place}
 
 in_grid : (w h : ℕ) (place : Place) → lies_in w h place ≡ true → (place.x < w) × (place.y < h)
@@ -136,7 +137,8 @@ route-fit after None entries command e = absurd (err-not_ok after command e)
 certify-fit : (after : ℕ) (route : Option RouteCommand) (entries : List Given) (command : Command) →
     ride_over after Name.Certify route entries ≡ Ok command → IsFit command
 certify-fit after (Some route) entries command e =
-    let same : Form.TheVariants.Certify route ≡ command = cc in
+    let made : CertifyCommand = record { route = route; bound = number_or (entry_with Bound entries) 0 == 1 } in
+    let same : Form.TheVariants.Certify made ≡ command = cc in
     subst IsFit same tt
 certify-fit after None entries command e = absurd (err-not_ok after command e)
 

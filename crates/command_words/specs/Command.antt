@@ -9,7 +9,7 @@ use Rattle.command_words.specs.Value.{number_in, place_in, product_in}
 use Rattle.command_words.specs.declared.rows.CommandName.{CommandName}
 use Rattle.command_words.specs.declared.rows.CommandName.TheVariants.{Grid, Make, Code, Route, Certify, Check, Table, Within, Hills, Serve}
 use Rattle.command_words.specs.declared.rows.Key.{Key}
-use Rattle.command_words.specs.declared.rows.Key.TheVariants.{Seed, Width, Height, From, To, What, Lookups, Profile, Map, Query, Tile, Listen, Turns, Hangup, Labels, Certificate, Cost}
+use Rattle.command_words.specs.declared.rows.Key.TheVariants.{Seed, Width, Height, From, To, What, Lookups, Profile, Map, Query, Tile, Listen, Turns, Hangup, Labels, Certificate, Cost, Bound}
 use Rattle.command_words.specs.declared.command.Command.{Command}
 use Rattle.command_words.specs.declared.command.Command as Form
 use Rattle.command_words.specs.declared.command.CodeCommand.{CodeCommand}
@@ -113,6 +113,11 @@ ride_in entries =
     ride_with (entry_with Lookups entries) (entry_with Profile entries) (entry_with Map entries)
     (entry_with Query entries) (files_in Tile entries)
 
+-- the number of an entry, or this one where the entry is missing
+unfoldable pub number_or : Option Given → ℕ → ℕ
+number_or None missing = missing
+number_or (Some entry) missing = number_in entry.value
+
 -- the command that checks a certificate for a query, or the place after the last word where it is missing
 abbrev pub check_by : ℕ → RouteCommand → Option Given → Result Command ℕ
 check_by after route (Some certificate) =
@@ -129,7 +134,8 @@ within_by after route None = Err after
 -- the command of this name for a query, or the place after the last word where what it takes beside is
 -- missing; `route` where the name is that of no other such command
 abbrev pub ride_by : ℕ → CommandName → RouteCommand → List Given → Result Command ℕ
-ride_by after Certify route entries = Ok (Form.TheVariants.Certify route)
+ride_by after Certify route entries =
+    Ok (Form.TheVariants.Certify (record { route = route; bound = number_or (entry_with Bound entries) 0 == 1 }))
 ride_by after Check route entries = check_by after route (entry_with Certificate entries)
 ride_by after Table route entries = Ok (Form.TheVariants.Table route)
 ride_by after Within route entries = within_by after route (entry_with Cost entries)
@@ -145,11 +151,6 @@ abbrev pub hills_with : ℕ → Option Sizes → Result Command ℕ
 hills_with after (Some sizes) =
     Ok (Form.TheVariants.Hills (record { seed = sizes.seed; w = sizes.w; h = sizes.h }))
 hills_with after None = Err after
-
--- the number of an entry, or this one where the entry is missing
-unfoldable pub number_or : Option Given → ℕ → ℕ
-number_or None missing = missing
-number_or (Some entry) missing = number_in entry.value
 
 -- where a server listens by a word that may be missing
 unfoldable pub address_of : Option Named → List ℕ

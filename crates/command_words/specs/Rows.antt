@@ -1,7 +1,7 @@
 -- The commands as rows. This project's own rule.
 use Rattle.std.specs.Prelude.{ℕ, ◌^◌, List, [], ◌∷◌, ◌++◌, codes}
 use Rattle.command_words.specs.declared.rows.Key.{Key}
-use Rattle.command_words.specs.declared.rows.Key.TheVariants.{Seed, Width, Height, From, To, What, Lookups, Profile, Map, Query, Tile, Listen, Turns, Hangup, Labels, Certificate, Cost}
+use Rattle.command_words.specs.declared.rows.Key.TheVariants.{Seed, Width, Height, From, To, What, Lookups, Profile, Map, Query, Tile, Listen, Turns, Hangup, Labels, Certificate, Cost, Bound}
 use Rattle.command_words.specs.declared.rows.Form.{Form}
 use Rattle.command_words.specs.declared.rows.Form.TheVariants as form
 use Rattle.command_words.specs.declared.rows.KeyRow.{KeyRow}
@@ -27,6 +27,7 @@ key_name Hangup = codes "hangup"
 key_name Labels = codes "labels"
 key_name Certificate = codes "certificate"
 key_name Cost = codes "cost"
+key_name Bound = codes "bound"
 
 -- the first word of a command
 unfoldable pub command_name : CommandName → List ℕ
@@ -75,7 +76,7 @@ keys_of Make =
     (form.Number 1 1000) ∷ once What form.Product ∷ []
 keys_of Code = once Lookups form.File ∷ once Profile form.ProfileFile ∷ []
 keys_of Route = ride_keys
-keys_of Certify = ride_keys
+keys_of Certify = ride_keys ++ up_to 1 Bound (form.Number 0 1) ∷ []
 keys_of Check = ride_keys ++ once Certificate form.File ∷ []
 keys_of Table = ride_keys
 keys_of Within = ride_keys ++ once Cost form.Cost ∷ []
@@ -98,7 +99,7 @@ about_of Certify =
     codes
     "prints a certificate of the track that answers a query: its walks, and labels that show them least"
 about_of Check =
-    codes "tests a certificate for a query without any search, and prints the cost of its track"
+    codes "tests a certificate for a query without a search of labels, and prints the cost of its track"
 about_of Table = codes "prints what it costs at least to come from each waypoint of a query to each"
 about_of Within =
     codes

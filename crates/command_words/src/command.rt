@@ -42,7 +42,7 @@ pub struct CodeCommand<'a> {
     pub profile: FileWord<'a>,
 }
 
-/// The commands `route`, `certify` and `table`: the files of the tag table, of the profile, of the map and of
+/// The commands `route` and `table`: the files of the tag table, of the profile, of the map and of
 /// the tiles, and a query.
 #[derive(Drop)]
 pub struct RouteCommand<'a> {
@@ -51,6 +51,14 @@ pub struct RouteCommand<'a> {
     pub map: FileWord<'a>,
     pub query: FileWord<'a>,
     pub tiles: Items<FileWord<'a>>,
+}
+
+/// The command `certify`: what the command `route` is given, and whether labels rank with the lower
+/// bound of what is still to pay.
+#[derive(Drop)]
+pub struct CertifyCommand<'a> {
+    pub route: RouteCommand<'a>,
+    pub bound: bool,
 }
 
 /// The command `check`: what the command `route` is given, and the file of a certificate.
@@ -127,7 +135,7 @@ pub enum Command<'a> {
     Make(MakeCommand),
     Code(CodeCommand<'a>),
     Route(RouteCommand<'a>),
-    Certify(RouteCommand<'a>),
+    Certify(CertifyCommand<'a>),
     Check(CheckCommand<'a>),
     Table(RouteCommand<'a>),
     Within(WithinCommand<'a>),

@@ -7,8 +7,8 @@ ghost use Rattle.command_words.specs.declared.rows.CommandName.{CommandName};
 ghost use Rattle.command_words.specs.declared.rows.Key.{Key};
 
 use crate::command::{
-    CheckCommand, CodeCommand, Command, GridCommand, HillsCommand, MakeCommand, RouteCommand,
-    ServeCommand, WithinCommand,
+    CertifyCommand, CheckCommand, CodeCommand, Command, GridCommand, HillsCommand, MakeCommand,
+    RouteCommand, ServeCommand, WithinCommand,
 };
 use crate::entry::{Entry, FileWord};
 use crate::reader::entry_with;
@@ -238,7 +238,10 @@ fn ride_by<'a>(
     ensures exact { result ≡ ride_by after command route.entry entries.now }
 {
     match command {
-        CommandName::Certify => Ok(Command::Certify(route)),
+        CommandName::Certify => Ok(Command::Certify(CertifyCommand {
+            route,
+            bound: number_or(entry_with(entries, Key::Bound), 0) == 1,
+        })),
         CommandName::Check => match entry_with(entries, Key::Certificate) {
             Some(certificate) => Ok(Command::Check(CheckCommand {
                 route,

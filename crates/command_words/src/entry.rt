@@ -131,7 +131,7 @@ impl<'a> Entry<'a> {
 }
 
 /// All keys.
-const ALL_KEYS: [Key; 17] = [
+const ALL_KEYS: [Key; 18] = [
     Key::Seed,
     Key::Width,
     Key::Height,
@@ -149,6 +149,7 @@ const ALL_KEYS: [Key; 17] = [
     Key::Labels,
     Key::Certificate,
     Key::Cost,
+    Key::Bound,
 ];
 
 /// The key that a text names.

@@ -101,7 +101,7 @@ pub const CODE_KEYS: [KeyRow; 2] = [
     },
 ];
 
-/// The keys of the commands `route`, `certify` and `table`.
+/// The keys of the commands `route` and `table`.
 pub const ROUTE_KEYS: [KeyRow; 5] = [
     KeyRow {
         form: Form::File,
@@ -132,6 +132,46 @@ pub const ROUTE_KEYS: [KeyRow; 5] = [
         least: 0,
         most: MOST_FILES,
         key: Key::Tile,
+    },
+];
+
+/// The keys of the command `certify`.
+pub const CERTIFY_KEYS: [KeyRow; 6] = [
+    KeyRow {
+        form: Form::File,
+        least: 1,
+        most: 1,
+        key: Key::Lookups,
+    },
+    KeyRow {
+        form: Form::ProfileFile,
+        least: 1,
+        most: 1,
+        key: Key::Profile,
+    },
+    KeyRow {
+        form: Form::File,
+        least: 1,
+        most: 1,
+        key: Key::Map,
+    },
+    KeyRow {
+        form: Form::Query,
+        least: 1,
+        most: 1,
+        key: Key::Query,
+    },
+    KeyRow {
+        form: Form::File,
+        least: 0,
+        most: MOST_FILES,
+        key: Key::Tile,
+    },
+    KeyRow {
+        form: Form::Number { low: 0, high: 1 },
+        least: 0,
+        most: 1,
+        key: Key::Bound,
     },
 ];
 

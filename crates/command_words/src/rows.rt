@@ -4,7 +4,8 @@ ghost use Rattle.std.specs.Prelude.{◌≡◌};
 ghost use Rattle.command_words.specs.Rows.{about_of, command_name, key_name, keys_of};
 
 use crate::keys::{
-    CHECK_KEYS, CODE_KEYS, GRID_KEYS, HILLS_KEYS, MAKE_KEYS, ROUTE_KEYS, SERVE_KEYS, WITHIN_KEYS,
+    CERTIFY_KEYS, CHECK_KEYS, CODE_KEYS, GRID_KEYS, HILLS_KEYS, MAKE_KEYS, ROUTE_KEYS, SERVE_KEYS,
+    WITHIN_KEYS,
 };
 
 /// The keys of the words after a command.
@@ -27,6 +28,7 @@ pub enum Key {
     Labels,
     Certificate,
     Cost,
+    Bound,
 }
 
 /// What the value of a key has to be.
@@ -126,6 +128,7 @@ impl Key {
             Key::Labels => "labels",
             Key::Certificate => "certificate",
             Key::Cost => "cost",
+            Key::Bound => "bound",
         }
     }
 }
@@ -159,7 +162,8 @@ impl CommandName {
             CommandName::Grid => &GRID_KEYS,
             CommandName::Make => &MAKE_KEYS,
             CommandName::Code => &CODE_KEYS,
-            CommandName::Route | CommandName::Certify | CommandName::Table => &ROUTE_KEYS,
+            CommandName::Route | CommandName::Table => &ROUTE_KEYS,
+            CommandName::Certify => &CERTIFY_KEYS,
             CommandName::Check => &CHECK_KEYS,
             CommandName::Within => &WITHIN_KEYS,
             CommandName::Hills => &HILLS_KEYS,
@@ -186,8 +190,8 @@ impl CommandName {
                 "prints a certificate of the track that answers a query: its walks, and labels \
                  that show them least",
             CommandName::Check =>
-                "tests a certificate for a query without any search, and prints the cost of its \
-                 track",
+                "tests a certificate for a query without a search of labels, and prints the cost \
+                 of its track",
             CommandName::Table =>
                 "prints what it costs at least to come from each waypoint of a query to each",
             CommandName::Within =>

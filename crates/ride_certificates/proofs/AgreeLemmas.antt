@@ -1,7 +1,8 @@
 -- A check of what certifying gives says yes, and so does any other check of it for the same question.
 use Rattle.std.proofs.Common.{◌≡◌, ◌⊎◌, inl, inr, ℕ, List, length, Result, Ok, Err, IfOk, refl, sym, ap, ◌∙◌, subst}
-use Rattle.certificate_text.specs.Texts.{AreLegs, legs_of}
+use Rattle.certificate_text.specs.Texts.{AreLegs, legs_of, value_of}
 use Rattle.certificate_text.specs.declared.certificate.Certificate.{Certificate}
+use Rattle.certificate_text.specs.declared.certificate.LowerBound.{LowerBound}
 use Rattle.cost_model.specs.Rides.{Setting}
 use Rattle.overpass_graph.specs.Maps.{MapValue}
 use Rattle.ride_certificates.specs.Certificates.{AsksFor, Certifies, CertifiesTo, IsCertificateAnswer, refused as uncertified, shown, spent, told_of, trackless}
@@ -31,7 +32,7 @@ pub accepted-asked :
 accepted-asked setting nodes a b certificate sum one other is = record {
   one_fewer = is.one_fewer ∙ ap length (one.nodes ∙ sym other.nodes);
   hold = λ number proof below there.
-      subst (λ leg. ShowsLeast leg proof)
+      subst (λ leg. ShowsLeast certificate.bound leg proof)
       (leg-asked setting nodes a number one ∙ sym (leg-asked setting nodes b number other))
       (is.hold number proof below there);
   cost = is.cost;
@@ -61,10 +62,11 @@ answer-yes question setting nodes ask certificate sum legs asks is answer
     (subst (λ (s : Setting). ChecksTo s nodes certificate verdict) same.0
     (subst (λ (ns : List ℕ). ChecksTo over ns certificate verdict) same.1 checks)))
 
-module _ (question : Question) (setting : Setting) (nodes : List ℕ) (legs : HasLegs question setting nodes) where
+module _ (question : Question) (setting : Setting) (nodes : List ℕ) (legs : HasLegs question setting nodes)
+    (bound : LowerBound) where
   -- what certifying the legs of a question comes to is told as its answer
-  pub told-answers : (found : Certified) → CertifiesTo setting nodes question.asked.labels found →
-      Certifies question (told_of found)
+  pub told-answers : (found : Certified) → CertifiesTo setting nodes bound question.asked.labels found →
+      Certifies question bound (told_of found)
   told-answers (Shown certificate) comes =
       shown (record { setting = setting; nodes = nodes; legs = legs; comes = comes })
   told-answers (NoWalk leg) comes =
@@ -73,10 +75,10 @@ module _ (question : Question) (setting : Setting) (nodes : List ℕ) (legs : Ha
       inr (spent (record { setting = setting; nodes = nodes; legs = legs; comes = comes }))
 
   -- and each certificate of the legs that are told gets yes alone
-  pub told-agrees : (found : Certified) → CertifiesTo setting nodes question.asked.labels found →
-      IfOk (told_of found) (λ certificate. AreAgreed question (legs_of certificate))
+  pub told-agrees : (found : Certified) → CertifiesTo setting nodes bound question.asked.labels found →
+      IfOk (told_of found) (λ certificate. AreAgreed question (value_of certificate))
   told-agrees (Shown certificate) comes = λ other answer same is.
-      let made = shown-accepted setting.terrain comes.ask question.asked.labels (Shown certificate) certificate comes.is refl in
+      let made = shown-accepted setting.terrain comes.ask bound question.asked.labels (Shown certificate) certificate comes.is refl in
       answer-yes question setting nodes comes.ask other (total_cost other) legs comes.asks
       (accepted-same setting.terrain comes.ask certificate other (total_cost certificate) same made) answer is
   told-agrees (NoWalk leg) comes = _
@@ -90,10 +92,10 @@ told-writable roads (NoWalk leg) are = _
 told-writable roads (Spent leg) are = _
 
 -- why a question has no legs is the answer to a request for a certificate
-pub none-answers : (question : Question) (e : RouteError) → (e ≡ NoMemory) ⊎ HasNoLegs question e →
-    (e ≡ NoMemory) ⊎ IsCertificateAnswer question (Err e)
-none-answers question e (inl no_memory) = inl no_memory
-none-answers question e (inr none) = inr (uncertified none)
+pub none-answers : (question : Question) (bound : LowerBound) (e : RouteError) → (e ≡ NoMemory) ⊎ HasNoLegs question e →
+    (e ≡ NoMemory) ⊎ IsCertificateAnswer question bound (Err e)
+none-answers question bound e (inl no_memory) = inl no_memory
+none-answers question bound e (inr none) = inr (uncertified none)
 
 -- and to a check of one
 pub none-checked :

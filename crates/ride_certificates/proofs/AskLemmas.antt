@@ -3,6 +3,7 @@ use Rattle.std.proofs.Common.{◌≡◌, ℕ, ◌<◌, ◌≤◌, Bool, List, le
 use Rattle.std.proofs.lemmas.Option.{slice_get_within}
 use Rattle.bike_space.specs.LegWalks.{IsLeastWalk, leg_cost}
 use Rattle.certificate_text.specs.declared.certificate.Certificate.{Certificate}
+use Rattle.certificate_text.specs.declared.certificate.LowerBound.{LowerBound}
 use Rattle.cost_model.specs.OpenLinks.{is_cut}
 use Rattle.cost_model.specs.Rides.{Leg, Setting, Terrain}
 use Rattle.geo_int.specs.Place.{Place}
@@ -43,12 +44,12 @@ module _ (world : WorldValue) (basis : Basis) (terrain : Terrain) (ask : TrackAs
     asks-for = record { nodes = nodes; cut = λ link. ap (λ (m : List Bool). is_cut m link) cut; turns = turns }
 
     -- what certifying comes to
-    pub certifies-on : (limit : ℕ) (found : Certified) → IsCertified terrain ask limit found →
-        CertifiesTo (setting_on world basis) basis.nodes.items limit found
-    certifies-on limit found is = record {
+    pub certifies-on : (bound : LowerBound) (limit : ℕ) (found : Certified) → IsCertified terrain ask bound limit found →
+        CertifiesTo (setting_on world basis) basis.nodes.items bound limit found
+    certifies-on bound limit found is = record {
       ask = ask;
       asks = asks-for;
-      is = subst (λ (t : Terrain). IsCertified t ask limit found) on_terrain is;
+      is = subst (λ (t : Terrain). IsCertified t ask bound limit found) on_terrain is;
     }
 
     -- what a check comes to
@@ -80,13 +81,13 @@ module _ (world : WorldValue) (setting : Setting) (waypoints : List Place) (basi
   }
 
   -- so is what certifying comes to
-  pub certifies-moved : (limit : ℕ) (found : Certified) →
-      CertifiesTo (setting_on world basis) basis.nodes.items limit found →
-      CertifiesTo setting basis.nodes.items limit found
-  certifies-moved limit found comes = record {
+  pub certifies-moved : (bound : LowerBound) (limit : ℕ) (found : Certified) →
+      CertifiesTo (setting_on world basis) basis.nodes.items bound limit found →
+      CertifiesTo setting basis.nodes.items bound limit found
+  certifies-moved bound limit found comes = record {
     ask = comes.ask;
     asks = asks-moved comes.ask comes.asks;
-    is = subst (λ (t : Terrain). IsCertified t comes.ask limit found) is.terrain comes.is;
+    is = subst (λ (t : Terrain). IsCertified t comes.ask bound limit found) is.terrain comes.is;
   }
 
   -- so is what a check comes to

@@ -1,6 +1,7 @@
 -- What refuses a certificate refuses the track that is asked for too, but for a spent limit.
 use Rattle.std.proofs.Common.{◌≡◌, ◌⊎◌, inl, inr, ℕ, suc, ◌+◌, List, length, get_or, Err, IfErr, refl, sym, ap, ◌∙◌, subst, arith}
 use Rattle.bike_space.specs.LegWalks.{HasNoWalk, IsLegWalk}
+use Rattle.certificate_text.specs.declared.certificate.LowerBound.{LowerBound}
 use Rattle.cost_model.specs.Rides.{Leg, Setting, Terrain, leg_between}
 use Rattle.ride_certificates.specs.Certificates.{CertifiesTo, IsRefusedAsTrack, no_track, only_spent, told_of}
 use Rattle.ride_certificates.specs.Grounds.{HasLegs, HasNoLegs, leg_of, refused, unmapped}
@@ -28,19 +29,20 @@ record IsWalkless (terrain : Terrain) (ask : TrackAsk) (leg : ℕ) : Type 0 wher
   none : HasNoWalk (leg_in terrain ask leg)
 
 -- so it is told
-walkless : (terrain : Terrain) (ask : TrackAsk) (limit : ℕ) (found : Certified) (leg : ℕ) →
-    IsCertified terrain ask limit found → found ≡ NoWalk leg → IsWalkless terrain ask leg
-walkless terrain ask limit found leg (shown short is) same =
+walkless : (terrain : Terrain) (ask : TrackAsk) (bound : LowerBound) (limit : ℕ) (found : Certified) (leg : ℕ) →
+    IsCertified terrain ask bound limit found → found ≡ NoWalk leg → IsWalkless terrain ask leg
+walkless terrain ask bound limit found leg (shown by short is) same =
     let never : ⊥ = cc in
     absurd never
-walkless terrain ask limit found leg (no_walk {leg = at} first none) same =
+walkless terrain ask bound limit found leg (no_walk {leg = at} first none) same =
     let one : at ≡ leg = cc in
     subst (IsWalkless terrain ask) one (record { first = first; none = none })
-walkless terrain ask limit found leg (spent first evidence) same =
+walkless terrain ask bound limit found leg (spent first evidence) same =
     let never : ⊥ = cc in
     absurd never
 
-module _ (question : Question) (setting : Setting) (nodes : List ℕ) (legs : HasLegs question setting nodes) where
+module _ (question : Question) (setting : Setting) (nodes : List ℕ) (legs : HasLegs question setting nodes)
+    (bound : LowerBound) where
   -- the legs are those of the plan of the request
   leg-planned : (number : ℕ) → leg_of setting nodes number ≡ nth_leg (plan_for question setting nodes) number
   leg-planned number =
@@ -48,10 +50,10 @@ module _ (question : Question) (setting : Setting) (nodes : List ℕ) (legs : Ha
       ap (λ (n : ℕ). leg_between setting (get_or nodes number 0) (get_or nodes n 0)) more
 
   -- the first leg without a walk is why there is no track
-  trackless-answer : (leg : ℕ) → CertifiesTo setting nodes question.asked.labels (NoWalk leg) →
+  trackless-answer : (leg : ℕ) → CertifiesTo setting nodes bound question.asked.labels (NoWalk leg) →
       IsAnswer question (Err (NoTrack leg))
   trackless-answer leg comes =
-      let is = walkless setting.terrain comes.ask question.asked.labels (NoWalk leg) leg comes.is refl in
+      let is = walkless setting.terrain comes.ask bound question.asked.labels (NoWalk leg) leg comes.is refl in
       let planned : (k : ℕ) → leg_in setting.terrain comes.ask k ≡ nth_leg (plan_for question setting nodes) k =
       λ k. leg-asked setting nodes comes.ask k comes.asks ∙ leg-planned k in
       let none : HasNoTrack (plan_for question setting nodes) leg = record {
@@ -65,8 +67,8 @@ module _ (question : Question) (setting : Setting) (nodes : List ℕ) (legs : Ha
       (record { setting = setting; over = legs.whole.over; nodes = nodes; mapped = legs.are; is = refl }) (first_trackless none)
 
   -- what is told of certifying is refused as the track is
-  pub told-refuses : (found : Certified) → CertifiesTo setting nodes question.asked.labels found →
-      IfErr (told_of found) (λ e. (e ≡ NoMemory) ⊎ IsRefusedAsTrack question e)
+  pub told-refuses : (found : Certified) → CertifiesTo setting nodes bound question.asked.labels found →
+      IfErr (told_of found) (λ e. (e ≡ NoMemory) ⊎ IsRefusedAsTrack question bound e)
   told-refuses (Shown certificate) comes = _
   told-refuses (NoWalk leg) comes = inr (no_track (trackless-answer leg comes))
   told-refuses (Spent leg) comes =
@@ -79,7 +81,7 @@ early-refuses question e (inl no_memory) = inl no_memory
 early-refuses question e (inr none) = inr (none-refuses question e none)
 
 -- so it is of a certificate
-pub early-certifies : (question : Question) (e : RouteError) → (e ≡ NoMemory) ⊎ HasNoLegs question e →
-    (e ≡ NoMemory) ⊎ IsRefusedAsTrack question e
-early-certifies question e (inl no_memory) = inl no_memory
-early-certifies question e (inr none) = inr (no_track (none-refuses question e none))
+pub early-certifies : (question : Question) (bound : LowerBound) (e : RouteError) →
+    (e ≡ NoMemory) ⊎ HasNoLegs question e → (e ≡ NoMemory) ⊎ IsRefusedAsTrack question bound e
+early-certifies question bound e (inl no_memory) = inl no_memory
+early-certifies question bound e (inr none) = inr (no_track (none-refuses question e none))

@@ -1,11 +1,12 @@
--- Certificates of the same legs are accepted alike.
+-- Certificates that say the same are accepted alike.
 use Rattle.std.proofs.Common.{◌≡◌, ℕ, zero, suc, ◌+◌, List, [], ◌∷◌, length, map, Some, refl, sym, ap, ◌∙◌, subst}
 use Rattle.std.specs.List.{slice_get}
 use Rattle.std.proofs.lemmas.List.{length-map}
 use Rattle.std.proofs.lemmas.Option.{slice_get_within}
 use Rattle.bike_space.specs.LegWalks.{IsLegWalk, leg_cost}
-use Rattle.certificate_text.specs.Texts.{LegValue, leg_of, legs_of}
+use Rattle.certificate_text.specs.Texts.{CertificateValue, LegValue, leg_of, legs_of, value_of}
 use Rattle.certificate_text.specs.declared.certificate.Certificate.{Certificate}
+use Rattle.certificate_text.specs.declared.certificate.LowerBound.{LowerBound}
 use Rattle.certificate_text.specs.declared.certificate.Proof.{Proof}
 use Rattle.cost_model.specs.Rides.{Leg, Terrain}
 use Rattle.route_certificate.specs.Asks.{leg_in}
@@ -15,8 +16,9 @@ use Rattle.route_certificate.specs.Verdicts.{IsAccepted, total_cost}
 use Rattle.route_certificate.specs.declared.ask.TrackAsk.{TrackAsk}
 
 -- what shows a leg's walk least does so wherever walk, cost and labels are the same
-shows-same : (leg : Leg) (one other : Proof) → leg_of one ≡ leg_of other → ShowsLeast leg one → ShowsLeast leg other
-shows-same leg one other same is =
+shows-same : (bound : LowerBound) (leg : Leg) (one other : Proof) → leg_of one ≡ leg_of other →
+    ShowsLeast bound leg one → ShowsLeast bound leg other
+shows-same bound leg one other same is =
     let walk : one.walk.items ≡ other.walk.items = ap (λ (l : LegValue). l.walk) same in
     let cost : one.cost ≡ other.cost = ap (λ (l : LegValue). l.cost) same in
     let entries : one.entries.items ≡ other.entries.items = ap (λ (l : LegValue). l.entries) same in
@@ -29,8 +31,8 @@ shows-same leg one other same is =
         };
         bounds = subst (AreInBounds leg) entries is.sound.bounds;
       };
-      closed = subst (λ (n : ℕ). Closes (leg_rules leg) n other.entries.items) cost
-          (subst (Closes (leg_rules leg) one.cost) entries is.closed);
+      closed = λ low rests. subst (λ (n : ℕ). Closes (leg_rules leg low) n other.entries.items) cost
+          (subst (Closes (leg_rules leg low) one.cost) entries (is.closed low rests));
     }
 
 -- the leg of a number in another list of the same legs
@@ -53,18 +55,21 @@ twin-of (leg ∷ legs) (other ∷ others) same (suc number) proof at =
     let found = twin-of legs others rests number proof at in
     record { twin = found.twin; there = found.there; same = found.same }
 
--- what is accepted is so with any other certificate of the same legs
+-- what is accepted is so with any other certificate that says the same
 pub accepted-same : (terrain : Terrain) (ask : TrackAsk) (certificate other : Certificate) (sum : ℕ) →
-    legs_of other ≡ legs_of certificate → IsAccepted terrain ask certificate sum →
+    value_of other ≡ value_of certificate → IsAccepted terrain ask certificate sum →
     IsAccepted terrain ask other (total_cost other)
-accepted-same terrain ask certificate other sum same is =
+accepted-same terrain ask certificate other sum alike is =
+    let same : legs_of other ≡ legs_of certificate = ap (λ (v : CertificateValue). v.legs) alike in
+    let bounds : other.bound ≡ certificate.bound = ap (λ (v : CertificateValue). v.bound) alike in
     let counts : length other.legs.items ≡ length certificate.legs.items =
     sym (length-map other.legs.items leg_of) ∙ ap length same ∙ length-map certificate.legs.items leg_of in
     record {
       one_fewer = ap (λ (n : ℕ). n + 1) counts ∙ is.one_fewer;
       hold = λ number proof below there.
           let found = twin-of certificate.legs.items other.legs.items (sym same) number proof there in
-          shows-same (leg_in terrain ask number) found.twin proof found.same
-          (is.hold number found.twin (slice_get_within certificate.legs.items number found.twin found.there) found.there);
+          subst (λ (b : LowerBound). ShowsLeast b (leg_in terrain ask number) proof) (sym bounds)
+          (shows-same certificate.bound (leg_in terrain ask number) found.twin proof found.same
+          (is.hold number found.twin (slice_get_within certificate.legs.items number found.twin found.there) found.there));
       cost = refl;
     }

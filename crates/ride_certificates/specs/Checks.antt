@@ -1,7 +1,7 @@
 -- The answer to a check of a certificate of a request (this project's own rule).
 use Rattle.std.specs.Prelude.{◌≡◌, ◌⊎◌, ℕ, ◌+◌, List, length, Result, Ok, Err, MatchResult}
 use Rattle.bike_space.specs.LegWalks.{IsLeastWalk, leg_cost}
-use Rattle.certificate_text.specs.Texts.{LegValue, legs_of}
+use Rattle.certificate_text.specs.Texts.{CertificateValue, value_of}
 use Rattle.certificate_text.specs.declared.certificate.Certificate.{Certificate}
 use Rattle.certificate_text.specs.declared.certificate.Proof.{Proof}
 use Rattle.cost_model.specs.Rides.{Setting}
@@ -35,10 +35,10 @@ Checks question certificate result =
     MatchResult result (λ verdict. IsCheckAnswer question certificate (Ok verdict)) (λ e. (e ≡ NoMemory) ⊎
     IsCheckAnswer question certificate (Err e))
 
--- whatever a check answers of a certificate of these legs, it is yes, with what they cost together
-abbrev pub AreAgreed : Question → List LegValue → Type 0
-AreAgreed question legs =
-    (certificate : Certificate) (answer : Result Verdict RouteError) → legs_of certificate ≡ legs →
+-- whatever a check answers of a certificate that says this, it is yes, with what its legs cost together
+abbrev pub AreAgreed : Question → CertificateValue → Type 0
+AreAgreed question value =
+    (certificate : Certificate) (answer : Result Verdict RouteError) → value_of certificate ≡ value →
     IsCheckAnswer question certificate answer → answer ≡ Ok (Yes (total_cost certificate))
 
 -- each walk of a certificate is one of its leg between these nodes over a setting, and no walk of the leg

@@ -22,7 +22,7 @@ use route_ready::{RouteError, World};
 use std::alloc::{AllocError, Global};
 
 /// Whether a certificate shows the track least that a request asks for over a world by a profile;
-/// or why the request has no legs. Nothing is searched.
+/// or why the request has no legs. No labels are searched.
 pub fn check_certificate(
     alloc: Global,
     world: &World,

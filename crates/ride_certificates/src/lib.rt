@@ -1,5 +1,5 @@
 //! Certificates of requests: the tracks that they ask for, shown least by lists of labels, and the
-//! check of such a certificate without any search.
+//! check of such a certificate without a search of labels.
 #![tactic(auto)]
 
 mod basis;

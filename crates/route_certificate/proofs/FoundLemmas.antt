@@ -1,12 +1,12 @@
--- The end of a search over a leg whose bound says nothing, as what shows the leg's walk least.
+-- The end of a search over a leg, as what shows the leg's walk least.
 use Rattle.std.proofs.Common.{◌≡◌, ◌≢◌, ℕ, ◌-◌, ◌<◌, ◌≤◌, ◌^◌, false, List, [], ◌∷◌, ◌++◌, length, Option, Some, None, IsTrue, sym, ap, ◌∙◌, subst, arith}
 use Rattle.std.specs.List.{slice_get}
 use Rattle.std.proofs.lemmas.Option.{slice_get_within}
 use Rattle.certificate_text.specs.declared.certificate.Entry.{Entry}
+use Rattle.certificate_text.specs.declared.certificate.LowerBound.{LowerBound}
 use Rattle.certificate_text.specs.declared.certificate.Proof.{Proof}
 use Rattle.cost_model.specs.Rides.{Leg}
 use Rattle.cost_model.specs.declared.parts.Carry.{Carry}
-use Rattle.space_search.specs.Laws.{IsBlind}
 use Rattle.space_search.specs.Turns.{EndsFound, EndsSpent}
 use Rattle.space_search.specs.View.{IsShown as IsReadAs, Reached, View, listed}
 use Rattle.bike_space.specs.Alternatives.{is_used}
@@ -20,9 +20,9 @@ use Rattle.item_list.proofs.ListLemmas.{slice_get-pushed}
 use Rattle.route_certificate.specs.Certified.{HasSpent, IsProof}
 use Rattle.route_certificate.specs.Closing.{Closes}
 use Rattle.route_certificate.specs.Entries.{carry_of, labels_of}
-use Rattle.route_certificate.specs.Legs.{AreInBounds, leg_rules}
+use Rattle.route_certificate.specs.Legs.{AreInBounds, AreRests, leg_rules}
 use Rattle.route_certificate.proofs.ClosingLemmas.{flaw-alike, list-closes}
-use Rattle.route_certificate.proofs.LegLemmas.{cost-plain, plain-alike}
+use Rattle.route_certificate.proofs.LegLemmas.{cost-plain, flaw-one, plain-alike}
 use Rattle.route_certificate.proofs.SettledLemmas.{settled-as}
 
 -- the goal that was found can be read, behind the settled labels
@@ -34,7 +34,7 @@ found-read shown label goal numbered there =
     ∙ slice_get-pushed shown.settled goal
 
 module _ (task : Task) (lawful : IsTask task) (none : (link : ℕ) → task.used link ≡ false)
-    (blind : IsBlind (rules_of task)) (differ : task.leg.start ≢ task.leg.target) where
+    (differ : task.leg.start ≢ task.leg.target) where
   module _ (shown : View Carry) (few : length shown.settled < 2 ^ 32) (label : ℕ)
       (found : EndsFound (rules_of task) shown label) (proof : Proof)
       (entries : labels_of proof.entries.items ≡ entries_of shown.settled) (cost : proof.cost ≡ found.goal.cost)
@@ -75,14 +75,14 @@ module _ (task : Task) (lawful : IsTask task) (none : (link : ℕ) → task.used
     -- and closed below that cost
     found-closes : Closes (rules_of task) proof.cost proof.entries.items
     found-closes =
-        let list = settled-closed (rules_of task) (keeps-laws task lawful) blind shown.settled (Some found.goal.cost)
+        let list = settled-closed (rules_of task) (keeps-laws task lawful) shown.settled (Some found.goal.cost)
         proof.cost (λ bound floor. let at : found.goal.cost ≡ bound = cc in omega (arith, at, cost)) found.closed in
         list-closes (rules_of task) proof.cost proof.entries.items
         (subst (λ (l : List (Labelled Carry)). IsClosedList (rules_of task) proof.cost l) (sym entries) list)
 
     -- so all conditions hold
-    pub found-proof : IsProof task.leg proof
-    found-proof = record {
+    pub found-proof : (bound : LowerBound) → AreRests bound task.leg task.low → IsProof bound task.leg proof
+    found-proof bound rests = record {
       shows = record {
         sound = record {
           walk = record {
@@ -92,8 +92,10 @@ module _ (task : Task) (lawful : IsTask task) (none : (link : ℕ) → task.used
           };
           bounds = found-bounds;
         };
-        closed = flaw-alike (rules_of task) (leg_rules task.leg) (plain-alike task none) proof.cost proof.entries.items
-            None found-closes;
+        closed = λ low other.
+            flaw-one bound task.leg task.low low rests other proof None
+            (flaw-alike (rules_of task) (leg_rules task.leg task.low) proof.cost proof.entries.items
+            (plain-alike task none proof.entries.items) None found-closes);
       };
       least = found-walk;
       short =
@@ -108,9 +110,9 @@ module _ (task : Task) (lawful : IsTask task) (none : (link : ℕ) → task.used
       (_, strong-agrees task.leg task.used (λ link. false) (λ link within. none link) shown.limit _ walks)
 
 -- where the nodes of a leg are one, the walk without links is shown least by no labels
-pub home-proof : (leg : Leg) (proof : Proof) → leg.start ≡ leg.target → proof.entries.items ≡ [] → proof.cost ≡ 0 →
-    proof.walk.items ≡ [] → IsProof leg proof
-home-proof leg proof same entries cost walk =
+pub home-proof : (bound : LowerBound) (leg : Leg) (proof : Proof) → leg.start ≡ leg.target → proof.entries.items ≡ [] → proof.cost ≡ 0 →
+    proof.walk.items ≡ [] → IsProof bound leg proof
+home-proof bound leg proof same entries cost walk =
     let least : IsLeastWalk leg proof.walk.items =
     subst (IsLeastWalk leg) (sym walk) (first-least leg [] (empty-least leg (is_used []) same)) in
     let nowhere : (place : ℕ) (entry : Entry) → slice_get proof.entries.items place ≡ Some entry → ⊥ =
@@ -128,8 +130,8 @@ home-proof leg proof same entries cost walk =
           };
           bounds = λ place entry there. absurd (nowhere place entry there);
         };
-        closed = record {
-          starts = λ number state paid within is. dear (omega (arith, cost));
+        closed = λ low rests. record {
+          starts = λ number state paid within is. dear (record { ranks = λ rest _. omega (arith, cost) });
           steps = λ place entry there. absurd (nowhere place entry there);
           goals = λ place entry there. absurd (nowhere place entry there);
         };

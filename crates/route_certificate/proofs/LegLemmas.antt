@@ -2,6 +2,8 @@
 use Rattle.std.proofs.Common.{◌≡◌, ◌≢◌, ℕ, IfOk, Result, Ok, Err, ◌<◌, ◌≤◌, ◌^◌, true, false, Bool, nat_eq, if◌then◌else◌, List, length, Option, Some, None, refl, sym, ap, ◌∙◌, subst, arith}
 use Rattle.std.proofs.lemmas.Bool.Decides.{nat_tests}
 use Rattle.certificate_text.specs.declared.certificate.Entry.{Entry}
+use Rattle.certificate_text.specs.declared.certificate.LowerBound.{LowerBound}
+use Rattle.certificate_text.specs.declared.certificate.LowerBound.TheVariants.{Zero, Least}
 use Rattle.certificate_text.specs.declared.certificate.Proof.{Proof}
 use Rattle.cost_model.specs.Parts.{entry_cost}
 use Rattle.cost_model.specs.Rides.{Leg}
@@ -13,10 +15,10 @@ use Rattle.track_legs.specs.Tracks.{IsWalkAt}
 use Rattle.bike_space.specs.Lawful.{IsTask}
 use Rattle.bike_space.specs.LegWalks.{IsLeastWalk, IsLegWalk, leg_cost, leg_rank}
 use Rattle.bike_space.specs.Tasks.{Task, chosen, entered, may_take, rules_of, start_by, step_by}
-use Rattle.bike_space.proofs.CallerLemmas.{closed-walks, rank-agrees, walk-fits}
+use Rattle.bike_space.proofs.CallerLemmas.{closed-walks, rank-agrees, remaining-one, start-within, step-within, walk-fits}
 use Rattle.route_certificate.specs.Closing.{Closes, IsFirstFlaw}
-use Rattle.route_certificate.specs.Entries.{AreBounded, labels_of}
-use Rattle.route_certificate.specs.Legs.{AreInBounds, IsFirstFault, IsWalkOf, ShowsLeast, leg_rules, plain_task}
+use Rattle.route_certificate.specs.Entries.{AreBounded, carry_of, labels_of}
+use Rattle.route_certificate.specs.Legs.{AreInBounds, AreRests, IsFirstFault, IsWalkOf, ShowsLeast, leg_rules, leg_task, unused}
 use Rattle.route_certificate.specs.declared.verdict.Why.{Why}
 use Rattle.route_certificate.specs.declared.verdict.Why.TheVariants.{Legs, Walk, Bounds, Start, Step, Goal}
 use Rattle.route_certificate.proofs.ClosingLemmas.{Alike, closed-list, flaw-alike}
@@ -40,11 +42,46 @@ module _ (leg : Leg) (proof : Proof) (walk : List ℕ) (same : walk ≡ proof.wa
     costs = ap (λ w. leg_cost leg w) same ∙ is.cost;
   }
 
+-- ---- One lower bound
+
+-- two lower bounds that are what still has to be paid behind links are one there
+rests-one : (bound : LowerBound) (leg : Leg) (low other : ℕ → Option ℕ) → AreRests bound leg low → AreRests bound leg other → (state : Carry) →
+    state.link < leg.ride.roads.links → (leg_rules leg low).low state ≡ (leg_rules leg other).low state
+rests-one Zero leg low other p q state within = p state.link within ∙ sym (q state.link within)
+rests-one Least leg low other p q state within =
+    remaining-one leg unused (leg.ride.roads.to state.link) (low (leg.ride.roads.to state.link))
+    (other (leg.ride.roads.to state.link)) (p state.link within) (q state.link within)
+
+-- so their spaces answer alike
+rests-alike : (bound : LowerBound) (leg : Leg) (low other : ℕ → Option ℕ) → AreRests bound leg low → AreRests bound leg other → (entries : List Entry) →
+    Alike (leg_rules leg low) (leg_rules leg other) entries
+unfolding entered
+rests-alike bound leg low other p q entries = record {
+  starts = refl;
+  start = λ number. refl;
+  steps = λ state. refl;
+  step = λ state number. refl;
+  goal = λ state. refl;
+  covers = λ x cx y cy. refl;
+  start_low = λ number state cost within is.
+      rests-one bound leg low other p q state (start-within (leg_task leg low) number state cost within is);
+  step_low = λ place entry there number state cost within is.
+      rests-one bound leg low other p q state (step-within (leg_task leg low) (carry_of entry) number state cost within is);
+}
+
+-- what fails by the one fails by the other
+pub flaw-one : (bound : LowerBound) (leg : Leg) (low other : ℕ → Option ℕ) → AreRests bound leg low → AreRests bound leg other → (proof : Proof)
+    (flaw : Option Why) → IsFirstFlaw (leg_rules leg low) proof.cost proof.entries.items flaw →
+    IsFirstFlaw (leg_rules leg other) proof.cost proof.entries.items flaw
+flaw-one bound leg low other p q proof flaw is =
+    flaw-alike (leg_rules leg low) (leg_rules leg other) proof.cost proof.entries.items
+    (rests-alike bound leg low other p q proof.entries.items) flaw is
+
 -- ---- The leg's own space
 
 module _ (task : Task) (none : (link : ℕ) → task.used link ≡ false) where
   -- a start is that of the leg without used segments
-  start-plain : (link : ℕ) → start_by task link ≡ start_by (plain_task task.leg) link
+  start-plain : (link : ℕ) → start_by task link ≡ start_by (leg_task task.leg task.low) link
   unfolding entered
   start-plain link =
       ap (λ (b : Bool). if task.leg.ride.is_open link
@@ -54,7 +91,7 @@ module _ (task : Task) (none : (link : ℕ) → task.used link ≡ false) where
       ) else None) (none link)
 
   -- so is a step
-  step-plain : (carry : Carry) (link : ℕ) → step_by task carry link ≡ step_by (plain_task task.leg) carry link
+  step-plain : (carry : Carry) (link : ℕ) → step_by task carry link ≡ step_by (leg_task task.leg task.low) carry link
   unfolding entered
   step-plain carry link =
       ap (λ (b : Bool). if may_take task.leg carry.link link
@@ -66,14 +103,16 @@ module _ (task : Task) (none : (link : ℕ) → task.used link ≡ false) where
       (none link)
 
   -- the space answers as that of the leg
-  pub plain-alike : Alike (rules_of task) (leg_rules task.leg)
-  plain-alike = record {
+  pub plain-alike : (entries : List Entry) → Alike (rules_of task) (leg_rules task.leg task.low) entries
+  plain-alike entries = record {
     starts = refl;
     start = λ number. start-plain (chosen task.leg.ride.roads task.leg.start number);
     steps = λ state. refl;
     step = λ state number. step-plain state (chosen task.leg.ride.roads (task.leg.ride.roads.to state.link) number);
     goal = λ state. refl;
     covers = λ x cx y cy. refl;
+    start_low = λ number state cost within is. refl;
+    step_low = λ place entry there number state cost within is. refl;
   }
 
   -- a rank is a cost
@@ -87,9 +126,9 @@ module _ (task : Task) (none : (link : ℕ) → task.used link ≡ false) where
 
   module _ (proof : Proof) (walk : IsWalkOf task.leg proof) (bounds : AreInBounds task.leg proof.entries.items) where
     -- where its labels are closed below its cost, the walk is least
-    pub proof-least : IsSpace (rules_of task) → Closes (rules_of task) proof.cost proof.entries.items →
+    pub proof-least : IsTask task → IsSpace (rules_of task) → Closes (rules_of task) proof.cost proof.entries.items →
         IsLeastWalk task.leg proof.walk.items
-    proof-least laws closed = record {
+    proof-least lawful laws closed = record {
       is_walk = walk.is_walk;
       least = λ other is.
           elim (nat_eq task.leg.start task.leg.target) as (λ (t : Bool). nat_eq task.leg.start task.leg.target ≡ t →
@@ -102,28 +141,37 @@ module _ (task : Task) (none : (link : ℕ) → task.used link ≡ false) where
                 λ same. (let never : ⊥ = grind (arith, nat_tests, t, same) in never) in
                 let list = closed-list (rules_of task) proof.cost proof.entries.items (in-bounds proof.entries.items bounds)
                 closed in
-                let below = closed-walks task laws differ proof.cost (labels_of proof.entries.items) list other is in
+                let below = closed-walks task lawful laws differ proof.cost (labels_of proof.entries.items) list other is in
                 omega (arith, below, walk.cost, cost-plain other)
           ] refl;
     }
 
     -- the first condition that fails, by the first part of a closed list that does
-    fault-of : (flaw : Option Why) → IsFirstFlaw (leg_rules task.leg) proof.cost proof.entries.items flaw →
-        IsFirstFault task.leg proof flaw
-    fault-of None is = record { sound = record { walk = walk; bounds = bounds }; closed = is }
-    fault-of (Some Legs) fails = fails
-    fault-of (Some Walk) fails = absurd fails
-    fault-of (Some Bounds) fails = absurd fails
-    fault-of (Some Start) fails = record { sound = record { walk = walk; bounds = bounds }; flaw = fails }
-    fault-of (Some Step) fails = record { sound = record { walk = walk; bounds = bounds }; flaw = fails }
-    fault-of (Some Goal) fails = record { sound = record { walk = walk; bounds = bounds }; flaw = fails }
+    fault-of : (bound : LowerBound) → AreRests bound task.leg task.low → (flaw : Option Why) →
+        IsFirstFlaw (leg_rules task.leg task.low) proof.cost proof.entries.items flaw → IsFirstFault bound task.leg proof flaw
+    fault-of bound rests None is =
+        record {
+          sound = record { walk = walk; bounds = bounds };
+          closed = λ low other. flaw-one bound task.leg task.low low rests other proof None is;
+        }
+    fault-of bound rests (Some Legs) fails = fails
+    fault-of bound rests (Some Walk) fails = absurd fails
+    fault-of bound rests (Some Bounds) fails = absurd fails
+    fault-of bound rests (Some Start) fails =
+        record { sound = record { walk = walk; bounds = bounds }; low = task.low; rests = rests; flaw = fails }
+    fault-of bound rests (Some Step) fails =
+        record { sound = record { walk = walk; bounds = bounds }; low = task.low; rests = rests; flaw = fails }
+    fault-of bound rests (Some Goal) fails =
+        record { sound = record { walk = walk; bounds = bounds }; low = task.low; rests = rests; flaw = fails }
 
     -- so what a call answers of the list over the space is what it answers of the leg
-    pub fault-answers : {E : Type 0} (answer : Result (Option Why) E) →
-        IfOk answer (IsFirstFlaw (rules_of task) proof.cost proof.entries.items) → IfOk answer (IsFirstFault task.leg proof)
-    fault-answers (Ok flaw) is =
-        fault-of flaw (flaw-alike (rules_of task) (leg_rules task.leg) plain-alike proof.cost proof.entries.items flaw is)
-    fault-answers (Err e) is = is
+    pub fault-answers : {E : Type 0} (bound : LowerBound) → AreRests bound task.leg task.low → (answer : Result (Option Why) E) →
+        IfOk answer (IsFirstFlaw (rules_of task) proof.cost proof.entries.items) → IfOk answer (IsFirstFault bound task.leg proof)
+    fault-answers bound rests (Ok flaw) is =
+        fault-of bound rests flaw
+        (flaw-alike (rules_of task) (leg_rules task.leg task.low) proof.cost proof.entries.items
+        (plain-alike proof.entries.items) flaw is)
+    fault-answers bound rests (Err e) is = is
 
   -- a walk of at most 2^32 links costs below 2^113
   pub cost-fits : IsTask task → (proof : Proof) → IsWalkOf task.leg proof → length proof.walk.items ≤ 2 ^ 32 →
@@ -139,10 +187,14 @@ module _ (task : Task) (none : (link : ℕ) → task.used link ≡ false) where
 -- ---- Faults
 
 -- where all conditions hold, none fails
-pub fault-none : (leg : Leg) (proof : Proof) → ShowsLeast leg proof → (why : Why) → IsFirstFault leg proof (Some why) → ⊥
-fault-none leg proof all Legs is = is
-fault-none leg proof all Walk is = is all.sound.walk
-fault-none leg proof all Bounds is = is.1 all.sound.bounds
-fault-none leg proof all Start is = is.flaw all.closed.starts
-fault-none leg proof all Step is = is.flaw.1 all.closed.steps
-fault-none leg proof all Goal is = is.flaw.2 all.closed.goals
+pub fault-none : (bound : LowerBound) (leg : Leg) (proof : Proof) → ShowsLeast bound leg proof → (why : Why) →
+    IsFirstFault bound leg proof (Some why) → ⊥
+fault-none bound leg proof all Legs is = is
+fault-none bound leg proof all Walk is = is all.sound.walk
+fault-none bound leg proof all Bounds is = is.1 all.sound.bounds
+fault-none bound leg proof all Start is =
+    is.flaw (all.closed is.low is.rests).starts
+fault-none bound leg proof all Step is =
+    is.flaw.1 (all.closed is.low is.rests).steps
+fault-none bound leg proof all Goal is =
+    is.flaw.2 (all.closed is.low is.rests).goals

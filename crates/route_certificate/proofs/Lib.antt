@@ -1,6 +1,7 @@
 pub mod ChainLemmas
 pub mod ClosingLemmas
 pub mod LegLemmas
+pub mod SpaceLemmas
 pub mod VerdictLemmas
 pub mod SettledLemmas
 pub mod FoundLemmas

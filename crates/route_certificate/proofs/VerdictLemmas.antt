@@ -29,7 +29,7 @@ pub record IsCheckedTo (terrain : Terrain) (ask : TrackAsk) (certificate : Certi
   pub small : sum ≤ count * 2 ^ 113
   pub hold :
       (number : ℕ) (proof : Proof) → number < count → IsLegAt certificate number proof →
-      ShowsLeast (leg_in terrain ask number) proof
+      ShowsLeast certificate.bound (leg_in terrain ask number) proof
   pub least :
       (number : ℕ) (proof : Proof) → number < count → IsLegAt certificate number proof →
       IsLeastWalk (leg_in terrain ask number) proof.walk.items
@@ -60,7 +60,7 @@ module _ (terrain : Terrain) (ask : TrackAsk) (certificate : Certificate) where
 
   -- one leg more
   pub checked-more : (count sum new : ℕ) (one : Proof) → IsCheckedTo terrain ask certificate count sum →
-      IsLegAt certificate count one → ShowsLeast (leg_in terrain ask count) one →
+      IsLegAt certificate count one → ShowsLeast certificate.bound (leg_in terrain ask count) one →
       IsLeastWalk (leg_in terrain ask count) one.walk.items → one.cost < 2 ^ 113 → new ≡ sum + one.cost →
       IsCheckedTo terrain ask certificate (count + 1) new
   checked-more count sum new one is there shows least fits added = record {
@@ -77,7 +77,7 @@ module _ (terrain : Terrain) (ask : TrackAsk) (certificate : Certificate) where
           sum_by_more (λ (p : Proof). p.cost) certificate.legs.items count one within,
         );
     small = omega (arith, added, is.small, fits);
-    hold = each-more (λ number proof. ShowsLeast (leg_in terrain ask number) proof) count one there shows is.hold;
+    hold = each-more (λ number proof. ShowsLeast certificate.bound (leg_in terrain ask number) proof) count one there shows is.hold;
     least = each-more (λ number proof. IsLeastWalk (leg_in terrain ask number) proof.walk.items) count one there least
         is.least;
   }
@@ -101,7 +101,7 @@ module _ (terrain : Terrain) (ask : TrackAsk) (certificate : Certificate) where
   -- a leg that fails after those that hold is what is answered
   pub checked-refused : (count sum : ℕ) (one : Proof) (why : Why) → IsOneFewer ask certificate →
       IsCheckedTo terrain ask certificate count sum → IsLegAt certificate count one →
-      IsFirstFault (leg_in terrain ask count) one (Some why) → IsVerdict terrain ask certificate (No count why)
+      IsFirstFault certificate.bound (leg_in terrain ask count) one (Some why) → IsVerdict terrain ask certificate (No count why)
   checked-refused count sum one why one_fewer is there fails = refused (record {
     one_fewer = one_fewer;
     before = is.hold;
@@ -121,7 +121,7 @@ module _ (terrain : Terrain) (ask : TrackAsk) (certificate : Certificate) where
   accepted-alone sum all verdict (accepted is) = ap Yes is.cost
   accepted-alone sum all verdict (miscounted is) = absurd (is.differ all.one_fewer)
   accepted-alone sum all verdict (refused {leg = leg} {why = why} is) =
-      absurd (fault-none (leg_in terrain ask leg) is.proof
+      absurd (fault-none certificate.bound (leg_in terrain ask leg) is.proof
       (all.hold leg is.proof (slice_get_within certificate.legs.items leg is.proof is.there) is.there) why is.fails)
 
 -- the leg at a place of a list that is read there

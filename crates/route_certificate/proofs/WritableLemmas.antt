@@ -7,6 +7,7 @@ use mir.Syntax.{w64}
 use Rattle.certificate_text.specs.Lines.{IsBuffer, IsEntry, IsLink}
 use Rattle.certificate_text.specs.Texts.{AreLegs, IsLeg, leg_of}
 use Rattle.certificate_text.specs.declared.certificate.Entry.{Entry}
+use Rattle.certificate_text.specs.declared.certificate.LowerBound.{LowerBound}
 use Rattle.certificate_text.specs.declared.certificate.Proof.{Proof}
 use Rattle.cost_model.specs.Prices.{IsPrices, Prices}
 use Rattle.cost_model.specs.Rides.{Terrain}
@@ -68,7 +69,7 @@ home-written roads walk cost entries no_links free no_labels = record {
 }
 
 module _ (terrain : Terrain) (kept : Rested) (lawful : IsTask (task_of terrain kept))
-    (none : (link : ℕ) → (task_of terrain kept).used link ≡ false) where
+    (none : (link : ℕ) → (task_of terrain kept).used link ≡ false) (bound : LowerBound) where
   -- a label in bounds may be written
   label-written : (entry : Entry) → IsInBounds (task_of terrain kept).leg entry → IsEntry terrain.map entry
   unfolding is_carried
@@ -86,7 +87,7 @@ module _ (terrain : Terrain) (kept : Rested) (lawful : IsTask (task_of terrain k
       }
 
   -- a leg that is shown a least walk may be written
-  leg-written : (proof : Proof) → IsProof (task_of terrain kept).leg proof → IsLeg terrain.map (leg_of proof)
+  leg-written : (proof : Proof) → IsProof bound (task_of terrain kept).leg proof → IsLeg terrain.map (leg_of proof)
   leg-written proof is = record {
     walk = read-all (IsLink terrain.map) proof.walk.items
         (λ k below. (is.shows.sound.walk.is_walk.open_links k below).in_range);
@@ -97,7 +98,7 @@ module _ (terrain : Terrain) (kept : Rested) (lawful : IsTask (task_of terrain k
 
   -- so may what a call shows of it
   pub shown-written : {E : Type 0} (limit : ℕ) (answer : Result (Outcome Proof) E) →
-      IfOk answer (IsShown (task_of terrain kept).leg limit) → IfOk answer (IsWritable terrain.map)
+      IfOk answer (IsShown bound (task_of terrain kept).leg limit) → IfOk answer (IsWritable terrain.map)
   shown-written limit (Ok (Found proof)) is = leg-written proof is
   shown-written limit (Ok NoWay) is = tt
   shown-written limit (Ok Budget) is = tt

@@ -1,7 +1,8 @@
 -- What certifying comes to (this project's own rule).
-use Rattle.std.specs.Prelude.{ℕ, ◌+◌, ◌<◌, ◌≤◌, ◌^◌, false, List, length}
+use Rattle.std.specs.Prelude.{ℕ, ◌≡◌, ◌+◌, ◌<◌, ◌≤◌, ◌^◌, false, List, length}
 use Rattle.certificate_text.specs.Texts.{AreLegs, IsLeg, leg_of, legs_of}
 use Rattle.certificate_text.specs.declared.certificate.Certificate.{Certificate}
+use Rattle.certificate_text.specs.declared.certificate.LowerBound.{LowerBound}
 use Rattle.certificate_text.specs.declared.certificate.Proof.{Proof}
 use Rattle.cost_model.specs.Rides.{Leg, Terrain}
 use Rattle.bike_space.specs.LegWalks.{HasNoWalk, IsLeastWalk}
@@ -19,8 +20,8 @@ use Rattle.route_certificate.specs.declared.making.Certified.TheVariants.{Shown,
 -- ---- A leg
 
 -- all conditions hold, the walk is least, and it has at most 2^32 links
-pub record IsProof (leg : Leg) (proof : Proof) : Type 0 where
-  pub shows : ShowsLeast leg proof
+pub record IsProof (bound : LowerBound) (leg : Leg) (proof : Proof) : Type 0 where
+  pub shows : ShowsLeast bound leg proof
   pub least : IsLeastWalk leg proof.walk.items
   pub short : length proof.walk.items ≤ 2 ^ 32
 
@@ -29,8 +30,8 @@ abbrev pub HasSpent : (leg : Leg) (limit : ℕ) → Type 0
 HasSpent leg limit = (walks : List (List ℕ)) × IsSpentStrong leg (λ link. false) limit walks
 
 -- a leg is shown a least walk, or has none, or the limit is spent on it
-abbrev pub IsShown : (leg : Leg) (limit : ℕ) → Outcome Proof → Type 0
-IsShown leg limit = Ends (IsProof leg) (HasNoWalk leg) (HasSpent leg limit)
+abbrev pub IsShown : (bound : LowerBound) (leg : Leg) (limit : ℕ) → Outcome Proof → Type 0
+IsShown bound leg limit = Ends (IsProof bound leg) (HasNoWalk leg) (HasSpent leg limit)
 
 -- a leg that is shown a least walk may be written, with its labels
 abbrev pub IsWritable : MapValue → Outcome Proof → Type 0
@@ -43,18 +44,18 @@ pub record IsFirst (terrain : Terrain) (ask : TrackAsk) (leg : ℕ) : Type 0 whe
   pub within : leg + 1 < length ask.nodes.now
   pub before : (number : ℕ) → number < leg → (walk : List ℕ) × IsLeastWalk (leg_in terrain ask number) walk
 
--- a certificate of which all conditions hold; or the first leg that has no walk, or on which the limit is spent
-pub data IsCertified (terrain : Terrain) (ask : TrackAsk) (limit : ℕ) : Certified → Type 0 where
+-- a certificate by this lower bound, of which all conditions hold; or the first leg that has no walk, or on which the limit is spent
+pub data IsCertified (terrain : Terrain) (ask : TrackAsk) (bound : LowerBound) (limit : ℕ) : Certified → Type 0 where
   shown :
-      {certificate : Certificate} → AreShort certificate →
+      {certificate : Certificate} → certificate.bound ≡ bound → AreShort certificate →
       IsAccepted terrain ask certificate (total_cost certificate) →
-      IsCertified terrain ask limit (Shown certificate)
+      IsCertified terrain ask bound limit (Shown certificate)
   no_walk :
       {leg : ℕ} → IsFirst terrain ask leg → HasNoWalk (leg_in terrain ask leg) →
-      IsCertified terrain ask limit (NoWalk leg)
+      IsCertified terrain ask bound limit (NoWalk leg)
   spent :
       {leg : ℕ} → IsFirst terrain ask leg → HasSpent (leg_in terrain ask leg) limit →
-      IsCertified terrain ask limit (Spent leg)
+      IsCertified terrain ask bound limit (Spent leg)
 
 -- a certificate that is shown may be written
 abbrev pub AreWritable : MapValue → Certified → Type 0

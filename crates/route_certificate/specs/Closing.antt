@@ -9,13 +9,13 @@ use Rattle.route_certificate.specs.Entries.{carry_of, labels_of}
 use Rattle.route_certificate.specs.declared.verdict.Why.{Why}
 use Rattle.route_certificate.specs.declared.verdict.Why.TheVariants.{Legs, Walk, Bounds, Start, Step, Goal}
 
--- what each start gives is covered by a label, or costs at least so much
+-- what each start gives is covered by a label, or ranks at least so much
 abbrev pub ClosesStarts : (rules : Rules Carry) (least : ℕ) (entries : List Entry) → Type 0
 ClosesStarts rules least entries =
     (number : ℕ) (state : Carry) (cost : ℕ) → number < rules.starts → rules.start number ≡ Some (state, cost) →
     IsCoveredBelow rules least (labels_of entries) state cost
 
--- what each step of a label gives is covered by a label, or costs at least so much
+-- what each step of a label gives is covered by a label, or ranks at least so much
 abbrev pub ClosesStepsOf : (rules : Rules Carry) (least : ℕ) (entries : List Entry) (entry : Entry) → Type 0
 ClosesStepsOf rules least entries entry =
     (number : ℕ) (state : Carry) (cost : ℕ) → number < rules.steps (carry_of entry) →

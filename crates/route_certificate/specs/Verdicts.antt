@@ -34,7 +34,7 @@ total_cost certificate = sum_by (λ proof. proof.cost) certificate.legs.items
 abbrev pub HoldBefore : (terrain : Terrain) (ask : TrackAsk) (certificate : Certificate) (count : ℕ) → Type 0
 HoldBefore terrain ask certificate count =
     (number : ℕ) (proof : Proof) → number < count → IsLegAt certificate number proof →
-    ShowsLeast (leg_in terrain ask number) proof
+    ShowsLeast certificate.bound (leg_in terrain ask number) proof
 
 -- no walk of a leg costs less than the one in the certificate
 abbrev pub AreLeastLegs : (terrain : Terrain) (ask : TrackAsk) (certificate : Certificate) → Type 0
@@ -60,7 +60,7 @@ pub record IsRefusedAt (terrain : Terrain) (ask : TrackAsk) (certificate : Certi
   pub before : HoldBefore terrain ask certificate leg
   pub proof : Proof
   pub there : IsLegAt certificate leg proof
-  pub fails : IsFirstFault (leg_in terrain ask leg) proof (Some why)
+  pub fails : IsFirstFault certificate.bound (leg_in terrain ask leg) proof (Some why)
 
 -- what is answered: that all conditions hold, or the first one that fails
 pub data IsVerdict (terrain : Terrain) (ask : TrackAsk) (certificate : Certificate) : Verdict → Type 0 where

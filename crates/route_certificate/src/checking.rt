@@ -14,7 +14,8 @@ use item_list::narrow;
 use std::alloc::{AllocError, Global};
 
 /// Whether a certificate shows the walks of a track least, with the sum of their costs; or the
-/// first condition that fails, leg after leg. Nothing is searched.
+/// first condition that fails, leg after leg, where labels rank by the lower bound of the
+/// certificate. No labels are searched.
 pub fn verify<G: TerrainOf>(
     alloc: Global,
     terrain: G,
@@ -40,7 +41,7 @@ pub fn verify<G: TerrainOf>(
     let mut cost = 0;
     'legs: for place in 0..legs.len() {
         let proof = &legs[place];
-        let fault = leg_fault(alloc, terrain, ask, place, proof)?;
+        let fault = leg_fault(alloc, terrain, ask, place, certificate.bound, proof)?;
         match fault {
             Some(why) => {
                 let leg = place as u32;

@@ -1,7 +1,7 @@
 //! Whether a list of labels is closed below a cost.
 
 ghost use Rattle.std.specs.Prelude.{◌↔◌, ◌<◌, IfOk, IsTrue};
-ghost use Rattle.bike_space.specs.Closed.{IsCoveredBelow};
+ghost use Rattle.bike_space.specs.Closed.{IsCoveredBelow, IsDear};
 ghost use Rattle.space_search.specs.Rules.{LOW_BOUND};
 ghost use Rattle.route_certificate.specs.Chains.{IsIndex};
 ghost use Rattle.route_certificate.specs.Closing.{ClosesGoals, ClosesStarts, ClosesSteps, ClosesStepsOf, IsFirstFlaw, IsNoCheapGoal};
@@ -38,7 +38,7 @@ pub(crate) fn first_flaw<S: Space<State = Carry>>(
     Ok(None)
 }
 
-/// Whether a label covers a state at a cost, or that is at least so much.
+/// Whether a label covers a state at a cost, or it ranks at least so much.
 fn is_covered_or_dear<S: Space<State = Carry>>(
     space: &S,
     entries: &[Entry],
@@ -54,7 +54,20 @@ fn is_covered_or_dear<S: Space<State = Carry>>(
     ensures exact { IsTrue result ↔
         IsCoveredBelow (S.rules space.now) least (labels_of entries.now) state.now cost }
 {
-    cost >= least || is_covered(space, entries, index, state, cost)
+    is_dear(space, least, state, cost) || is_covered(space, entries, index, state, cost)
+}
+
+/// Whether a state at a cost ranks at least so much: with what still has to be paid, or where no
+/// goal is reached from it.
+fn is_dear<S: Space<State = Carry>>(space: &S, least: u128, state: &Carry, cost: u128) -> bool
+    requires valid { IsTrue ((S.rules space.now).is_valid state.now) }
+    requires small { cost < LOW_BOUND }
+    ensures exact { IsTrue result ↔ IsDear (S.rules space.now) least state.now cost }
+{
+    match space.low(state) {
+        Some(rest) => cost + rest >= least,
+        None => true,
+    }
 }
 
 /// Whether what each start gives is covered or dear.

@@ -3,17 +3,19 @@
 ghost use Rattle.std.specs.Prelude.{◌≡◌, ◌≢◌, ◌<◌, ◌+◌, ◌^◌, ℕ, IfOk, false, length};
 ghost use Rattle.bike_space.specs.Kept.{task_of};
 ghost use Rattle.bike_space.specs.Tasks.{rules_of};
-ghost use Rattle.space_search.specs.Laws.{IsBlind};
+ghost use Rattle.certificate_text.specs.declared.certificate.LowerBound.{LowerBound};
 ghost use Rattle.space_search.specs.Searches.{IsSearchOf};
 ghost use Rattle.space_search.specs.Turns.{EndsFound, EndsSearch};
 ghost use Rattle.space_search.specs.View.{view};
 ghost use Rattle.route_certificate.specs.Asks.{IsAsk, leg_in};
 ghost use Rattle.route_certificate.specs.Certified.{IsProof, IsShown, IsWritable};
+ghost use Rattle.route_certificate.specs.Legs.{AreRests};
 
 use crate::ask::TrackAsk;
 use crate::settled::settled_entries;
+use crate::space::leg_space;
 use bike_space::BikeSpace;
-use certificate_text::Proof;
+use certificate_text::{LowerBound, Proof};
 use cost_model::{Carry, TerrainOf};
 use item_list::Turn;
 use space_search::{Outcome, Search};
@@ -29,13 +31,14 @@ pub(crate) fn certify_leg<G: TerrainOf>(
     terrain: G,
     ask: &TrackAsk,
     place: usize,
+    bound: LowerBound,
     limit: u64,
 ) -> Result<Outcome<Proof>, AllocError>
     requires asked { IsAsk (G.terrain terrain) ask.now }
     requires within { place + 1 < length ask.now.nodes.now }
     requires small { limit < 2 ^ 32 }
     ensures exact { IfOk result
-        (IsShown (leg_in (G.terrain terrain) ask.now place) limit) }
+        (IsShown bound (leg_in (G.terrain terrain) ask.now place) limit) }
     ensures fits { IfOk result (IsWritable (G.terrain terrain).map) }
 {
     let (start, target) = (ask.nodes[place], ask.nodes[place + 1]);
@@ -49,7 +52,7 @@ pub(crate) fn certify_leg<G: TerrainOf>(
         };
         return Ok(Outcome::Found(proof));
     }
-    let space = BikeSpace::plain(alloc, terrain, ask.cut, ask.turns, start, target)?;
+    let space = leg_space(alloc, terrain, ask, place, bound)?;
     certify_space(alloc, &space, limit)
 }
 
@@ -61,11 +64,12 @@ fn certify_space<G: TerrainOf>(
 ) -> Result<Outcome<Proof>, AllocError>
     requires unused { (link : ℕ) →
         (task_of (G.terrain space.now.terrain) space.now.kept).used link ≡ false }
-    requires blind { IsBlind (rules_of (task_of (G.terrain space.now.terrain) space.now.kept)) }
     requires differ { space.now.kept.start ≢ space.now.kept.target }
     requires small { limit < 2 ^ 32 }
-    ensures exact { IfOk result
-        (IsShown (task_of (G.terrain space.now.terrain) space.now.kept).leg limit) }
+    ensures exact { (bound : LowerBound) → AreRests bound
+        (task_of (G.terrain space.now.terrain) space.now.kept).leg
+        (task_of (G.terrain space.now.terrain) space.now.kept).low → IfOk result
+        (IsShown bound (task_of (G.terrain space.now.terrain) space.now.kept).leg limit) }
 {
     let mut search = Search::new(alloc, limit);
     'turns: loop {
@@ -85,15 +89,16 @@ fn told<G: TerrainOf>(
 ) -> Result<Outcome<Proof>, AllocError>
     requires unused { (link : ℕ) →
         (task_of (G.terrain space.now.terrain) space.now.kept).used link ≡ false }
-    requires blind { IsBlind (rules_of (task_of (G.terrain space.now.terrain) space.now.kept)) }
     requires differ { space.now.kept.start ≢ space.now.kept.target }
     requires of { IsSearchOf (rules_of (task_of (G.terrain space.now.terrain) space.now.kept))
         search.now }
     requires small { (view search.now).limit < 2 ^ 32 }
     requires ends { EndsSearch (rules_of (task_of (G.terrain space.now.terrain) space.now.kept))
         (view search.now) end }
-    ensures exact { IfOk result
-        (IsShown (task_of (G.terrain space.now.terrain) space.now.kept).leg
+    ensures exact { (bound : LowerBound) → AreRests bound
+        (task_of (G.terrain space.now.terrain) space.now.kept).leg
+        (task_of (G.terrain space.now.terrain) space.now.kept).low → IfOk result
+        (IsShown bound (task_of (G.terrain space.now.terrain) space.now.kept).leg
         (view search.now).limit) }
 {
     match end {
@@ -115,15 +120,16 @@ fn proof_of<G: TerrainOf>(
 ) -> Result<Proof, AllocError>
     requires unused { (link : ℕ) →
         (task_of (G.terrain space.now.terrain) space.now.kept).used link ≡ false }
-    requires blind { IsBlind (rules_of (task_of (G.terrain space.now.terrain) space.now.kept)) }
     requires differ { space.now.kept.start ≢ space.now.kept.target }
     requires of { IsSearchOf (rules_of (task_of (G.terrain space.now.terrain) space.now.kept))
         search.now }
     requires small { (view search.now).limit < 2 ^ 32 }
     requires found { EndsFound (rules_of (task_of (G.terrain space.now.terrain) space.now.kept))
         (view search.now) label }
-    ensures exact { IfOk result
-        (IsProof (task_of (G.terrain space.now.terrain) space.now.kept).leg) }
+    ensures exact { (bound : LowerBound) → AreRests bound
+        (task_of (G.terrain space.now.terrain) space.now.kept).leg
+        (task_of (G.terrain space.now.terrain) space.now.kept).low → IfOk result
+        (IsProof bound (task_of (G.terrain space.now.terrain) space.now.kept).leg) }
 {
     let entries = settled_entries(alloc, search)?;
     let choices = search.choices(alloc, label)?;

@@ -3,16 +3,18 @@
 ghost use Rattle.std.specs.Prelude.{◌≡◌, ◌↔◌, ◌<◌, ◌≤◌, ◌+◌, ◌^◌, ℕ, IfOk, IsTrue, Ok, None, false, length};
 ghost use Rattle.bike_space.specs.Kept.{task_of};
 ghost use Rattle.bike_space.specs.LegWalks.{IsLeastWalk};
+ghost use Rattle.certificate_text.specs.declared.certificate.LowerBound.{LowerBound};
 ghost use Rattle.cost_model.specs.Rides.{leg_between};
 ghost use Rattle.route_certificate.specs.Asks.{IsAsk, leg_in, setting_in};
-ghost use Rattle.route_certificate.specs.Legs.{IsFirstFault, IsWalkOf};
+ghost use Rattle.route_certificate.specs.Legs.{AreRests, IsFirstFault, IsWalkOf};
 
 use crate::ask::TrackAsk;
 use crate::closing::first_flaw;
 use crate::entries::are_in_bounds;
+use crate::space::leg_space;
 use crate::verdict::Why;
 use bike_space::BikeSpace;
-use certificate_text::Proof;
+use certificate_text::{LowerBound, Proof};
 use cost_model::TerrainOf;
 use std::alloc::{AllocError, Global};
 use track_legs::is_walk_at;
@@ -24,12 +26,13 @@ pub(crate) fn leg_fault<G: TerrainOf>(
     terrain: G,
     ask: &TrackAsk,
     place: usize,
+    bound: LowerBound,
     proof: &Proof,
 ) -> Result<Option<Why>, AllocError>
     requires asked { IsAsk (G.terrain terrain) ask.now }
     requires within { place + 1 < length ask.now.nodes.now }
     ensures exact { IfOk result
-        (IsFirstFault (leg_in (G.terrain terrain) ask.now place) proof.now) }
+        (IsFirstFault bound (leg_in (G.terrain terrain) ask.now place) proof.now) }
     ensures least { result ≡ Ok None →
         IsLeastWalk (leg_in (G.terrain terrain) ask.now place) proof.now.walk.items }
     ensures fits { result ≡ Ok None → length proof.now.walk.items ≤ 2 ^ 32 →
@@ -39,7 +42,7 @@ pub(crate) fn leg_fault<G: TerrainOf>(
     if !is_walk_of(&terrain, ask, start, target, proof) {
         return Ok(Some(Why::Walk));
     }
-    let space = BikeSpace::plain(alloc, terrain, ask.cut, ask.turns, start, target)?;
+    let space = leg_space(alloc, terrain, ask, place, bound)?;
     space_fault(alloc, &space, proof)
 }
 
@@ -77,8 +80,10 @@ fn space_fault<G: TerrainOf>(
     requires unused { (link : ℕ) →
         (task_of (G.terrain space.now.terrain) space.now.kept).used link ≡ false }
     requires walk { IsWalkOf (task_of (G.terrain space.now.terrain) space.now.kept).leg proof.now }
-    ensures exact { IfOk result
-        (IsFirstFault (task_of (G.terrain space.now.terrain) space.now.kept).leg proof.now) }
+    ensures exact { (bound : LowerBound) → AreRests bound
+        (task_of (G.terrain space.now.terrain) space.now.kept).leg
+        (task_of (G.terrain space.now.terrain) space.now.kept).low → IfOk result
+        (IsFirstFault bound (task_of (G.terrain space.now.terrain) space.now.kept).leg proof.now) }
     ensures least { result ≡ Ok None → IsLeastWalk
         (task_of (G.terrain space.now.terrain) space.now.kept).leg proof.now.walk.items }
     ensures fits { result ≡ Ok None → length proof.now.walk.items ≤ 2 ^ 32 →

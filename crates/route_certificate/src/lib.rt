@@ -1,5 +1,5 @@
-//! Lists of labels that show the walks of a track least: their check without any search, and the
-//! search that makes them.
+//! Lists of labels that show the walks of a track least: their check without a search of labels,
+//! and the search that makes them.
 #![tactic(auto)]
 
 mod ask;
@@ -11,6 +11,7 @@ mod index;
 mod leg;
 mod making;
 mod settled;
+mod space;
 mod verdict;
 
 pub use ask::TrackAsk;

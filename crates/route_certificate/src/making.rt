@@ -11,7 +11,7 @@ ghost use Rattle.certificate_text.specs.declared.certificate.Certificate.{Certif
 
 use crate::ask::TrackAsk;
 use crate::finding::certify_leg;
-use certificate_text::Certificate;
+use certificate_text::{Certificate, LowerBound};
 use cost_model::TerrainOf;
 use space_search::Outcome;
 use std::alloc::{AllocError, Global};
@@ -27,18 +27,19 @@ pub enum Certified {
     Spent { leg: u32 },
 }
 
-/// A certificate of the legs of a track. Each leg is searched without a lower bound, and settles at
-/// most `limit` labels.
+/// A certificate of the legs of a track by a lower bound. Each leg is searched by that bound, and
+/// settles at most `limit` labels.
 pub fn certify<G: TerrainOf>(
     alloc: Global,
     terrain: G,
     ask: &TrackAsk,
+    bound: LowerBound,
     limit: u64,
 ) -> Result<Certified, AllocError>
     requires asked { IsAsk (G.terrain terrain) ask.now }
     requires some { 1 ≤ length ask.now.nodes.now }
     requires small { limit < 2 ^ 32 }
-    ensures exact { IfOk result (IsCertified (G.terrain terrain) ask.now limit) }
+    ensures exact { IfOk result (IsCertified (G.terrain terrain) ask.now bound limit) }
 
     // What is shown may be written.
     ensures fits { IfOk result (AreWritable (G.terrain terrain).map) }
@@ -52,12 +53,12 @@ pub fn certify<G: TerrainOf>(
     let count = ask.nodes.len() - 1;
     let mut legs = Vec::new(alloc);
     'legs: for place in 0..count {
-        let found = certify_leg(alloc, terrain, ask, place, limit)?;
+        let found = certify_leg(alloc, terrain, ask, place, bound, limit)?;
         match found {
             Outcome::Found(proof) => legs.push(proof)?,
             Outcome::NoWay => return Ok(Certified::NoWalk { leg: place as u32 }),
             Outcome::Budget => return Ok(Certified::Spent { leg: place as u32 }),
         }
     }
-    Ok(Certified::Shown(Certificate { legs }))
+    Ok(Certified::Shown(Certificate { bound, legs }))
 }

@@ -9,9 +9,9 @@ pub enum Why {
     Walk,
     /// The link of a label isn't in the map, or its cost or a buffer is out of bounds.
     Bounds,
-    /// No label covers what a first link gives, and that costs less than the walk.
+    /// No label covers what a first link gives, and that ranks below the cost of the walk.
     Start,
-    /// No label covers what a next link of a label gives, and that costs less than the walk.
+    /// No label covers what a next link of a label gives, and that ranks below the cost of the walk.
     Step,
     /// A label that reaches the end of the leg costs less than the walk.
     Goal,

@@ -1,7 +1,7 @@
 -- The stage of a certificate. This project's own rule.
 use Rattle.std.specs.Prelude.{◌≡◌, ℕ, List, Result, Ok, Err}
 use Rattle.certificate_text.specs.Lines.{IsFirstFault}
-use Rattle.certificate_text.specs.Texts.{IsTextOf, legs_of}
+use Rattle.certificate_text.specs.Texts.{IsTextOf, value_of}
 use Rattle.certificate_text.specs.declared.certificate.Certificate.{Certificate}
 use Rattle.certificate_text.specs.declared.error.CertError.TheVariants.{Line}
 use Rattle.command_words.specs.Given.{Named}
@@ -15,7 +15,7 @@ use Rattle.run_files.specs.declared.status.Status.TheVariants as told
 -- the certificate that a text is of over a map; its first line at fault, told with the word of the file; or
 -- want of memory
 abbrev pub IsCertificateIn : MapValue → ℕ → List ℕ → Result Certificate Status → Type 0
-IsCertificateIn map word text (Ok certificate) = IsTextOf map text (legs_of certificate)
+IsCertificateIn map word text (Ok certificate) = IsTextOf map text (value_of certificate)
 IsCertificateIn map word text (Err (told.Certificate at (Line line))) = (at ≡ word) × IsFirstFault map text line
 IsCertificateIn map word text (Err told.NoMemory) = Unit {0}
 IsCertificateIn map word text (Err status) = ⊥

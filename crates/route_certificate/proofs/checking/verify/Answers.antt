@@ -29,7 +29,7 @@ returns-in-Some-clause-exact g c =
     (sym counts ∙ c.is_one_fewer.ensures.exact.0 c.if-not-is_one_fewer.false) c.legs.invariant
     (leg-read c.args.certificate.now c.as_slice-legs.result.now c.legs.place proof c.as_slice-legs.ensures.value
     c.legs-test.true c.index-legs-place.is)
-    (subst (λ (fault : Option Why). IsFirstFault (leg_in terrain c.args.ask.now c.legs.place) proof fault) c.in-Some.is
+    (subst (λ (fault : Option Why). IsFirstFault c.args.certificate.now.bound (leg_in terrain c.args.ask.now c.legs.place) proof fault) c.in-Some.is
     c.in_ok-fault.ensures.exact)
 
 pub legs-preserved : goal.legs-preserved
@@ -39,7 +39,7 @@ legs-preserved g c =
     let there = leg-read c.args.certificate.now c.as_slice-legs.result.now c.legs.place proof c.as_slice-legs.ensures.value
     c.legs-test.true c.index-legs-place.is in
     checked-more terrain c.args.ask.now c.args.certificate.now c.legs.place c.legs.cost _ proof c.legs.invariant there
-    (subst (λ (fault : Option Why). IsFirstFault (leg_in terrain c.args.ask.now c.legs.place) proof fault) c.in-None.is
+    (subst (λ (fault : Option Why). IsFirstFault c.args.certificate.now.bound (leg_in terrain c.args.ask.now c.legs.place) proof fault) c.in-None.is
     c.in_ok-fault.ensures.exact)
     (c.in_ok-fault.ensures.least (ap Ok c.in-None.is))
     (c.in_ok-fault.ensures.fits (ap Ok c.in-None.is) (c.requires.short c.legs.place proof there)) refl

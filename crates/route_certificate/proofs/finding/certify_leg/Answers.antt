@@ -1,10 +1,9 @@
-use Rattle.std.proofs.Common.{◌≢◌, ◌∙◌, ap, sym, subst, arith, refl, IfOk}
+use Rattle.std.proofs.Common.{◌≢◌, ◌∙◌, ap, sym, subst, refl, IfOk}
 use Rattle.cost_model.specs.Rides.{Leg, Terrain}
 use Rattle.bike_space.specs.Kept.{task_of}
-use Rattle.bike_space.specs.Tasks.{rules_of}
-use Rattle.space_search.specs.Laws.{IsBlind}
 use Rattle.route_certificate.specs.Asks.{leg_in}
 use Rattle.route_certificate.specs.Certified.{IsShown}
+use Rattle.route_certificate.specs.Legs.{AreRests}
 use Rattle.route_certificate.proofs.FoundLemmas.{home-proof}
 use Rattle.route_certificate.proofs.WritableLemmas.{home-written, shown-written}
 use Rattle.route_certificate.proofs.finding.certify_leg.Goals as goal
@@ -13,15 +12,9 @@ pub returns-then-start-target : goal.returns-then-start-target
 returns-then-start-target g c =
     let leg = leg_in (g.G.TerrainOf.terrain c.args.terrain) c.args.ask.now c.args.place in
     record {
-      exact = home-proof leg _ c.if-start-target.true c.new-entries.ensures.items refl c.new-walk.ensures.items;
+      exact = home-proof c.args.bound leg _ c.if-start-target.true c.new-entries.ensures.items refl c.new-walk.ensures.items;
       fits = home-written _ _ _ _ c.new-walk.ensures.items refl c.new-entries.ensures.items;
     }
-
-pub plain-requires : goal.plain-requires
-plain-requires g c = record {
-  start = c.requires.asked.nodes c.args.place (omega (arith, c.requires.within));
-  target = c.requires.asked.nodes _ c.requires.within;
-}
 
 pub certify_space-requires : goal.certify_space-requires
 certify_space-requires g c =
@@ -30,8 +23,6 @@ certify_space-requires g c =
     ∙ c.in_ok-space.ensures.leg in
     record {
       unused = c.in_ok-space.ensures.unused;
-      blind = subst (λ (t : Terrain). IsBlind (rules_of (task_of t kept)))
-          (sym (ap g.G.TerrainOf.terrain c.in_ok-space.ensures.terrain)) c.in_ok-space.ensures.blind;
       differ = subst (λ (leg : Leg). leg.start ≢ leg.target) (sym same) c.if-start-target.false;
       small = c.requires.small;
     }
@@ -40,10 +31,15 @@ pub returns : goal.returns
 returns g c =
     let kept = c.in_ok-space.space.kept in
     let terrain = g.G.TerrainOf.terrain c.args.terrain in
-    let shown = subst (λ (t : Terrain). IfOk c.certify_space.result (IsShown (task_of t kept).leg c.args.limit))
-    (ap g.G.TerrainOf.terrain c.in_ok-space.ensures.terrain) c.certify_space.ensures.exact in
+    let bound = c.args.bound in
+    let on = ap g.G.TerrainOf.terrain c.in_ok-space.ensures.terrain in
+    let rests = subst (λ (t : Terrain). AreRests bound (task_of t kept).leg (task_of t kept).low) (sym on)
+    c.in_ok-space.ensures.rests in
+    let shown = subst (λ (t : Terrain). IfOk c.certify_space.result (IsShown bound (task_of t kept).leg c.args.limit)) on
+    (c.certify_space.ensures.exact bound rests) in
     record {
-      exact = subst (λ (leg : Leg). IfOk c.certify_space.result (IsShown leg c.args.limit)) c.in_ok-space.ensures.leg shown;
-      fits = shown-written terrain kept c.in_ok-space.ensures.wakes.lawful c.in_ok-space.ensures.unused c.args.limit
+      exact = subst (λ (leg : Leg). IfOk c.certify_space.result (IsShown bound leg c.args.limit)) c.in_ok-space.ensures.leg
+          shown;
+      fits = shown-written terrain kept c.in_ok-space.ensures.wakes.lawful c.in_ok-space.ensures.unused bound c.args.limit
           c.certify_space.result shown;
     }

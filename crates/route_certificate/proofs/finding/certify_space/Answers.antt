@@ -21,7 +21,6 @@ told-requires g c =
     let turn = c.in_ok-turn.ensures in
     record {
       unused = c.requires.unused;
-      blind = c.requires.blind;
       differ = c.requires.differ;
       of = turn.of;
       small = subst (λ (n : ℕ). n < 2 ^ 32) (sym (turn.kept.limit ∙ c.turns.invariant.limit)) c.requires.small;
@@ -33,6 +32,7 @@ returns-in-Done g c =
     let space = c.args.space.now in
     let task = task_of (g.G.TerrainOf.terrain space.terrain) space.kept in
     record {
-      exact = subst (λ (n : ℕ). IfOk c.told.result (IsShown task.leg n))
-          (c.in_ok-turn.ensures.kept.limit ∙ c.turns.invariant.limit) c.told.ensures.exact;
+      exact = λ bound rests.
+          subst (λ (n : ℕ). IfOk c.told.result (IsShown bound task.leg n))
+          (c.in_ok-turn.ensures.kept.limit ∙ c.turns.invariant.limit) (c.told.ensures.exact bound rests);
     }

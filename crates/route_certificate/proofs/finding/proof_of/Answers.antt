@@ -41,7 +41,7 @@ returns g c =
     let seen = view c.args.search.now in
     let shown = found-read seen c.args.label found.goal found.numbered found.there in
     record {
-      exact = found-proof task space.wakes.lawful c.requires.unused c.requires.blind c.requires.differ seen
+      exact = found-proof task space.wakes.lawful c.requires.unused c.requires.differ seen
           (omega (arith, settled-within (rules_of task) c.args.search.now c.requires.of, c.requires.small)) c.args.label
           found _ c.in_ok-entries.ensures.exact (c.cost_of-cost.ensures.exact found.goal shown)
           (c.into_vec.ensures.value ∙ c.in_ok-walk.ensures.walk

@@ -18,7 +18,8 @@ returns-in-NoWay g c =
     let space = c.args.space.now in
     let task = task_of (g.G.TerrainOf.terrain space.terrain) space.kept in
     record {
-      exact = no-way task (view c.args.search.now) c.requires.differ
+      exact = λ bound rests.
+          no-way task (view c.args.search.now) c.requires.differ
           (subst (EndsSearch (rules_of task) (view c.args.search.now)) c.in-NoWay.is c.requires.ends);
     }
 
@@ -27,7 +28,8 @@ returns-in-Budget g c =
     let space = c.args.space.now in
     let task = task_of (g.G.TerrainOf.terrain space.terrain) space.kept in
     record {
-      exact = spent-found task space.wakes.lawful c.requires.unused c.requires.blind c.requires.differ
+      exact = λ bound rests.
+          spent-found task space.wakes.lawful c.requires.unused c.requires.differ
           (view c.args.search.now)
           (subst (EndsSearch (rules_of task) (view c.args.search.now)) c.in-Budget.is c.requires.ends);
     }

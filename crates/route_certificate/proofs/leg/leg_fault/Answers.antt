@@ -1,15 +1,9 @@
-use Rattle.std.proofs.Common.{◌≡◌, ◌∙◌, ap, sym, subst, arith, Ok, None, IfOk}
+use Rattle.std.proofs.Common.{◌≡◌, ◌∙◌, ap, sym, subst, Ok, None, IfOk}
 use Rattle.cost_model.specs.Rides.{Leg, Terrain}
 use Rattle.bike_space.specs.Kept.{task_of}
 use Rattle.bike_space.specs.LegWalks.{IsLeastWalk}
-use Rattle.route_certificate.specs.Legs.{IsFirstFault, IsWalkOf}
+use Rattle.route_certificate.specs.Legs.{AreRests, IsFirstFault, IsWalkOf}
 use Rattle.route_certificate.proofs.leg.leg_fault.Goals as goal
-
-pub plain-requires : goal.plain-requires
-plain-requires g c = record {
-  start = c.requires.asked.nodes c.args.place (omega (arith, c.requires.within));
-  target = c.requires.asked.nodes _ c.requires.within;
-}
 
 pub space_fault-requires : goal.space_fault-requires
 space_fault-requires g c =
@@ -27,9 +21,11 @@ returns g c =
     let kept = c.in_ok-space.space.kept in
     let same = ap (λ (t : Terrain). (task_of t kept).leg) (ap g.G.TerrainOf.terrain c.in_ok-space.ensures.terrain)
     ∙ c.in_ok-space.ensures.leg in
+    let rests = subst (λ (t : Terrain). AreRests c.args.bound (task_of t kept).leg (task_of t kept).low)
+    (sym (ap g.G.TerrainOf.terrain c.in_ok-space.ensures.terrain)) c.in_ok-space.ensures.rests in
     record {
-      exact = subst (λ (leg : Leg). IfOk c.space_fault.result (IsFirstFault leg c.args.proof.now)) same
-          c.space_fault.ensures.exact;
+      exact = subst (λ (leg : Leg). IfOk c.space_fault.result (IsFirstFault c.args.bound leg c.args.proof.now)) same
+          (c.space_fault.ensures.exact c.args.bound rests);
       least = subst (λ (leg : Leg). c.space_fault.result ≡ Ok None → IsLeastWalk leg c.args.proof.now.walk.items) same
           c.space_fault.ensures.least;
       fits = c.space_fault.ensures.fits;

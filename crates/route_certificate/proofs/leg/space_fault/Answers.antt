@@ -10,7 +10,8 @@ use Rattle.route_certificate.proofs.leg.space_fault.Goals as goal
 pub returns-then-not-are_in_bounds-clause-exact : goal.returns-then-not-are_in_bounds-clause-exact
 returns-then-not-are_in_bounds-clause-exact g c =
     let space = c.args.space.now in
-    let task = task_of (g.G.TerrainOf.terrain space.terrain) space.kept in (
+    let task = task_of (g.G.TerrainOf.terrain space.terrain) space.kept in
+    λ bound rests. (
       c.requires.walk,
       λ are.
           let yes_is = c.are_in_bounds.ensures.exact.1
@@ -38,9 +39,10 @@ returns g c =
     let over = subst (λ (es : List Entry). IfOk c.first_flaw.result (IsFirstFlaw (rules_of task) proof.cost es))
     c.as_slice-entries.ensures.value c.first_flaw.ensures.exact in
     record {
-      exact = fault-answers task c.requires.unused proof c.requires.walk bounds c.first_flaw.result over;
+      exact = λ bound rests.
+          fault-answers task c.requires.unused proof c.requires.walk bounds bound rests c.first_flaw.result over;
       least = λ is.
-          proof-least task c.requires.unused proof c.requires.walk bounds space.wakes.keeps
+          proof-least task c.requires.unused proof c.requires.walk bounds space.wakes.lawful space.wakes.keeps
           (subst (λ r. IfOk r (IsFirstFlaw (rules_of task) proof.cost proof.entries.items)) is over);
       fits = λ is few. cost-fits task c.requires.unused space.wakes.lawful proof c.requires.walk few;
     }

@@ -4,6 +4,10 @@ use Rattle.bike_space.specs.declared.rested.Rested.{Rested}
 use Rattle.bike_space.proofs.PlainLemmas.{radius-blind}
 use Rattle.bike_space.proofs.space.BikeSpace.plain.Goals as goal
 
+pub returns-clause-radius : goal.returns-clause-radius
+returns-clause-radius g c =
+    ap (λ (kept : Rested). kept.low.radius) c.wake.ensures.kept ∙ c.in_ok-kept.ensures.radius
+
 pub returns-clause-blind : goal.returns-clause-blind
 returns-clause-blind g c =
     radius-blind _ c.wake.ensures.wakes.lawful
@@ -17,5 +21,6 @@ returns-in_err-kept g c =
       leg = IfOk-from_err _ _ no;
       unused = IfOk-from_err _ _ no;
       wakes = IfOk-from_err _ _ no;
+      radius = IfOk-from_err _ _ no;
       blind = IfOk-from_err _ _ no;
     }

@@ -1,0 +1,94 @@
+//! The space of a leg, by the lower bound of a certificate.
+
+ghost use Rattle.std.specs.Prelude.{◌≡◌, ◌<◌, ◌+◌, ℕ, IfOk, false, length};
+ghost use Rattle.bike_space.specs.Kept.{Wakes, task_of};
+ghost use Rattle.certificate_text.specs.declared.certificate.LowerBound.TheVariants.{Least, Zero};
+ghost use Rattle.route_certificate.specs.Asks.{IsAsk, leg_in};
+ghost use Rattle.route_certificate.specs.Legs.{AreRests};
+
+use crate::ask::TrackAsk;
+use bike_space::{BikeSpace, LegAsk};
+use certificate_text::LowerBound;
+use cost_model::TerrainOf;
+use std::alloc::{AllocError, Global};
+
+/// The space of the leg at a place, in which no segment is used: where labels rank by their cost,
+/// one that knows nothing of what still has to be paid, and else the one that is searched for a
+/// track.
+pub(crate) fn leg_space<G: TerrainOf>(
+    alloc: Global,
+    terrain: G,
+    ask: &TrackAsk,
+    place: usize,
+    bound: LowerBound,
+) -> Result<BikeSpace<G>, AllocError>
+    requires asked { IsAsk (G.terrain terrain) ask.now }
+    requires within { place + 1 < length ask.now.nodes.now }
+    ensures terrain { IfOk result (λ space. space.terrain ≡ terrain) }
+    ensures leg { IfOk result (λ space. (task_of (G.terrain terrain) space.kept).leg ≡
+        leg_in (G.terrain terrain) ask.now place) }
+    ensures unused { IfOk result (λ space. (link : ℕ) →
+        (task_of (G.terrain terrain) space.kept).used link ≡ false) }
+    ensures rests { IfOk result (λ space. AreRests bound
+        (task_of (G.terrain terrain) space.kept).leg
+        (task_of (G.terrain terrain) space.kept).low) }
+    ensures wakes { IfOk result (λ space. Wakes (G.terrain terrain) space.kept) }
+{
+    match bound {
+        LowerBound::Zero => costs_alone(alloc, terrain, ask, place),
+        LowerBound::Least => with_rests(alloc, terrain, ask, place),
+    }
+}
+
+/// The space of a leg in which a rank is a cost.
+fn costs_alone<G: TerrainOf>(
+    alloc: Global,
+    terrain: G,
+    ask: &TrackAsk,
+    place: usize,
+) -> Result<BikeSpace<G>, AllocError>
+    requires asked { IsAsk (G.terrain terrain) ask.now }
+    requires within { place + 1 < length ask.now.nodes.now }
+    ensures terrain { IfOk result (λ space. space.terrain ≡ terrain) }
+    ensures leg { IfOk result (λ space. (task_of (G.terrain terrain) space.kept).leg ≡
+        leg_in (G.terrain terrain) ask.now place) }
+    ensures unused { IfOk result (λ space. (link : ℕ) →
+        (task_of (G.terrain terrain) space.kept).used link ≡ false) }
+    ensures rests { IfOk result (λ space. AreRests Zero
+        (task_of (G.terrain terrain) space.kept).leg
+        (task_of (G.terrain terrain) space.kept).low) }
+    ensures wakes { IfOk result (λ space. Wakes (G.terrain terrain) space.kept) }
+{
+    let (start, target) = (ask.nodes[place], ask.nodes[place + 1]);
+    BikeSpace::plain(alloc, terrain, ask.cut, ask.turns, start, target)
+}
+
+/// The space of a leg in which what still has to be paid is found for all nodes.
+fn with_rests<G: TerrainOf>(
+    alloc: Global,
+    terrain: G,
+    ask: &TrackAsk,
+    place: usize,
+) -> Result<BikeSpace<G>, AllocError>
+    requires asked { IsAsk (G.terrain terrain) ask.now }
+    requires within { place + 1 < length ask.now.nodes.now }
+    ensures terrain { IfOk result (λ space. space.terrain ≡ terrain) }
+    ensures leg { IfOk result (λ space. (task_of (G.terrain terrain) space.kept).leg ≡
+        leg_in (G.terrain terrain) ask.now place) }
+    ensures unused { IfOk result (λ space. (link : ℕ) →
+        (task_of (G.terrain terrain) space.kept).used link ≡ false) }
+    ensures rests { IfOk result (λ space. AreRests Least
+        (task_of (G.terrain terrain) space.kept).leg
+        (task_of (G.terrain terrain) space.kept).low) }
+    ensures wakes { IfOk result (λ space. Wakes (G.terrain terrain) space.kept) }
+{
+    let (start, target) = (ask.nodes[place], ask.nodes[place + 1]);
+    let leg = LegAsk {
+        cut: ask.cut,
+        used: &[],
+        start,
+        target,
+        turns: ask.turns,
+    };
+    BikeSpace::new(alloc, terrain, &leg, false)
+}
