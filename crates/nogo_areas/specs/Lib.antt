@@ -1,3 +1,4 @@
 pub mod Cuts
+pub mod Cuttings
 pub mod Sides
 pub mod Fences

@@ -3,6 +3,7 @@
 
 mod circle;
 mod cuts;
+mod cutting;
 mod fences;
 mod masks;
 mod scale;
@@ -11,3 +12,4 @@ mod touch;
 
 pub use circle::Circle;
 pub use cuts::cut;
+pub use cutting::Cutting;

@@ -1,10 +1,12 @@
 pub mod Aims
+pub mod Askings
 pub mod Answers
 pub mod Jobs
 pub mod Labels
 pub mod Marked
 pub mod Nearby
 pub mod Pendings
+pub mod Placings
 pub mod Planned
 pub mod Plans
 pub mod Progress

@@ -1,13 +1,17 @@
 //! What a request is asked for.
 
-ghost use Rattle.std.specs.Prelude.{◌≡◌, ◌<◌, ◌^◌};
-ghost use Rattle.route_engine.specs.Aims.{most_for};
+ghost use Rattle.std.specs.Prelude.{◌≡◌, ◌<◌, ◌^◌, length};
+ghost use Rattle.route_engine.specs.Aims.{most_for, searching_for};
 ghost use Rattle.route_engine.specs.Jobs.{IsWithin};
+ghost use Rattle.route_engine.specs.Placings.{placing_for};
 ghost use Rattle.route_http.specs.Seen.{asked};
+ghost use Rattle.route_ready.specs.World.{world_of};
 
 use crate::advance::BEGINNING;
+use crate::placing_steps::MOVING;
 use leg_search::FIRST_LABELS;
 use route_http::Request;
+use route_ready::World;
 
 /// What a request is asked for.
 #[derive(Clone, Copy)]
@@ -18,10 +22,37 @@ pub enum Aim {
     Table,
 }
 
-/// The most labels that are counted for what is asked of a request.
-pub fn most_for(aim: Aim, request: &Request) -> u64
+/// The most that is counted for what is asked of a request over a world: links that are judged,
+/// waypoints that are moved, and labels that are settled.
+pub fn most_for(world: &World, aim: Aim, request: &Request) -> u64
     requires within { IsWithin (asked request.now) }
-    ensures exact { result ≡ most_for aim (asked request.now) }
+    ensures exact { result ≡
+        most_for (length (world_of world.now).map.links) aim (asked request.now) }
+    ensures small { result < 2 ^ 43 }
+{
+    placing_for(world, request) + searching_for(aim, request)
+}
+
+/// The most that is counted until the waypoints of a request have their nodes.
+fn placing_for(world: &World, request: &Request) -> u64
+    requires within { IsWithin (asked request.now) }
+    ensures exact { result ≡
+        placing_for (length (world_of world.now).map.links) (asked request.now) }
+    ensures small { result < 2 ^ 42 }
+{
+    let links = if request.circles.len() == 0 {
+        0
+    } else {
+        world.map().links() as u64
+    };
+    links + request.waypoints.len() as u64 * MOVING as u64
+}
+
+/// The most labels that are counted for what is asked of a request, once its waypoints have their
+/// nodes.
+pub fn searching_for(aim: Aim, request: &Request) -> u64
+    requires within { IsWithin (asked request.now) }
+    ensures exact { result ≡ searching_for aim (asked request.now) }
     ensures small { result < 2 ^ 42 }
 {
     let waypoints = request.waypoints.len() as u64;

@@ -2,10 +2,11 @@
 
 ghost use Rattle.std.specs.Prelude.{◌≡◌, ◌⊎◌, ◌≤◌, IfErr, IfOk, length};
 ghost use Rattle.route_engine.specs.Jobs.{IsJobOn, IsPlanFor, IsPlanOn, IsWithin, plan_in, plan_of, setting_of};
+ghost use Rattle.route_engine.specs.Placings.{IsPlaced};
 ghost use Rattle.route_engine.specs.Plans.{IsRefusal, IsTrackFor};
 ghost use Rattle.route_engine.specs.Progress.{searches_left};
 ghost use Rattle.route_engine.specs.Searches.{StepsSearch, work_of_job};
-ghost use Rattle.route_engine.specs.Settings.{cut_links, open_map_of};
+ghost use Rattle.route_engine.specs.Settings.{open_map_of};
 ghost use Rattle.route_engine.specs.Waypoints.{RefusesWaypoint};
 ghost use Rattle.route_http.specs.Seen.{asked};
 ghost use Rattle.route_ready.specs.World.{world_of};
@@ -13,18 +14,16 @@ ghost use Rattle.route_ready.specs.declared.error.RouteError.TheVariants.{NoMemo
 ghost use Rattle.way_class.specs.Links.{links_of};
 
 use crate::advance::{advance, next_stage};
-use crate::circles::cut_by;
+use crate::placing::Placing;
 use crate::plan::JobPlan;
 use crate::stage::Stage;
 use crate::walked::Walked;
-use crate::waypoints::waypoint_nodes;
-use cost_model::Passages;
-use item_list::{Items, Turn};
+use item_list::Turn;
 use route_http::Request;
 use route_ready::{Ready, RouteError, World};
-use std::alloc::Global;
+use std::alloc::{AllocError, Global};
 use std::rc::Rc;
-use tasks::Stepped;
+use tasks::{Stepped, finish};
 use track_legs::Track;
 
 /// A request that is answered in turns: its legs are searched one after the other, and of each the
@@ -69,7 +68,18 @@ impl Job {
             IfErr result (λ e. (e ≡ NoMemory) ⊎
             RefusesWaypoint (open_map_of setting) (asked request).waypoints e) }
     {
-        let plan = plan_for(alloc, world, ready, &request)?;
+        let plan = plan_for(alloc, world, ready, request)?;
+        let job = Job::with_plan(alloc, world, plan)?;
+        Ok(job)
+    }
+
+    /// A job for a plan over a world.
+    pub(crate) fn with_plan(alloc: Global, world: &World, plan: JobPlan) -> Result<Job, AllocError>
+        requires on { IsPlanOn (world_of world.now) plan }
+        ensures on { IfOk result (IsJobOn (world_of world.now)) }
+        ensures plan { IfOk result (λ job.
+            plan_in (world_of world.now) job ≡ plan_of (world_of world.now) plan) }
+    {
         let stage = next_stage(alloc, world, &plan, Walked::new(alloc))?;
         Ok(Job { alloc, plan, stage })
     }
@@ -114,63 +124,32 @@ impl Job {
     }
 }
 
-/// What a request is to find.
+/// What a request is to find; or the refusal of its first waypoint that is moved to no node.
 pub(crate) fn plan_for(
     alloc: Global,
     world: &World,
     ready: Rc<Ready>,
-    request: &Request,
+    request: Request,
 ) -> Result<JobPlan, RouteError>
     requires counted { (links_of ready.value.bound).count ≡ length (world_of world.now).map.links }
-    requires within { IsWithin (asked request.now) }
-    ensures on { IfOk result (IsPlanOn (world_of world.now)) }
-    ensures plan { let setting =
-        setting_of (world_of world.now) ready.value (asked request.now).circles in
-        IfOk result (λ plan. IsPlanFor setting (asked request.now)
-        (plan_of (world_of world.now) plan)) }
-    ensures cause { let setting =
-        setting_of (world_of world.now) ready.value (asked request.now).circles in
-        IfErr result (λ e. (e ≡ NoMemory) ⊎
-        RefusesWaypoint (open_map_of setting) (asked request.now).waypoints e) }
+    requires within { IsWithin (asked request) }
+    ensures placed { IsPlaced (world_of world.now) ready.value (asked request) result }
 {
-    let cut = cut_by(alloc, world.map(), request.circles.as_slice())?;
-    with_cut(alloc, world, ready, request, cut)
+    let request = Rc::new(alloc, request)?;
+    plan_by(alloc, world, ready, request)
 }
 
-/// The same where these links are cut.
-fn with_cut(
+/// The same for a request that others share.
+pub(crate) fn plan_by(
     alloc: Global,
     world: &World,
     ready: Rc<Ready>,
-    request: &Request,
-    cut: Vec<bool>,
+    request: Rc<Request>,
 ) -> Result<JobPlan, RouteError>
     requires counted { (links_of ready.value.bound).count ≡ length (world_of world.now).map.links }
-    requires within { IsWithin (asked request.now) }
-    requires cut { cut.items ≡ cut_links (world_of world.now).map (asked request.now).circles }
-    ensures on { IfOk result (IsPlanOn (world_of world.now)) }
-    ensures plan { let setting =
-        setting_of (world_of world.now) ready.value (asked request.now).circles in
-        IfOk result (λ plan. IsPlanFor setting (asked request.now)
-        (plan_of (world_of world.now) plan)) }
-    ensures cause { let setting =
-        setting_of (world_of world.now) ready.value (asked request.now).circles in
-        IfErr result (λ e. (e ≡ NoMemory) ⊎
-        RefusesWaypoint (open_map_of setting) (asked request.now).waypoints e) }
+    requires within { IsWithin (asked request.value) }
+    ensures placed { IsPlaced (world_of world.now) ready.value (asked request.value) result }
 {
-    let passages = Passages {
-        facts: &ready.bound,
-        cut: cut.as_slice(),
-    };
-    match waypoint_nodes(alloc, world, &passages, request.waypoints.as_slice()) {
-        Err(error) => Err(error),
-        Ok(nodes) => Ok(JobPlan {
-            limit: request.labels,
-            nodes: Items::from_vec(nodes),
-            cut,
-            alternative: request.alternative,
-            runs: request.runs,
-            ready,
-        }),
-    }
+    let placing = Placing::new(alloc, world, ready, request)?;
+    finish(alloc, world, placing)
 }

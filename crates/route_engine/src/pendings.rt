@@ -1,11 +1,11 @@
 //! A request of either kind that is answered in turns, as one type.
 
-ghost use Rattle.std.specs.Prelude.{◌≡◌, ◌≤◌, ℕ, IfErr, IfOk, OnOk, Result, Vec, length};
+ghost use Rattle.std.specs.Prelude.{◌≡◌, ◌/◌, ◌≤◌, ℕ, suc, IfErr, IfOk, OnOk, Result, Vec, length};
 ghost use Rattle.std.specs.declared.alloc.Global.{Global as TheGlobal};
 ghost use Rattle.profile_text.specs.Tree.{Sections};
-ghost use Rattle.route_engine.specs.Aims.{HasPlan, TellsTo, most_for};
+ghost use Rattle.route_engine.specs.Aims.{HasPlan, TellsTo, most_for, searching_for};
 ghost use Rattle.route_engine.specs.Jobs.{IsWithin, setting_of};
-ghost use Rattle.route_engine.specs.Pendings.{EndsAs, IsPendingOver, turns_of, work_of};
+ghost use Rattle.route_engine.specs.Pendings.{EndsAs, IsPendingOver, turns_of};
 ghost use Rattle.route_engine.specs.Refusals.{RefusesEarly};
 ghost use Rattle.route_engine.specs.Replies.{IsReady, bytes_in, question_of};
 ghost use Rattle.route_http.specs.Seen.{asked};
@@ -14,27 +14,61 @@ ghost use Rattle.route_ready.specs.declared.error.RouteError.{RouteError as TheR
 ghost use Rattle.way_class.specs.Links.{links_of};
 
 use crate::aim::Aim;
-use crate::asking::Asking;
+use crate::asking::{Asking, searched, turned};
 use crate::job::Job;
+use crate::placing::Placing;
 use crate::table::TableJob;
 use item_list::Turn;
 use route_http::Request;
 use route_ready::{Ready, RouteError, World};
-use std::alloc::Global;
+use std::alloc::{AllocError, Global};
 use std::rc::Rc;
-use tasks::Task;
+use tasks::{Chain, Task};
 
 /// A request of either kind that is answered in turns.
 #[derive(Drop)]
 pub enum Pending {
-    Track(Asking<Job>),
-    Table(Asking<TableJob>),
+    Track(Chain<Placing, Asking<Job>, Rc<Request>>),
+    Table(Chain<Placing, Asking<TableJob>, Rc<Request>>),
 }
 
 impl Pending {
     /// A request over a world, by what it is asked for and by a profile that was made ready for it
-    /// under the request's overrides. It is refused where a waypoint is moved to no node.
+    /// under the request's overrides. Nothing is done yet but to make tables of its circles.
     pub fn new(
+        alloc: Global,
+        world: &World,
+        ready: Rc<Ready>,
+        aim: Aim,
+        request: Request,
+    ) -> Result<Pending, AllocError>
+        requires counted { (links_of ready.value.bound).count ≡
+            length (world_of world.now).map.links }
+        requires within { IsWithin (asked request) }
+        ensures over { IfOk result (IsPendingOver (world_of world.now)) }
+        ensures answers { (sections : Sections) →
+            IsReady (world_of world.now) sections (asked request) ready.value →
+            IfOk result (λ p. (end : Result (Vec ℕ TheGlobal) TheRouteError) →
+            EndsAs (world_of world.now) p end →
+            TellsTo aim (question_of (world_of world.now) sections (asked request)) (bytes_in end)) }
+        ensures few { IfOk result (λ p. (budget : ℕ) → turns_of (world_of world.now) budget p ≤
+            suc (most_for (length (world_of world.now).map.links) aim (asked request) / budget)) }
+    {
+        match aim {
+            Aim::Track => match turned::<Job>(alloc, world, ready, request) {
+                Ok(task) => Ok(Pending::Track(task)),
+                Err(error) => Err(error),
+            },
+            Aim::Table => match turned::<TableJob>(alloc, world, ready, request) {
+                Ok(task) => Ok(Pending::Table(task)),
+                Err(error) => Err(error),
+            },
+        }
+    }
+
+    /// The same where its waypoints are moved to nodes at once. It is refused where one is moved to
+    /// no node.
+    pub fn placed(
         alloc: Global,
         world: &World,
         ready: Rc<Ready>,
@@ -53,20 +87,20 @@ impl Pending {
             IfOk result (λ p. (end : Result (Vec ℕ TheGlobal) TheRouteError) →
             EndsAs (world_of world.now) p end →
             TellsTo aim (question_of (world_of world.now) sections (asked request)) (bytes_in end)) }
-        ensures few { IfOk result (λ p. work_of (world_of world.now) p ≤
-            most_for aim (asked request)) }
+        ensures few { IfOk result (λ p. (budget : ℕ) → turns_of (world_of world.now) budget p ≤
+            searching_for aim (asked request) / budget) }
         ensures cause { (sections : Sections) →
             IsReady (world_of world.now) sections (asked request) ready.value →
             IfErr result (RefusesEarly
             (question_of (world_of world.now) sections (asked request))) }
     {
         match aim {
-            Aim::Track => match Asking::<Job>::new(alloc, world, ready, request) {
-                Ok(asking) => Ok(Pending::Track(asking)),
+            Aim::Track => match searched::<Job>(alloc, world, ready, request) {
+                Ok(asking) => Ok(Pending::Track(Chain::Second(asking))),
                 Err(error) => Err(error),
             },
-            Aim::Table => match Asking::<TableJob>::new(alloc, world, ready, request) {
-                Ok(asking) => Ok(Pending::Table(asking)),
+            Aim::Table => match searched::<TableJob>(alloc, world, ready, request) {
+                Ok(asking) => Ok(Pending::Table(Chain::Second(asking))),
                 Err(error) => Err(error),
             },
         }
@@ -91,11 +125,11 @@ impl Task for Pending {
         budget: u32,
     ) -> Turn<Pending, Result<Vec<u8>, RouteError>> {
         match self {
-            Pending::Track(asking) => match asking.take_turn(alloc, dataset, budget) {
+            Pending::Track(task) => match task.take_turn(alloc, dataset, budget) {
                 Turn::More(next) => Turn::More(Pending::Track(next)),
                 Turn::Done(end) => Turn::Done(end),
             },
-            Pending::Table(asking) => match asking.take_turn(alloc, dataset, budget) {
+            Pending::Table(task) => match task.take_turn(alloc, dataset, budget) {
                 Turn::More(next) => Turn::More(Pending::Table(next)),
                 Turn::Done(end) => Turn::Done(end),
             },

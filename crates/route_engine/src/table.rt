@@ -1,7 +1,7 @@
 //! A table of costs that is found in turns.
 
 ghost use Rattle.std.specs.Prelude.{◌≡◌, ◌⊎◌, ◌≤◌, IfErr, IfOk, length};
-ghost use Rattle.route_engine.specs.Jobs.{IsPlanFor, IsWithin, setting_of};
+ghost use Rattle.route_engine.specs.Jobs.{IsPlanFor, IsPlanOn, IsWithin, plan_of, setting_of};
 ghost use Rattle.route_engine.specs.Settings.{open_map_of};
 ghost use Rattle.route_engine.specs.TableJobs.{IsTableOn, rows_left, table_plan, work_of_table};
 ghost use Rattle.route_engine.specs.Searches.{StepsSearch};
@@ -19,7 +19,7 @@ use crate::table_steps::{next_source, step};
 use item_list::Turn;
 use route_http::Request;
 use route_ready::{Ready, RouteError, World};
-use std::alloc::Global;
+use std::alloc::{AllocError, Global};
 use std::rc::Rc;
 use tasks::Stepped;
 
@@ -64,7 +64,22 @@ impl TableJob {
             IfErr result (λ e. (e ≡ NoMemory) ⊎
             RefusesWaypoint (open_map_of setting) (asked request).waypoints e) }
     {
-        let plan = plan_for(alloc, world, ready, &request)?;
+        let plan = plan_for(alloc, world, ready, request)?;
+        let job = TableJob::with_plan(alloc, world, plan)?;
+        Ok(job)
+    }
+
+    /// A job for a plan over a world.
+    pub(crate) fn with_plan(
+        alloc: Global,
+        world: &World,
+        plan: JobPlan,
+    ) -> Result<TableJob, AllocError>
+        requires on { IsPlanOn (world_of world.now) plan }
+        ensures on { IfOk result (IsTableOn (world_of world.now)) }
+        ensures plan { IfOk result (λ job.
+            table_plan (world_of world.now) job ≡ plan_of (world_of world.now) plan) }
+    {
         let stage = next_source(alloc, world, &plan, Vec::new(alloc))?;
         Ok(TableJob { alloc, plan, stage })
     }

@@ -1,4 +1,4 @@
-use Rattle.std.proofs.Common.{◌≡◌, ◌+◌, ◌-◌, ◌<◌, ◌≤◌, arith, refl, sym, subst}
+use Rattle.std.proofs.Common.{◌+◌, ◌-◌, ◌<◌, ◌≤◌, arith, refl, sym, subst}
 use Rattle.route_ready.specs.World.{world_of}
 use Rattle.route_engine.specs.Jobs.{plan_in}
 use Rattle.route_engine.specs.Progress.{IsStage, allowed, counted_in, searches_left}

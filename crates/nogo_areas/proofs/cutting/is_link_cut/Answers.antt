@@ -1,5 +1,5 @@
 use Rattle.nogo_areas.proofs.CutLemmas.{link-cut}
-use Rattle.nogo_areas.proofs.cuts.is_link_cut.Goals as goal
+use Rattle.nogo_areas.proofs.cutting.is_link_cut.Goals as goal
 
 pub returns : goal.returns
 returns c = record {

@@ -1,0 +1,27 @@
+use Rattle.std.proofs.Common.{IfOk, subst, sym}
+use Rattle.route_ready.specs.World.{world_of}
+use Rattle.route_engine.specs.Placings.{PlacesOn}
+use Rattle.route_engine.proofs.PlacingLemmas.{steps-on, wants-memory}
+use Rattle.route_engine.proofs.placing.PlacingStepImpl.step.Goals as goal
+
+pub returns-in-Cutting : goal.returns-in-Cutting
+returns-in-Cutting c =
+    let world = world_of c.args.dataset.now in
+    record {
+      steps = steps-on world c.args.budget c.args.self c.deref.result.now c.deref-in-Cutting.result.now c.cut_more-next.result c.stepped.result
+          c.deref.ensures c.deref-in-Cutting.ensures c.requires.over
+          (subst (λ s. IfOk c.cut_more-next.result (PlacesOn world c.deref.result.now c.deref-in-Cutting.result.now c.args.budget s))
+          (sym c.in-Cutting.is) c.cut_more-next.ensures.on)
+          (wants-memory c.cut_more-next.result _ c.cut_more-next.ensures.cause) c.stepped.ensures.exact;
+    }
+
+pub returns-in-Moving : goal.returns-in-Moving
+returns-in-Moving c =
+    let world = world_of c.args.dataset.now in
+    record {
+      steps = steps-on world c.args.budget c.args.self c.deref-in-Moving.result.now c.deref-in-Moving-2.result.now c.move_next-next.result c.stepped-in-Moving.result
+          c.deref-in-Moving.ensures c.deref-in-Moving-2.ensures c.requires.over
+          (subst (λ s. IfOk c.move_next-next.result (PlacesOn world c.deref-in-Moving.result.now c.deref-in-Moving-2.result.now c.args.budget s))
+          (sym c.in-Moving.is) c.move_next-next.ensures.on)
+          c.move_next-next.ensures.cause c.stepped-in-Moving.ensures.exact;
+    }
