@@ -20,7 +20,7 @@ use Rattle.route_engine.specs.declared.aim.Aim.{Aim}
 
 -- a session asks for something, for which so many turns may be left
 abbrev pub Asks : Service → Connection → ℕ → Type 0
-Asks service c due = (aim : Aim) × (asked : Asked) × AsksFor service c aim asked × (due ≤ turns_for aim asked)
+Asks service c due = (aim : Aim) × (asked : Asked) × AsksFor service c aim asked × (due ≤ turns_for service.world aim asked)
 
 -- each that waits does
 abbrev pub AreAsking : Service → State → Type 0
@@ -62,9 +62,9 @@ module _ (service : Service) where
   takes_asks stored old c now added due reads (steps.refused is) waits = cc
   takes_asks stored old c now added due reads (steps.upload is) waits = cc
   takes_asks stored old c now added due reads (steps.early is answers) waits = cc
-  takes_asks stored old c now added due reads (steps.waits {aim} {span} is searched) waits =
-      let same : turns_for aim searched.asked ≡ due = cc in
-      (aim, searched.asked, record { span = span; verdict = is; spells = searched.asks.asks }, omega (arith, same))
+  takes_asks stored old c now added due reads (steps.waits {aim} {span} {asked} is asks) waits =
+      let same : turns_for service.world aim asked ≡ due = cc in
+      (aim, asked, record { span = span; verdict = is; spells = asks.asks }, omega (arith, same))
   takes_asks stored old c now added due reads (steps.gives_up some which) waits = cc
 
   goes_asks : (stored : List Stored) (c now : Connection) (due : ℕ) →

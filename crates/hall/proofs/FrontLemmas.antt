@@ -21,7 +21,7 @@ use Rattle.session_answers.specs.declared.profiles.Profiles.{Profiles}
 
 waits_in : (p : Kept) (due : ℕ) → phase_in p ≡ Waits due → IsWaitingIn p
 waits_in phases.Reading due is = cc
-waits_in (phases.Waits pending place) due is = tt
+waits_in (phases.Waits pending) due is = tt
 waits_in (phases.Answered frame sent) due is = cc
 waits_in phases.Silent due is = cc
 
@@ -52,8 +52,8 @@ module _ (room : Room) (held : IsHeld room) (id : ℕ) (rest : List ℕ) (first 
 module _ (room new : Room) (held : IsHeld room) (k : ℕ) (seat made : Seat) (back : IsReplaced room new k seat (Some made)) where
   pub works_by : (id : ℕ) (desk : Desk) → room.desk.queue.items ≡ id ∷ desk.queue.items → seat.id ≡ id →
       Makes desk new.desk (HasTurn desk (connection_of seat)) seat.id seat.away made → desk.world ≡ room.desk.world →
-      desk.profiles ≡ room.desk.profiles → desk.labels ≡ room.desk.labels → Becomes room new (Works (service_in room) (state_in room))
-  works_by id desk first own makes world profiles labels =
+      desk.profiles ≡ room.desk.profiles → desk.labels ≡ room.desk.labels → desk.kept ≡ room.desk.kept → Becomes room new (Works (service_in room) (state_in room))
+  works_by id desk first own makes world profiles labels kept =
       let known = lifted_known room held k seat back.has in
       let service : service_at desk ≡ service_in room = λ i. service_at (record desk { world = world i; profiles = profiles i; labels = labels i }) in
       let goes = subst (λ (v : Service). GoesOn v (stored_of desk.profiles) (connection_of seat) (connection_of made)) service
@@ -61,11 +61,11 @@ module _ (room new : Room) (held : IsHeld room) (k : ℕ) (seat made : Seat) (ba
       let goes_too = subst (λ (p : Profiles). GoesOn (service_in room) (stored_of p) (connection_of seat) (connection_of made)) profiles
       goes in
       let state : state_in new ≡ changed (record (state_in room) { waiting = desk.queue.items }) seat.id (connection_of made) [] =
-      made_state room new held k seat made back desk _ makes world profiles labels
+      made_state room new held k seat made back desk _ makes world profiles labels kept
       ∙ ap (changed (record (state_in room) { waiting = desk.queue.items }) seat.id (connection_of made)) makes.is.1 in
       let works : Works (service_in room) (state_in room) (state_in new) =
       subst (Works (service_in room) (state_in room)) (sym state)
       (steps.turn {id = seat.id} {rest = desk.queue.items} {c = connection_of seat} {now = connection_of made}
       (first ∙ ap (λ (i : ℕ). i ∷ desk.queue.items) (sym own)) known goes_too) in
-      made_becomes room new held k seat made back desk _ makes world profiles labels (Works (service_in room) (state_in room)) works
+      made_becomes room new held k seat made back desk _ makes world profiles labels kept (Works (service_in room) (state_in room)) works
       (sound_works (service_in room) (state_in room) held.sound (state_in new) works)

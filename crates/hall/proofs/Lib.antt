@@ -22,6 +22,7 @@ pub mod StandLemmas
 pub mod Status
 pub mod StepLemmas
 pub mod StillLemmas
+pub mod SweepLemmas
 pub mod TakingLemmas
 pub mod TrafficLemmas
 pub mod TurnLemmas

@@ -1,7 +1,7 @@
 -- What a room comes to by a connection that opens.
 use Rattle.std.proofs.Common.{◌≡◌, ◌<◌, ◌≤◌, ◌+◌, ℕ, Bool, true, false, cond, List, [], get_or, Option, Some, None, option_map, refl, sym, ◌∙◌, ap, subst, arith, append-nil}
 use Rattle.std.specs.Bool.{beq}
-use Rattle.hall_seats.proofs.RoomLemmas.{Places, state_now, count_now, held_now, Becomes}
+use Rattle.hall_seats.proofs.RoomLemmas.{Places, state_now, count_now, held_now, Becomes, stay-same}
 use Rattle.hall_seats.proofs.SeatCountLemmas.{counts}
 use Rattle.hall_seats.proofs.SeatLemmas.{IsFor, known_seat, seats_get}
 use Rattle.hall_seats.proofs.SoundLemmas.{sound_opens}
@@ -17,6 +17,8 @@ use Rattle.hall_seats.specs.declared.room.Room.{Room}
 use Rattle.hall_seats.specs.declared.seat.Phase.TheVariants as phases
 use Rattle.hall_seats.specs.declared.seat.Phase.{Phase as Kept}
 use Rattle.hall_seats.specs.declared.seat.Seat.{Seat}
+use Rattle.route_ready.specs.World.{world_of}
+use Rattle.session_answers.specs.declared.kept.KeptProfiles.{KeptProfiles}
 use Rattle.session_answers.specs.Profiles.{stored_of}
 use Rattle.session_answers.specs.Received.{received_of}
 use Rattle.session_answers.specs.Sites.{Site}
@@ -67,7 +69,8 @@ module _ (room new : Room) (held : IsHeld room) (id : ℕ) (none : (state_in roo
         (λ away. omega (arith, opened_count away, few away))
         (λ other is. let one : seat ≡ other = cc in subst (IsSearchAt new.desk) one searching)
         [] (ap site_at desk) (stored_same ∙ sym (append-nil (stored_of room.desk.profiles)))
-        (subst AreReadied (sym desk) held.kept);
+        (subst AreReadied (sym desk) held.kept)
+        (stay-same (world_of room.desk.world) room.desk.kept new.desk.kept (ap (λ (d : Desk). d.kept) desk));
     same = ap service_at desk;
   }
 
@@ -89,12 +92,12 @@ is_full room held seen away same many = (
 )
 
 -- where no search waits, none has to be that of its connection
-still_in : (site : Site) (stored : List Stored) (bytes : List ℕ) (ended : Bool) (whole : Option ℕ) (p : Kept) →
-    ((due : ℕ) → phase_in p ≡ Waits due → ⊥) → IsSearchIn site stored bytes ended whole p
-still_in site stored bytes ended whole phases.Reading still = tt
-still_in site stored bytes ended whole (phases.Waits pending place) still = absurd (still pending.left refl)
-still_in site stored bytes ended whole (phases.Answered frame sent) still = tt
-still_in site stored bytes ended whole phases.Silent still = tt
+still_in : (site : Site) (stored : List Stored) (kept : KeptProfiles) (bytes : List ℕ) (ended : Bool) (whole : Option ℕ) (p : Kept) →
+    ((due : ℕ) → phase_in p ≡ Waits due → ⊥) → IsSearchIn site stored kept bytes ended whole p
+still_in site stored kept bytes ended whole phases.Reading still = tt
+still_in site stored kept bytes ended whole (phases.Waits pending) still = absurd (still pending.left refl)
+still_in site stored kept bytes ended whole (phases.Answered frame sent) still = tt
+still_in site stored kept bytes ended whole phases.Silent still = tt
 
 few_more : (seats : List (Option Seated)) (away b : Bool) → ((x : Bool) → count_of seats x ≤ most_sessions) →
     count_of seats away < most_sessions → count_of seats b + cond (beq away b) 1 0 ≤ most_sessions
@@ -125,7 +128,7 @@ module _ (room new : Room) (held : IsHeld room) (id : ℕ) (c : Connection) (get
       opened_becomes room new held id gets.none gets.seat gets.desk gets.placed own_is None
       (subst (λ (s : State). Opens (state_in room) id s None)
       (sym (opened_state room new held id gets.none gets.seat gets.desk gets.placed own_is c known_is)) opens)
-      (still_in (site_at new.desk) (stored_of new.desk.profiles) (received_of gets.seat.received) gets.seat.ended gets.seat.before
+      (still_in (site_at new.desk) (stored_of new.desk.profiles) new.desk.kept (received_of gets.seat.received) gets.seat.ended gets.seat.before
       gets.seat.phase
       (λ due waits. still due (sym (ap (λ (d : Connection). d.phase) known_is) ∙ waits)))
       (λ away. subst (λ (b : Bool). count_of (seats_of room.seats.items) away + cond (beq b away) 1 0 ≤ most_sessions)

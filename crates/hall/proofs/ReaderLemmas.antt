@@ -15,7 +15,7 @@ use Rattle.hall_seats.specs.declared.seat.Seat.{Seat}
 
 read_in : (p : Kept) → phase_in p ≡ Reading → p ≡ phases.Reading
 read_in phases.Reading is = refl
-read_in (phases.Waits pending place) is = cc
+read_in (phases.Waits pending) is = cc
 read_in (phases.Answered frame sent) is = cc
 read_in phases.Silent is = cc
 
@@ -46,10 +46,10 @@ module _ (room new : Room) (held : IsHeld room) (k : ℕ) (seat made : Seat) (ba
       let reader = reader_is room held k id seat found back.has in
       let known = lifted_known room held k seat back.has in
       let reads : (connection_of seat).phase ≡ Reading = ap phase_in reader.read in
-      let state = made_state room new held k seat made back room.desk _ settles refl refl refl in
+      let state = made_state room new held k seat made back room.desk _ settles refl refl refl refl in
       let hears : Hears (service_in room) (state_in room) seat.id heard (state_in new) =
       subst (Hears (service_in room) (state_in room) seat.id heard) (sym state) (steps.kept known reads settles.is) in
       subst (λ (i : ℕ). Becomes room new (Hears (service_in room) (state_in room) i heard)) reader.own
-      (made_becomes room new held k seat made back room.desk _ settles refl refl refl
+      (made_becomes room new held k seat made back room.desk _ settles refl refl refl refl
       (Hears (service_in room) (state_in room) seat.id heard) hears
       (sound_hears (service_in room) (state_in room) held.sound seat.id heard (state_in new) alike hears))

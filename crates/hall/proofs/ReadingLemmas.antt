@@ -17,6 +17,7 @@ use Rattle.route_ready.specs.World.{world_of}
 use Rattle.session_answers.proofs.CallerLemmas.{job_now, kept_more, verdict_unique}
 use Rattle.session_answers.specs.Frames.{refusal_frame}
 use Rattle.session_answers.specs.Jobs.{AreKept, IsBegun}
+use Rattle.session_answers.specs.Kept.{StayAwaited}
 use Rattle.session_answers.specs.Profiles.{given_of, stored_of, uploads_of}
 use Rattle.session_answers.specs.Received.{received_of}
 use Rattle.session_answers.specs.Rows.{IsEarlyFrame}
@@ -44,8 +45,8 @@ goes_on bytes ended is silent =
 
 -- ---- What is fixed, where nothing is stored and nothing waits
 
-module _ (desk : Desk) (kept : KeptProfiles) (are : AreKept (world_of desk.world) (stored_of desk.profiles) kept) (before c : Connection)
-    (id : ℕ) (away : Bool) where
+module _ (desk : Desk) (kept : KeptProfiles) (are : AreKept (world_of desk.world) (stored_of desk.profiles) kept)
+    (stay : StayAwaited (world_of desk.world) desk.kept kept) (before c : Connection) (id : ℕ) (away : Bool) where
   -- a desk at which only the profiles that were made ready change
   abbrev next : Desk
   next = record desk { kept = kept }
@@ -61,6 +62,7 @@ module _ (desk : Desk) (kept : KeptProfiles) (are : AreKept (world_of desk.world
     waiting = sym (ap (λ (l : List ℕ). desk.queue.items ++ l) still ∙ append-nil desk.queue.items);
     searching = searching;
     kept = are;
+    stay = stay;
     same = refl;
   }
 
@@ -83,7 +85,7 @@ module _ (desk : Desk) (kept : KeptProfiles) (are : AreKept (world_of desk.world
       Takes (service_at desk) (stored_of desk.profiles) before c (connection_of made) [] → Settles desk next before c id away made
   settles_undecided made reads own alike takes =
       settles_stay made own alike (ap (λ (p : Kept). waits_as (phase_in p) id) reads)
-      (subst (IsSearchIn (site_at desk) (stored_of desk.profiles) (received_of made.received) made.ended made.before) (sym reads) tt)
+      (subst (IsSearchIn (site_at desk) (stored_of desk.profiles) kept (received_of made.received) made.ended made.before) (sym reads) tt)
       takes
 
 -- a seat is answered by the frame of a refusal, or of want of memory
@@ -96,7 +98,7 @@ pub settles_refused : (desk : Desk) (are : AreReadied desk) (before : Connection
     IsVerdict (received_of seat.received) seat.ended (Refused r) → IsRefusedBy seat made r →
     Settles desk desk before (connection_of seat) seat.id seat.away made
 settles_refused desk are before seat made r is answer =
-    settles_frame desk desk.kept are before (connection_of seat) seat.id seat.away made seat answer.0 answer.1 refl refl (by_frame answer.2)
+    settles_frame desk desk.kept are (λ place overrides left k is. is) before (connection_of seat) seat.id seat.away made seat answer.0 answer.1 refl refl (by_frame answer.2)
   where
     by_frame : (frame_in answer.0 ≡ refusal_frame r) ⊎ (frame_in answer.0 ≡ memory_frame) →
         Takes (service_at desk) (stored_of desk.profiles) before (connection_of seat) (with_frame (connection_of seat) (frame_in answer.0))
@@ -111,8 +113,8 @@ settles_refused desk are before seat made r is answer =
 
 -- ---- A query
 
-module _ (desk : Desk) (kept : KeptProfiles) (are : AreKept (world_of desk.world) (stored_of desk.profiles) kept) (before : Connection)
-    (seat : Seat) (n : ℕ)
+module _ (desk : Desk) (kept : KeptProfiles) (are : AreKept (world_of desk.world) (stored_of desk.profiles) kept)
+    (stay : StayAwaited (world_of desk.world) desk.kept kept) (before : Connection) (seat : Seat) (n : ℕ)
     (counts : n ≡ length (stored_of desk.profiles)) (aim : Aim) (span : Span)
     (is : IsVerdict (received_of seat.received) seat.ended (Query aim span)) where
   -- its request is whole now
@@ -128,7 +130,7 @@ module _ (desk : Desk) (kept : KeptProfiles) (are : AreKept (world_of desk.world
       IsEarlyFrame (site_at desk) (stored_of desk.profiles) query (frame_in frame) →
       Settles desk (record desk { kept = kept }) before (connection_of seat) seat.id seat.away made
   settles_early made frame query same same_query answers =
-      settles_frame desk kept are before (connection_of seat) seat.id seat.away made whole frame same refl refl
+      settles_frame desk kept are stay before (connection_of seat) seat.id seat.away made whole frame same refl refl
       (subst (λ (d : Connection). Takes (service_at desk) (stored_of desk.profiles) before (connection_of seat)
       (with_frame d (frame_in frame)) []) (sym whole_is)
       (steps.early is (subst (λ (q : List ℕ). IsEarlyFrame (site_at desk) (stored_of desk.profiles) q (frame_in frame)) same_query
@@ -136,18 +138,17 @@ module _ (desk : Desk) (kept : KeptProfiles) (are : AreKept (world_of desk.world
 
   -- a search that waits, or want of memory
   module _ (new : Desk) (world : new.world ≡ desk.world) (profiles : new.profiles ≡ desk.profiles) (labels : new.labels ≡ desk.labels)
-      (readied : AreReadied new) (place : ℕ)
-      (pending : Search)
-      (begun : IsBegun (site_at desk) (stored_of desk.profiles) aim (part (received_of seat.received) span) place pending) where
+      (readied : AreReadied new) (awaited : StayAwaited (world_of desk.world) desk.kept new.kept) (pending : Search)
+      (begun : IsBegun (site_at desk) (stored_of desk.profiles) new.kept aim (part (received_of seat.received) span) pending) where
     stored_same : stored_of new.profiles ≡ stored_of desk.profiles ++ []
     stored_same = ap stored_of profiles ∙ sym (append-nil (stored_of desk.profiles))
 
     same_service : service_at new ≡ service_at desk
     same_service = λ i. service_at (record desk { world = world i; profiles = profiles i; labels = labels i })
 
-    searching : IsSearchAt new (waiting_by whole pending place)
+    searching : IsSearchAt new (waiting_by whole pending)
     searching =
-        subst (λ (d : Desk). IsSearchAt d (waiting_by whole pending place)) desk_is
+        subst (λ (d : Desk). IsSearchAt d (waiting_by whole pending)) desk_is
         (record {
           before = length (stored_of desk.profiles);
           aim = aim;
@@ -155,13 +156,13 @@ module _ (desk : Desk) (kept : KeptProfiles) (are : AreKept (world_of desk.world
           verdict = is;
           whole_is = ap (λ (m : ℕ). Some m) counts;
           within = omega arith;
-          job = job_now (site_at desk) aim (part (received_of seat.received) span) place pending (stored_of desk.profiles) begun.job;
+          job = job_now (site_at desk) aim (part (received_of seat.received) span) pending new.kept (stored_of desk.profiles) begun.job;
         })
       where
         desk_is : record desk { queue = new.queue; kept = new.kept; alloc = new.alloc } ≡ new
         desk_is = λ i. record new { world = (sym world) i; profiles = (sym profiles) i; labels = (sym labels) i }
 
-    pub settles_search : (made : Seat) → Joins desk.queue.items new.queue.items whole place pending made →
+    pub settles_search : (made : Seat) → Joins desk.queue.items new.queue.items whole pending made →
         Settles desk new before (connection_of seat) seat.id seat.away made
     settles_search made (last queue same) =
         subst (Settles desk new before (connection_of seat) seat.id seat.away) (sym same)
@@ -173,12 +174,13 @@ module _ (desk : Desk) (kept : KeptProfiles) (are : AreKept (world_of desk.world
               subst (λ (m : ℕ). Takes (service_at desk) (stored_of desk.profiles) before (connection_of seat)
               (record (connection_of whole) { phase = Waits m }) []) (sym begun.fresh)
               (subst (λ (d : Connection). Takes (service_at desk) (stored_of desk.profiles) before (connection_of seat)
-              (record d { phase = Waits (turns_for aim begun.searched.asked) }) []) (sym whole_is)
-              (steps.waits is begun.searched));
+              (record d { phase = Waits (turns_for (world_of desk.world) aim begun.job.asked) }) []) (sym whole_is)
+              (steps.waits is begun.job.asks));
           stored = stored_same;
           waiting = queue;
           searching = searching;
           kept = readied;
+          stay = awaited;
           same = same_service;
         })
     settles_search made (none queue same) =
@@ -193,6 +195,7 @@ module _ (desk : Desk) (kept : KeptProfiles) (are : AreKept (world_of desk.world
           waiting = queue ∙ sym (append-nil desk.queue.items);
           searching = tt;
           kept = readied;
+          stay = awaited;
           same = same_service;
         })
 
@@ -226,6 +229,7 @@ module _ (desk : Desk) (profiles : Profiles) (before : Connection) (seat : Seat)
         searching = tt;
         kept = subst (λ (l : List Stored). AreKept (world_of desk.world) l desk.kept) (sym stored)
             (kept_more (world_of desk.world) (stored_of desk.profiles) more desk.kept are);
+        stay = λ place overrides left k is. is;
         same = λ i. record { world = world_of desk.world; given = given i; labels = desk.labels };
       })
 

@@ -188,7 +188,7 @@ ends_in_time service s well id due c known phase =
     let own = well.asking id c due known phase in
     let is : waiting_for c due ≡ c = λ i. record c { phase = sym phase i } in
     let asks = own.2 in
-    let waits : IsInTime s id c (most_turns own.0 own.1) =
+    let waits : IsInTime s id c (most_turns service own.0 own.1) =
     record {
       due = due;
       known = known ∙ ap (λ (d : Connection). Some d) (sym is);
@@ -203,7 +203,7 @@ ends_in_time service s well id due c known phase =
       asked = own.1;
       asks = asks;
       ends = λ m acts new turns within.
-          ends_among service id c s new m (most_turns own.0 own.1) acts turns well waits within;
+          ends_among service id c s new m (most_turns service own.0 own.1) acts turns well waits within;
     }
 
 -- each search comes to its end

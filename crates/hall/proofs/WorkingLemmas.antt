@@ -10,26 +10,34 @@ use Rattle.hall_seats.specs.declared.room.Room.{Room}
 use Rattle.hall_seats.specs.declared.seat.Frame.{Frame}
 use Rattle.hall_seats.specs.declared.seat.Frame.TheVariants as frames
 use Rattle.hall_seats.specs.declared.seat.Seat.{Seat}
-use Rattle.session_answers.specs.Jobs.{IsJobOf}
+use Rattle.route_ready.specs.World.{world_of}
+use Rattle.session_answers.specs.Jobs.{AreKept, IsJobOf}
+use Rattle.session_answers.specs.Kept.{StayAwaited}
+use Rattle.session_answers.specs.declared.kept.KeptProfiles.{KeptProfiles}
 use Rattle.session_answers.specs.Profiles.{stored_of}
 use Rattle.session_answers.specs.Received.{received_of}
 use Rattle.session_answers.specs.Rows.{IsQueryFrame}
 use Rattle.session_answers.specs.Verdicts.{part}
 use Rattle.session_answers.specs.declared.search.Search.{Search}
 
-module _ (desk : Desk) (seat : Seat) (place : ℕ) (pending : Search)
-    (search : IsSearchOf (site_at desk) (stored_of desk.profiles) (received_of seat.received) seat.ended seat.before place pending)
-    (are : AreReadied desk) where
+module _ (desk : Desk) (seat : Seat) (pending : Search)
+    (search : IsSearchOf (site_at desk) (stored_of desk.profiles) desk.kept (received_of seat.received) seat.ended seat.before pending)
+    (kept : KeptProfiles) (are : AreKept (world_of desk.world) (stored_of desk.profiles) kept)
+    (stay : StayAwaited (world_of desk.world) desk.kept kept) where
   -- the connection as it waited
   abbrev waited : Connection
   waited = waiting_for (connection_of seat) pending.left
 
+  -- a desk at which only the profiles change that are made ready
+  abbrev next : Desk
+  next = record desk { kept = kept }
+
   -- it gets a frame
   framed : (made : Seat) (frame : Frame) → made ≡ answered_by seat frame →
       GoesOn (service_at desk) (stored_of desk.profiles) waited (with_frame waited (frame_in frame)) →
-      Makes desk desk (HasTurn desk waited) seat.id seat.away made
+      Makes desk next (HasTurn desk waited) seat.id seat.away made
   framed made frame same goes =
-      subst (Makes desk desk (HasTurn desk waited) seat.id seat.away) (sym same)
+      subst (Makes desk next (HasTurn desk waited) seat.id seat.away) (sym same)
       (record {
         own = refl;
         alike = refl;
@@ -39,6 +47,7 @@ module _ (desk : Desk) (seat : Seat) (place : ℕ) (pending : Search)
         waiting = sym (append-nil desk.queue.items);
         searching = tt;
         kept = are;
+        stay = stay;
         same = refl;
       })
 
@@ -46,29 +55,29 @@ module _ (desk : Desk) (seat : Seat) (place : ℕ) (pending : Search)
   pub works_frame : (made : Seat) (frame : Frame) →
       IsQueryFrame (site_at desk) (take search.before (stored_of desk.profiles)) search.aim
       (part (received_of seat.received) search.span) (frame_in frame) →
-      made ≡ answered_by seat frame → Makes desk desk (HasTurn desk waited) seat.id seat.away made
+      made ≡ answered_by seat frame → Makes desk next (HasTurn desk waited) seat.id seat.away made
   works_frame made frame is same =
       let asked : AskedBy waited search.before search.aim (part (received_of seat.received) search.span) =
       record { span = search.span; verdict = search.verdict; query_is = refl; before_is = search.whole_is } in
       framed made frame same (steps.answers {due = pending.left} refl asked search.within is)
 
   -- or memory ran out
-  pub works_memory : (made : Seat) → made ≡ answered_by seat frames.Memory → Makes desk desk (HasTurn desk waited) seat.id seat.away made
+  pub works_memory : (made : Seat) → made ≡ answered_by seat frames.Memory → Makes desk next (HasTurn desk waited) seat.id seat.away made
   works_memory made same = framed made frames.Memory same (steps.gives_up {due = pending.left} refl)
 
   -- or the search goes on, and waits last where the queue has room
-  module _ (new : Desk) (world : new.world ≡ desk.world) (profiles : new.profiles ≡ desk.profiles) (kept : new.kept ≡ desk.kept) (labels : new.labels ≡ desk.labels) (next :
-      Search)
-      (job : IsJobOf (site_at desk) (take search.before (stored_of desk.profiles)) search.aim
-      (part (received_of seat.received) search.span) place next)
-      (counts : pending.left ≡ suc next.left) where
-    -- a desk at which only the queue changes
-    desk_is : record desk { queue = new.queue; alloc = new.alloc } ≡ new
-    desk_is = λ i. record new { world = (sym world) i; profiles = (sym profiles) i; kept = (sym kept) i; labels = (sym labels) i }
+  module _ (new : Desk) (world : new.world ≡ desk.world) (profiles : new.profiles ≡ desk.profiles) (kept_is : new.kept ≡ kept)
+      (labels : new.labels ≡ desk.labels) (later : Search)
+      (job : IsJobOf (site_at desk) (take search.before (stored_of desk.profiles)) kept search.aim
+      (part (received_of seat.received) search.span) later)
+      (counts : pending.left ≡ suc later.left) where
+    -- a desk at which only the queue changes besides
+    desk_is : record desk { kept = kept; queue = new.queue; alloc = new.alloc } ≡ new
+    desk_is = λ i. record new { world = (sym world) i; profiles = (sym profiles) i; kept = (sym kept_is) i; labels = (sym labels) i }
 
-    searching : IsSearchAt new (waiting_by seat next place)
+    searching : IsSearchAt new (waiting_by seat later)
     searching =
-        subst (λ (d : Desk). IsSearchAt d (waiting_by seat next place)) desk_is
+        subst (λ (d : Desk). IsSearchAt d (waiting_by seat later)) desk_is
         (record {
           before = search.before;
           aim = search.aim;
@@ -82,7 +91,10 @@ module _ (desk : Desk) (seat : Seat) (place : ℕ) (pending : Search)
     stored_same : stored_of new.profiles ≡ stored_of desk.profiles ++ []
     stored_same = ap stored_of profiles ∙ sym (append-nil (stored_of desk.profiles))
 
-    pub works_more : (made : Seat) → Joins desk.queue.items new.queue.items seat place next made →
+    stay_now : StayAwaited (world_of desk.world) desk.kept new.kept
+    stay_now = subst (λ (k : KeptProfiles). StayAwaited (world_of desk.world) desk.kept k) (sym kept_is) stay
+
+    pub works_more : (made : Seat) → Joins desk.queue.items new.queue.items seat later made →
         Makes desk new (HasTurn desk waited) seat.id seat.away made
     works_more made (last queue same) =
         subst (Makes desk new (HasTurn desk waited) seat.id seat.away) (sym same)
@@ -90,14 +102,12 @@ module _ (desk : Desk) (seat : Seat) (place : ℕ) (pending : Search)
           own = refl;
           alike = refl;
           added = [];
-          is = (
-            steps.more {due = next.left} (ap (λ (m : ℕ). Waits m) counts),
-            refl,
-          );
+          is = (steps.more {due = later.left} (ap (λ (m : ℕ). Waits m) counts), refl);
           stored = stored_same;
           waiting = queue;
           searching = searching;
           kept = subst AreReadied desk_is are;
+          stay = stay_now;
           same = ap service_at (sym desk_is);
         })
     works_more made (none queue same) =
@@ -111,6 +121,7 @@ module _ (desk : Desk) (seat : Seat) (place : ℕ) (pending : Search)
           waiting = queue ∙ sym (append-nil desk.queue.items);
           searching = tt;
           kept = subst AreReadied desk_is are;
+          stay = stay_now;
           same = ap service_at (sym desk_is);
         })
 

@@ -32,10 +32,10 @@ EndsAmong service s id c n acts new (more {n = before} {acts = first} {between} 
 
 -- ---- The waits that follow
 
--- the most turns that a session waits for its frame: it has a turn of work in as many turns as sessions may be
--- held, and it has as many as its search goes on for, and one more
-abbrev pub most_turns : Aim → Asked → ℕ
-most_turns aim asked = most_sessions * suc (turns_for aim asked)
+-- the most turns that a session waits for its frame, by the map and by what it asks: it has a turn of work in as
+-- many turns as sessions may be held, and it has as many as its search goes on for, and one more
+abbrev pub most_turns : Service → Aim → Asked → ℕ
+most_turns service aim asked = most_sessions * suc (turns_for service.world aim asked)
 
 -- a session that waits asks for something, and whatever turns follow, so many of them end its wait: it gets a
 -- frame or is lost
@@ -44,7 +44,7 @@ pub record EndsInTime (service : Service) (s : State) (id : ℕ) (c : Connection
   pub asked : Asked
   pub asks : AsksFor service c aim asked
   pub ends : (m : ℕ) (acts : List Act) (new : State) (turns : Turns service s m acts new) →
-      most_turns aim asked ≤ m → EndsAmong service s id c m acts new turns
+      most_turns service aim asked ≤ m → EndsAmong service s id c m acts new turns
 
 -- so it is for each session that waits
 abbrev pub AllEndInTime : Service → State → Type 0
@@ -75,7 +75,7 @@ pub record EndedInTime {service : Service} {s new : State} {n : ℕ} {acts : Lis
   pub aim : Aim
   pub asked : Asked
   pub asks : AsksFor service c aim asked
-  pub ended : k + most_turns aim asked ≤ n → EndedSince id c k turns
+  pub ended : k + most_turns service aim asked ≤ n → EndedSince id c k turns
 
 -- in these turns no search went on for ever: so it was for each session that waited after some of them
 abbrev pub EndedEachWait :

@@ -5,6 +5,7 @@ ghost use Rattle.hall_seats.specs.Parts.{seat_count};
 
 use crate::opening::MOST_SESSIONS;
 use crate::stepping::step;
+use crate::sweeping::sweep;
 use crate::working::work;
 use edge_io::{Event, Hub};
 use hall_seats::{Desk, ReadyFrames, Room, SEATS, Seat, serve_seats};
@@ -104,12 +105,14 @@ impl Hall {
         self.room.desk.queue.len() > 0
     }
 
-    /// Gives a turn to the search that waited longest.
+    /// Gives a turn to the search that waited longest, and drops makings for which nobody waits any
+    /// more.
     pub fn work(&mut self)
         ensures works { Works (service_of self.old) (state_of self.old) (state_of self.new) }
         ensures same { service_of self.new ≡ service_of self.old }
     {
         work(&mut self.room);
+        sweep(&mut self.room);
     }
 
     /// Sends and closes what each connection has to send and to close. So after each turn no more

@@ -11,6 +11,7 @@ mod seating;
 mod seats;
 mod serve_end;
 mod stepping;
+mod sweeping;
 mod turn;
 mod waiting;
 mod working;

@@ -10,11 +10,11 @@ use std::collections::VecDeque;
 
 /// Puts a connection last, and gives it as one that waits. Where the queue can't grow, the
 /// connection is answered by want of memory.
-pub(crate) fn joined(queue: &mut VecDeque<u64>, seat: Seat, place: u32, pending: Search) -> Seat
-    ensures joins { Joins queue.old.items queue.new.items seat place pending result }
+pub(crate) fn joined(queue: &mut VecDeque<u64>, seat: Seat, pending: Search) -> Seat
+    ensures joins { Joins queue.old.items queue.new.items seat pending result }
 {
     match queue.push_back(seat.id) {
-        Ok(()) => waits(seat, pending, place),
+        Ok(()) => waits(seat, pending),
         Err(_) => answered(seat, Frame::Memory),
     }
 }

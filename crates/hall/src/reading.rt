@@ -147,12 +147,7 @@ fn asked(desk: &mut Desk, seat: Seat, aim: Aim, span: Span) -> Seat
         query,
     ) {
         Ok(Begun::Frame(frame)) => answered(whole(seat, before), Frame::Own(frame)),
-        Ok(Begun::Job(pending, place)) => joined(
-            &mut desk.queue,
-            whole(seat, before),
-            place,
-            pending,
-        ),
+        Ok(Begun::Job(pending)) => joined(&mut desk.queue, whole(seat, before), pending),
         Err(_) => answered(seat, Frame::Memory),
     }
 }

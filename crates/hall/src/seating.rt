@@ -56,11 +56,11 @@ pub(crate) fn whole(seat: Seat, before: usize) -> Seat
 }
 
 /// A connection whose search waits.
-pub(crate) fn waits(seat: Seat, pending: Search, place: u32) -> Seat
-    ensures value { result ≡ waiting_by seat pending place }
+pub(crate) fn waits(seat: Seat, pending: Search) -> Seat
+    ensures value { result ≡ waiting_by seat pending }
 {
     let mut seat = seat;
-    seat.phase = Phase::Waits(pending, place);
+    seat.phase = Phase::Waits(pending);
     seat
 }
 

@@ -41,23 +41,22 @@ fn worked(desk: &mut Desk, seat: Seat) -> Seat
 {
     let mut seat = seat;
     match replace(&mut seat.phase, Phase::Silent) {
-        Phase::Waits(pending, place) => turned(desk, seat, place, pending),
+        Phase::Waits(pending) => turned(desk, seat, pending),
         _ => seat,
     }
 }
 
 /// The same by the search that waited, which was taken out.
-fn turned(desk: &mut Desk, seat: Seat, place: u32, pending: Search) -> Seat
+fn turned(desk: &mut Desk, seat: Seat, pending: Search) -> Seat
     requires kept { AreReadied desk.old }
-    requires search { IsSearchOf (site_at desk.old) (stored_of desk.old.profiles)
-        (received_of seat.received) seat.ended seat.before place pending }
+    requires search { IsSearchOf (site_at desk.old) (stored_of desk.old.profiles) desk.old.kept
+        (received_of seat.received) seat.ended seat.before pending }
     ensures works { Makes desk.old desk.new
         (HasTurn desk.old (waiting_for (connection_of seat) pending.left)) seat.id seat.away
         result }
 {
-    let profile = desk.profiles.profile(place);
-    match pending.turn(desk.alloc, &desk.world, profile) {
-        Ok(Turn::More(pending)) => joined(&mut desk.queue, seat, place, pending),
+    match pending.turn(desk.alloc, &desk.world, &desk.profiles, &mut desk.kept) {
+        Ok(Turn::More(pending)) => joined(&mut desk.queue, seat, pending),
         Ok(Turn::Done(frame)) => answered(seat, Frame::Own(frame)),
         Err(_) => answered(seat, Frame::Memory),
     }

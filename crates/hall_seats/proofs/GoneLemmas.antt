@@ -1,6 +1,6 @@
 -- What a room comes to by a connection that is gone.
 use Rattle.std.proofs.Common.{◌≡◌, ℕ, [], set, Option, Some, None, sym, ◌∙◌, ap, subst, arith, append-nil}
-use Rattle.hall_seats.proofs.RoomLemmas.{Places, state_now, count_now, held_now, Becomes}
+use Rattle.hall_seats.proofs.RoomLemmas.{Places, state_now, count_now, held_now, Becomes, stay-same}
 use Rattle.hall_seats.proofs.SeatLemmas.{IsAlone, IsFor, alone_at, known_seat, seats_long}
 use Rattle.hall_seats.proofs.SoundLemmas.{sound_loses}
 use Rattle.hall_seats.specs.Parts.{AreReadied, IsHeld, IsSeatOf, seats_of, service_in, state_in}
@@ -10,6 +10,7 @@ use Rattle.hall_seats.specs.Steps as steps
 use Rattle.hall_seats.specs.Steps.{Loses}
 use Rattle.hall_seats.specs.Seats.{Seated}
 use Rattle.hall_seats.specs.declared.room.Room.{Room}
+use Rattle.route_ready.specs.World.{world_of}
 use Rattle.session_answers.specs.Profiles.{stored_of}
 
 -- of a desk nothing changes, but that a connection waits no more
@@ -18,6 +19,7 @@ pub record WaitsNoMore (room new : Room) (id : ℕ) : Type 0 where
   pub queue : new.desk.queue.items ≡ without id room.desk.queue.items
   pub same : service_in new ≡ service_in room
   pub kept : AreReadied new.desk
+  pub kept_same : new.desk.kept ≡ room.desk.kept
 
 module _ (room new : Room) (held : IsHeld room) (k id : ℕ) (places : Places room new k id None) (left : WaitsNoMore room new id) where
   pub gone_state : state_in new ≡ freed (state_in room) id
@@ -30,7 +32,8 @@ module _ (room new : Room) (held : IsHeld room) (k id : ℕ) (places : Places ro
     held = held_now room new k id None places held (subst (λ (v : Service). IsSound v (state_in new)) (sym left.same) sound)
         (λ away. omega (arith, count_now room new k id None places away, held.few away))
         (λ seat is. let clash : None ≡ Some seat = is in absurd (cc))
-        [] (ap site_in left.same) (left.stored ∙ sym (append-nil (stored_of room.desk.profiles))) left.kept;
+        [] (ap site_in left.same) (left.stored ∙ sym (append-nil (stored_of room.desk.profiles))) left.kept
+        (stay-same (world_of room.desk.world) room.desk.kept new.desk.kept left.kept_same);
     same = left.same;
   }
 

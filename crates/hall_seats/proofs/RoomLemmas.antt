@@ -1,5 +1,5 @@
 -- A room stays as it has to be by what calls change at one seat.
-use Rattle.std.proofs.Common.{◌≡◌, ◌<◌, ◌≤◌, ◌==◌, ◌+◌, ℕ, Bool, cond, List, ◌++◌, length, get_or, set, Option, Some, None, option_map, inl, inr, refl, sym, ◌∙◌, ap, subst, arith, length-append, get_or-set_other, get_or-set_same}
+use Rattle.std.proofs.Common.{◌≡◌, ◌<◌, ◌≤◌, ◌==◌, ◌+◌, ℕ, Bool, cond, List, ◌++◌, length, get_or, set, take, Option, Some, None, option_map, inl, inr, refl, sym, ◌∙◌, ap, subst, arith, length-append, get_or-set_other, get_or-set_same}
 use Rattle.std.proofs.lemmas.Bool.{cases_eq}
 use Rattle.std.proofs.lemmas.List.{length-set}
 use Rattle.std.specs.Bool.{beq}
@@ -15,39 +15,51 @@ use Rattle.hall_seats.specs.declared.room.Room.{Room}
 use Rattle.hall_seats.specs.declared.seat.Phase.TheVariants as phases
 use Rattle.hall_seats.specs.declared.seat.Phase.{Phase as Kept}
 use Rattle.hall_seats.specs.declared.seat.Seat.{Seat}
-use Rattle.session_answers.proofs.CallerLemmas.{job_more}
+use Rattle.route_ready.specs.World.{world_of}
+use Rattle.route_ready.specs.Worlds.{WorldValue}
+use Rattle.session_answers.proofs.CallerLemmas.{job_more, job_stays}
+use Rattle.session_answers.specs.Kept.{StayAwaited}
 use Rattle.session_answers.specs.Profiles.{stored_of}
 use Rattle.session_answers.specs.Received.{received_of}
 use Rattle.session_answers.specs.Sites.{Site}
 use Rattle.session_answers.specs.Stored.{Stored}
 use Rattle.session_answers.specs.Verdicts.{part}
+use Rattle.session_answers.specs.declared.kept.KeptProfiles.{KeptProfiles}
 use Rattle.session_answers.specs.declared.profiles.Profiles.{Profiles}
 
 -- ---- Searches
 
 -- a search is that of its connection while more profiles are stored
-search_more : (site : Site) (stored more : List Stored) (bytes : List ℕ) (ended : Bool) (whole : Option ℕ) (p : Kept) →
-    IsSearchIn site stored bytes ended whole p → IsSearchIn site (stored ++ more) bytes ended whole p
-search_more site stored more bytes ended whole phases.Reading is = tt
-search_more site stored more bytes ended whole (phases.Waits pending place) is = record {
+search_more : (site : Site) (stored more : List Stored) (old new : KeptProfiles) → StayAwaited site.world old new → (bytes : List ℕ)
+    (ended : Bool) (whole : Option ℕ) (p : Kept) →
+    IsSearchIn site stored old bytes ended whole p → IsSearchIn site (stored ++ more) new bytes ended whole p
+search_more site stored more old new stay bytes ended whole phases.Reading is = tt
+search_more site stored more old new stay bytes ended whole (phases.Waits pending) is = record {
   before = is.before;
   aim = is.aim;
   span = is.span;
   verdict = is.verdict;
   whole_is = is.whole_is;
   within = omega (arith, is.within, length-append stored more);
-  job = job_more site is.aim (part bytes is.span) place pending is.before stored more is.within is.job;
+  job = job_stays site is.aim (part bytes is.span) pending (take is.before (stored ++ more)) old new stay
+      (job_more site is.aim (part bytes is.span) pending old is.before stored more is.within is.job);
 }
-search_more site stored more bytes ended whole (phases.Answered frame sent) is = tt
-search_more site stored more bytes ended whole phases.Silent is = tt
+search_more site stored more old new stay bytes ended whole (phases.Answered frame sent) is = tt
+search_more site stored more old new stay bytes ended whole phases.Silent is = tt
 
 -- so at a desk
 search_at : (old new : Desk) (added : List Stored) (seat : Seat) → site_at new ≡ site_at old →
-    stored_of new.profiles ≡ stored_of old.profiles ++ added → IsSearchAt old seat → IsSearchAt new seat
-search_at old new added seat site stored is =
-    subst (λ (w : Site). IsSearching w (stored_of new.profiles) seat) (sym site)
-    (subst (λ (l : List Stored). IsSearching (site_at old) l seat) (sym stored)
-    (search_more (site_at old) (stored_of old.profiles) added (received_of seat.received) seat.ended seat.before seat.phase is))
+    stored_of new.profiles ≡ stored_of old.profiles ++ added → StayAwaited (world_of old.world) old.kept new.kept →
+    IsSearchAt old seat → IsSearchAt new seat
+search_at old new added seat site stored stay is =
+    subst (λ (w : Site). IsSearching w (stored_of new.profiles) new.kept seat) (sym site)
+    (subst (λ (l : List Stored). IsSearching (site_at old) l new.kept seat) (sym stored)
+    (search_more (site_at old) (stored_of old.profiles) added old.kept new.kept stay (received_of seat.received) seat.ended seat.before
+    seat.phase is))
+
+-- what is kept the same stays awaited
+pub stay-same : (world : WorldValue) (old new : KeptProfiles) → new ≡ old → StayAwaited world old new
+stay-same world old new same = subst (λ (k : KeptProfiles). StayAwaited world old k) (sym same) (λ place overrides left k is. is)
 
 -- ---- One seat is changed
 
@@ -96,8 +108,9 @@ module _ (room new : Room) (k id : ℕ) (x : Option Seat) (places : Places room 
       ((away : Bool) → count_of (seats_of new.seats.items) away ≤ most_sessions) →
       ((seat : Seat) → x ≡ Some seat → IsSearchAt new.desk seat) → (added : List Stored) →
       site_at new.desk ≡ site_at room.desk →
-      stored_of new.desk.profiles ≡ stored_of room.desk.profiles ++ added → AreReadied new.desk → IsHeld new
-  held_now held sound few inside added site stored kept = record {
+      stored_of new.desk.profiles ≡ stored_of room.desk.profiles ++ added → AreReadied new.desk →
+      StayAwaited (world_of room.desk.world) room.desk.kept new.desk.kept → IsHeld new
+  held_now held sound few inside added site stored kept stay = record {
     sound = sound;
     long = ap length places.seats ∙ length-set room.seats.items k x ∙ held.long;
     once = subst (λ (l : List (Option Seated)). (i j : ℕ) (y z : Seated) → get_or l i None ≡ Some y → get_or l j None ≡ Some z →
@@ -111,7 +124,7 @@ module _ (room new : Room) (k id : ℕ) (x : Option Seat) (places : Places room 
           ∙ sym (ap (λ (l : List (Option Seat)). get_or l k None) places.seats)
           ∙ sym (ap (λ (n : ℕ). get_or new.seats.items n None) same) ∙ has)
       | inr other ↦
-          search_at room.desk new.desk added seat site stored
+          search_at room.desk new.desk added seat site stored stay
           (held.searching j seat
           (sym (get_or-set_other room.seats.items k j x None other) ∙ sym (ap (λ (l : List (Option Seat)). get_or l j None) places.seats)
           ∙ has))
@@ -169,7 +182,7 @@ replaced room new k seat x lifted has left now = record {
 module _ (room new : Room) (held : IsHeld room) (k : ℕ) (seat made : Seat) (back : IsReplaced room new k seat (Some made)) (desk : Desk)
     (relation : Connection → List Stored → Type 0)
     (makes : Makes desk new.desk relation seat.id seat.away made) (world : desk.world ≡ room.desk.world) (profiles :
-    desk.profiles ≡ room.desk.profiles) (labels : desk.labels ≡ room.desk.labels) where
+    desk.profiles ≡ room.desk.profiles) (labels : desk.labels ≡ room.desk.labels) (kept : desk.kept ≡ room.desk.kept) where
   places_made : Places room new k seat.id (Some made)
   places_made = places_at room new k seat (Some made) held back.has makes.own back.now
 
@@ -193,7 +206,9 @@ module _ (room new : Room) (held : IsHeld room) (k : ℕ) (seat made : Seat) (ba
         (subst (λ (v : Service). IsSound v (state_in new)) (sym service_now) sound)
         (few_alike room new k seat.id seat made places_made held back.has makes.alike)
         (λ other is. let one : made ≡ other = cc in subst (IsSearchAt new.desk) one makes.searching)
-        makes.added (ap site_in service_now) stored_now makes.kept;
+        makes.added (ap site_in service_now) stored_now makes.kept
+        (subst (λ (k : KeptProfiles). StayAwaited (world_of room.desk.world) k new.desk.kept) kept
+        (subst (λ w. StayAwaited (world_of w) desk.kept new.desk.kept) world makes.stay));
     same = service_now;
   }
 

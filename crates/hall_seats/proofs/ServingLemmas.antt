@@ -6,7 +6,7 @@ use Rattle.edge_io.specs.Hub.{Breaks, Closes as ClosesAt, HubSeen, IsLive, Takes
 use Rattle.edge_io.proofs.CallerLemmas.{Tells-live, Tells-none}
 use Rattle.hall_seats.proofs.LiveLemmas.{live_more, sends_own, serves_live}
 use Rattle.hall_seats.proofs.GoneLemmas.{WaitsNoMore, gone_state, gone_becomes}
-use Rattle.hall_seats.proofs.RoomLemmas.{IsReplaced, few_alike, held_now, lifted_known, places_at, state_now}
+use Rattle.hall_seats.proofs.RoomLemmas.{IsReplaced, few_alike, held_now, lifted_known, places_at, state_now, stay-same}
 use Rattle.hall_seats.proofs.SeatCountLemmas.{all_ids, ids_of}
 use Rattle.hall_seats.proofs.SeatLemmas.{seat_is, seats_long}
 use Rattle.hall_seats.proofs.SoundInLemmas.{left_serves, piece_fits}
@@ -22,10 +22,12 @@ use Rattle.hall_seats.specs.declared.room.Room.{Room}
 use Rattle.hall_seats.specs.declared.seat.Phase.{Phase as Kept}
 use Rattle.hall_seats.specs.declared.seat.Phase.TheVariants as phases
 use Rattle.hall_seats.specs.declared.seat.Seat.{Seat}
+use Rattle.route_ready.specs.World.{world_of}
 use Rattle.session_answers.specs.Profiles.{stored_of}
 use Rattle.session_answers.specs.Received.{received_of}
 use Rattle.session_answers.specs.Sites.{Site}
 use Rattle.session_answers.specs.Stored.{Stored}
+use Rattle.session_answers.specs.declared.kept.KeptProfiles.{KeptProfiles}
 
 -- ---- One connection
 
@@ -38,30 +40,30 @@ fits_piece Silent piece n is fits = tt
 
 sent_phase : (p : Kept) (n : ℕ) → phase_in (sent_in p n) ≡ sent_more (phase_in p) n
 sent_phase phases.Reading n = refl
-sent_phase (phases.Waits pending place) n = refl
+sent_phase (phases.Waits pending) n = refl
 sent_phase (phases.Answered frame sent) n = refl
 sent_phase phases.Silent n = refl
 
-sent_search : (site : Site) (stored : List Stored) (bytes : List ℕ) (ended : Bool) (whole : Option ℕ) (p : Kept) (n : ℕ) →
-    IsSearchIn site stored bytes ended whole p → IsSearchIn site stored bytes ended whole (sent_in p n)
-sent_search site stored bytes ended whole phases.Reading n is = tt
-sent_search site stored bytes ended whole (phases.Waits pending place) n is = is
-sent_search site stored bytes ended whole (phases.Answered frame sent) n is = tt
-sent_search site stored bytes ended whole phases.Silent n is = tt
+sent_search : (site : Site) (stored : List Stored) (kept : KeptProfiles) (bytes : List ℕ) (ended : Bool) (whole : Option ℕ) (p : Kept)
+    (n : ℕ) → IsSearchIn site stored kept bytes ended whole p → IsSearchIn site stored kept bytes ended whole (sent_in p n)
+sent_search site stored kept bytes ended whole phases.Reading n is = tt
+sent_search site stored kept bytes ended whole (phases.Waits pending) n is = is
+sent_search site stored kept bytes ended whole (phases.Answered frame sent) n is = tt
+sent_search site stored kept bytes ended whole phases.Silent n is = tt
 
 -- what is left of a seat has its id and its search
 pub keeps_same : (seat : Seat) → Keeps seat (Some seat)
-keeps_same seat = (refl, refl, λ site stored is. is)
+keeps_same seat = (refl, refl, λ site stored kept is. is)
 
 pub keeps_further : (seat made : Seat) (n : ℕ) → made ≡ record seat { phase = sent_in seat.phase n } → Keeps seat (Some made)
 keeps_further seat made n same =
     subst (λ (m : Seat). Keeps seat (Some m)) (sym same)
-    (refl, refl, λ site stored is. sent_search site stored (received_of seat.received) seat.ended seat.before seat.phase n is)
+    (refl, refl, λ site stored kept is. sent_search site stored kept (received_of seat.received) seat.ended seat.before seat.phase n is)
 
 pub keeps_more : (seat mid : Seat) (left : Option Seat) → Keeps seat (Some mid) → Keeps mid left → Keeps seat left
 keeps_more seat mid None first more = tt
 keeps_more seat mid (Some made) first more =
-    (more.0 ∙ first.0, more.1 ∙ first.1, λ site stored is. more.2 site stored (first.2 site stored is))
+    (more.0 ∙ first.0, more.1 ∙ first.1, λ site stored kept is. more.2 site stored kept (first.2 site stored kept is))
 
 -- ---- A send
 
@@ -187,9 +189,10 @@ seat_kept room new held k seat made back desk old seen live keeps one =
     let alike : made ≡ other = cc in
     subst (IsSearchAt new.desk) alike
     (subst (λ (d : Desk). IsSearchAt d made) (sym desk)
-    (keeps.2 (site_at room.desk) (stored_of room.desk.profiles) (held.searching k seat back.has))))
+    (keeps.2 (site_at room.desk) (stored_of room.desk.profiles) room.desk.kept (held.searching k seat back.has))))
     [] (ap site_at desk) (stored
-    ∙ sym (append-nil (stored_of room.desk.profiles))) (subst AreReadied (sym desk) held.kept))
+    ∙ sym (append-nil (stored_of room.desk.profiles))) (subst AreReadied (sym desk) held.kept)
+    (stay-same (world_of room.desk.world) room.desk.kept new.desk.kept (ap (λ (d : Desk). d.kept) desk)))
     same state
 
 -- a connection is gone

@@ -15,12 +15,15 @@ use Rattle.hall_seats.specs.declared.seat.Seat.{Seat}
 use Rattle.route_http.specs.declared.span.Span.{Span}
 use Rattle.route_ready.specs.World.{world_of}
 use Rattle.session_answers.specs.Jobs.{AreKept, IsJobOf}
+use Rattle.session_answers.specs.Kept.{StayAwaited}
 use Rattle.session_answers.specs.Profiles.{given_of, stored_of}
 use Rattle.session_answers.specs.Received.{received_of}
+use Rattle.session_answers.specs.Searches.{waits_for}
 use Rattle.session_answers.specs.Sites.{Site, site_of}
 use Rattle.session_answers.specs.Stored.{Stored}
 use Rattle.session_answers.specs.Verdicts.{IsVerdict, part}
 use Rattle.route_engine.specs.declared.aim.Aim.{Aim}
+use Rattle.session_answers.specs.declared.kept.KeptProfiles.{KeptProfiles}
 use Rattle.session_answers.specs.declared.search.Search.{Search}
 use Rattle.session_answers.specs.declared.verdict.Verdict.TheVariants.{Query}
 
@@ -35,7 +38,7 @@ frame_in (frames.Own bytes) = bytes.items
 -- how far a connection is
 abbrev pub phase_in : Kept → Phase
 phase_in phases.Reading = Reading
-phase_in (phases.Waits pending place) = Waits pending.left
+phase_in (phases.Waits pending) = Waits pending.left
 phase_in (phases.Answered frame sent) = Answered (frame_in frame) sent
 phase_in phases.Silent = Silent
 
@@ -147,32 +150,32 @@ HaveOneSeat seats = (j k : ℕ) (x y : Seated) → get_or seats j None ≡ Some 
     x.id ≡ y.id → j ≡ k
 
 -- a search is that for the query that these bytes ask, over the profiles that were stored before they did
-pub record IsSearchOf (site : Site) (stored : List Stored) (bytes : List ℕ) (ended : Bool) (whole :
-    Option ℕ) (place : ℕ) (pending : Search) : Type 0 where
+pub record IsSearchOf (site : Site) (stored : List Stored) (kept : KeptProfiles) (bytes : List ℕ) (ended : Bool)
+    (whole : Option ℕ) (pending : Search) : Type 0 where
   pub before : ℕ
   pub aim : Aim
   pub span : Span
   pub verdict : IsVerdict bytes ended (Query aim span)
   pub whole_is : whole ≡ Some before
   pub within : before ≤ length stored
-  pub job : IsJobOf site (take before stored) aim (part bytes span) place pending
+  pub job : IsJobOf site (take before stored) kept aim (part bytes span) pending
 
 -- where the search of a seat waits, it is that of its connection
-abbrev pub IsSearchIn : (site : Site) (stored : List Stored) (bytes : List ℕ) (ended : Bool) (whole :
-    Option ℕ) → Kept → Type 0
-IsSearchIn site stored bytes ended whole phases.Reading = Unit {0}
-IsSearchIn site stored bytes ended whole (phases.Waits pending place) =
-    IsSearchOf site stored bytes ended whole place pending
-IsSearchIn site stored bytes ended whole (phases.Answered frame sent) = Unit {0}
-IsSearchIn site stored bytes ended whole phases.Silent = Unit {0}
+abbrev pub IsSearchIn : (site : Site) (stored : List Stored) (kept : KeptProfiles) (bytes : List ℕ) (ended : Bool)
+    (whole : Option ℕ) → Kept → Type 0
+IsSearchIn site stored kept bytes ended whole phases.Reading = Unit {0}
+IsSearchIn site stored kept bytes ended whole (phases.Waits pending) =
+    IsSearchOf site stored kept bytes ended whole pending
+IsSearchIn site stored kept bytes ended whole (phases.Answered frame sent) = Unit {0}
+IsSearchIn site stored kept bytes ended whole phases.Silent = Unit {0}
 
 -- so it is of the site and the profiles of a desk
-abbrev pub IsSearching : Site → List Stored → Seat → Type 0
-IsSearching site stored seat =
-    IsSearchIn site stored (received_of seat.received) seat.ended seat.before seat.phase
+abbrev pub IsSearching : Site → List Stored → KeptProfiles → Seat → Type 0
+IsSearching site stored kept seat =
+    IsSearchIn site stored kept (received_of seat.received) seat.ended seat.before seat.phase
 
 abbrev pub IsSearchAt : Desk → Seat → Type 0
-IsSearchAt desk seat = IsSearching (site_at desk) (stored_of desk.profiles) seat
+IsSearchAt desk seat = IsSearching (site_at desk) (stored_of desk.profiles) desk.kept seat
 
 -- what is kept at a desk of profiles that were made ready was made from those that are stored
 abbrev pub AreReadied : Desk → Type 0
@@ -194,21 +197,20 @@ pub record IsHeld (room : Room) : Type 0 where
 abbrev pub answered_by : Seat → Frame → Seat
 answered_by seat frame = record seat { phase = phases.Answered frame 0 }
 
-abbrev pub waiting_by : Seat → Search → ℕ → Seat
-waiting_by seat pending place = record seat { phase = phases.Waits pending place }
+abbrev pub waiting_by : Seat → Search → Seat
+waiting_by seat pending = record seat { phase = phases.Waits pending }
 
 -- a seat of which more bytes are sent
 abbrev pub sent_in : Kept → ℕ → Kept
 sent_in phases.Reading n = phases.Reading
-sent_in (phases.Waits pending place) n = phases.Waits pending place
+sent_in (phases.Waits pending) n = phases.Waits pending
 sent_in (phases.Answered frame sent) n = phases.Answered frame (sent + n)
 sent_in phases.Silent n = phases.Silent
 
 -- a search is put last and its connection waits, or the connection is answered by want of memory
-pub data Joins (old new : List ℕ) (seat : Seat) (place : ℕ) (pending : Search) (made : Seat) : Type 0 where
-  last : new ≡ old ++ seat.id ∷ [] → made ≡ waiting_by seat pending place →
-      Joins old new seat place pending made
-  none : new ≡ old → made ≡ answered_by seat frames.Memory → Joins old new seat place pending made
+pub data Joins (old new : List ℕ) (seat : Seat) (pending : Search) (made : Seat) : Type 0 where
+  last : new ≡ old ++ seat.id ∷ [] → made ≡ waiting_by seat pending → Joins old new seat pending made
+  none : new ≡ old → made ≡ answered_by seat frames.Memory → Joins old new seat pending made
 
 -- at a desk a connection comes to this, by a relation of what is known of it then and what is stored besides
 pub record Makes (old new : Desk) (relation : Connection → List Stored →
@@ -221,6 +223,7 @@ pub record Makes (old new : Desk) (relation : Connection → List Stored →
   pub waiting : new.queue.items ≡ old.queue.items ++ waits_as (phase_in made.phase) id
   pub searching : IsSearchAt new made
   pub kept : AreReadied new
+  pub stay : StayAwaited (world_of old.world) old.kept new.kept
   pub same : service_at new ≡ service_at old
 
 -- a session is given what is fixed for it
@@ -239,7 +242,7 @@ waiting_for c due = record c { phase = Waits due }
 -- the search of a seat waits
 abbrev pub IsWaitingIn : Kept → Type 0
 IsWaitingIn phases.Reading = ⊥
-IsWaitingIn (phases.Waits pending place) = Unit {0}
+IsWaitingIn (phases.Waits pending) = Unit {0}
 IsWaitingIn (phases.Answered frame sent) = ⊥
 IsWaitingIn phases.Silent = ⊥
 
@@ -248,8 +251,8 @@ abbrev pub Keeps : Seat → Option Seat → Type 0
 Keeps seat None = Unit {0}
 Keeps seat (Some made) =
     (made.id ≡ seat.id) × (made.away ≡ seat.away)
-    × ((site : Site) (stored : List Stored) → IsSearching site stored seat →
-    IsSearching site stored made)
+    × ((site : Site) (stored : List Stored) (kept : KeptProfiles) → IsSearching site stored kept seat →
+    IsSearching site stored kept made)
 
 -- a connection got a free seat
 pub record IsPlaced (old new : List (Option Seat)) (seat : Seat) : Type 0 where
@@ -261,3 +264,12 @@ pub record IsPlaced (old new : List (Option Seat)) (seat : Seat) : Type 0 where
 -- the other seats stay
 abbrev pub KeepsOthers : List (Option Seat) → List (Option Seat) → ℕ → Type 0
 KeepsOthers old new k = (j : ℕ) → j ≢ k → get_or new j None ≡ get_or old j None
+
+-- ---- Makings
+
+-- whether the search of a seat waits for the making at a place
+abbrev pub is_awaited_by : Kept → ℕ → Bool
+is_awaited_by phases.Reading k = false
+is_awaited_by (phases.Waits pending) k = waits_for pending k
+is_awaited_by (phases.Answered frame sent) k = false
+is_awaited_by phases.Silent k = false

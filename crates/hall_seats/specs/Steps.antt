@@ -4,11 +4,12 @@ use Rattle.edge_io.specs.declared.event.Event.{Event}
 use Rattle.edge_io.specs.declared.event.Event.TheVariants as event
 use Rattle.hall_seats.specs.Held.{HasRoom, IsFull}
 use Rattle.hall_seats.specs.State.{site_in, Connection, Service, State, Reading, Waits, Answered, Silent, changed, freed, put, with_frame}
+use Rattle.profile_text.specs.Tree.{Sections}
 use Rattle.route_http.specs.Asked.{Asked}
 use Rattle.route_http.specs.declared.span.Span.{Span}
 use Rattle.session_answers.specs.Searches.{turns_for}
 use Rattle.session_answers.specs.Frames.{refusal_frame}
-use Rattle.session_answers.specs.Rows.{IsEarlyFrame, IsQueryFrame, IsSearched}
+use Rattle.session_answers.specs.Rows.{Asks, IsEarlyFrame, IsQueryFrame}
 use Rattle.session_answers.specs.Sites.{request_at}
 use Rattle.session_answers.specs.Stored.{Stored, Uploaded, upload_of}
 use Rattle.session_answers.specs.Verdicts.{IsVerdict, part}
@@ -52,9 +53,9 @@ pub data Takes (service : Service) (stored : List Stored) (old c : Connection) :
       IsEarlyFrame (site_in service) stored (part c.bytes span) frame →
       Takes service stored old c (with_frame (whole_in stored c) frame) []
   waits :
-      {aim : Aim} {span : Span} → IsVerdict c.bytes c.ended (Query aim span) →
-      (searched : IsSearched (site_in service) stored (part c.bytes span)) →
-      Takes service stored old c (record (whole_in stored c) { phase = Waits (turns_for aim searched.asked) }) []
+      {aim : Aim} {span : Span} {asked : Asked} {sections : Sections} → IsVerdict c.bytes c.ended (Query aim span) →
+      Asks (site_in service) stored (part c.bytes span) asked sections →
+      Takes service stored old c (record (whole_in stored c) { phase = Waits (turns_for service.world aim asked) }) []
   gives_up :
       {kept : Connection} → (IsVerdict c.bytes c.ended NoByte → ⊥) →
       (kept ≡ old) ⊎ ((kept ≡ c) ⊎ (kept ≡ whole_in stored c)) →

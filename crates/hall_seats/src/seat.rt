@@ -27,8 +27,8 @@ impl Drop for Frame {
 pub enum Phase {
     /// Its bytes are read.
     Reading,
-    /// Its search waits for a turn; with the place of its profile.
-    Waits(Search, u32),
+    /// Its search waits for a turn.
+    Waits(Search),
     /// So many bytes of its frame are sent.
     Answered(Frame, usize),
     /// Its peer ended before the first byte.

@@ -1,24 +1,22 @@
 -- The search for a query stays it while more profiles are stored.
-use Rattle.std.proofs.Common.{◌≡◌, ℕ, ◌≤◌, ◌<◌, List, [], ◌∷◌, ◌++◌, length, take, drop, refl, sym, ap, ◌∙◌, subst, arith, Option, Some, Result, Vec}
-use Rattle.std.specs.declared.alloc.Global.{Global}
+use Rattle.std.proofs.Common.{◌≡◌, ℕ, ◌≤◌, ◌<◌, List, [], ◌∷◌, ◌++◌, length, take, drop, false, refl, sym, ap, ◌∙◌, subst, arith, eq-eqb, None, Some}
 use Rattle.std.specs.Prelude.{slice_get}
 use Rattle.std.proofs.lemmas.List.{length-map, take-append-drop, take-append-le, take_all}
 use Rattle.std.proofs.lemmas.Option.{slice_get_within}
 use Rattle.session_answers.specs.declared.kept.KeptProfiles.{KeptProfiles}
 use Rattle.profile_text.specs.Tree.{Sections}
-use Rattle.route_engine.specs.Replies.{IsReady, question_of}
-use Rattle.route_engine.proofs.RouteLemmas.{ready-setting}
-use Rattle.route_engine.specs.Aims.{HasPlan}
-use Rattle.route_engine.specs.Jobs.{setting_of}
-use Rattle.route_engine.specs.Pendings.{EndsAs}
 use Rattle.route_ready.specs.Entries.{profiles_of}
 use Rattle.route_http.specs.Asked.{Asked}
 use Rattle.route_ready.specs.Worlds.{WorldValue}
-use Rattle.route_ready.specs.declared.error.RouteError.{RouteError}
-use Rattle.route_ready.specs.declared.ready.Ready.{Ready}
 use Rattle.session_answers.specs.Jobs.{AreKept, IsBegun, IsJobOf}
-use Rattle.session_answers.specs.Rows.{Asks, IsSearched}
-use Rattle.session_answers.specs.Searches.{IsOver, IsSearchFor, turns_for}
+use Rattle.session_answers.specs.Rows.{Asks}
+use Rattle.session_answers.specs.Searches.{IsSearchFor, IsStageOver, stage_waits, turns_for, waits_for}
+use Rattle.session_answers.specs.Kept.{StayAwaited}
+use Rattle.session_answers.specs.Makings.{Puts}
+use Rattle.session_answers.specs.declared.search.Stage.{Stage}
+use Rattle.session_answers.specs.declared.search.Stage.TheVariants.{Making, Searching}
+use Rattle.route_http.specs.Seen.{asked as asked_by}
+use Rattle.std.proofs.lemmas.Bool.{false≢true}
 use Rattle.session_answers.specs.Sites.{Site}
 use Rattle.session_answers.specs.Stored.{Stored}
 use Rattle.route_engine.specs.declared.aim.Aim.{Aim}
@@ -26,10 +24,6 @@ use Rattle.session_answers.specs.declared.search.Search.{Search}
 use Rattle.item_list.proofs.ListLemmas.{slice_get-append}
 
 -- ---- Lists
-
--- what stands at a place is one
-get_same : {A : Type 0} (found : Option A) (a b : A) → found ≡ Some a → found ≡ Some b → a ≡ b
-get_same found a b first second = cc
 
 -- the profiles of two lists one behind the other
 profiles-append : (stored more : List Stored) → profiles_of (stored ++ more) ≡ profiles_of stored ++ profiles_of more
@@ -55,79 +49,109 @@ profile_front before stored place sections there =
 -- what is kept stays made from the stored profiles
 pub kept_more : (world : WorldValue) (stored more : List Stored) (kept : KeptProfiles) → AreKept world stored kept →
     AreKept world (stored ++ more) kept
-kept_more world stored more kept are entry within =
-    let made = are entry within in
-    record {
-      sections = made.sections;
-      there = profile_more stored more entry.0.place made.sections made.there;
-      ready_is = made.ready_is;
-    }
+kept_more world stored more kept are = record {
+  made = λ entry within.
+      let made = are.made entry within in
+      record {
+        sections = made.sections;
+        there = profile_more stored more entry.0.place made.sections made.there;
+        ready_is = made.ready_is;
+      };
+  makings = λ k making there.
+      let from = are.makings k making there in
+      record {
+        sections = from.sections;
+        there = profile_more stored more making.key.place from.sections from.there;
+        is = from.is;
+      };
+}
+
+-- ---- How far a search is
+
+module _ (world : WorldValue) (old new : KeptProfiles) (place : ℕ) (aim : Aim) (left : ℕ) where
+  -- a stage has turns enough while what it waits for stays
+  stage-stays : (stage : Stage) → StayAwaited world old new → IsStageOver world old place aim left stage →
+      IsStageOver world new place aim left stage
+  stage-stays (Making k request) stay is = record {
+    turns = is.turns;
+    awaited = stay place (asked_by request).overrides is.turns k is.awaited;
+    enough = is.enough;
+    within = is.within;
+  }
+  stage-stays (Searching pending) stay is = is
+
+  -- and where a making is dropped for which it doesn't wait
+  stage-unawaited : (stage : Stage) (k : ℕ) → Puts old.makings.slots.items new.makings.slots.items k None →
+      stage_waits stage k ≡ false → IsStageOver world old place aim left stage → IsStageOver world new place aim left stage
+  stage-unawaited (Making j request) k puts other is =
+      let waits = is.awaited in
+      record {
+        turns = is.turns;
+        awaited = record {
+          making = waits.making;
+          there = puts.others j (λ same. false≢true (sym other ∙ eq-eqb j k same)) ∙ waits.there;
+          place_is = waits.place_is;
+          overrides_are = waits.overrides_are;
+          few = waits.few;
+        };
+        enough = is.enough;
+        within = is.within;
+      }
+  stage-unawaited (Searching pending) k puts other is = is
 
 -- ---- The search for a query
 
-module _ (site : Site) where
-  -- a request that has a plan is one that is to be searched for
-  planned-search : (stored : List Stored) (query : List ℕ) (asked : Asked) (sections : Sections) (ready : Ready) →
-      Asks site stored query asked sections → IsReady site.world sections asked ready →
-      HasPlan (setting_of site.world ready asked.circles) asked → IsSearched site stored query
-  planned-search stored query asked sections ready asks is planned = record {
-    asked = asked;
-    sections = sections;
-    asks = asks;
-    setting = setting_of site.world ready asked.circles;
-    over = ready-setting (question_of site.world sections asked) site.world ready refl is;
-    nodes = planned.plan.nodes;
-    mapped = planned.is.nodes;
-  }
+-- of whose search no turn is taken at first
+pub begun-job : (site : Site) (stored : List Stored) (kept : KeptProfiles) (aim : Aim) (query : List ℕ) (asked : Asked)
+    (sections : Sections) (p : Search) → Asks site stored query asked sections →
+    slice_get (profiles_of stored) p.place ≡ Some sections → IsSearchFor site.world sections kept aim asked p →
+    p.left ≡ turns_for site.world aim asked → IsBegun site stored kept aim query p
+begun-job site stored kept aim query asked sections p asks there is fresh = record {
+  job = record { asked = asked; sections = sections; asks = asks; there = there; is = is };
+  fresh = fresh;
+}
 
-  -- of whose search no turn is taken at first
-  pub begun-job : (stored : List Stored) (aim : Aim) (query : List ℕ) (place : ℕ) (asked : Asked) (sections : Sections) (ready : Ready)
-      (p : Search) → Asks site stored query asked sections → slice_get (profiles_of stored) place ≡ Some sections →
-      IsReady site.world sections asked ready → HasPlan (setting_of site.world ready asked.circles) asked → IsOver site.world p →
-      IsSearchFor site.world sections aim asked p → p.left ≡ turns_for aim asked → IsBegun site stored aim query place p
-  unfolding planned-search
-  begun-job stored aim query place asked sections ready p asks there is planned over for fresh = record {
-    searched = planned-search stored query asked sections ready asks is planned;
-    job = record { asked = asked; sections = sections; asks = asks; there = there; over = over; is = for };
-    fresh = fresh;
-  }
-
-  -- a search that goes on as this still is that of its query: it may end with nothing else
-  pub job-later : (stored : List Stored) (aim : Aim) (query : List ℕ) (place : ℕ) (p next : Search) → IsOver site.world next →
-      next.kind ≡ p.kind → ((end : Result (Vec ℕ Global) RouteError) → EndsAs site.world next.pending end → EndsAs site.world p.pending end) →
-      IsJobOf site stored aim query place p → IsJobOf site stored aim query place next
-  job-later stored aim query place p next over kind same job = record {
+module _ (site : Site) (aim : Aim) (query : List ℕ) (p : Search) where
+  -- it stays that of its query while what it waits for stays
+  over-job : (stored : List Stored) (old new : KeptProfiles) → IsStageOver site.world new p.place p.aim p.left p.stage →
+      IsJobOf site stored old aim query p → IsJobOf site stored new aim query p
+  over-job stored old new over job = record {
     asked = job.asked;
     sections = job.sections;
     asks = job.asks;
     there = job.there;
-    over = over;
-    is = record { kind = kind ∙ job.is.kind; ends = λ end is. job.is.ends end (same end is) };
+    is = record { aim_is = job.is.aim_is; kind = job.is.kind; over = over; is = job.is.is };
   }
 
-  module _ (aim : Aim) (query : List ℕ) (place : ℕ) (p : Search) where
+  pub job_stays : (stored : List Stored) (old new : KeptProfiles) → StayAwaited site.world old new →
+      IsJobOf site stored old aim query p → IsJobOf site stored new aim query p
+  job_stays stored old new stay job =
+      over-job stored old new (stage-stays site.world old new p.place p.aim p.left p.stage stay job.is.over) job
+
+  pub job_unawaited : (stored : List Stored) (old new : KeptProfiles) (k : ℕ) →
+      Puts old.makings.slots.items new.makings.slots.items k None → waits_for p k ≡ false →
+      IsJobOf site stored old aim query p → IsJobOf site stored new aim query p
+  job_unawaited stored old new k puts other job =
+      over-job stored old new (stage-unawaited site.world old new p.place p.aim p.left p.stage k puts other job.is.over) job
+
+  module _ (kept : KeptProfiles) where
     -- by all profiles that are stored now
-    pub job_now : (stored : List Stored) → IsJobOf site stored aim query place p → IsJobOf site (take (length stored) stored) aim query place p
-    job_now stored = subst (λ (l : List Stored). IsJobOf site l aim query place p) (sym (take_all (length stored) stored (omega arith)))
+    pub job_now : (stored : List Stored) → IsJobOf site stored kept aim query p → IsJobOf site (take (length stored) stored) kept aim query p
+    job_now stored =
+        subst (λ (l : List Stored). IsJobOf site l kept aim query p) (sym (take_all (length stored) stored (omega arith)))
 
     -- by the first ones, where more are stored behind
-    pub job_more : (before : ℕ) (stored more : List Stored) → before ≤ length stored → IsJobOf site (take before stored) aim query place p →
-        IsJobOf site (take before (stored ++ more)) aim query place p
+    pub job_more : (before : ℕ) (stored more : List Stored) → before ≤ length stored → IsJobOf site (take before stored) kept aim query p →
+        IsJobOf site (take before (stored ++ more)) kept aim query p
     job_more before stored more within =
-        subst (λ (l : List Stored). IsJobOf site l aim query place p) (sym (take-append-le before stored more within))
+        subst (λ (l : List Stored). IsJobOf site l kept aim query p) (sym (take-append-le before stored more within))
 
-    module _ (before : ℕ) (stored : List Stored) (job : IsJobOf site (take before stored) aim query place p) where
-      -- its profile is stored
-      pub job_place : place < length stored
+    module _ (before : ℕ) (stored : List Stored) (job : IsJobOf site (take before stored) kept aim query p) where
+      -- its profile is stored at its place, which is the same among the first ones
+      pub job_there : slice_get (profiles_of stored) p.place ≡ Some job.sections
+      job_there = profile_front before stored p.place job.sections job.there
+
+      pub job_place : p.place < length stored
       job_place =
-          let there = profile_front before stored place job.sections job.there in
-          let below = slice_get_within (profiles_of stored) place job.sections there in
-          omega (arith, length-map stored (λ (s : Stored). s.1))
-
-      -- at its place, which is the same among the first ones
-      pub job_profile : (sections : Sections) → slice_get (profiles_of stored) place ≡ Some sections →
-          slice_get (profiles_of (take before stored)) place ≡ Some sections
-      job_profile sections there =
-          let same = get_same (slice_get (profiles_of stored) place) job.sections sections
-          (profile_front before stored place job.sections job.there) there in
-          job.there ∙ ap (λ (s : Sections). Some s) same
+          let below = slice_get_within (profiles_of stored) p.place job.sections job_there in
+          omega (arith, below, length-map stored (λ (s : Stored). s.1))

@@ -1,6 +1,7 @@
 -- What is kept stays made for its world, whatever becomes of the cache.
 use Rattle.std.proofs.Common.{◌≡◌, ◌⊎◌, inl, inr, Bool, true, List, [], Contains, Option, Some, Result, Ok, Err, OnOk, OnErr, Bor, sym, ap, ◌∙◌, subst}
-use Rattle.session_answers.specs.Kept.{IsMade, Shared}
+use Rattle.session_answers.specs.Kept.{IsMade}
+use Rattle.session_answers.specs.Makings.{Shared}
 use Rattle.session_answers.specs.declared.key.Key.{Key}
 use Rattle.lru.proofs.CallerLemmas.{Contains-lookup, Contains-promoted, Contains-put_entries}
 use Rattle.lru.proofs.Splits.{Contains-nil}

@@ -1,9 +1,11 @@
 mod KeptLemmas
 mod KeyLemmas
+mod MakingLemmas
 mod QueryLemmas
 mod ReadyLemmas
 mod ReceivedLemmas
 pub mod CallerLemmas
 pub mod JobLemmas
 pub mod StoredLemmas
+mod TurnLemmas
 pub mod VerdictLemmas

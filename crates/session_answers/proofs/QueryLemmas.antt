@@ -1,18 +1,17 @@
 -- The frames that answer a query.
-use Rattle.std.proofs.Common.{◌≡◌, ◌≢◌, ◌⊎◌, inl, inr, ℕ, List, Option, Some, None, Ok, Err, refl, sym, ap, ◌∙◌, subst, arith, Vec}
+use Rattle.std.proofs.Common.{◌≡◌, ◌≢◌, ◌⊎◌, inl, inr, ℕ, List, None, Result, Ok, Err, refl, sym, ap, ◌∙◌, subst, arith, Vec}
 use Rattle.std.proofs.lemmas.Bool.Decides.{nat_tests}
 use Rattle.std.specs.declared.alloc.Global.{Global}
-use Rattle.std.specs.Prelude.{slice_get}
 use Rattle.item_list.specs.Answer.{answer_map}
 use Rattle.lookup_table.specs.Tag.{name_place}
 use Rattle.profile_text.specs.Tree.{Sections}
 use Rattle.route_engine.specs.Aims.{IsRefusalTo, IsReplyTo, TellsTo}
 use Rattle.route_engine.specs.Jobs.{IsWithin}
-use Rattle.route_engine.specs.Pendings.{EndsAs}
+use Rattle.session_answers.specs.Searches.{EndsFor, TellsEnd}
 use Rattle.route_engine.specs.Refusals.{RefusesEarly, profile}
 use Rattle.route_engine.specs.Settings.{Question}
 use Rattle.route_engine.specs.Replies.{question_of}
-use Rattle.route_ready.specs.Entries.{names_of, profiles_of}
+use Rattle.route_ready.specs.Entries.{names_of}
 use Rattle.route_http.specs.Asked.{Asked}
 use Rattle.route_http.specs.Frames.{frame_of}
 use Rattle.route_http.specs.Lines.{request_line}
@@ -32,12 +31,9 @@ use Rattle.session_answers.specs.Sites.{Site, limited, request_at}
 use Rattle.session_answers.specs.Stored.{Stored}
 use Rattle.route_engine.specs.declared.aim.Aim.{Aim}
 use Rattle.route_engine.specs.declared.aim.Aim.TheVariants.{Track, Table}
+use Rattle.session_answers.specs.declared.kept.KeptProfiles.{KeptProfiles}
 use Rattle.session_answers.specs.declared.search.Search.{Search}
 use Rattle.session_answers.specs.declared.refusal.Refusal.TheVariants.{UnknownProfile}
-
--- what stands at a place is one
-one-there : (found : Option Sections) (a b : Sections) → found ≡ Some a → found ≡ Some b → a ≡ b
-one-there found a b first second = cc
 
 -- what isn't want of memory is the other reason
 reason : {E : Type 0} {P : Type 0} (e no_memory : E) → (e ≡ no_memory) ⊎ P → e ≢ no_memory → P
@@ -97,8 +93,8 @@ module _ (site : Site) (stored : List Stored) (query : List ℕ) where
       subst (IsQueryFrame site stored aim query) (sym (is ∙ ap (λ (k : Kind). frame_of 200 k bytes) kind_is)) (told asks bytes replies)
 
 -- what a search for a query ends with
-module _ (site : Site) (stored : List Stored) (aim : Aim) (query : List ℕ) (place : ℕ) (p : Search) (job :
-    IsJobOf site stored aim query place p) where
+module _ (site : Site) (stored : List Stored) (kept : KeptProfiles) (aim : Aim) (query : List ℕ) (p : Search) (job :
+    IsJobOf site stored kept aim query p) where
   -- a refusal, by what it is asked for
   refuses : (a : Aim) (question : Question) (e : RouteError) → TellsTo a question (Err e) → (e ≡ route.NoMemory) ⊎ IsRefusalTo a question e
   refuses Track question e is = is
@@ -109,17 +105,13 @@ module _ (site : Site) (stored : List Stored) (aim : Aim) (query : List ℕ) (pl
   replies Track question bytes is = is
   replies Table question bytes is = is
 
-  -- there is none
-  pub query-refused : (sections : Sections) → slice_get (profiles_of stored) place ≡ Some sections → (e : RouteError) (frame : List ℕ) →
-      e ≢ route.NoMemory → frame ≡ route_frame sections e → EndsAs site.world p.pending (Err e) → IsQueryFrame site stored aim query frame
-  query-refused sections there e frame differ is ends =
-      let same : sections ≡ job.sections = one-there (slice_get (profiles_of stored) place) sections job.sections there job.there in
-      refused-frame site stored query job.asked job.sections job.asks e frame differ (is ∙ ap (λ (s : Sections). route_frame s e) same)
-      aim (refuses aim (question_of site.world job.sections job.asked) e (job.is.ends (Err e) ends))
-
-  -- and it is told
-  pub query-replied : (bytes : Vec ℕ Global) (frame : List ℕ) → EndsAs site.world p.pending (Ok bytes) →
-      frame ≡ frame_of 200 p.kind bytes.items → IsQueryFrame site stored aim query frame
-  query-replied bytes frame ends is =
+  -- the frame that tells what it ends with answers the query
+  pub query-told : (sections : Sections) → sections ≡ job.sections → (end : Result (Vec ℕ Global) RouteError) (frame : List ℕ) →
+      EndsFor site.world job.sections aim job.asked end → TellsEnd sections p.kind end frame → IsQueryFrame site stored aim query frame
+  query-told sections same (Ok bytes) frame ends is =
       reply-frame site stored query aim job.asked job.sections job.asks p.kind bytes.items frame job.is.kind
-      (replies aim (question_of site.world job.sections job.asked) bytes.items (job.is.ends (Ok bytes) ends)) is
+      (replies aim (question_of site.world job.sections job.asked) bytes.items ends) is
+  query-told sections same (Err e) frame ends is =
+      refused-frame site stored query job.asked job.sections job.asks e frame is.0
+      (is.1 ∙ ap (λ (s : Sections). route_frame s e) same)
+      aim (refuses aim (question_of site.world job.sections job.asked) e ends)

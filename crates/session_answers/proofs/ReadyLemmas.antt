@@ -1,6 +1,7 @@
 -- What is given of what is kept is the profile made ready.
 use Rattle.std.proofs.Common.{◌≡◌, inl, ℕ, ℤ, List, Option, Some, Result, Ok, Err, IfErr, IfOk, slice_get, sym, ap, ◌∙◌, subst}
-use Rattle.session_answers.specs.Kept.{GivesReady, IsMadeFrom, Shared}
+use Rattle.session_answers.specs.Kept.{IsMadeFrom}
+use Rattle.session_answers.specs.Makings.{GivesReady, Shared}
 use Rattle.session_answers.specs.declared.key.Key.{Key}
 use Rattle.profile_text.specs.Tree.{Sections}
 use Rattle.route_ready.specs.Readiness.{IsReadyOf}

@@ -1,24 +1,22 @@
 -- What is kept of profiles that were made ready (this project's own rule).
-use Rattle.std.specs.Prelude.{◌≡◌, ◌⊎◌, List, Contains, Some, Result, Err, MatchResult, slice_get}
-use Rattle.std.specs.declared.alloc.Global.{Global}
-use Rattle.std.specs.declared.rc.Rc.{Rc}
+use Rattle.std.specs.Prelude.{◌≡◌, ℕ, ℤ, List, Contains, None, Some, Result, Ok, Err, get_or, length, slice_get}
 use Rattle.session_answers.specs.declared.kept.KeptProfiles.{KeptProfiles}
+use Rattle.session_answers.specs.declared.kept.Wanted.{Wanted}
+use Rattle.session_answers.specs.declared.kept.Wanted.TheVariants.{Ready, Making}
 use Rattle.session_answers.specs.declared.key.Key.{Key}
+use Rattle.session_answers.specs.declared.makings.Making.{Making as TheMaking}
+use Rattle.session_answers.specs.Makings.{GivesReady, IsAwaited, IsMakingFrom, Shared, making_turns}
 use Rattle.profile_text.specs.Tree.{Sections}
-use Rattle.route_ready.specs.Readiness.{IsReadyOf, ready_of}
+use Rattle.route_ready.specs.Readiness.{IsReadyOf}
 use Rattle.route_ready.specs.Worlds.{WorldValue, binding_in}
 use Rattle.route_ready.specs.declared.error.RouteError.{RouteError}
-use Rattle.route_ready.specs.declared.error.RouteError.TheVariants.{NoMemory}
-use Rattle.route_ready.specs.declared.ready.Ready.{Ready}
+use Rattle.route_ready.specs.declared.ready.Ready.{Ready as TheReady}
 use Rattle.way_class.specs.Facts.{Binding}
-
--- a profile that is ready, as it is shared
-abbrev pub Shared : Type 0
-Shared = Rc Ready Global
+use Rattle.way_class.specs.Links.{links_of}
 
 -- a profile that is ready was made, for this world, from the stored profile that a key names, under the
 -- overrides of the key
-pub record IsMadeFrom (world : WorldValue) (stored : List Sections) (key : Key) (ready : Ready) : Type 0 where
+pub record IsMadeFrom (world : WorldValue) (stored : List Sections) (key : Key) (ready : TheReady) : Type 0 where
   pub sections : Sections
   pub there : slice_get stored key.place ≡ Some sections
   pub ready_is : IsReadyOf (binding_in world sections key.overrides) ready
@@ -27,13 +25,29 @@ pub record IsMadeFrom (world : WorldValue) (stored : List Sections) (key : Key) 
 abbrev pub IsMade : WorldValue → List Sections → Key × Shared → Type 0
 IsMade world stored entry = IsMadeFrom world stored entry.0 entry.1.value
 
--- everything that is kept was made so
-abbrev pub IsKept : WorldValue → List Sections → KeptProfiles → Type 0
-IsKept world stored kept = (entry : Key × Shared) → Contains kept.cache.entries entry →
-    IsMade world stored entry
+-- everything that is kept was made so, and each making is that of a stored profile
+pub record IsKept (world : WorldValue) (stored : List Sections) (kept : KeptProfiles) : Type 0 where
+  pub made : (entry : Key × Shared) → Contains kept.cache.entries entry → IsMade world stored entry
+  pub makings : (k : ℕ) (making : TheMaking) → get_or kept.makings.slots.items k None ≡ Some making →
+      IsMakingFrom world stored making
 
--- a call gives the profile ready, or its refusal, or reports want of memory
-abbrev pub GivesReady : Binding → Result Shared RouteError → Type 0
-GivesReady binding result =
-    MatchResult result (λ (shared : Shared). IsReadyOf binding shared.value) (λ e. (e ≡ NoMemory) ⊎
-    (ready_of binding ≡ Err e))
+-- whoever waited for a making may still wait for it
+abbrev pub StayAwaited : WorldValue → (old new : KeptProfiles) → Type 0
+StayAwaited world old new =
+    (place : ℕ) (overrides : List (List ℕ × ℤ)) (left k : ℕ) →
+    IsAwaited world old.makings.slots.items place overrides left k →
+    IsAwaited world new.makings.slots.items place overrides left k
+
+-- what a request comes to that wants a profile: it is ready, or is refused, or its making is to be waited for
+abbrev pub IsWanted :
+    (world : WorldValue) (binding : Binding) (place : ℕ) (overrides : List (List ℕ × ℤ)) (kept : KeptProfiles) →
+    Result Wanted RouteError → Type 0
+IsWanted world binding place overrides kept (Ok (Ready shared)) = GivesReady binding (Ok shared)
+IsWanted world binding place overrides kept (Ok (Making k)) =
+    IsAwaited world kept.makings.slots.items place overrides (making_turns world) k
+IsWanted world binding place overrides kept (Err e) = GivesReady binding (Err e)
+
+-- a profile that is ready has the facts of all links of a world
+abbrev pub IsCounted : WorldValue → Wanted → Type 0
+IsCounted world (Ready shared) = (links_of shared.value.bound).count ≡ length world.map.links
+IsCounted world (Making k) = Unit {0}

@@ -3,6 +3,7 @@ pub mod Frames
 pub mod HeadProps
 pub mod Jobs
 pub mod Kept
+pub mod Makings
 pub mod Profiles
 pub mod Received
 pub mod Rows

@@ -3,8 +3,6 @@ use Rattle.std.specs.Prelude.{◌≡◌, ℕ, List, Some, None, Ok, Err}
 use Rattle.profile_text.specs.Tree.{Sections}
 use Rattle.route_engine.specs.Refusals.{IsEarly}
 use Rattle.route_engine.specs.Replies.{question_of}
-use Rattle.cost_model.specs.Rides.{Setting}
-use Rattle.route_engine.specs.Settings.{IsSettingOf, open_map_of}
 use Rattle.route_http.specs.Asked.{Asked}
 use Rattle.route_http.specs.Frames.{frame_of}
 use Rattle.route_http.specs.Lines.{request_line}
@@ -18,7 +16,6 @@ use Rattle.session_answers.specs.Sites.{Site, request_at}
 use Rattle.session_answers.specs.Stored.{Stored, find_stored}
 use Rattle.route_engine.specs.declared.aim.Aim.{Aim}
 use Rattle.session_answers.specs.declared.refusal.Refusal.TheVariants.{UnknownProfile}
-use Rattle.route_engine.specs.Waypoints.{AreNodes}
 
 -- a query asks for this, by the stored profile of these sections
 pub record Asks (site : Site) (stored : List Stored) (query : List ℕ) (asked : Asked) (sections : Sections) : Type 0 where
@@ -54,13 +51,3 @@ pub data IsQueryFrame (site : Site) (stored : List Stored) (aim : Aim) (query : 
       {asked : Asked} {sections : Sections} → Asks site stored query asked sections → (bytes : List ℕ) →
       IsReplyTo aim (question_of site.world sections asked) bytes →
       IsQueryFrame site stored aim query (frame_of 200 (kind_for aim asked.form) bytes)
-
--- a query is to be searched for: its profile is stored and accepted, and each waypoint is moved to a node
-pub record IsSearched (site : Site) (stored : List Stored) (query : List ℕ) : Type 0 where
-  pub asked : Asked
-  pub sections : Sections
-  pub asks : Asks site stored query asked sections
-  pub setting : Setting
-  pub over : IsSettingOf (question_of site.world sections asked) setting
-  pub nodes : List ℕ
-  pub mapped : AreNodes (open_map_of setting) asked.waypoints nodes

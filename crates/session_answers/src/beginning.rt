@@ -10,6 +10,7 @@ ghost use Rattle.route_ready.specs.World.{world_of};
 ghost use Rattle.route_ready.specs.Entries.{names_of};
 ghost use Rattle.session_answers.specs.Frames.{line_frame};
 ghost use Rattle.session_answers.specs.Jobs.{AreKept, Begins};
+ghost use Rattle.session_answers.specs.Kept.{StayAwaited};
 ghost use Rattle.session_answers.specs.Profiles.{stored_of};
 ghost use Rattle.session_answers.specs.Sites.{limited, request_at, site_of};
 
@@ -29,13 +30,14 @@ use std::alloc::{AllocError, Global};
 pub enum Begun {
     /// It is answered by this frame.
     Frame(Vec<u8>),
-    /// It is searched for, by the stored profile at this place.
-    Job(Search, u32),
+    /// It is searched for.
+    Job(Search),
 }
 
 /// What a query comes to at once that is asked for this, over a world and the stored profiles. No
-/// search settles more than `labels` of them, whatever the query asks. Profiles that were made ready before are used again. An error is want of memory; what is kept is
-/// still sound then.
+/// search settles more than `labels` of them, whatever the query asks. A profile that is kept is used
+/// again; any other is made ready in the turns of the search. An error is want of memory; what is kept
+/// is still sound then.
 pub fn begin(
     alloc: Global,
     world: &World,
@@ -47,8 +49,9 @@ pub fn begin(
 ) -> Result<Begun, AllocError>
     requires kept { AreKept (world_of world.now) (stored_of profiles.now) kept.old }
     ensures exact { let site = site_of (world_of world.now) labels in
-        IfOk result (Begins site (stored_of profiles.now) aim query.now) }
+        IfOk result (Begins site (stored_of profiles.now) kept.new aim query.now) }
     ensures kept { AreKept (world_of world.now) (stored_of profiles.now) kept.new }
+    ensures stay { StayAwaited (world_of world.now) kept.old kept.new }
 {
     match request(alloc, query) {
         Ok(request) => {
@@ -101,8 +104,9 @@ fn named(
     ensures exact { (labels : ℕ) (query : List ℕ) →
         let site = site_of (world_of world.now) labels in
         request_at site query ≡ Ok (asked request) →
-        IfOk result (Begins site (stored_of profiles.now) aim query) }
+        IfOk result (Begins site (stored_of profiles.now) kept.new aim query) }
     ensures kept { AreKept (world_of world.now) (stored_of profiles.now) kept.new }
+    ensures stay { StayAwaited (world_of world.now) kept.old kept.new }
 {
     match profiles.find(request.profile.as_slice()) {
         Some(place) => stored(alloc, world, profiles, kept, aim, request, place),
@@ -131,13 +135,14 @@ fn stored(
     ensures exact { (labels : ℕ) (query : List ℕ) →
         let site = site_of (world_of world.now) labels in
         request_at site query ≡ Ok (asked request) →
-        IfOk result (Begins site (stored_of profiles.now) aim query) }
+        IfOk result (Begins site (stored_of profiles.now) kept.new aim query) }
     ensures kept { AreKept (world_of world.now) (stored_of profiles.now) kept.new }
+    ensures stay { StayAwaited (world_of world.now) kept.old kept.new }
 {
     let profile = profiles.profile(place);
-    match kept.ready(alloc, world, profile, place, &request.overrides) {
-        Ok(ready) => match search_for(alloc, world, ready, aim, request) {
-            Ok(search) => Ok(Begun::Job(search, place)),
+    match kept.want(alloc, world, profile, place, &request.overrides) {
+        Ok(wanted) => match search_for(alloc, world, wanted, place, aim, request) {
+            Ok(search) => Ok(Begun::Job(search)),
             Err(error) => {
                 let frame = route_frame(alloc, profile, error)?;
                 Ok(Begun::Frame(frame))

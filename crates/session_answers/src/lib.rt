@@ -6,6 +6,7 @@ mod beginning;
 mod frames;
 mod kept;
 mod key;
+mod makings;
 mod naming;
 mod profiles;
 mod received;

@@ -19,5 +19,5 @@ returns c =
     let found = subst (λ (l : List (Option Seat)). IsSeatOf (seats_of l) c.args.id (Some c.in-Some.k)) c.deref.ensures.value
     c.in-Some.ensures.exact in
     let lost = loses_by room new c.requires.held c.in-Some.k c.args.id found c.put.ensures.value
-    (record { stored = refl; queue = c.left.ensures.value; same = refl; kept = c.requires.held.kept }) in
+    (record { stored = refl; queue = c.left.ensures.value; same = refl; kept = c.requires.held.kept; kept_same = refl }) in
     record { loses = lost.is; held = lost.held; same = lost.same }

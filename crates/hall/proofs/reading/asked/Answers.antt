@@ -15,12 +15,12 @@ use Rattle.hall.proofs.reading.asked.Goals as goal
 pub returns-in-Ok-Frame : goal.returns-in-Ok-Frame
 returns-in-Ok-Frame c =
     let desk = c.args.desk.now in
-    let early = subst (Begins (site_at desk) (stored_of desk.profiles) c.args.aim c.part-query.result.now) c.in-Ok-Frame.field-0-is
+    let early = subst (Begins (site_at desk) (stored_of desk.profiles) c.begin.new.kept c.args.aim c.part-query.result.now) c.in-Ok-Frame.field-0-is
     c.in-Ok-Frame.ensures.exact in
     let frame = frames.Own c.in-Ok-Frame.frame in
     record {
       settles = λ old.
-          settles_early desk c.begin.new.kept c.begin.ensures.kept old c.args.seat c.len-before.result c.len-before.ensures.value
+          settles_early desk c.begin.new.kept c.begin.ensures.kept c.begin.ensures.stay old c.args.seat c.len-before.result c.len-before.ensures.value
           c.args.aim c.args.span c.requires.verdict
           c.answered.result frame c.part-query.result.now (c.answered.ensures.value
           ∙ ap (λ (s : Seat). answered_by s frame) c.whole.ensures.value)
@@ -31,18 +31,18 @@ pub returns-in-Ok-Job : goal.returns-in-Ok-Job
 returns-in-Ok-Job c =
     let desk = c.args.desk.now in
     let new : Desk = record desk { kept = c.begin.new.kept; queue = c.joined.new.queue } in
-    let place = c.in-Ok-Job.place in
+    let kept = c.begin.new.kept in
     let pending = c.in-Ok-Job.pending in
-    let begun = subst (Begins (site_at desk) (stored_of desk.profiles) c.args.aim c.part-query.result.now) c.in-Ok-Job.field-0-is
+    let begun = subst (Begins (site_at desk) (stored_of desk.profiles) c.begin.new.kept c.args.aim c.part-query.result.now) c.in-Ok-Job.field-0-is
     c.in-Ok-Job.ensures.exact in
-    let here = subst (λ (q : List ℕ). IsBegun (site_at desk) (stored_of desk.profiles) c.args.aim q place pending) c.part-query.ensures.value
+    let here = subst (λ (q : List ℕ). IsBegun (site_at desk) (stored_of desk.profiles) kept c.args.aim q pending) c.part-query.ensures.value
     begun in
     record {
       settles = λ old.
-          settles_search desk c.begin.new.kept c.begin.ensures.kept old c.args.seat c.len-before.result c.len-before.ensures.value
+          settles_search desk c.begin.new.kept c.begin.ensures.kept c.begin.ensures.stay old c.args.seat c.len-before.result c.len-before.ensures.value
           c.args.aim c.args.span c.requires.verdict
-          new refl refl refl c.begin.ensures.kept place pending here c.joined.result
-          (subst (λ (s : Seat). Joins desk.queue.items c.joined.new.queue.items s place pending c.joined.result)
+          new refl refl refl c.begin.ensures.kept c.begin.ensures.stay pending here c.joined.result
+          (subst (λ (s : Seat). Joins desk.queue.items c.joined.new.queue.items s pending c.joined.result)
           c.whole-in-Ok-Job.ensures.value c.joined.ensures.joins);
     }
 
@@ -51,7 +51,7 @@ returns-in-Err c =
     let seat = c.args.seat in
     record {
       settles = λ old.
-          settles_frame c.args.desk.now c.begin.new.kept c.begin.ensures.kept old (connection_of seat) seat.id seat.away
+          settles_frame c.args.desk.now c.begin.new.kept c.begin.ensures.kept c.begin.ensures.stay old (connection_of seat) seat.id seat.away
           c.answered-in-Err.result seat frames.Memory
           c.answered-in-Err.ensures.value refl refl
           (gives_up (has_byte (received_of seat.received) seat.ended (Query c.args.aim c.args.span) c.requires.verdict (λ e. cc)) (inr (inl refl)));

@@ -12,7 +12,7 @@ returns-in-Undecided c =
     let seat = c.args.seat in
     record {
       settles = λ old.
-          settles_undecided desk desk.kept c.requires.kept old (connection_of seat) seat.id seat.away seat c.requires.read refl refl
+          settles_undecided desk desk.kept c.requires.kept (λ place overrides left k is. is) old (connection_of seat) seat.id seat.away seat c.requires.read refl refl
           (undecided (subst (IsVerdict (received_of seat.received) seat.ended) c.in-Undecided.is c.requires.verdict));
     }
 
@@ -22,7 +22,7 @@ returns-in-NoByte c =
     let seat = c.args.seat in
     record {
       settles = λ old.
-          settles_silent desk desk.kept c.requires.kept old (connection_of seat) seat.id seat.away c.silent.result seat
+          settles_silent desk desk.kept c.requires.kept (λ place overrides left k is. is) old (connection_of seat) seat.id seat.away c.silent.result seat
           c.silent.ensures.value refl refl
           (silent (subst (IsVerdict (received_of seat.received) seat.ended) c.in-NoByte.is c.requires.verdict));
     }

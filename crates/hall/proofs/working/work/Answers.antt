@@ -59,5 +59,5 @@ returns c =
     replaced room new k seat (Some c.worked-seat.result) c.lifted-seat.new.seats.items c.lifted-seat.ensures.exact
     c.lifted-seat.ensures.left c.put.ensures.value in
     let worked = works_by room new c.requires.held k seat c.worked-seat.result back c.in-Some.id desk c.in-Some.ensures.items front.0
-    c.worked-seat.ensures.works refl refl refl in
+    c.worked-seat.ensures.works refl refl refl refl in
     record { works = worked.is; held = worked.held; same = worked.same }

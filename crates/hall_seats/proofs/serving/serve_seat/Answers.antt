@@ -48,6 +48,6 @@ returns-in-None g c =
     let new : Room = record { seats = c.lifted-seat.new.seats; desk = record room.desk { queue = c.left.new.queue } } in
     let served = seat_gone room new c.requires.held c.args.k c.lifted-seat.result
     (record { has = c.lifted-seat.ensures.exact; now = c.lifted-seat.ensures.left })
-    (record { stored = refl; queue = c.left.ensures.value; same = refl; kept = c.requires.held.kept })
+    (record { stored = refl; queue = c.left.ensures.value; same = refl; kept = c.requires.held.kept; kept_same = refl })
     (g.H.Hub.seen c.args.hub.now) (g.H.Hub.seen c.served.new.hub) c.requires.live c.in-None.ensures.served in
     record { served = served.served; others = served.others; live = served.live; held = served.held; same = served.same }

@@ -1,8 +1,11 @@
+use Rattle.std.proofs.Common.{◌∙◌, ap}
+use Rattle.std.specs.Prelude.{slice_get}
 use Rattle.profile_text.specs.Expr.{sections_in}
 use Rattle.route_ready.specs.Entries.{profiles_of}
 use Rattle.route_http.specs.Seen.{asked}
 use Rattle.route_ready.specs.World.{world_of}
 use Rattle.session_answers.proofs.JobLemmas.{begun-job}
+use Rattle.session_answers.proofs.MakingLemmas.{wanted-counted}
 use Rattle.session_answers.proofs.QueryLemmas.{early-frame, profile-frame}
 use Rattle.session_answers.proofs.StoredLemmas.{found_at}
 use Rattle.session_answers.specs.Profiles.{stored_of}
@@ -11,19 +14,31 @@ use Rattle.session_answers.specs.Sites.{site_of}
 use Rattle.std.proofs.lemmas.Result.{IfOk-from_err}
 use Rattle.session_answers.proofs.beginning.stored.Goals as goal
 
+pub search_for-requires : goal.search_for-requires
+search_for-requires c =
+    let world = world_of c.args.world.now in
+    let stored = stored_of c.args.profiles.now in
+    let wanted = (c.in-Ok.ensures.exact (profiles_of stored) c.requires.kept c.profile-profile.ensures.value).1 in
+    record {
+      counted = wanted-counted world (sections_in c.profile-profile.result.now) c.args.place (asked c.args.request).overrides c.want.new.self
+          c.in-Ok.wanted wanted;
+      within = c.requires.within;
+    }
+
 pub returns-in-Ok-search_for-clause-exact : goal.returns-in-Ok-search_for-clause-exact
 returns-in-Ok-search_for-clause-exact c = λ labels query reads.
-    let site = site_of (world_of c.args.world.now) labels in
+    let world = world_of c.args.world.now in
+    let site = site_of world labels in
     let stored = stored_of c.args.profiles.now in
     let request = asked c.args.request in
     let sections = sections_in c.profile-profile.result.now in
     let there = c.profile-profile.ensures.value in
-    let ready = (c.in-Ok.ensures.exact (profiles_of stored) c.requires.kept there).1 in
+    let wanted = (c.in-Ok.ensures.exact (profiles_of stored) c.requires.kept there).1 in
+    let fresh = c.in-Ok-search_for.ensures.fresh in
     let asks : Asks site stored query request sections =
     record { asks = reads; found = found_at stored request.profile c.args.place sections c.requires.found there } in
-    begun-job site stored c.args.aim query c.args.place request sections c.in-Ok.ready.value c.in-Ok-search_for.search asks there ready
-    c.in-Ok-search_for.ensures.planned c.in-Ok-search_for.ensures.over (c.in-Ok-search_for.ensures.answers sections ready)
-    c.in-Ok-search_for.ensures.fresh
+    begun-job site stored c.want.new.self c.args.aim query request sections c.in-Ok-search_for.search asks
+    (ap (slice_get (profiles_of stored)) fresh.1 ∙ there) (c.in-Ok-search_for.ensures.begins c.want.new.self sections wanted) fresh.0
 
 pub returns-in_ok-frame-in-Err-search_for-clause-exact : goal.returns-in_ok-frame-in-Err-search_for-clause-exact
 returns-in_ok-frame-in-Err-search_for-clause-exact c = λ labels query reads.
@@ -32,12 +47,12 @@ returns-in_ok-frame-in-Err-search_for-clause-exact c = λ labels query reads.
     let request = asked c.args.request in
     let sections = sections_in c.profile-profile.result.now in
     let there = c.profile-profile.ensures.value in
-    let ready = (c.in-Ok.ensures.exact (profiles_of stored) c.requires.kept there).1 in
+    let wanted = (c.in-Ok.ensures.exact (profiles_of stored) c.requires.kept there).1 in
     let asks : Asks site stored query request sections =
     record { asks = reads; found = found_at stored request.profile c.args.place sections c.requires.found there } in
     early-frame site stored query request sections asks c.in-Err-search_for.error c.in_ok-frame-in-Err-search_for.frame.items
     c.in_ok-frame-in-Err-search_for.ensures.reason c.in_ok-frame-in-Err-search_for.ensures.exact
-    (c.in-Err-search_for.ensures.cause sections ready)
+    (c.in-Err-search_for.ensures.cause c.want.new.self sections wanted)
 
 pub returns-in_ok-frame-in-Err-clause-exact : goal.returns-in_ok-frame-in-Err-clause-exact
 returns-in_ok-frame-in-Err-clause-exact c = λ labels query reads.
@@ -70,6 +85,7 @@ returns-in_err-frame-in-Err-search_for c =
     record {
       exact = λ _ _ _. IfOk-from_err _ _ no;
       kept = (c.in-Ok.ensures.exact (profiles_of (stored_of c.args.profiles.now)) c.requires.kept c.profile-profile.ensures.value).0;
+      stay = c.want.ensures.stay;
     }
 
 pub returns-in_err-frame-in-Err : goal.returns-in_err-frame-in-Err
@@ -78,4 +94,5 @@ returns-in_err-frame-in-Err c =
     record {
       exact = λ _ _ _. IfOk-from_err _ _ no;
       kept = (c.in-Err.ensures.exact (profiles_of (stored_of c.args.profiles.now)) c.requires.kept c.profile-profile.ensures.value).0;
+      stay = c.want.ensures.stay;
     }

@@ -1,4 +1,4 @@
-use Rattle.std.proofs.Common.{sym, subst}
+use Rattle.std.proofs.Common.{refl, sym, subst}
 use Rattle.session_answers.specs.Kept.{IsMadeFrom}
 use Rattle.session_answers.proofs.KeptLemmas.{made-after}
 use Rattle.session_answers.proofs.KeyLemmas.{key-same}
@@ -6,7 +6,11 @@ use Rattle.session_answers.proofs.kept.KeptProfiles.keep.Goals as goal
 
 pub returns-in-Ok : goal.returns-in-Ok
 returns-in-Ok c = record {
-  kept = λ world stored kept made.
-      made-after world stored _ key-same c.put.result c.args.self.now.cache c.put.new.self c.args.key c.in-Ok.twin c.put.ensures.entries
-      c.put.ensures.err kept (subst (IsMadeFrom world stored c.args.key) (sym c.in-Ok.ensures.cases) made);
+  kept = λ world stored kept made. record {
+    made = made-after world stored _ key-same c.put.result c.args.self.now.cache c.put.new.self c.args.key c.in-Ok.twin
+        c.put.ensures.entries c.put.ensures.err kept.made
+        (subst (IsMadeFrom world stored c.args.key) (sym c.in-Ok.ensures.cases) made);
+    makings = kept.makings;
+  };
+  makings = refl;
 }

@@ -1,8 +1,12 @@
 use Rattle.std.proofs.Common.{sym, ap, subst}
 use Rattle.session_answers.proofs.KeptLemmas.{AllMade, made-none}
+use Rattle.session_answers.proofs.MakingLemmas.{none-stands}
 use Rattle.session_answers.proofs.kept.KeptProfiles.new.Goals as goal
 
 pub returns : goal.returns
 returns c = record {
-  kept = λ world stored. subst (AllMade world stored) (sym (ap (λ cache. cache.entries) c.in_ok-cache.ensures)) (made-none world stored);
+  kept = λ world stored. record {
+    made = subst (AllMade world stored) (sym (ap (λ cache. cache.entries) c.in_ok-cache.ensures)) (made-none world stored);
+    makings = λ k making there. none-stands _ k making c.new-3.ensures.none there;
+  };
 }

@@ -15,10 +15,10 @@ returns-in-Some c =
       exact = λ stored kept there.
           let all : AllMade world stored c.promote.new.self.entries =
           subst (AllMade world stored) (sym (ap (λ cache. cache.entries) c.promote.ensures.entries))
-          (made-promoted world stored _ c.args.self.now.cache.entries kept) in
+          (made-promoted world stored _ c.args.self.now.cache.entries kept.made) in
           let made = made-seen world stored _ key-same c.peek.result c.in-Some.kept c.promote.new.self.entries c.in_ok-key.key
           c.in-Some.is c.peek.ensures all in (
-            all,
+            record { made = all; makings = kept.makings },
             gives-ready (binding_in world sections c.args.overrides.now) c.in-Some.kept.now.value c.shared.result
                 (ready-under world stored c.in_ok-key.key c.args.place c.args.overrides.now sections c.in-Some.kept.now.value
                 c.in_ok-key.ensures.exact there made) c.shared.ensures.same c.shared.ensures.cause,
@@ -31,7 +31,10 @@ returns-in-None c =
     record {
       exact = λ stored kept there.
           c.made.ensures.exact stored
-          (subst (AllMade world stored) (sym (ap (λ cache. cache.entries) c.promote.ensures.entries))
-          (made-promoted world stored _ c.args.self.now.cache.entries kept))
+          (record {
+            made = subst (AllMade world stored) (sym (ap (λ cache. cache.entries) c.promote.ensures.entries))
+                (made-promoted world stored _ c.args.self.now.cache.entries kept.made);
+            makings = kept.makings;
+          })
           (subst (λ place. slice_get stored place ≡ Some (sections_in c.args.profile.now)) (sym c.in_ok-key.ensures.exact.0) there);
     }

@@ -1,0 +1,49 @@
+//! Makings for which no session waits any more.
+
+ghost use Rattle.std.specs.Prelude.{◌≡◌, ◌<◌, ◌≤◌, ℕ, None, Some, false, get_or, length};
+ghost use Rattle.hall_seats.specs.Parts.{IsHeld, is_awaited_by, service_in, state_in};
+ghost use Rattle.hall_seats.specs.declared.seat.Seat.{Seat as TheSeat};
+
+use hall_seats::{Phase, Room, Seat};
+
+/// Drops each making for which no session waits any more.
+pub(crate) fn sweep(room: &mut Room)
+    requires held { IsHeld room.old }
+    ensures held { IsHeld room.new }
+    ensures state { state_in room.new ≡ state_in room.old }
+    ensures same { service_in room.new ≡ service_in room.old }
+{
+    let makings = room.desk.kept.makings();
+    'makings: for k in 0..makings {
+        if !is_awaited(&room.seats, k) {
+            room.desk.kept.forget(k);
+        }
+    }
+}
+
+/// Whether some session waits for the making at a place.
+fn is_awaited(seats: &[Option<Seat>], k: usize) -> bool
+    ensures none { result ≡ false → (j : ℕ) (seat : TheSeat) → get_or seats.now j None ≡ Some seat →
+        is_awaited_by seat.phase k ≡ false }
+{
+    'seats: for j in 0..seats.len() {
+        if is_awaited_in(&seats[j], k) {
+            return true;
+        }
+    }
+    false
+}
+
+/// Whether the session of a seat waits for it.
+fn is_awaited_in(seat: &Option<Seat>, k: usize) -> bool
+    ensures none { result ≡ false → (taken : TheSeat) → seat.now ≡ Some taken →
+        is_awaited_by taken.phase k ≡ false }
+{
+    match seat {
+        Some(seat) => match &seat.phase {
+            Phase::Waits(search) => search.waits_for(k),
+            _ => false,
+        },
+        None => false,
+    }
+}
