@@ -2,7 +2,7 @@
 use Rattle.std.specs.Prelude.{◌≡◌, ℕ, ◌/◌, ◌≤◌, Result, Vec}
 use Rattle.std.specs.declared.alloc.Global.{Global}
 use Rattle.profile_text.specs.Tree.{Sections}
-use Rattle.route_engine.specs.Aims.{TellsTo, most_for}
+use Rattle.route_engine.specs.Aims.{TellsTo, searching_for}
 use Rattle.route_engine.specs.Pendings.{EndsAs, IsPendingOver, turns_of}
 use Rattle.route_engine.specs.Replies.{bytes_in, question_of}
 use Rattle.route_engine.specs.declared.aim.Aim.{Aim}
@@ -18,7 +18,7 @@ work_quota = 2000
 
 -- how many turns the search for what is asked goes on for at most
 abbrev pub turns_for : Aim → Asked → ℕ
-turns_for aim asked = most_for aim asked / work_quota
+turns_for aim asked = searching_for aim asked / work_quota
 
 -- it is the search for the request of someone over a world, with turns enough
 pub record IsOver (world : WorldValue) (p : Search) : Type 0 where

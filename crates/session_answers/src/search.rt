@@ -17,7 +17,7 @@ ghost use Rattle.way_class.specs.Links.{links_of};
 use crate::routes::route_frame;
 use item_list::Turn;
 use profile_text::Profile;
-use route_engine::{Aim, Pending, most_for};
+use route_engine::{Aim, Pending, searching_for};
 use route_http::{Form, Kind, Request, frame};
 use route_ready::{Ready, RouteError, World};
 use std::alloc::{AllocError, Global};
@@ -106,8 +106,8 @@ pub(crate) fn search_for(
         IfErr result (RefusesEarly (question_of (world_of world.now) sections (asked request))) }
 {
     let kind = kind_for(aim, request.form);
-    let left = most_for(aim, &request) / WORK_QUOTA as u64;
-    match Pending::new(alloc, world, ready, aim, request) {
+    let left = searching_for(aim, &request) / WORK_QUOTA as u64;
+    match Pending::placed(alloc, world, ready, aim, request) {
         Ok(pending) => Ok(Search {
             pending,
             kind,
