@@ -1,5 +1,5 @@
 -- What is searched for a query. This project's own rule.
-use Rattle.std.specs.Prelude.{◌≡◌, ◌≢◌, ℕ, suc, ◌+◌, ◌/◌, ◌==◌, ◌≤◌, Bool, false, List, Result, Ok, Err, Vec}
+use Rattle.std.specs.Prelude.{◌≡◌, ◌≢◌, ℕ, suc, ◌+◌, ◌/◌, ◌==◌, ◌≤◌, Bool, false, List, length, Result, Ok, Err, Vec}
 use Rattle.std.specs.declared.alloc.Global.{Global}
 use Rattle.profile_text.specs.Tree.{Sections}
 use Rattle.route_engine.specs.Aims.{TellsTo, most_for}
@@ -26,10 +26,14 @@ use Rattle.session_answers.specs.declared.search.Stage.TheVariants.{Making, Sear
 abbrev pub work_quota : ℕ
 work_quota = 2000
 
--- how many turns what is asked goes on for at most: those in which a profile is made ready, the one that begins the
--- search, and those of the search
+-- how many turns what is asked goes on for at most, once its profile is ready: those of the search, which begins where
+-- the waypoints have their nodes, and the two in which each of these begins
+abbrev pub turns_after : WorldValue → Aim → Asked → ℕ
+turns_after world aim asked = suc (suc (most_for (length world.map.links) aim asked / work_quota))
+
+-- and with those in which a profile is made ready
 abbrev pub turns_for : WorldValue → Aim → Asked → ℕ
-turns_for world aim asked = making_turns world + suc (most_for aim asked / work_quota)
+turns_for world aim asked = making_turns world + turns_after world aim asked
 
 -- ---- How far a search is
 
@@ -39,7 +43,7 @@ pub record WaitsFor (world : WorldValue) (kept : KeptProfiles) (place : ℕ) (ai
     Type 0 where
   pub turns : ℕ
   pub awaited : IsAwaited world kept.makings.slots.items place asked.overrides turns k
-  pub enough : turns + suc (most_for aim asked / work_quota) ≤ left
+  pub enough : turns + turns_after world aim asked ≤ left
   pub within : IsWithin asked
 
 -- a stage is over a world, with turns enough

@@ -141,13 +141,10 @@ fn stored(
 {
     let profile = profiles.profile(place);
     match kept.want(alloc, world, profile, place, &request.overrides) {
-        Ok(wanted) => match search_for(alloc, world, wanted, place, aim, request) {
-            Ok(search) => Ok(Begun::Job(search)),
-            Err(error) => {
-                let frame = route_frame(alloc, profile, error)?;
-                Ok(Begun::Frame(frame))
-            }
-        },
+        Ok(wanted) => {
+            let search = search_for(alloc, world, wanted, place, aim, request)?;
+            Ok(Begun::Job(search))
+        }
         Err(error) => {
             let frame = route_frame(alloc, profile, error)?;
             Ok(Begun::Frame(frame))

@@ -1,12 +1,10 @@
 //! What is searched for a query, and what a turn of it comes to.
 
-ghost use Rattle.std.specs.Prelude.{◌≡◌, ◌<◌, List, ℕ, IfErr, IfOk, Ok, Some, length, slice_get};
+ghost use Rattle.std.specs.Prelude.{◌≡◌, ◌<◌, List, ℕ, IfOk, Ok, Some, length, slice_get};
 ghost use Rattle.item_list.specs.Turns.{Says};
 ghost use Rattle.profile_text.specs.Expr.{sections_in};
 ghost use Rattle.profile_text.specs.Tree.{Sections};
 ghost use Rattle.route_engine.specs.Jobs.{IsWithin};
-ghost use Rattle.route_engine.specs.Refusals.{RefusesEarly};
-ghost use Rattle.route_engine.specs.Replies.{question_of};
 ghost use Rattle.route_http.specs.Asked.{Asked};
 ghost use Rattle.route_http.specs.Seen.{asked};
 ghost use Rattle.route_ready.specs.World.{world_of};
@@ -161,7 +159,7 @@ fn stepped(
             None => Turn::More(Stage::Making(k, request)),
             Some(Ok(ready)) => match Pending::new(alloc, world, ready, aim, request) {
                 Ok(pending) => Turn::More(Stage::Searching(pending)),
-                Err(error) => Turn::Done(Err(error)),
+                Err(_) => Turn::Done(Err(RouteError::NoMemory)),
             },
             Some(Err(error)) => Turn::Done(Err(error)),
         },
@@ -173,7 +171,7 @@ fn stepped(
 }
 
 /// The search for a request, by what it is asked for and by its profile, which is stored at a place:
-/// as it is ready, or as it is being made ready. It is refused where a waypoint is moved to no node.
+/// as it is ready, or as it is being made ready. An error is want of memory.
 pub(crate) fn search_for(
     alloc: Global,
     world: &World,
@@ -181,7 +179,7 @@ pub(crate) fn search_for(
     place: u32,
     aim: Aim,
     request: Request,
-) -> Result<Search, RouteError>
+) -> Result<Search, AllocError>
     requires counted { IsCounted (world_of world.now) wanted }
     requires within { IsWithin (asked request) }
     ensures begins { let request = asked request in (kept : KeptProfiles) (sections : Sections) →
@@ -191,24 +189,17 @@ pub(crate) fn search_for(
         IfOk result (IsSearchFor (world_of world.now) sections kept aim request) }
     ensures fresh { let request = asked request in IfOk result (λ search.
         (search.left ≡ turns_for (world_of world.now) aim request) × (search.place ≡ place)) }
-    ensures cause { let request = asked request in (kept : KeptProfiles) (sections : Sections) →
-        IsWanted (world_of world.now)
-        (binding_in (world_of world.now) sections request.overrides) place request.overrides kept
-        (Ok wanted) →
-        IfErr result (RefusesEarly (question_of (world_of world.now) sections request)) }
 {
     let kind = kind_for(aim, request.form);
     let left = turns_for(world, aim, &request);
-    match stage_for(alloc, world, wanted, aim, request) {
-        Ok(stage) => Ok(Search {
-            stage,
-            place,
-            aim,
-            kind,
-            left,
-        }),
-        Err(error) => Err(error),
-    }
+    let stage = stage_for(alloc, world, wanted, aim, request)?;
+    Ok(Search {
+        stage,
+        place,
+        aim,
+        kind,
+        left,
+    })
 }
 
 /// How many turns the search for a request goes on for at most.
@@ -217,8 +208,8 @@ fn turns_for(world: &World, aim: Aim, request: &Request) -> u64
     ensures exact { result ≡ turns_for (world_of world.now) aim (asked request.now) }
 {
     let making = most_turns(world, MAKING_QUOTA);
-    let labels = most_for(aim, request) / WORK_QUOTA as u64;
-    making + 1 + labels
+    let search = most_for(world, aim, request) / WORK_QUOTA as u64;
+    making + 2 + search
 }
 
 /// How far the search for a request is at first.
@@ -228,7 +219,7 @@ fn stage_for(
     wanted: Wanted,
     aim: Aim,
     request: Request,
-) -> Result<Stage, RouteError>
+) -> Result<Stage, AllocError>
     requires counted { IsCounted (world_of world.now) wanted }
     requires within { IsWithin (asked request) }
     ensures begins { let request = asked request in
@@ -239,12 +230,6 @@ fn stage_for(
         IfOk result (λ stage. IsStageOver (world_of world.now) kept place aim
         (turns_for (world_of world.now) aim request) stage
         × IsStageFor (world_of world.now) sections aim request stage) }
-    ensures cause { let request = asked request in
-        (kept : KeptProfiles) (sections : Sections) (place : ℕ) →
-        IsWanted (world_of world.now)
-        (binding_in (world_of world.now) sections request.overrides) place request.overrides kept
-        (Ok wanted) →
-        IfErr result (RefusesEarly (question_of (world_of world.now) sections request)) }
 {
     match wanted {
         Wanted::Ready(ready) => match Pending::new(alloc, world, ready, aim, request) {

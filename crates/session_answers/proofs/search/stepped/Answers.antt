@@ -1,15 +1,13 @@
-use Rattle.std.proofs.Common.{◌≡◌, ◌⊎◌, ◌-◌, ◌/◌, ℕ, Err, Ok, Some, arith, refl, subst, sym}
+use Rattle.std.proofs.Common.{◌≡◌, ◌-◌, Err, Some, arith, inl, refl, subst}
 use Rattle.profile_text.specs.Tree.{Sections}
-use Rattle.route_engine.proofs.SearchLemmas.{div-mono}
-use Rattle.route_engine.specs.Aims.{most_for}
-use Rattle.route_engine.specs.Pendings.{work_of}
 use Rattle.route_engine.specs.Replies.{question_of}
 use Rattle.route_http.specs.Asked.{Asked}
 use Rattle.route_http.specs.Seen.{asked}
 use Rattle.route_ready.specs.World.{world_of}
 use Rattle.route_ready.specs.Worlds.{binding_in}
+use Rattle.route_ready.specs.declared.error.RouteError.TheVariants.{NoMemory}
 use Rattle.session_answers.proofs.MakingLemmas.{turned-stay}
-use Rattle.session_answers.proofs.TurnLemmas.{early-ends, profile-ends, turned-any, turned-for, waits-on, waits-stands}
+use Rattle.session_answers.proofs.TurnLemmas.{profile-ends, turned-any, turned-for, waits-on, waits-stands}
 use Rattle.session_answers.specs.Makings.{GivesReady}
 use Rattle.session_answers.specs.Searches.{EndsFor, IsStageFor, IsStageOver, WaitsFor, work_quota}
 use Rattle.session_answers.proofs.search.stepped.Goals as goal
@@ -64,7 +62,7 @@ returns-in-Ok-clause-counts c = λ place left over.
     let waits : WaitsFor world c.args.kept.now place c.args.aim left c.in-Making.k request =
     subst (IsStageOver world c.args.kept.now place c.args.aim left) c.in-Making.is over in
     let enough = waits.enough in
-    let few = div-mono (work_of world c.in-Ok.pending) (most_for c.args.aim request) work_quota c.in-Ok.ensures.few in
+    let few = c.in-Ok.ensures.few work_quota in
     (left - 1, omega (arith, enough), (c.in-Ok.ensures.over, omega (arith, enough, few)))
 
 pub returns-in-Ok-clause-answers : goal.returns-in-Ok-clause-answers
@@ -88,19 +86,7 @@ returns-in-Err-clause-stay c =
 
 pub returns-in-Err-clause-answers : goal.returns-in-Err-clause-answers
 returns-in-Err-clause-answers c = λ stored kept place left over sections there asks for.
-    let world = world_of c.args.world.now in
-    let request = asked c.in-Making.request in
-    let waits : WaitsFor world c.args.kept.now place c.args.aim left c.in-Making.k request =
-    subst (IsStageOver world c.args.kept.now place c.args.aim left) c.in-Making.is over in
-    let same : request ≡ asks = subst (IsStageFor world sections c.args.aim asks) c.in-Making.is for in
-    let turned = c.in-Some-Ok.ensures.turned in
-    let binding = binding_in world sections request.overrides in
-    let ready = subst (GivesReady binding) c.in-Some-Ok.field-0-is
-    (turned.gives binding
-    (turned-for world c.args.kept.now place c.args.aim left c.in-Making.k request waits c.turn.new.self (Some c.in-Some-Ok.field-0) turned
-    stored sections kept there)) in
-    subst (λ (a : Asked). EndsFor world sections c.args.aim a (Err c.in-Err.error)) same
-    (early-ends c.args.aim (question_of world sections request) c.in-Err.error (c.in-Err.ensures.cause sections ready))
+    profile-ends c.args.aim (question_of (world_of c.args.world.now) sections asks) NoMemory (inl refl)
 
 pub returns-in-Some-Err-clause-stay : goal.returns-in-Some-Err-clause-stay
 returns-in-Some-Err-clause-stay c =
