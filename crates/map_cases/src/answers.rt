@@ -26,7 +26,7 @@ const ON_TEXTS: [&str; 7] = [
 ];
 
 /// The calls on a map, whose text is the first word behind them.
-const ON_MAPS: [&str; 18] = [
+const ON_MAPS: [&str; 20] = [
     "map_cut",
     "map_counts",
     "near",
@@ -41,6 +41,8 @@ const ON_MAPS: [&str; 18] = [
     "ring",
     "certify",
     "check",
+    "certify_bound",
+    "check_bound",
     "costs",
     "within",
     "costs_counted",

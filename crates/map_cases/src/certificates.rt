@@ -14,14 +14,15 @@ use crate::space::ways::given_by_ways;
 use crate::space::{marks, rates_of_case};
 use crate::track::legs::numbers;
 use case_inputs::{Case, place_of};
-use certificate_text::{Certificate, Proof};
+use certificate_text::{Certificate, LowerBound, Proof};
 use cost_model::{FactsOf, PricedMap, TerrainOf, modes};
 use overpass_graph::Map;
 use route_certificate::{Certified, TrackAsk, Verdict, Why, certify, verify};
 use std::alloc::{AllocError, Global};
 
-/// The two calls.
-const CALLS: [&str; 2] = ["certify", "check"];
+/// The calls: with labels that rank by their cost, and with labels that rank with what is still to
+/// pay.
+const CALLS: [&str; 4] = ["certify", "check", "certify_bound", "check_bound"];
 
 /// What certifying a track comes to, and what a check says of it; or what a check says of a
 /// certificate that is given.
@@ -41,10 +42,11 @@ pub(crate) fn answer(alloc: Global, case: &Case, map: &Map) -> Result<String, Al
         turns: case.count(4) == 1,
     };
     let terrain = PricedMap::new(map, &given, &rates, modes(&given));
-    if place_of(&CALLS, case.word(0)) == 1 {
-        checked(alloc, terrain, &ask, case.text(16))
-    } else {
-        certified(alloc, terrain, &ask, case.count(14))
+    match place_of(&CALLS, case.word(0)) {
+        0 => certified(alloc, terrain, &ask, LowerBound::Zero, case.count(14)),
+        1 => checked(alloc, terrain, &ask, LowerBound::Zero, case.text(16)),
+        2 => certified(alloc, terrain, &ask, LowerBound::Least, case.count(14)),
+        _ => checked(alloc, terrain, &ask, LowerBound::Least, case.text(16)),
     }
 }
 
@@ -68,6 +70,7 @@ fn certified<G: TerrainOf>(
     alloc: Global,
     terrain: G,
     ask: &TrackAsk,
+    bound: LowerBound,
     limit: u64,
 ) -> Result<String, AllocError>
     requires asked { IsAsk (G.terrain terrain) ask.now }
@@ -78,7 +81,7 @@ fn certified<G: TerrainOf>(
         write!(line, "{OUTSIDE}")?;
         return Ok(line);
     }
-    match certify(alloc, terrain, ask, limit)? {
+    match certify(alloc, terrain, ask, bound, limit)? {
         Certified::NoWalk { leg } => write!(line, "no walk {leg}")?,
         Certified::Spent { leg } => write!(line, "spent {leg}")?,
         Certified::Shown(certificate) => {
@@ -89,16 +92,17 @@ fn certified<G: TerrainOf>(
     Ok(line)
 }
 
-/// What a check says of the certificate of a word.
+/// What a check says of the certificate of a word, by a lower bound.
 fn checked<G: TerrainOf>(
     alloc: Global,
     terrain: G,
     ask: &TrackAsk,
+    bound: LowerBound,
     word: &str,
 ) -> Result<String, AllocError>
     requires asked { IsAsk (G.terrain terrain) ask.now }
 {
-    let certificate = certificate_of(alloc, word)?;
+    let certificate = certificate_of(alloc, bound, word)?;
     let mut line = String::new(alloc);
     tell_check(&mut line, alloc, terrain, ask, &certificate)?;
     Ok(line)

@@ -274,7 +274,7 @@ module _ (Faulty : ℕ → Type 0)
     command-cause (Form.TheVariants.Route command) may old new r is =
         query-cause any_in IsReplied command (any-inner command.query) (λ question status is_told. refusal-inner _ _ status is_told) old new r is
     command-cause (Form.TheVariants.Certify command) may old new r is =
-        query-cause first_in IsWritten command (first-inner command.query (may command.query.word refl)) (λ question status is_told. refusal-inner _ _ status is_told) old new r is
+        query-cause first_in (IsWritten command.bound) command.route (first-inner command.route.query (may command.route.query.word refl)) (λ question status is_told. refusal-inner _ _ status is_told) old new r is
     command-cause (Form.TheVariants.Check command) may old new r is = check-cause command (may command.route.query.word refl) old new r is
     command-cause (Form.TheVariants.Table command) may old new r is =
         query-cause any_in IsTabled command (any-inner command.query) (λ question status is_told. refusal-inner _ _ status is_told) old new r is

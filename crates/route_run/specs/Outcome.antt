@@ -42,7 +42,7 @@ IsCommandAnswer (Form.TheVariants.Make command) old new answer = Settles (Ok (ma
 IsCommandAnswer (Form.TheVariants.Code command) old new answer = IsCodeAnswer command old new answer
 IsCommandAnswer (Form.TheVariants.Route command) old new answer = AnswersQuery any_in IsReplied command old new answer
 IsCommandAnswer (Form.TheVariants.Certify command) old new answer =
-    AnswersQuery first_in IsCertificateWritten command old new answer
+    AnswersQuery first_in (IsCertificateWritten command.bound) command.route old new answer
 IsCommandAnswer (Form.TheVariants.Check command) old new answer = IsCheckedAnswer command old new answer
 IsCommandAnswer (Form.TheVariants.Table command) old new answer = AnswersQuery any_in IsTabled command old new answer
 IsCommandAnswer (Form.TheVariants.Within command) old new answer =
@@ -127,7 +127,7 @@ file_words (Ok (Form.TheVariants.Grid command)) = profile_words command.files
 file_words (Ok (Form.TheVariants.Make command)) = []
 file_words (Ok (Form.TheVariants.Code command)) = profile_words (Some command)
 file_words (Ok (Form.TheVariants.Route command)) = world_words (route_files command)
-file_words (Ok (Form.TheVariants.Certify command)) = world_words (route_files command)
+file_words (Ok (Form.TheVariants.Certify command)) = world_words (route_files command.route)
 file_words (Ok (Form.TheVariants.Check command)) = check_words command
 file_words (Ok (Form.TheVariants.Table command)) = world_words (route_files command)
 file_words (Ok (Form.TheVariants.Within command)) = world_words (route_files command.route)
@@ -175,7 +175,7 @@ IsComplete status = Unit {0}
 
 -- the word of the query of a command that certifies or checks, which has to ask for a first track
 abbrev pub IsQueryWord : Command → ℕ → Type 0
-IsQueryWord (Form.TheVariants.Certify command) word = word ≡ command.query.word
+IsQueryWord (Form.TheVariants.Certify command) word = word ≡ command.route.query.word
 IsQueryWord (Form.TheVariants.Check command) word = word ≡ command.route.query.word
 IsQueryWord command word = ⊥
 

@@ -77,7 +77,12 @@ fn command_run<F: Files, O: Sink, H: Hub>(
         Command::Make(command) => send_output(out, make_answer(alloc, command)),
         Command::Code(command) => send(out, code_answer(alloc, command, files)),
         Command::Route(command) => send(out, query_answer(alloc, command, &RouteAsk, files)),
-        Command::Certify(command) => send(out, query_answer(alloc, command, &CertifyAsk, files)),
+        Command::Certify(command) => {
+            let certify = CertifyAsk {
+                bound: command.bound,
+            };
+            send(out, query_answer(alloc, &command.route, &certify, files))
+        }
         Command::Check(command) => send(out, check_answer(alloc, command, files)),
         Command::Table(command) => send(out, query_answer(alloc, command, &TableAsk, files)),
         Command::Within(command) => {

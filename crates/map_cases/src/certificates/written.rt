@@ -1,18 +1,22 @@
 //! Certificates as words.
 
 use crate::track::legs::numbers;
-use certificate_text::{Certificate, Entry, Proof};
+use certificate_text::{Certificate, Entry, LowerBound, Proof};
 use std::alloc::{AllocError, Global};
 
-/// The certificate of a word: its legs, parted by `;`.
-pub(crate) fn certificate_of(alloc: Global, word: &str) -> Result<Certificate, AllocError> {
+/// The certificate of a word by a lower bound: its legs, parted by `;`.
+pub(crate) fn certificate_of(
+    alloc: Global,
+    bound: LowerBound,
+    word: &str,
+) -> Result<Certificate, AllocError> {
     let mut legs = Vec::new(alloc);
     if !word.is_empty() {
         for part in word.split(';') {
             legs.push(proof_of(alloc, part)?)?;
         }
     }
-    Ok(Certificate { legs })
+    Ok(Certificate { bound, legs })
 }
 
 /// The leg of a word: its links, its cost behind `=`, and its labels, each behind `|`.
