@@ -1,11 +1,8 @@
 -- What a request may be asked for, and what answers it.
 use Rattle.std.specs.Prelude.{ℕ, ◌+◌, List, Result, Err}
-use Rattle.cost_model.specs.Rides.{Setting}
 use Rattle.route_engine.specs.Answers.{IsAnswer}
-use Rattle.route_engine.specs.Jobs.{IsPlanFor}
 use Rattle.route_engine.specs.Labels.{most_labels}
 use Rattle.route_engine.specs.Placings.{placing_for}
-use Rattle.route_engine.specs.Plans.{Plan}
 use Rattle.route_engine.specs.Replies.{IsReply, Tells}
 use Rattle.route_engine.specs.Settings.{Question}
 use Rattle.route_engine.specs.TableAnswers.{IsTableAnswer, IsTableReply, TellsTable, most_for_costs}
@@ -37,8 +34,3 @@ searching_for Table asked = most_for_costs asked
 -- the most that is counted for what is asked on a map with so many links
 abbrev pub most_for : (links : ℕ) → Aim → Asked → ℕ
 most_for links aim asked = placing_for links asked + searching_for aim asked
-
--- a request has a plan over a setting: each of its waypoints is moved to a node
-pub record HasPlan (setting : Setting) (asked : Asked) : Type 0 where
-  pub plan : Plan
-  pub is : IsPlanFor setting asked plan

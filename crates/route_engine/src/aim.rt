@@ -50,7 +50,7 @@ fn placing_for(world: &World, request: &Request) -> u64
 
 /// The most labels that are counted for what is asked of a request, once its waypoints have their
 /// nodes.
-pub fn searching_for(aim: Aim, request: &Request) -> u64
+fn searching_for(aim: Aim, request: &Request) -> u64
     requires within { IsWithin (asked request.now) }
     ensures exact { result ≡ searching_for aim (asked request.now) }
     ensures small { result < 2 ^ 42 }

@@ -28,7 +28,7 @@ mod told;
 mod walked;
 mod waypoints;
 
-pub use aim::{Aim, most_for, searching_for};
+pub use aim::{Aim, most_for};
 pub use asking::Asking;
 pub use job::Job;
 pub use nearby::within;

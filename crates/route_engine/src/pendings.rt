@@ -1,12 +1,11 @@
 //! A request of either kind that is answered in turns, as one type.
 
-ghost use Rattle.std.specs.Prelude.{◌≡◌, ◌/◌, ◌≤◌, ℕ, suc, IfErr, IfOk, OnOk, Result, Vec, length};
+ghost use Rattle.std.specs.Prelude.{◌≡◌, ◌/◌, ◌≤◌, ℕ, suc, IfOk, Result, Vec, length};
 ghost use Rattle.std.specs.declared.alloc.Global.{Global as TheGlobal};
 ghost use Rattle.profile_text.specs.Tree.{Sections};
-ghost use Rattle.route_engine.specs.Aims.{HasPlan, TellsTo, most_for, searching_for};
-ghost use Rattle.route_engine.specs.Jobs.{IsWithin, setting_of};
+ghost use Rattle.route_engine.specs.Aims.{TellsTo, most_for};
+ghost use Rattle.route_engine.specs.Jobs.{IsWithin};
 ghost use Rattle.route_engine.specs.Pendings.{EndsAs, IsPendingOver, turns_of};
-ghost use Rattle.route_engine.specs.Refusals.{RefusesEarly};
 ghost use Rattle.route_engine.specs.Replies.{IsReady, bytes_in, question_of};
 ghost use Rattle.route_http.specs.Seen.{asked};
 ghost use Rattle.route_ready.specs.World.{world_of};
@@ -14,7 +13,7 @@ ghost use Rattle.route_ready.specs.declared.error.RouteError.{RouteError as TheR
 ghost use Rattle.way_class.specs.Links.{links_of};
 
 use crate::aim::Aim;
-use crate::asking::{Asking, searched, turned};
+use crate::asking::{Asking, turned};
 use crate::job::Job;
 use crate::placing::Placing;
 use crate::table::TableJob;
@@ -61,46 +60,6 @@ impl Pending {
             },
             Aim::Table => match turned::<TableJob>(alloc, world, ready, request) {
                 Ok(task) => Ok(Pending::Table(task)),
-                Err(error) => Err(error),
-            },
-        }
-    }
-
-    /// The same where its waypoints are moved to nodes at once. It is refused where one is moved to
-    /// no node.
-    pub fn placed(
-        alloc: Global,
-        world: &World,
-        ready: Rc<Ready>,
-        aim: Aim,
-        request: Request,
-    ) -> Result<Pending, RouteError>
-        requires counted { (links_of ready.value.bound).count ≡
-            length (world_of world.now).map.links }
-        requires within { IsWithin (asked request) }
-        ensures over { IfOk result (IsPendingOver (world_of world.now)) }
-        ensures planned { let setting =
-            setting_of (world_of world.now) ready.value (asked request).circles in
-            OnOk result (HasPlan setting (asked request)) }
-        ensures answers { (sections : Sections) →
-            IsReady (world_of world.now) sections (asked request) ready.value →
-            IfOk result (λ p. (end : Result (Vec ℕ TheGlobal) TheRouteError) →
-            EndsAs (world_of world.now) p end →
-            TellsTo aim (question_of (world_of world.now) sections (asked request)) (bytes_in end)) }
-        ensures few { IfOk result (λ p. (budget : ℕ) → turns_of (world_of world.now) budget p ≤
-            searching_for aim (asked request) / budget) }
-        ensures cause { (sections : Sections) →
-            IsReady (world_of world.now) sections (asked request) ready.value →
-            IfErr result (RefusesEarly
-            (question_of (world_of world.now) sections (asked request))) }
-    {
-        match aim {
-            Aim::Track => match searched::<Job>(alloc, world, ready, request) {
-                Ok(asking) => Ok(Pending::Track(Chain::Second(asking))),
-                Err(error) => Err(error),
-            },
-            Aim::Table => match searched::<TableJob>(alloc, world, ready, request) {
-                Ok(asking) => Ok(Pending::Table(Chain::Second(asking))),
                 Err(error) => Err(error),
             },
         }

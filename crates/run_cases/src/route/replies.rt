@@ -31,10 +31,8 @@ pub(crate) fn in_replies(
     requires counted { (links_of ready.value.bound).count ≡ length (world_of world.now).map.links }
     requires within { IsWithin (asked request) }
 {
-    match Pending::placed(alloc, world, ready, Aim::Track, request) {
-        Ok(pending) => by_quota(alloc, case, world, pending),
-        Err(error) => line(alloc, &error, None),
-    }
+    let pending = Pending::new(alloc, world, ready, Aim::Track, request)?;
+    by_quota(alloc, case, world, pending)
 }
 
 /// The same with the quota of a case.
