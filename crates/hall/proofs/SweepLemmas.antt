@@ -1,6 +1,8 @@
 -- A room stays as it has to be where a making is dropped for which no session waits.
-use Rattle.std.proofs.Common.{◌≡◌, ℕ, Bool, false, List, Option, Some, None, get_or, refl}
+use Rattle.std.proofs.Common.{◌≡◌, ℕ, Bool, false, List, Option, Some, None, get_or, subst, sym}
 use Rattle.hall_seats.specs.Parts.{AreReadied, IsHeld, IsSearchIn, is_awaited_by}
+use Rattle.hall_seats.specs.State.{Service, State}
+use Rattle.hall_seats.specs.Steps.{Works}
 use Rattle.hall_seats.specs.declared.room.Room.{Room}
 use Rattle.hall_seats.specs.declared.seat.Phase.{Phase as Kept}
 use Rattle.hall_seats.specs.declared.seat.Phase.TheVariants as phases
@@ -13,6 +15,10 @@ use Rattle.session_answers.specs.Received.{received_of}
 use Rattle.session_answers.specs.Verdicts.{part}
 use Rattle.session_answers.specs.declared.kept.KeptProfiles.{KeptProfiles}
 use Rattle.std.specs.Prelude.{take}
+
+-- a turn of work changes this where the makings are swept behind it
+pub works_same : (service : Service) (s worked swept : State) → Works service s worked → swept ≡ worked → Works service s swept
+works_same service s worked swept works same = subst (Works service s) (sym same) works
 
 -- a search that doesn't wait for it is that of its connection still
 search_unawaited : (site : Site) (stored : List Stored) (old new : KeptProfiles) (k : ℕ) →
