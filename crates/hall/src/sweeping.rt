@@ -1,6 +1,6 @@
 //! Makings for which no session waits any more.
 
-ghost use Rattle.std.specs.Prelude.{◌≡◌, ◌<◌, ◌≤◌, ℕ, None, Some, false, get_or, length};
+ghost use Rattle.std.specs.Prelude.{◌≡◌, ◌<◌, ℕ, None, Some, false, get_or, length};
 ghost use Rattle.hall_seats.specs.Parts.{IsHeld, is_awaited_by, service_in, state_in};
 ghost use Rattle.hall_seats.specs.declared.seat.Seat.{Seat as TheSeat};
 
@@ -15,10 +15,24 @@ pub(crate) fn sweep(room: &mut Room)
 {
     let makings = room.desk.kept.makings();
     'makings: for k in 0..makings {
-        if !is_awaited(&room.seats, k) {
-            room.desk.kept.forget(k);
-        }
+        sweep_place(room, k);
     }
+}
+
+/// Drops the making at a place, where no session waits for it.
+fn sweep_place(room: &mut Room, k: usize)
+    requires held { IsHeld room.old }
+    requires within { k < length room.old.desk.kept.makings.slots.items }
+    ensures held { IsHeld room.new }
+    ensures state { state_in room.new ≡ state_in room.old }
+    ensures same { service_in room.new ≡ service_in room.old }
+    ensures long { length room.new.desk.kept.makings.slots.items ≡
+        length room.old.desk.kept.makings.slots.items }
+{
+    if is_awaited(&room.seats, k) {
+        return;
+    }
+    room.desk.kept.forget(k);
 }
 
 /// Whether some session waits for the making at a place.

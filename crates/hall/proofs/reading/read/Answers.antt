@@ -27,7 +27,7 @@ returns-in-Err c =
     let same : connection_of seat ≡ old = λ i. record old { bytes = c.in-Err.ensures.kept i } in
     let now = with_bytes c.args.bytes.now old in
     record {
-      settles = settles_frame desk desk.kept c.requires.kept old now c.args.seat.id c.args.seat.away c.answered.result seat frames.Memory
+      settles = settles_frame desk desk.kept c.requires.kept (λ place overrides left k is. is) old now c.args.seat.id c.args.seat.away c.answered.result seat frames.Memory
           c.answered.ensures.value refl refl
           (gives_up {kept = connection_of seat} (goes_on now.bytes now.ended c.requires.unended) (inl same));
     }

@@ -8,5 +8,5 @@ invariant-makings l = record {
   held : IsHeld l.room;
   state : state_in l.room ≡ state_in l.initial.room;
   same : service_in l.room ≡ service_in l.initial.room;
-  long : length l.room.desk.kept.makings.slots.items ≡ l.end;
+  long : length l.room.desk.kept.makings.slots.items ≡ l.makings;
 }
