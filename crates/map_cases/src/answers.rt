@@ -84,7 +84,7 @@ fn by_call(alloc: Global, case: &Case, map: &Map, call: usize) -> Result<String,
         4 => near_sums(alloc, case, map),
         5..=7 => track::answer(alloc, case, map),
         8..=11 => space::answer(alloc, case, map),
-        14..=17 => reaches::answer(alloc, case, map),
+        16..=19 => reaches::answer(alloc, case, map),
         _ => certificates::answer(alloc, case, map),
     }
 }
