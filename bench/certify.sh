@@ -5,8 +5,8 @@
 #   YARDSTICK=FOLDER bench/certify.sh [LINKS..]
 # FOLDER has gen_city.py, which writes city.json, N49E008.hgt and queries.txt: lines of waypoints, the first from corner to corner; the
 # short ride is the one of the others whose ends are nearest to each other, but not at one place. LABELS says how many labels a leg may
-# take, where not 50,000,000; TURNS how often each command is run, where not 3, the run of middle length being told; and cities that are
-# made in the folder CITIES stay there for the next time.
+# take, where not 50,000,000; TURNS how often each command is run, where not 3, the run of middle length being told; BOUND=1 asks for
+# certificates of the second form; and cities that are made in the folder CITIES stay there for the next time.
 set -e
 [ -n "$YARDSTICK" ] || { echo "usage: YARDSTICK=FOLDER bench/certify.sh [LINKS..]"; exit 1; }
 yardstick=$(realpath "$YARDSTICK")
@@ -52,7 +52,7 @@ run() {
 row() {
   local links=$1 profile=$2 ride=$3 city=$4 waypoints=$5 yes route
   run route "$profile" "$city" "$waypoints"
-  run certify "$profile" "$city" "$waypoints"
+  run certify "$profile" "$city" "$waypoints" bound="${BOUND:-0}"
   cp "$folder/certify.told" "$folder/ride.certificate"
   run check "$profile" "$city" "$waypoints" certificate="$folder/ride.certificate"
   echo "| $links | $profile | $ride | $(stat -c %s "$folder/ride.certificate") | $(grep -c '^label' "$folder/ride.certificate") |" \
