@@ -4,7 +4,7 @@ import { by, made, tell } from './dom.js';
 import { commandOf, gpxOf, save } from './export.js';
 import { groupsOf } from './groups.js';
 import { Heights } from './heights.js';
-import { claimOf, proofCommands, proofWords } from './proof.js';
+import { Certificate, claimOf, proofCommands, proofWords } from './proof.js';
 import { drawLegend, Rows } from './rows.js';
 import { streetNames } from './street-names.js';
 import { climbOf, distancesOf, repeatedBy, rowsOf } from './track.js';
@@ -17,9 +17,9 @@ function figure(name, className, ...content) {
 }
 
 export class Answer {
-  // `point` shows a point of a track on the map, or none.
-  constructor(settings, profiles, point) {
-    Object.assign(this, { settings, profiles, point, tracks: [], source: null });
+  // `point` shows a point of a track on the map, or none; `certificate` asks for the certificate of a ride.
+  constructor(settings, profiles, point, certificate) {
+    Object.assign(this, { settings, profiles, point, tracks: [], source: null, certificate: new Certificate(certificate) });
     const near = (number) => this.near(number);
     this.heights = new Heights(by('heights'), near);
     this.rows = new Rows(by('rows'), near);
@@ -98,6 +98,7 @@ export class Answer {
 
   drawProof(reply) {
     by('proof-words').textContent = proofWords(this.ride, reply.properties.rank);
+    this.certificate.draw(this.ride);
     by('certificate').value = proofCommands(this.ride, this.settings.command, this.profiles.fileOf(this.ride.profile));
   }
 

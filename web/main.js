@@ -154,7 +154,8 @@ function makeParts(settings, base) {
   profiles = new Profiles(settings.profiles, server);
   rides = new Rides(server, profiles);
   map = new RideMap('map', changes);
-  answer = new Answer(settings, profiles, (coordinate) => map.tracks.show(coordinate));
+  answer = new Answer(settings, profiles, (coordinate) => map.tracks.show(coordinate),
+    (ride, signal, waitsFor) => rides.certificate(ride, signal, waitsFor));
   asking = new Asking(wait);
   greys = new Asking(() => {});
   table = new CostTable((ride, signal, waitsFor) => rides.costs(ride, signal, waitsFor),

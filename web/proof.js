@@ -1,6 +1,9 @@
-// What is proved of a cost, in three sentences, and the commands by which anybody can check it.
+// What is proved of a cost, in three sentences, the certificate to save, and the commands by which anybody can check it.
 
-import { certificateOf } from './export.js';
+import { Asking } from './asking.js';
+import { by, tell } from './dom.js';
+import { certificateOf, save } from './export.js';
+import { wordsOf } from './words.js';
 
 export const claimOf = (alternative) => (alternative ? 'proved least rank under this profile' : 'proved least under this profile');
 
@@ -11,7 +14,30 @@ export function proofWords({ alternative }, rank) {
       + 'has read.';
   return [least,
     'That is proved of the program route_serve, for all maps, profiles and requests, and a machine has checked the proof.',
-    'You need not trust that this server runs it: these lines write a certificate of the best ride, and check it without any search.'].join(' ');
+    'You need not trust that this server runs it: save the certificate of the best ride, or write it by these lines, and check it without '
+      + 'any search.'].join(' ');
 }
 
 export const proofCommands = (ride, start, file) => certificateOf(ride, start, file);
+
+// The button that saves the certificate of a ride. `certificate` asks for its text.
+export class Certificate {
+  constructor(certificate) {
+    this.certificate = certificate;
+    this.asking = new Asking((words, seconds) => tell('certificate-told', words === null ? '' : `${words}: ${seconds} s.`));
+    by('save-certificate').addEventListener('click', () => this.save());
+  }
+
+  // Another ride is shown: what was asked for the one before is called off.
+  draw(ride) {
+    this.asking.end();
+    this.ride = structuredClone(ride);
+    tell('certificate-told', '');
+  }
+
+  async save() {
+    const { value, refused } = await this.asking.ask((signal, waitsFor) => this.certificate(this.ride, signal, waitsFor));
+    if (value) save('ride.certificate', 'text/plain', value);
+    if (refused) tell('certificate-told', wordsOf(refused.line).text, true);
+  }
+}

@@ -25,6 +25,14 @@ function parsed(text) {
   }
 }
 
+// The text of a certificate, whole.
+export function certificateOf(text) {
+  if (!text.startsWith('certificate 2\n') || !text.endsWith('\nend\n')) {
+    throw new Refused(/^\s*</.test(text) ? 'answer is a page' : 'answer is no certificate');
+  }
+  return text;
+}
+
 // The track of a reply in GeoJSON.
 export function trackOf(text) {
   const track = parsed(text)?.features?.[0];

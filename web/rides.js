@@ -59,6 +59,14 @@ export class Rides {
     return found;
   }
 
+  // The text of the certificate of a ride's best track.
+  certificate(ride, signal, waitsFor) {
+    const best = { ...ride, alternative: 0 };
+    waitsFor(`Certifying the best ride by ${this.profiles.titleOf(ride.profile)}`);
+    return this.profiles.asked(ride.profile, ride, signal,
+      (words) => this.server.certificate(pairsOf(best, ride.profile, words), signal));
+  }
+
   costs(ride, signal, waitsFor) {
     const plain = { ...ride, alternative: 0 };
     waitsFor(`Searching from ${ride.waypoints.length} waypoints by ${this.profiles.titleOf(ride.profile)}`);

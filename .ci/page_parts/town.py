@@ -252,6 +252,13 @@ def try_taking(page, room):
     with open(path, encoding='utf-8') as file:
         text = file.read()
     told('a GPX file with the points and their heights', text.count('<trkpt ') == text.count('<ele>') == 4, text[:200])
+    page.all('#figures button.claim')[0].click()
+    page.by('save-certificate').click()
+    path = f'{room}/ride.certificate'
+    page.until(lambda: os.path.exists(path))
+    with open(path, encoding='utf-8') as file:
+        lines = file.read().splitlines()
+    told('a certificate of the best ride', lines[:3] == ['certificate 2', 'leg 274/0/f 274/1/f 274/2/f', 'cost 799132265'] and lines[-1] == 'end', lines[:3])
     told('the same on the command line', "query=lonlats=8.5156,49.1114|8.5198,49.115&profile=trekking'" in page.by('command').get_attribute('value'))
 
 

@@ -14,6 +14,7 @@ use Rattle.route_http.specs.declared.kind.Kind.TheVariants.{Json, Plain}
 use Rattle.route_ready.specs.Lines.{route_line}
 use Rattle.session_answers.specs.Frames.{refusal_frame, status_of}
 use Rattle.session_answers.specs.Rows as queries
+use Rattle.route_engine.specs.declared.aim.Aim.{Aim}
 use Rattle.session_answers.specs.Rows.{IsEarlyFrame}
 use Rattle.session_answers.specs.Stored.{Stored, Uploaded, by_check, by_text, most_uploads, refused_with, stored_after, upload_name, upload_reply}
 use Rattle.session_answers.specs.declared.refusal.Refusal.{Refusal}
@@ -64,12 +65,12 @@ pub no_success-refusal : (r : Refusal) → status_in (refusal_frame r) ≢ 200
 no_success-refusal r is = refusal_fails r (sym (status-refusal r) ∙ is)
 
 -- nor is what is answered before any search
-pub no_success-early : (service : Service) (stored : List Stored) (query frame : List ℕ) →
-    IsEarlyFrame (site_in service) stored query frame → status_in frame ≢ 200
-no_success-early service stored query frame (queries.malformed {e} failed) is =
+pub no_success-early : (service : Service) (stored : List Stored) (aim : Aim) (query frame : List ℕ) →
+    IsEarlyFrame (site_in service) stored aim query frame → status_in frame ≢ 200
+no_success-early service stored aim query frame (queries.malformed {e} failed) is =
     omega (arith, status-400 Plain (request_line e ++ 10 ∷ []), is)
-no_success-early service stored query frame (queries.unknown asks unknown) is = no_success-refusal UnknownProfile is
-no_success-early service stored query frame (queries.early {asked} {sections} {e} asks early) is =
+no_success-early service stored aim query frame (queries.unknown asks unknown) is = no_success-refusal UnknownProfile is
+no_success-early service stored aim query frame (queries.early {asked} {sections} {e} asks early) is =
     omega (arith, status-422 Plain (route_line (Some sections) e ++ 10 ∷ []), is)
 
 -- ---- What an upload comes to

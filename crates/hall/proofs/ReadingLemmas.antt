@@ -127,13 +127,13 @@ module _ (desk : Desk) (kept : KeptProfiles) (are : AreKept (world_of desk.world
   -- the answer before any search
   pub settles_early : (made : Seat) (frame : Frame) (query : List ℕ) → made ≡ answered_by whole frame →
       query ≡ part (received_of seat.received) span →
-      IsEarlyFrame (site_at desk) (stored_of desk.profiles) query (frame_in frame) →
+      IsEarlyFrame (site_at desk) (stored_of desk.profiles) aim query (frame_in frame) →
       Settles desk (record desk { kept = kept }) before (connection_of seat) seat.id seat.away made
   settles_early made frame query same same_query answers =
       settles_frame desk kept are stay before (connection_of seat) seat.id seat.away made whole frame same refl refl
       (subst (λ (d : Connection). Takes (service_at desk) (stored_of desk.profiles) before (connection_of seat)
       (with_frame d (frame_in frame)) []) (sym whole_is)
-      (steps.early is (subst (λ (q : List ℕ). IsEarlyFrame (site_at desk) (stored_of desk.profiles) q (frame_in frame)) same_query
+      (steps.early is (subst (λ (q : List ℕ). IsEarlyFrame (site_at desk) (stored_of desk.profiles) aim q (frame_in frame)) same_query
       answers)))
 
   -- a search that waits, or want of memory

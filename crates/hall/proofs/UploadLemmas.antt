@@ -139,8 +139,8 @@ module _ (service : Service) (meets : Meets) (s : State) (id : ℕ) (acts : List
   takes_adds now added (steps.refused {r} v) = other_frame c (refusal_frame r) (no_success-refusal r)
   takes_adds now added (steps.upload {span} v) =
       let text = part c.bytes span in upload_adds span (uploaded service s.stored text) refl v (comes_to service s.stored text)
-  takes_adds now added (steps.early {span} {frame} v found) =
-      other_frame (whole_in s.stored c) frame (no_success-early service s.stored (part c.bytes span) frame found)
+  takes_adds now added (steps.early {aim} {span} {frame} v found) =
+      other_frame (whole_in s.stored c) frame (no_success-early service s.stored aim (part c.bytes span) frame found)
   takes_adds now added (steps.waits {aim} {asked} v asks) = no_success (record (whole_in s.stored c) { phase = Waits (turns_for service.world aim asked) }) (λ frame is success. cc)
   takes_adds now added (steps.gives_up {kept} why which) = other_frame kept memory_frame (no_success-refusal OutOfMemory)
 

@@ -1,5 +1,5 @@
 -- Wrong runs that tell `sessions full`, which the definition of a frame's cause refuses.
-use Rattle.std.proofs.Common.{◌≡◌, ◌≢◌, ◌==◌, ℕ, ◌+◌, ◌-◌, Bool, true, false, not, ◌&&◌, nat_lt, nat_le, cond, List, [], ◌∷◌, ◌++◌, length, get_or, Some, None, Result, Ok, Err, sym, ◌∙◌, ap, subst, arith, bytes_eq}
+use Rattle.std.proofs.Common.{◌≡◌, ◌≢◌, ◌==◌, ℕ, ◌+◌, ◌-◌, Bool, true, false, not, ◌&&◌, nat_lt, nat_le, cond, List, [], ◌∷◌, ◌++◌, length, get_or, Some, None, Result, Ok, Err, sym, ◌∙◌, ap, subst, arith}
 use Rattle.std.specs.Fmt.{digits}
 use Rattle.edge_io.specs.Acts.{Act}
 use Rattle.hall.proofs.CountLemmas.{Counts-same}
@@ -29,9 +29,9 @@ use Rattle.session_answers.specs.Frames.{line_frame, refusal_frame, status_of}
 use Rattle.session_answers.specs.Rows as queries
 use Rattle.session_answers.specs.Rows.{Asks, IsEarlyFrame, IsQueryFrame}
 use Rattle.session_answers.specs.Stored.{Stored, Uploaded, by_check, by_text, most_uploads, stored_after, upload_name, upload_reply}
-use Rattle.session_answers.specs.Verdicts.{by_path, is_whole, most_body, of_query, of_upload, part, profile_path, route_path, table_path, verdict_by}
+use Rattle.session_answers.proofs.CallerLemmas.{if-so, path-so}
+use Rattle.session_answers.specs.Verdicts.{by_path, is_whole, most_body, of_query, of_upload, part, verdict_by}
 use Rattle.route_engine.specs.declared.aim.Aim.{Aim}
-use Rattle.route_engine.specs.declared.aim.Aim.TheVariants.{Track, Table}
 use Rattle.session_answers.specs.declared.refusal.Refusal.TheVariants.{BadRequest, BodyTooLong, OutOfMemory, UnknownPath, UnknownProfile, SessionsFull, UploadsFull}
 use Rattle.session_answers.specs.declared.verdict.Verdict.{Verdict}
 use Rattle.session_answers.specs.declared.verdict.Verdict.TheVariants.{Undecided, NoByte, Refused, Upload, Query}
@@ -44,12 +44,8 @@ NotFull (Refused r) = status_of r ≢ 503
 NotFull (Upload span) = Unit {0}
 NotFull (Query aim span) = Unit {0}
 
-either : (b : Bool) (v w : Verdict) → NotFull v → NotFull w → NotFull (cond b v w)
-either true v w first second = first
-either false v w first second = second
-
 asked_never : (aim : Aim) (method : Method) (query : Span) (body : ℕ) → NotFull (of_query aim method query body)
-asked_never aim Get query body = either (nat_lt most_body body) (Refused BodyTooLong) (Query aim query) (λ is. omega arith) tt
+asked_never aim Get query body = if-so NotFull (nat_lt most_body body) (Refused BodyTooLong) (Query aim query) (λ is. omega arith) tt
 asked_never aim Post query body = λ is. omega arith
 asked_never aim Other query body = λ is. omega arith
 
@@ -58,29 +54,22 @@ upload_never long Get body bytes = λ is. omega arith
 upload_never long Other body bytes = λ is. omega arith
 upload_never long Post body bytes =
     let text : Verdict = Upload (record { start = long; end = long + body }) in
-    either (nat_lt most_body body) (Refused BodyTooLong) (cond (nat_le (long + body) (length bytes)) text Undecided) (λ is. omega arith)
-    (either (nat_le (long + body) (length bytes)) text Undecided tt tt)
+    if-so NotFull (nat_lt most_body body) (Refused BodyTooLong) (cond (nat_le (long + body) (length bytes)) text Undecided) (λ is. omega arith)
+    (if-so NotFull (nat_le (long + body) (length bytes)) text Undecided tt tt)
 
 path_never : (path : List ℕ) (long : ℕ) (method : Method) (query : Span) (body : ℕ) (bytes : List ℕ) →
     NotFull (by_path path long method query body bytes)
 path_never path long method query body bytes =
-    either (bytes_eq path route_path) (of_query Track method query body)
-    (cond (bytes_eq path table_path) (of_query Table method query body)
-    (cond (bytes_eq path profile_path) (of_upload long method body bytes) (Refused UnknownPath)))
-    (asked_never Track method query body)
-    (either (bytes_eq path table_path) (of_query Table method query body)
-    (cond (bytes_eq path profile_path) (of_upload long method body bytes) (Refused UnknownPath))
-    (asked_never Table method query body)
-    (either (bytes_eq path profile_path) (of_upload long method body bytes) (Refused UnknownPath) (upload_never long method body bytes)
-    (λ is. omega arith)))
+    path-so NotFull path long method query body bytes (λ aim. asked_never aim method query body)
+    (upload_never long method body bytes) (λ is. omega arith)
 
 verdict_never : (head : Head) (bytes : List ℕ) (ended : Bool) → NotFull (verdict_by head bytes ended)
 verdict_never TooLong bytes ended = λ is. omega arith
 verdict_never Bad bytes ended = λ is. omega arith
 verdict_never More bytes false = tt
-verdict_never More bytes true = either (nat_lt 0 (length bytes)) (Refused BadRequest) NoByte (λ is. omega arith) tt
+verdict_never More bytes true = if-so NotFull (nat_lt 0 (length bytes)) (Refused BadRequest) NoByte (λ is. omega arith) tt
 verdict_never (Whole long method path query body) bytes ended =
-    either (ended && not (is_whole long method body bytes)) (Refused BadRequest)
+    if-so NotFull (ended && not (is_whole long method body bytes)) (Refused BadRequest)
     (by_path (part bytes path) long method query body bytes) (λ is. omega arith)
     (path_never (part bytes path) long method query body bytes)
 

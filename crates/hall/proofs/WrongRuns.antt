@@ -62,11 +62,11 @@ pub record IsKnown (service : Service) (stored : List Stored) (bytes : List ℕ)
   pub verdict : IsVerdict bytes ended (Query aim span)
   pub asked : Asked
   pub sections : Sections
-  pub asks : Asks (site_in service) stored (part bytes span) asked sections
+  pub asks : Asks (site_in service) stored aim (part bytes span) asked sections
 
 -- it is answered by a reply, or by why there is none
 known_query : (service : Service) (stored : List Stored) (aim : Aim) (query : List ℕ) (asked : Asked) (sections : Sections)
-    (frame : List ℕ) → Asks (site_in service) stored query asked sections → IsQueryFrame (site_in service) stored aim query frame →
+    (frame : List ℕ) → Asks (site_in service) stored aim query asked sections → IsQueryFrame (site_in service) stored aim query frame →
     (status_in frame ≡ 200) ⊎ (status_in frame ≡ 422)
 known_query service stored aim query asked sections frame asks (queries.before (queries.malformed {e} failed)) =
     (let clash : Ok asked ≡ Err e = sym asks.asks ∙ failed in absurd (cc))
@@ -96,8 +96,10 @@ known_row service stored bytes ended frame added known (rows.query {aim} {span} 
     let one : Query aim span ≡ Query known.aim known.span =
     verdict_unique bytes ended (Query aim span) (Query known.aim known.span) other known.verdict in
     let same : span ≡ known.span = cc in
-    known_query service stored aim (part bytes known.span) known.asked known.sections frame known.asks
-    (subst (λ (x : Span). IsQueryFrame (site_in service) stored aim (part bytes x) frame) same answers)
+    let aims : aim ≡ known.aim = cc in
+    known_query service stored known.aim (part bytes known.span) known.asked known.sections frame known.asks
+    (subst (λ (a : Aim). IsQueryFrame (site_in service) stored a (part bytes known.span) frame) aims
+    (subst (λ (x : Span). IsQueryFrame (site_in service) stored aim (part bytes x) frame) same answers))
 
 module _ (service : Service) (meets : Meets) (id : ℕ) (acts : List Act) (frame : List ℕ) (known : (state : State) (bytes : List ℕ)
     (ended : Bool) (added : List Stored) → IsDecidedIn meets id acts state bytes ended added → IsKnown service state.stored bytes ended) where
@@ -134,7 +136,7 @@ lines_and_json lines body is = let clash : ◌≡◌ {A = ℕ} 116 97 = ap (λ (
 table_query : (service : Service) (stored : List Stored) (query frame lines : List ℕ) → frame ≡ frame_of 200 Csv lines →
     IsQueryFrame (site_in service) stored Table query frame → ⊥
 table_query service stored query frame lines is (queries.before at_once) =
-    no_success-early service stored query frame at_once (ap status_in is ∙ status-200 Csv lines)
+    no_success-early service stored Table query frame at_once (ap status_in is ∙ status-200 Csv lines)
 table_query service stored query frame lines is (queries.refused {sections} asks e answer) =
     omega (arith, status-422 Plain (route_line (Some sections) e ++ 10 ∷ []), status-200 Csv lines, ap status_in is)
 table_query service stored query frame lines is (queries.told asks bytes reply) = lines_and_json lines bytes (sym is)

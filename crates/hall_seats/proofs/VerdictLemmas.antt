@@ -1,22 +1,22 @@
 -- What an undecided verdict, and one of no byte, tell of the bytes and of the end.
-use Rattle.std.proofs.Common.{◌≡◌, ℕ, ◌+◌, Bool, true, false, not, ◌&&◌, nat_lt, nat_le, cond, List, [], ◌∷◌, length, refl, sym, subst, arith, bytes_eq, rules, tests}
+use Rattle.std.proofs.Common.{◌≡◌, ℕ, ◌+◌, Bool, true, false, not, ◌&&◌, nat_lt, nat_le, cond, List, [], ◌∷◌, length, refl, sym, subst, arith, rules, tests}
 use Rattle.route_http.proofs.CallerLemmas.{more_to}
 use Rattle.route_http.specs.declared.heads.Head.{Head}
 use Rattle.route_http.specs.declared.heads.Head.TheVariants.{Whole, More, Bad, TooLong}
 use Rattle.route_http.specs.declared.heads.Method.{Method}
 use Rattle.route_http.specs.declared.heads.Method.TheVariants.{Get, Post, Other}
 use Rattle.route_http.specs.declared.span.Span.{Span}
-use Rattle.session_answers.specs.Verdicts.{IsVerdict, by_path, is_whole, most_body, of_query, of_upload, part, profile_path, route_path, table_path, unfinished, verdict_by}
+use Rattle.session_answers.proofs.CallerLemmas.{if-so, path-so}
+use Rattle.session_answers.specs.Verdicts.{IsVerdict, by_path, is_whole, most_body, of_query, of_upload, part, unfinished, verdict_by}
 use Rattle.route_engine.specs.declared.aim.Aim.{Aim}
-use Rattle.route_engine.specs.declared.aim.Aim.TheVariants.{Track, Table}
 use Rattle.session_answers.specs.declared.refusal.Refusal.{Refusal}
 use Rattle.session_answers.specs.declared.refusal.Refusal.TheVariants.{BadRequest, BodyTooLong, MethodNotAllowed, UnknownPath}
 use Rattle.session_answers.specs.declared.verdict.Verdict.{Verdict}
 use Rattle.session_answers.specs.declared.verdict.Verdict.TheVariants.{Undecided, NoByte, Refused, Upload, Query}
 
--- ---- of a request for a route or a table, or an upload
+-- ---- Of a request by a query, or an upload
 
--- a request for a route or a table is decided, and has a byte
+-- a request by a query is decided, and has a byte
 pub record IsDecided (v : Verdict) : Type 0 where
   pub decided : v ≡ Undecided → ⊥
   pub has_byte : v ≡ NoByte → ⊥
@@ -24,12 +24,9 @@ pub record IsDecided (v : Verdict) : Type 0 where
 refused_is_decided : (r : Refusal) → IsDecided (Refused r)
 refused_is_decided r = record { decided = λ h. cc; has_byte = λ h. cc }
 
-by_test : (P : Verdict → Type 0) (b : Bool) (v w : Verdict) → P v → P w → P (cond b v w)
-by_test P b v w first second = elim b as (λ x. P (cond x v w)) [ true ↦ first | false ↦ second ]
-
 query_is_decided : (aim : Aim) (method : Method) (query : Span) (body : ℕ) → IsDecided (of_query aim method query body)
 query_is_decided aim Get query body =
-    by_test IsDecided (nat_lt most_body body) (Refused BodyTooLong) (Query aim query) (refused_is_decided BodyTooLong)
+    if-so IsDecided (nat_lt most_body body) (Refused BodyTooLong) (Query aim query) (refused_is_decided BodyTooLong)
     (record { decided = λ h. cc; has_byte = λ h. cc })
 query_is_decided aim Post query body = refused_is_decided MethodNotAllowed
 query_is_decided aim Other query body = refused_is_decided MethodNotAllowed
@@ -42,16 +39,16 @@ upload_has_byte : (long : ℕ) (method : Method) (body : ℕ) (bytes : List ℕ)
 upload_has_byte long Get body bytes is = cc
 upload_has_byte long Other body bytes is = cc
 upload_has_byte long Post body bytes is =
-    by_test (λ v. v ≡ NoByte → ⊥) (nat_lt most_body body) (Refused BodyTooLong)
+    if-so (λ v. v ≡ NoByte → ⊥) (nat_lt most_body body) (Refused BodyTooLong)
     (cond (nat_le (long + body) (length bytes)) (Upload (text_of long body)) Undecided) (λ h. cc)
-    (by_test (λ v. v ≡ NoByte → ⊥) (nat_le (long + body) (length bytes)) (Upload (text_of long body)) Undecided (λ h. cc) (λ h. cc)) is
+    (if-so (λ v. v ≡ NoByte → ⊥) (nat_le (long + body) (length bytes)) (Upload (text_of long body)) Undecided (λ h. cc) (λ h. cc)) is
 
 upload_is_decided : (long : ℕ) (method : Method) (body : ℕ) (bytes : List ℕ) → is_whole long method body bytes ≡ true →
     IsDecided (of_upload long method body bytes)
 upload_is_decided long Get body bytes whole = refused_is_decided MethodNotAllowed
 upload_is_decided long Other body bytes whole = refused_is_decided MethodNotAllowed
 upload_is_decided long Post body bytes whole =
-    by_test IsDecided (nat_lt most_body body) (Refused BodyTooLong)
+    if-so IsDecided (nat_lt most_body body) (Refused BodyTooLong)
     (cond (nat_le (long + body) (length bytes)) (Upload (text_of long body)) Undecided) (refused_is_decided BodyTooLong)
     (subst (λ (b : Bool). IsDecided (cond b (Upload (text_of long body)) Undecided)) (sym whole)
     (record { decided = λ h. cc; has_byte = λ h. cc }))
@@ -61,29 +58,14 @@ upload_is_decided long Post body bytes whole =
 path_has_byte : (path : List ℕ) (long : ℕ) (method : Method) (query : Span) (body : ℕ) (bytes : List ℕ) →
     by_path path long method query body bytes ≡ NoByte → ⊥
 path_has_byte path long method query body bytes is =
-    by_test (λ v. v ≡ NoByte → ⊥) (bytes_eq path route_path) (of_query Track method query body)
-    (cond (bytes_eq path table_path) (of_query Table method query body)
-    (cond (bytes_eq path profile_path) (of_upload long method body bytes) (Refused UnknownPath)))
-    (query_is_decided Track method query body).has_byte
-    (by_test (λ v. v ≡ NoByte → ⊥) (bytes_eq path table_path) (of_query Table method query body)
-    (cond (bytes_eq path profile_path) (of_upload long method body bytes) (Refused UnknownPath))
-    (query_is_decided Table method query body).has_byte
-    (by_test (λ v. v ≡ NoByte → ⊥) (bytes_eq path profile_path) (of_upload long method body bytes) (Refused UnknownPath)
-    (upload_has_byte long method body bytes) (λ h. cc)))
-    is
+    path-so (λ v. v ≡ NoByte → ⊥) path long method query body bytes (λ aim. (query_is_decided aim method query body).has_byte)
+    (upload_has_byte long method body bytes) (λ h. cc) is
 
 path_is_decided : (path : List ℕ) (long : ℕ) (method : Method) (query : Span) (body : ℕ) (bytes : List ℕ) →
     is_whole long method body bytes ≡ true → IsDecided (by_path path long method query body bytes)
 path_is_decided path long method query body bytes whole =
-    by_test IsDecided (bytes_eq path route_path) (of_query Track method query body)
-    (cond (bytes_eq path table_path) (of_query Table method query body)
-    (cond (bytes_eq path profile_path) (of_upload long method body bytes) (Refused UnknownPath)))
-    (query_is_decided Track method query body)
-    (by_test IsDecided (bytes_eq path table_path) (of_query Table method query body)
-    (cond (bytes_eq path profile_path) (of_upload long method body bytes) (Refused UnknownPath))
-    (query_is_decided Table method query body)
-    (by_test IsDecided (bytes_eq path profile_path) (of_upload long method body bytes) (Refused UnknownPath)
-    (upload_is_decided long method body bytes whole) (refused_is_decided UnknownPath)))
+    path-so IsDecided path long method query body bytes (λ aim. query_is_decided aim method query body)
+    (upload_is_decided long method body bytes whole) (refused_is_decided UnknownPath)
 
 whole_is_decided : (bytes : List ℕ) (long : ℕ) (method : Method) (path query : Span) (body : ℕ) →
     IsDecided (verdict_by (Whole long method path query body) bytes true)
@@ -104,7 +86,7 @@ whole_is_decided bytes long method path query body = by_cases (is_whole long met
 ended_decides : (head : Head) (bytes : List ℕ) → verdict_by head bytes true ≡ Undecided → ⊥
 ended_decides TooLong bytes is = cc
 ended_decides Bad bytes is = cc
-ended_decides More bytes is = by_test (λ v. v ≡ Undecided → ⊥) (nat_lt 0 (length bytes)) (Refused BadRequest) NoByte (λ h. cc) (λ h. cc) is
+ended_decides More bytes is = if-so (λ v. v ≡ Undecided → ⊥) (nat_lt 0 (length bytes)) (Refused BadRequest) NoByte (λ h. cc) (λ h. cc) is
 ended_decides (Whole long method path query body) bytes is = (whole_is_decided bytes long method path query body).decided is
 
 -- where nothing is fixed, the peer didn't end
@@ -132,7 +114,7 @@ none_by_head TooLong bytes ended is = cc
 none_by_head Bad bytes ended is = cc
 none_by_head More bytes ended is = none_unfinished bytes ended is
 none_by_head (Whole long method path query body) bytes ended is =
-    absurd (by_test (λ v. v ≡ NoByte → ⊥) (ended && not (is_whole long method body bytes)) (Refused BadRequest)
+    absurd (if-so (λ v. v ≡ NoByte → ⊥) (ended && not (is_whole long method body bytes)) (Refused BadRequest)
     (by_path (part bytes path) long method query body bytes) (λ h. cc)
     (path_has_byte (part bytes path) long method query body bytes) is)
 

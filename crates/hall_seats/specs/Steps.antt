@@ -50,11 +50,11 @@ pub data Takes (service : Service) (stored : List Stored) (old c : Connection) :
       (uploaded service stored (part c.bytes span)).added
   early :
       {aim : Aim} {span : Span} {frame : List ℕ} → IsVerdict c.bytes c.ended (Query aim span) →
-      IsEarlyFrame (site_in service) stored (part c.bytes span) frame →
+      IsEarlyFrame (site_in service) stored aim (part c.bytes span) frame →
       Takes service stored old c (with_frame (whole_in stored c) frame) []
   waits :
       {aim : Aim} {span : Span} {asked : Asked} {sections : Sections} → IsVerdict c.bytes c.ended (Query aim span) →
-      Asks (site_in service) stored (part c.bytes span) asked sections →
+      Asks (site_in service) stored aim (part c.bytes span) asked sections →
       Takes service stored old c (record (whole_in stored c) { phase = Waits (turns_for service.world aim asked) }) []
   gives_up :
       {kept : Connection} → (IsVerdict c.bytes c.ended NoByte → ⊥) →
@@ -122,7 +122,7 @@ pub record AskedBy (c : Connection) (before : ℕ) (aim : Aim) (query : List ℕ
 pub record AsksFor (service : Service) (c : Connection) (aim : Aim) (asked : Asked) : Type 0 where
   pub span : Span
   pub verdict : IsVerdict c.bytes c.ended (Query aim span)
-  pub spells : request_at (site_in service) (part c.bytes span) ≡ Ok asked
+  pub spells : request_at (site_in service) aim (part c.bytes span) ≡ Ok asked
 
 -- what a connection comes to by a turn of its search: it waits on, with a turn less; or it is answered by its
 -- query or by want of memory

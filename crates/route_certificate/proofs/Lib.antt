@@ -1,6 +1,8 @@
+pub mod CallerLemmas
 pub mod ChainLemmas
 pub mod ClosingLemmas
 pub mod LegLemmas
+pub mod ProvingLemmas
 pub mod SpaceLemmas
 pub mod VerdictLemmas
 pub mod SettledLemmas

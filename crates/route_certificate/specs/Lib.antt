@@ -5,3 +5,4 @@ pub mod Closing
 pub mod Legs
 pub mod Verdicts
 pub mod Certified
+pub mod Provings

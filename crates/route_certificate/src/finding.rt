@@ -12,8 +12,8 @@ ghost use Rattle.route_certificate.specs.Certified.{IsProof, IsShown, IsWritable
 ghost use Rattle.route_certificate.specs.Legs.{AreRests};
 
 use crate::ask::TrackAsk;
+use crate::proving::{Proving, ProvingTurn};
 use crate::settled::settled_entries;
-use crate::space::leg_space;
 use bike_space::BikeSpace;
 use certificate_text::{LowerBound, Proof};
 use cost_model::{Carry, TerrainOf};
@@ -41,47 +41,18 @@ pub(crate) fn certify_leg<G: TerrainOf>(
         (IsShown bound (leg_in (G.terrain terrain) ask.now place) limit) }
     ensures fits { IfOk result (IsWritable (G.terrain terrain).map) }
 {
-    let (start, target) = (ask.nodes[place], ask.nodes[place + 1]);
-    if start == target {
-        let entries = Vec::new(alloc);
-        let walk = Vec::new(alloc);
-        let proof = Proof {
-            entries,
-            cost: 0,
-            walk,
-        };
-        return Ok(Outcome::Found(proof));
-    }
-    let space = leg_space(alloc, terrain, ask, place, bound)?;
-    certify_space(alloc, &space, limit)
-}
-
-/// The same of the leg that a space is of, whose nodes differ.
-fn certify_space<G: TerrainOf>(
-    alloc: Global,
-    space: &BikeSpace<G>,
-    limit: u64,
-) -> Result<Outcome<Proof>, AllocError>
-    requires unused { (link : ℕ) →
-        (task_of (G.terrain space.now.terrain) space.now.kept).used link ≡ false }
-    requires differ { space.now.kept.start ≢ space.now.kept.target }
-    requires small { limit < 2 ^ 32 }
-    ensures exact { (bound : LowerBound) → AreRests bound
-        (task_of (G.terrain space.now.terrain) space.now.kept).leg
-        (task_of (G.terrain space.now.terrain) space.now.kept).low → IfOk result
-        (IsShown bound (task_of (G.terrain space.now.terrain) space.now.kept).leg limit) }
-{
-    let mut search = Search::new(alloc, limit);
+    let mut proving = Proving::new(alloc, terrain, ask, place, bound, limit)?;
     'turns: loop {
-        match search.turn(space, QUOTA)? {
-            Turn::More(_) => {}
-            Turn::Done(end) => return told(alloc, space, &search, end),
+        let ProvingTurn { turn, .. } = proving.turn(alloc, terrain, QUOTA)?;
+        match turn {
+            Turn::More(next) => proving = next,
+            Turn::Done(end) => return Ok(end),
         }
     }
 }
 
 /// The end of a search over the space of a leg, with the walk that was found.
-fn told<G: TerrainOf>(
+pub(crate) fn told<G: TerrainOf>(
     alloc: Global,
     space: &BikeSpace<G>,
     search: &Search<Carry>,

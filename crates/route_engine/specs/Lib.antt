@@ -1,5 +1,7 @@
 pub mod Aims
 pub mod Askings
+pub mod CertificateJobs
+pub mod Certificates
 pub mod Answers
 pub mod Jobs
 pub mod Labels

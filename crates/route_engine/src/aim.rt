@@ -20,6 +20,8 @@ pub enum Aim {
     Track,
     /// The table of the costs between its waypoints.
     Table,
+    /// The certificate of its track, by the least sums of what still has to be paid.
+    Certificate,
 }
 
 /// The most that is counted for what is asked of a request over a world: links that are judged,
@@ -63,5 +65,6 @@ fn searching_for(aim: Aim, request: &Request) -> u64
             walks * (labels + FIRST_LABELS + BEGINNING as u64)
         }
         Aim::Table => waypoints * labels,
+        Aim::Certificate => (waypoints - 1) * (BEGINNING as u64 + labels),
     }
 }

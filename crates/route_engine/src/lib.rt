@@ -6,6 +6,8 @@ mod advance;
 mod aim;
 mod asking;
 mod begin;
+mod certificate;
+mod certificate_steps;
 mod job;
 mod marks;
 mod nearby;
@@ -30,6 +32,7 @@ mod waypoints;
 
 pub use aim::{Aim, most_for};
 pub use asking::Asking;
+pub use certificate::CertificateJob;
 pub use job::Job;
 pub use nearby::within;
 pub use pendings::Pending;

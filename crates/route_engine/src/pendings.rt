@@ -1,4 +1,4 @@
-//! A request of either kind that is answered in turns, as one type.
+//! A request of any kind that is answered in turns, as one type.
 
 ghost use Rattle.std.specs.Prelude.{◌≡◌, ◌/◌, ◌≤◌, ℕ, suc, IfOk, Result, Vec, length};
 ghost use Rattle.std.specs.declared.alloc.Global.{Global as TheGlobal};
@@ -14,6 +14,7 @@ ghost use Rattle.way_class.specs.Links.{links_of};
 
 use crate::aim::Aim;
 use crate::asking::{Asking, turned};
+use crate::certificate::CertificateJob;
 use crate::job::Job;
 use crate::placing::Placing;
 use crate::table::TableJob;
@@ -24,11 +25,12 @@ use std::alloc::{AllocError, Global};
 use std::rc::Rc;
 use tasks::{Chain, Task};
 
-/// A request of either kind that is answered in turns.
+/// A request of any kind that is answered in turns.
 #[derive(Drop)]
 pub enum Pending {
     Track(Chain<Placing, Asking<Job>, Rc<Request>>),
     Table(Chain<Placing, Asking<TableJob>, Rc<Request>>),
+    Certificate(Chain<Placing, Asking<CertificateJob>, Rc<Request>>),
 }
 
 impl Pending {
@@ -62,6 +64,10 @@ impl Pending {
                 Ok(task) => Ok(Pending::Table(task)),
                 Err(error) => Err(error),
             },
+            Aim::Certificate => match turned::<CertificateJob>(alloc, world, ready, request) {
+                Ok(task) => Ok(Pending::Certificate(task)),
+                Err(error) => Err(error),
+            },
         }
     }
 }
@@ -90,6 +96,10 @@ impl Task for Pending {
             },
             Pending::Table(task) => match task.take_turn(alloc, dataset, budget) {
                 Turn::More(next) => Turn::More(Pending::Table(next)),
+                Turn::Done(end) => Turn::Done(end),
+            },
+            Pending::Certificate(task) => match task.take_turn(alloc, dataset, budget) {
+                Turn::More(next) => Turn::More(Pending::Certificate(next)),
                 Turn::Done(end) => Turn::Done(end),
             },
         }

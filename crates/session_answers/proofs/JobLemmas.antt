@@ -103,7 +103,7 @@ module _ (world : WorldValue) (old new : KeptProfiles) (place : ℕ) (aim : Aim)
 
 -- of whose search no turn is taken at first
 pub begun-job : (site : Site) (stored : List Stored) (kept : KeptProfiles) (aim : Aim) (query : List ℕ) (asked : Asked)
-    (sections : Sections) (p : Search) → Asks site stored query asked sections →
+    (sections : Sections) (p : Search) → Asks site stored aim query asked sections →
     slice_get (profiles_of stored) p.place ≡ Some sections → IsSearchFor site.world sections kept aim asked p →
     p.left ≡ turns_for site.world aim asked → IsBegun site stored kept aim query p
 begun-job site stored kept aim query asked sections p asks there is fresh = record {

@@ -9,15 +9,34 @@ use Rattle.route_http.specs.declared.heads.Head.TheVariants as heads
 use Rattle.route_http.specs.declared.heads.Method.{Method}
 use Rattle.route_http.specs.declared.heads.Method.TheVariants.{Get, Post, Other}
 use Rattle.route_http.specs.declared.span.Span.{Span}
-use Rattle.session_answers.specs.Verdicts.{IsSpanIn, IsVerdict, IsVerdictIn, is_whole, most_body, of_body, of_query, of_upload, part, profile_path, route_path, table_path, verdict_by}
+use Rattle.session_answers.specs.Verdicts.{IsSpanIn, IsVerdict, IsVerdictIn, certificate_path, by_path, is_whole, most_body, of_body, of_query, of_upload, part, profile_path, route_path, table_path, verdict_by}
 use Rattle.route_engine.specs.declared.aim.Aim.{Aim}
-use Rattle.route_engine.specs.declared.aim.Aim.TheVariants.{Track, Table}
+use Rattle.route_engine.specs.declared.aim.Aim.TheVariants.{Certificate, Track, Table}
+use Rattle.session_answers.specs.declared.refusal.Refusal.TheVariants.{UnknownPath}
 use Rattle.session_answers.specs.declared.verdict.Verdict.{Verdict}
+use Rattle.session_answers.specs.declared.verdict.Verdict.TheVariants.{Refused}
 
 -- what is fixed is one thing
 pub verdict_unique : (bytes : List ℕ) (ended : Bool) (a b : Verdict) → IsVerdict bytes ended a → IsVerdict bytes ended b → a ≡ b
 verdict_unique bytes ended a b one other =
     one.is ∙ ap (λ (h : Head). verdict_by h bytes ended) (head_unique bytes one.head other.head one.heads other.heads) ∙ sym other.is
+
+-- ---- By the path
+
+-- what is so of both of two is so of the one that a test takes
+pub if-so : (P : Verdict → Type 0) (test : Bool) (a b : Verdict) → P a → P b → P (if test then a else b)
+if-so P true a b first second = first
+if-so P false a b first second = second
+
+-- what is so of each that a request may come to by its path
+pub path-so : (P : Verdict → Type 0) (path : List ℕ) (long : ℕ) (method : Method) (query : Span) (body : ℕ) (bytes : List ℕ) →
+    ((aim : Aim) → P (of_query aim method query body)) → P (of_upload long method body bytes) → P (Refused UnknownPath) →
+    P (by_path path long method query body bytes)
+path-so P path long method query body bytes asks uploads unknown =
+    if-so P (bytes_eq path route_path) _ _ (asks Track)
+    (if-so P (bytes_eq path table_path) _ _ (asks Table)
+    (if-so P (bytes_eq path certificate_path) _ _ (asks Certificate)
+    (if-so P (bytes_eq path profile_path) _ _ uploads unknown)))
 
 -- ---- Where it stands
 
@@ -39,7 +58,7 @@ module _ (bytes : List ℕ) where
       (record { ordered = omega arith; fits = ends }, omega arith))
       (λ e. tt))
 
-  -- that of a request for a route or for a table whose query stands within them
+  -- that of a request by a query that stands within them
   query-in : (aim : Aim) (method : Method) (query : Span) (body : ℕ) → IsSpanIn bytes query →
       IsVerdictIn bytes (of_query aim method query body)
   query-in aim Get query body fits = if-in (nat_lt most_body body) _ _ (λ e. tt) (λ e. fits)
@@ -60,11 +79,8 @@ module _ (bytes : List ℕ) where
   head-in (heads.Whole long method path query body) ended within =
       let ends : query.end ≤ length bytes = omega (arith, within) in
       if-in (ended && not (is_whole long method body bytes)) _ _ (λ e. tt) (λ e.
-      if-in (bytes_eq (part bytes path) route_path) _ _
-      (λ e. query-in Track method query body (record { ordered = within.4; fits = ends })) (λ e.
-      if-in (bytes_eq (part bytes path) table_path) _ _
-      (λ e. query-in Table method query body (record { ordered = within.4; fits = ends })) (λ e.
-      if-in (bytes_eq (part bytes path) profile_path) _ _ (λ e. upload-in long method body within.0) (λ e. tt))))
+      path-so (IsVerdictIn bytes) (part bytes path) long method query body bytes
+      (λ aim. query-in aim method query body (record { ordered = within.4; fits = ends })) (upload-in long method body within.0) tt)
 
 -- what is fixed stands within the bytes
 pub verdict_in : (bytes : List ℕ) (ended : Bool) (v : Verdict) → IsVerdict bytes ended v → IsVerdictIn bytes v

@@ -29,7 +29,7 @@ pub record IsJobOf (site : Site) (stored : List Stored) (kept : KeptProfiles) (a
     (p : Search) : Type 0 where
   pub asked : Asked
   pub sections : Sections
-  pub asks : Asks site stored query asked sections
+  pub asks : Asks site stored aim query asked sections
   pub there : slice_get (profiles_of stored) p.place ≡ Some sections
   pub is : IsSearchFor site.world sections kept aim asked p
 
@@ -43,7 +43,7 @@ pub record IsBegun (site : Site) (stored : List Stored) (kept : KeptProfiles) (a
 
 -- what a query comes to at once: a frame that answers it before any search, or its search
 abbrev pub Begins : Site → List Stored → KeptProfiles → Aim → List ℕ → Begun → Type 0
-Begins site stored kept aim query (begun.Frame frame) = IsEarlyFrame site stored query frame.items
+Begins site stored kept aim query (begun.Frame frame) = IsEarlyFrame site stored aim query frame.items
 Begins site stored kept aim query (begun.Job p) = IsBegun site stored kept aim query p
 
 -- what a turn comes to: its search, which goes on, or a frame that answers its query

@@ -1,9 +1,13 @@
--- What a server answers requests over, and the most labels that a search settles there.
-use Rattle.std.specs.Prelude.{ℕ, nat_lt, List, Result, if◌then◌else◌}
-use Rattle.item_list.specs.Answer.{answer_map}
+-- What a server answers requests over, and which requests it takes.
+use Rattle.std.specs.Prelude.{ℕ, nat_lt, ◌==◌, Bool, true, List, Result, Ok, Err, if◌then◌else◌}
+use Rattle.item_list.specs.Answer.{and_then}
+use Rattle.route_engine.specs.declared.aim.Aim.{Aim}
+use Rattle.route_engine.specs.declared.aim.Aim.TheVariants.{Certificate, Table, Track}
 use Rattle.route_http.specs.Asked.{Asked}
 use Rattle.route_http.specs.Request.{request_of}
 use Rattle.route_http.specs.declared.error.RequestError.{RequestError}
+use Rattle.route_http.specs.declared.error.RequestError.TheVariants.{BadValue}
+use Rattle.route_http.specs.declared.key.Key.TheVariants.{Alternativeidx}
 use Rattle.route_ready.specs.Worlds.{WorldValue}
 
 -- a world, and the most labels that a search over it settles, whatever a request asks
@@ -19,6 +23,16 @@ site_of world labels = record { world = world; labels = labels }
 abbrev pub limited : ℕ → Asked → Asked
 limited most asked = record asked { labels = if nat_lt most asked.labels then most else asked.labels }
 
--- the request that a query spells, as a site answers it
-abbrev pub request_at : Site → List ℕ → Result Asked RequestError
-request_at site query = answer_map (limited site.labels) (λ (e : RequestError). e) (request_of query)
+-- whether what is asked for may be asked of an alternative: a certificate is of the first one alone
+abbrev pub is_taken : Aim → ℕ → Bool
+is_taken Track alternative = true
+is_taken Table alternative = true
+is_taken Certificate alternative = alternative == 0
+
+-- a request that asks for this, or that it has another alternative than may be asked of
+abbrev pub asked_for : Aim → Asked → Result Asked RequestError
+asked_for aim asked = if is_taken aim asked.alternative then Ok asked else Err (BadValue Alternativeidx)
+
+-- the request that a query spells which asks for this, as a site answers it
+abbrev pub request_at : Site → Aim → List ℕ → Result Asked RequestError
+request_at site aim query = and_then (request_of query) (λ asked. asked_for aim (limited site.labels asked))

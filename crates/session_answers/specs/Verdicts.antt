@@ -7,7 +7,7 @@ use Rattle.route_http.specs.declared.heads.Method.{Method}
 use Rattle.route_http.specs.declared.heads.Method.TheVariants.{Get, Post, Other}
 use Rattle.route_http.specs.declared.span.Span.{Span}
 use Rattle.route_engine.specs.declared.aim.Aim.{Aim}
-use Rattle.route_engine.specs.declared.aim.Aim.TheVariants.{Track, Table}
+use Rattle.route_engine.specs.declared.aim.Aim.TheVariants.{Certificate, Track, Table}
 use Rattle.session_answers.specs.declared.refusal.Refusal.TheVariants.{HeadTooLong, BadRequest, UnknownPath, MethodNotAllowed, BodyTooLong}
 use Rattle.session_answers.specs.declared.verdict.Verdict.{Verdict}
 use Rattle.session_answers.specs.declared.verdict.Verdict.TheVariants.{Undecided, NoByte, Refused, Upload, Query}
@@ -29,12 +29,15 @@ pub record IsSpanIn (bytes : List ℕ) (span : Span) : Type 0 where
 abbrev pub most_body : ℕ
 most_body = 262144
 
--- the paths that are served: of routes, of tables of costs, and of profiles
+-- the paths that are served: of routes, of tables of costs, of certificates, and of profiles
 abbrev pub route_path : List ℕ
 route_path = codes "/brouter"
 
 abbrev pub table_path : List ℕ
 table_path = codes "/brouter/table"
+
+abbrev pub certificate_path : List ℕ
+certificate_path = codes "/brouter/certificate"
 
 abbrev pub profile_path : List ℕ
 profile_path = codes "/brouter/profile"
@@ -45,7 +48,7 @@ is_whole long Post body bytes = nat_le (long + body) (length bytes)
 is_whole long Get body bytes = true
 is_whole long Other body bytes = true
 
--- what a request for a route or for a table comes to, by which of them it is
+-- what a request by a query comes to, by what it is asked for
 abbrev pub of_query : Aim → Method → Span → ℕ → Verdict
 of_query aim Get query body = if nat_lt most_body body then Refused BodyTooLong else Query aim query
 of_query aim Post query body = Refused MethodNotAllowed
@@ -70,7 +73,8 @@ abbrev pub by_path : (path : List ℕ) (long : ℕ) (method : Method) (query : S
 by_path path long method query body bytes =
     if bytes_eq path route_path then of_query Track method query body
     else (if bytes_eq path table_path then of_query Table method query body
-    else (if bytes_eq path profile_path then of_upload long method body bytes else Refused UnknownPath))
+    else (if bytes_eq path certificate_path then of_query Certificate method query body
+    else (if bytes_eq path profile_path then of_upload long method body bytes else Refused UnknownPath)))
 
 -- what bytes come to behind which the head may still go on
 abbrev pub unfinished : Bool → List ℕ → Verdict
@@ -94,8 +98,7 @@ pub record IsVerdict (bytes : List ℕ) (ended : Bool) (verdict : Verdict) : Typ
 
 -- ---- Where it stands
 
--- the text of an upload, and the query of a route or of a table, stand within the bytes, and the text is no
--- longer than a body may be
+-- the text of an upload, and a query, stand within the bytes, and the text is no longer than a body may be
 abbrev pub IsVerdictIn : List ℕ → Verdict → Type 0
 IsVerdictIn bytes Undecided = Unit {0}
 IsVerdictIn bytes NoByte = Unit {0}

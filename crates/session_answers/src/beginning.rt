@@ -1,18 +1,20 @@
 //! What a query comes to at once.
 
 ghost use Rattle.std.specs.Prelude.{◌≡◌, ◌≢◌, ◌<◌, List, ℕ, Ok, Some, IfOk, length};
+ghost use Rattle.item_list.specs.Answer.{Answers};
 ghost use Rattle.lookup_table.specs.Tag.{name_place};
 ghost use Rattle.route_engine.specs.Jobs.{IsWithin};
 ghost use Rattle.route_http.specs.Lines.{request_line};
 ghost use Rattle.route_http.specs.Seen.{asked};
 ghost use Rattle.route_http.specs.declared.error.RequestError.TheVariants.{NoMemory};
 ghost use Rattle.route_ready.specs.World.{world_of};
+ghost use Rattle.route_ready.specs.Worlds.{WorldValue};
 ghost use Rattle.route_ready.specs.Entries.{names_of};
 ghost use Rattle.session_answers.specs.Frames.{line_frame};
 ghost use Rattle.session_answers.specs.Jobs.{AreKept, Begins};
 ghost use Rattle.session_answers.specs.Kept.{StayAwaited};
 ghost use Rattle.session_answers.specs.Profiles.{stored_of};
-ghost use Rattle.session_answers.specs.Sites.{limited, request_at, site_of};
+ghost use Rattle.session_answers.specs.Sites.{is_taken, limited, request_at, site_of};
 
 use crate::frames::{line_frame, refusal_frame};
 use crate::kept::KeptProfiles;
@@ -21,7 +23,7 @@ use crate::refusal::Refusal;
 use crate::routes::route_frame;
 use crate::search::{Search, search_for};
 use route_engine::Aim;
-use route_http::{Request, RequestError, request};
+use route_http::{Key, Request, RequestError, request};
 use route_ready::World;
 use std::alloc::{AllocError, Global};
 
@@ -53,15 +55,44 @@ pub fn begin(
     ensures kept { AreKept (world_of world.now) (stored_of profiles.now) kept.new }
     ensures stay { StayAwaited (world_of world.now) kept.old kept.new }
 {
-    match request(alloc, query) {
-        Ok(request) => {
-            let request = limited(request, labels);
-            named(alloc, world, profiles, kept, aim, request)
-        }
+    match request_for(alloc, labels, aim, query) {
+        Ok(request) => named(alloc, world, profiles, kept, aim, request),
         Err(error) => {
             let frame = malformed(alloc, error)?;
             Ok(Begun::Frame(frame))
         }
+    }
+}
+
+/// The request that a query spells which is asked for this, of which no search settles more labels
+/// than these.
+fn request_for(
+    alloc: Global,
+    labels: u64,
+    aim: Aim,
+    query: &[u8],
+) -> Result<Request, RequestError>
+    ensures exact { (world : WorldValue) →
+        Answers asked (request_at (site_of world labels) aim query.now) NoMemory result }
+    ensures within { IfOk result (λ request. IsWithin (asked request)) }
+{
+    let request = limited(request(alloc, query)?, labels);
+    if is_taken(aim, request.alternative) {
+        Ok(request)
+    } else {
+        Err(RequestError::BadValue {
+            key: Key::Alternativeidx,
+        })
+    }
+}
+
+/// Whether what is asked for may be asked of an alternative.
+fn is_taken(aim: Aim, alternative: u8) -> bool
+    ensures exact { result ≡ is_taken aim alternative }
+{
+    match aim {
+        Aim::Certificate => alternative == 0,
+        Aim::Track | Aim::Table => true,
     }
 }
 
@@ -103,7 +134,7 @@ fn named(
     requires within { IsWithin (asked request) }
     ensures exact { (labels : ℕ) (query : List ℕ) →
         let site = site_of (world_of world.now) labels in
-        request_at site query ≡ Ok (asked request) →
+        request_at site aim query ≡ Ok (asked request) →
         IfOk result (Begins site (stored_of profiles.now) kept.new aim query) }
     ensures kept { AreKept (world_of world.now) (stored_of profiles.now) kept.new }
     ensures stay { StayAwaited (world_of world.now) kept.old kept.new }
@@ -134,7 +165,7 @@ fn stored(
         Some place }
     ensures exact { (labels : ℕ) (query : List ℕ) →
         let site = site_of (world_of world.now) labels in
-        request_at site query ≡ Ok (asked request) →
+        request_at site aim query ≡ Ok (asked request) →
         IfOk result (Begins site (stored_of profiles.now) kept.new aim query) }
     ensures kept { AreKept (world_of world.now) (stored_of profiles.now) kept.new }
     ensures stay { StayAwaited (world_of world.now) kept.old kept.new }

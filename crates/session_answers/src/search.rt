@@ -240,7 +240,8 @@ fn stage_for(
     }
 }
 
-/// The kind of a reply: that of a track goes by its form, that of a table is one.
+/// The kind of a reply: that of a track goes by its form, those of a table and of a certificate are
+/// one.
 fn kind_for(aim: Aim, form: Form) -> Kind
     ensures exact { result ≡ kind_for aim form }
 {
@@ -250,5 +251,6 @@ fn kind_for(aim: Aim, form: Form) -> Kind
             Form::Csv => Kind::Csv,
         },
         Aim::Table => Kind::Json,
+        Aim::Certificate => Kind::Plain,
     }
 }

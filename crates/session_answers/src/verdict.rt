@@ -102,6 +102,8 @@ fn by_path(
         of_query(Aim::Track, method, query, body)
     } else if path == b"/brouter/table".as_slice() {
         of_query(Aim::Table, method, query, body)
+    } else if path == b"/brouter/certificate".as_slice() {
+        of_query(Aim::Certificate, method, query, body)
     } else if path == b"/brouter/profile".as_slice() {
         of_upload(long, method, body, bytes)
     } else {
@@ -109,7 +111,7 @@ fn by_path(
     }
 }
 
-/// What a request for a route or for a table comes to.
+/// What a request by a query comes to, by what it is asked for.
 fn of_query(aim: Aim, method: Method, query: Span, body: u64) -> Verdict
     ensures exact { result ≡ of_query aim method query body }
 {

@@ -10,7 +10,7 @@ use Rattle.session_answers.proofs.beginning.named.Goals as goal
 
 pub returns-in_ok-frame-in-None-clause-exact : goal.returns-in_ok-frame-in-None-clause-exact
 returns-in_ok-frame-in-None-clause-exact c = λ labels query asks.
-    unknown-frame (site_of (world_of c.args.world.now) labels) (stored_of c.args.profiles.now) query (asked c.args.request) c.in_ok-frame-in-None.frame.items
+    unknown-frame (site_of (world_of c.args.world.now) labels) (stored_of c.args.profiles.now) c.args.aim query (asked c.args.request) c.in_ok-frame-in-None.frame.items
     asks
     (ap (name_place (names_of (stored_of c.args.profiles.now))) (sym c.as_slice.ensures.value)
     ∙ sym c.in-None.ensures.exact) c.in_ok-frame-in-None.ensures.exact

@@ -35,7 +35,7 @@ returns-in_ok-search-in-Ok-clause-exact c = λ labels query reads.
     let there = c.profile-profile.ensures.value in
     let wanted = (c.in-Ok.ensures.exact (profiles_of stored) c.requires.kept there).1 in
     let fresh = c.in_ok-search-in-Ok.ensures.fresh in
-    let asks : Asks site stored query request sections =
+    let asks : Asks site stored c.args.aim query request sections =
     record { asks = reads; found = found_at stored request.profile c.args.place sections c.requires.found there } in
     begun-job site stored c.want.new.self c.args.aim query request sections c.in_ok-search-in-Ok.search asks
     (ap (slice_get (profiles_of stored)) fresh.1 ∙ there) (c.in_ok-search-in-Ok.ensures.begins c.want.new.self sections wanted) fresh.0
@@ -48,9 +48,9 @@ returns-in_ok-frame-in-Err-clause-exact c = λ labels query reads.
     let sections = sections_in c.profile-profile.result.now in
     let there = c.profile-profile.ensures.value in
     let why = (c.in-Err.ensures.exact (profiles_of stored) c.requires.kept there).1 in
-    let asks : Asks site stored query request sections =
+    let asks : Asks site stored c.args.aim query request sections =
     record { asks = reads; found = found_at stored request.profile c.args.place sections c.requires.found there } in
-    profile-frame site stored query request sections asks c.in-Err.error c.in_ok-frame-in-Err.frame.items
+    profile-frame site stored c.args.aim query request sections asks c.in-Err.error c.in_ok-frame-in-Err.frame.items
     c.in_ok-frame-in-Err.ensures.reason c.in_ok-frame-in-Err.ensures.exact why
 
 pub returns-in_ok-search-in-Ok-clause-kept : goal.returns-in_ok-search-in-Ok-clause-kept

@@ -1,0 +1,112 @@
+-- A job of a certificate goes on leg by leg.
+use Rattle.std.proofs.Common.{◌≡◌, inl, inr, ℕ, zero, suc, ◌+◌, ◌-◌, ◌*◌, ◌<◌, ◌≤◌, List, [], ◌∷◌, ◌++◌, length, map, Some, None, Result, Vec, refl, ap, sym, subst, ◌∙◌, arith}
+use Rattle.std.proofs.Math.Nat.{suc-mul}
+use Rattle.std.proofs.lemmas.Option.{slice_get_within}
+use Rattle.std.specs.List.{slice_get}
+use Rattle.std.specs.declared.alloc.Global.{Global}
+use Rattle.certificate_text.specs.Texts.{AreLegs, IsLeg, leg_of}
+use Rattle.certificate_text.specs.declared.certificate.Certificate.{Certificate}
+use Rattle.certificate_text.specs.declared.certificate.LowerBound.TheVariants.{Least}
+use Rattle.certificate_text.specs.declared.certificate.Proof.{Proof}
+use Rattle.item_list.proofs.ListLemmas.{slice_get-push_cases, slice_get-there}
+use Rattle.item_list.specs.Turns.{Says}
+use Rattle.item_list.specs.declared.turn.Turn.{Turn}
+use Rattle.item_list.specs.declared.turn.Turn.TheVariants.{More, Done}
+use Rattle.route_certificate.proofs.CallerLemmas.{legs-more}
+use Rattle.route_certificate.specs.Certified.{IsProof}
+use Rattle.route_certificate.specs.Provings.{settled_of}
+use Rattle.route_certificate.specs.declared.proving.Proving.{Proving}
+use Rattle.route_engine.specs.CertificateJobs.{EndsLeg, IsCertificateOn, certificate_plan, counted_on, legs_left, work_of_certificate}
+use Rattle.route_engine.specs.Certificates.{AreProofs, IsCertificateFor, IsCertificateRefusal, most_for_leg}
+use Rattle.route_engine.specs.Jobs.{plan_of}
+use Rattle.route_engine.specs.Labels.{beginning}
+use Rattle.route_engine.specs.Plans.{LegsHaveWalks, Plan, leg_count, nth_leg}
+use Rattle.route_engine.specs.Searches.{EndsSearch, StepsSearchOn}
+use Rattle.route_engine.specs.declared.certificate.CertificateJob.{CertificateJob}
+use Rattle.route_engine.specs.declared.plan.JobPlan.{JobPlan}
+use Rattle.route_ready.specs.Worlds.{WorldValue}
+use Rattle.route_ready.specs.declared.error.RouteError.{RouteError}
+
+-- ---- What is shown
+
+-- no legs
+pub proofs-none : (plan : Plan) (legs : List Proof) → legs ≡ [] → AreProofs plan legs
+proofs-none plan legs none = record {
+  each = λ number proof there.
+      let within = slice_get_within legs number proof there in
+      absurd (omega (arith, within, ap length none));
+  written = subst (λ (l : List Proof). AreLegs plan.setting.terrain.map (map leg_of l)) (sym none) tt;
+}
+
+-- a leg more
+pub proofs-more : (plan : Plan) (legs after : List Proof) (proof : Proof) → AreProofs plan legs →
+    IsProof Least (nth_leg plan (length legs)) proof → IsLeg plan.setting.terrain.map (leg_of proof) →
+    after ≡ legs ++ proof ∷ [] → AreProofs plan after
+proofs-more plan legs after proof are is fits grown = record {
+  each = λ number other there.
+      elim (slice_get-push_cases legs proof number other (ap (λ (l : List Proof). slice_get l number) (sym grown) ∙ there)) [
+        | inl before ↦ are.each number other before
+        | inr last ↦
+            subst (λ n. IsProof Least (nth_leg plan n) other) (sym last.0)
+            (subst (IsProof Least (nth_leg plan (length legs))) last.1 is)
+      ];
+  written = subst (λ (l : List Proof). AreLegs plan.setting.terrain.map (map leg_of l)) (sym grown)
+      (legs-more plan.setting.terrain.map legs proof are.written fits);
+}
+
+-- each leg that is shown has a walk
+pub proofs-walk : (plan : Plan) (legs : List Proof) → AreProofs plan legs → LegsHaveWalks plan (length legs)
+proofs-walk plan legs are k below =
+    let t = slice_get-there legs k below in (t.0.walk.items, (are.each k t.0 t.1).least.is_walk)
+
+-- ---- What is left
+
+-- a leg's count is no more than that of all that are left
+one-left : (left most : ℕ) → 1 ≤ left → most ≤ left * most
+one-left zero most some = absurd (omega (arith, some))
+one-left (suc left) most some = omega (arith, suc-mul left most)
+
+-- where more is counted on a leg, that much less is left
+pub leg-counted : (left most counted spent : ℕ) → 1 ≤ left → counted + spent ≤ most →
+    left * most - (counted + spent) + spent ≤ left * most - counted
+leg-counted left most counted spent some within =
+    let whole = one-left left most some in omega (arith, whole, within)
+
+-- where a leg is at its end too
+pub leg-less : (left fewer most counted spent : ℕ) → left ≡ suc fewer → counted + spent ≤ most →
+    fewer * most + spent ≤ left * most - counted
+leg-less left fewer most counted spent one within =
+    let same : left * most ≡ suc fewer * most = ap (λ n. n * most) one in
+    omega (arith, same, suc-mul fewer most, within)
+
+-- ---- The end of a search
+
+module _ (world : WorldValue) (alloc : Global) (plan : JobPlan) (legs : Vec Proof Global) (proving : Proving) where
+  -- the job before it
+  abbrev pub before : CertificateJob
+  before = record { alloc = alloc; plan = plan; legs = legs; next = Some proving }
+
+  -- behind the end of the search on its leg it goes on, or is at its end
+  pub leg-ended : (quota settled : ℕ) (turn : Turn CertificateJob (Result Certificate RouteError)) →
+      length legs.items < leg_count (plan_of world plan) → settled < quota → settled_of proving + settled ≤ plan.limit →
+      EndsLeg world plan (length legs.items) turn →
+      Says (StepsSearchOn (IsCertificateOn world) (certificate_plan world) (work_of_certificate world) (legs_left world) quota settled
+      before) (EndsSearch IsCertificateFor IsCertificateRefusal (plan_of world plan)) turn
+  leg-ended quota settled (Done end) there fits within is = is
+  leg-ended quota settled (More job) there fits within is =
+      let count : leg_count (plan_of world job.plan) ≡ leg_count (plan_of world plan) =
+      ap (λ (p : JobPlan). leg_count (plan_of world p)) is.same in
+      let fewer : legs_left world before ≡ suc (legs_left world job) = omega (arith, count, is.counted, there) in
+      let limit : most_for_leg job.plan.limit ≡ most_for_leg plan.limit =
+      ap (λ (p : JobPlan). most_for_leg p.limit) is.same in
+      let free : counted_on job.next ≡ 0 = ap counted_on is.none in
+      let less = leg-less (legs_left world before) (legs_left world job) (most_for_leg plan.limit)
+      (beginning + settled_of proving) settled fewer (omega (arith, within)) in
+      let same : legs_left world job * most_for_leg job.plan.limit ≡ legs_left world job * most_for_leg plan.limit =
+      ap (λ n. legs_left world job * n) limit in
+      record {
+        on = is.on;
+        same = ap (plan_of world) is.same;
+        less = omega (arith, less, same, free);
+        nearer = omega (arith, fewer, fits);
+      }
