@@ -107,7 +107,7 @@ about_of Within =
 about_of Hills =
     codes
     "prints what the cheapest track costs from corner to corner of the hilly grid of w by h cells of a seed"
-about_of Serve = codes "answers routes and tables of costs over HTTP, and takes profiles"
+about_of Serve = codes "answers routes, tables and certificates over HTTP, and takes profiles"
 
 -- the commands that are built
 abbrev pub commands : List CommandName

@@ -201,7 +201,7 @@ impl CommandName {
                 "prints what the cheapest track costs from corner to corner of the hilly grid of \
                  w by h cells of a seed",
             CommandName::Serve =>
-                "answers routes and tables of costs over HTTP, and takes profiles",
+                "answers routes, tables and certificates over HTTP, and takes profiles",
         }
     }
 }

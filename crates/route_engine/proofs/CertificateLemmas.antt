@@ -1,5 +1,5 @@
 -- A job of a certificate goes on leg by leg.
-use Rattle.std.proofs.Common.{◌≡◌, inl, inr, ℕ, zero, suc, ◌+◌, ◌-◌, ◌*◌, ◌<◌, ◌≤◌, List, [], ◌∷◌, ◌++◌, length, map, Some, None, Result, Vec, refl, ap, sym, subst, ◌∙◌, arith}
+use Rattle.std.proofs.Common.{◌≡◌, inl, inr, ℕ, zero, suc, ◌+◌, ◌-◌, ◌*◌, ◌<◌, ◌≤◌, List, [], ◌∷◌, ◌++◌, length, map, get_or, Bool, Some, None, Result, Vec, refl, ap, sym, subst, ◌∙◌, arith}
 use Rattle.std.proofs.Math.Nat.{suc-mul}
 use Rattle.std.proofs.lemmas.Option.{slice_get_within}
 use Rattle.std.specs.List.{slice_get}
@@ -8,17 +8,20 @@ use Rattle.certificate_text.specs.Texts.{AreLegs, IsLeg, leg_of}
 use Rattle.certificate_text.specs.declared.certificate.Certificate.{Certificate}
 use Rattle.certificate_text.specs.declared.certificate.LowerBound.TheVariants.{Least}
 use Rattle.certificate_text.specs.declared.certificate.Proof.{Proof}
+use Rattle.cost_model.specs.Rides.{Setting, Terrain, leg_between}
 use Rattle.item_list.proofs.ListLemmas.{slice_get-push_cases, slice_get-there}
 use Rattle.item_list.specs.Turns.{Says}
 use Rattle.item_list.specs.declared.turn.Turn.{Turn}
 use Rattle.item_list.specs.declared.turn.Turn.TheVariants.{More, Done}
 use Rattle.route_certificate.proofs.CallerLemmas.{legs-more}
+use Rattle.route_certificate.specs.Asks.{IsAsk, leg_in, setting_in}
 use Rattle.route_certificate.specs.Certified.{IsProof}
 use Rattle.route_certificate.specs.Provings.{settled_of}
+use Rattle.route_certificate.specs.declared.ask.TrackAsk.{TrackAsk}
 use Rattle.route_certificate.specs.declared.proving.Proving.{Proving}
 use Rattle.route_engine.specs.CertificateJobs.{EndsLeg, IsCertificateOn, certificate_plan, counted_on, legs_left, work_of_certificate}
 use Rattle.route_engine.specs.Certificates.{AreProofs, IsCertificateFor, IsCertificateRefusal, most_for_leg}
-use Rattle.route_engine.specs.Jobs.{plan_of}
+use Rattle.route_engine.specs.Jobs.{IsPlanOn, plan_of}
 use Rattle.route_engine.specs.Labels.{beginning}
 use Rattle.route_engine.specs.Plans.{LegsHaveWalks, Plan, leg_count, nth_leg}
 use Rattle.route_engine.specs.Searches.{EndsSearch, StepsSearchOn}
@@ -58,6 +61,32 @@ proofs-more plan legs after proof are is fits grown = record {
 pub proofs-walk : (plan : Plan) (legs : List Proof) → AreProofs plan legs → LegsHaveWalks plan (length legs)
 proofs-walk plan legs are k below =
     let t = slice_get-there legs k below in (t.0.walk.items, (are.each k t.0 t.1).least.is_walk)
+
+-- ---- What is asked with
+
+-- the leg of what is asked with for a plan is the plan's
+pub leg-asked : (plan : Plan) (seen : Terrain) (ask : TrackAsk) (place : ℕ) → seen ≡ plan.setting.terrain → ask.nodes.now ≡ plan.nodes →
+    ask.cut.now ≡ plan.setting.cut → ask.turns ≡ plan.setting.turns → leg_in seen ask place ≡ nth_leg plan place
+leg-asked plan seen ask place its nodes cut turns =
+    let setting : Terrain → List Bool → Bool → Setting = λ t c b. record { terrain = t; cut = c; turns = b } in
+    let over : setting_in seen ask ≡ plan.setting =
+    ap (λ t. setting t ask.cut.now ask.turns) its ∙ ap (λ c. setting plan.setting.terrain c ask.turns) cut
+    ∙ ap (setting plan.setting.terrain plan.setting.cut) turns in
+    let one : place + 1 ≡ suc place = omega arith in
+    ap (λ (s : Setting). leg_between s (get_or ask.nodes.now place 0) (get_or ask.nodes.now (place + 1) 0)) over
+    ∙ ap (λ (ns : List ℕ). leg_between plan.setting (get_or ns place 0) (get_or ns (place + 1) 0)) nodes
+    ∙ ap (λ (n : ℕ). leg_between plan.setting (get_or plan.nodes place 0) (get_or plan.nodes n 0)) one
+
+-- it may be asked over its terrain
+pub ask-fits : (world : WorldValue) (plan : JobPlan) (seen : Terrain) (ask : TrackAsk) → IsPlanOn world plan →
+    seen ≡ (plan_of world plan).setting.terrain → ask.nodes.now ≡ plan.nodes → IsAsk seen ask
+ask-fits world plan seen ask on its nodes = record {
+  few = omega (arith, ap length nodes, on.few);
+  nodes = λ k below.
+      subst (λ (t : Terrain). get_or ask.nodes.now k 0 < length t.map.nodes) (sym its)
+      (subst (λ (ns : List ℕ). get_or ns k 0 < length world.map.nodes) (sym nodes)
+      (on.nodes_in k (omega (arith, below, ap length nodes))));
+}
 
 -- ---- What is left
 
