@@ -1,4 +1,6 @@
-pub mod ChainLemmas
+pub mod EntryLemmas
+pub mod IndexLemmas
+pub mod PassedLemmas
 pub mod ClosingLemmas
 pub mod LegLemmas
 pub mod SpaceLemmas
