@@ -10,7 +10,7 @@ use Rattle.route_certificate.specs.Closing.{Closes, ClosesGoals, ClosesStarts, C
 use Rattle.route_certificate.specs.Entries.{AreBounded, carry_of, label_of, labels_of}
 use Rattle.route_certificate.specs.declared.verdict.Why.{Why}
 use Rattle.route_certificate.specs.declared.verdict.Why.TheVariants.{Legs, Walk, Bounds, Start, Step, Goal}
-use Rattle.route_certificate.proofs.ChainLemmas.{label-of, of-label}
+use Rattle.route_certificate.proofs.EntryLemmas.{label-of, of-label}
 
 -- ---- Two spaces that answer alike
 

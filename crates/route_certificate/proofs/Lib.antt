@@ -1,5 +1,7 @@
 pub mod CallerLemmas
-pub mod ChainLemmas
+pub mod EntryLemmas
+pub mod IndexLemmas
+pub mod PassedLemmas
 pub mod ClosingLemmas
 pub mod LegLemmas
 pub mod ProvingLemmas

@@ -1,5 +1,5 @@
 -- What a track is asked with, and its legs (this project's own rule).
-use Rattle.std.specs.Prelude.{◌≡◌, ℕ, ◌+◌, ◌<◌, ◌≤◌, length, get_or}
+use Rattle.std.specs.Prelude.{ℕ, ◌+◌, ◌<◌, ◌≤◌, length, get_or}
 use Rattle.cost_model.specs.Rides.{Leg, Setting, Terrain, leg_between}
 use Rattle.route_certificate.specs.declared.ask.TrackAsk.{TrackAsk}
 

@@ -1,6 +1,6 @@
 pub mod Asks
 pub mod Entries
-pub mod Chains
+pub mod Index
 pub mod Closing
 pub mod Legs
 pub mod Verdicts

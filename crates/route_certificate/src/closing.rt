@@ -3,7 +3,7 @@
 ghost use Rattle.std.specs.Prelude.{◌↔◌, ◌<◌, IfOk, IsTrue};
 ghost use Rattle.bike_space.specs.Closed.{IsCoveredBelow, IsDear};
 ghost use Rattle.space_search.specs.Rules.{LOW_BOUND};
-ghost use Rattle.route_certificate.specs.Chains.{IsIndex};
+ghost use Rattle.route_certificate.specs.Index.{IsIndex};
 ghost use Rattle.route_certificate.specs.Closing.{ClosesGoals, ClosesStarts, ClosesSteps, ClosesStepsOf, IsFirstFlaw, IsNoCheapGoal};
 ghost use Rattle.route_certificate.specs.Entries.{AreBounded, IsBounded, labels_of};
 

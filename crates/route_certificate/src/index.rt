@@ -1,34 +1,34 @@
-//! The labels of a list by their slots.
+//! The labels of a list by their slots and their numbers.
 
 ghost use Rattle.std.specs.Prelude.{◌↔◌, ◌<◌, IfOk, IsTrue};
 ghost use Rattle.bike_space.specs.Closed.{IsCoveredIn};
 ghost use Rattle.space_search.specs.Rules.{LOW_BOUND};
-ghost use Rattle.route_certificate.specs.Chains.{IsIndex};
 ghost use Rattle.route_certificate.specs.Entries.{AreBounded, labels_of};
+ghost use Rattle.route_certificate.specs.Index.{IsIndex};
 
 use crate::entries::carry;
+use crate::order::sort;
+use crate::rows::{Row, rows_of};
+use crate::runs::join;
+use crate::spans::{Span, spans_of};
 use certificate_text::Entry;
 use cost_model::Carry;
 use space_search::Space;
 use std::alloc::{AllocError, Global};
 
-/// For each slot the place of its last label plus 1, or 0 for none; and for each label the place of
-/// the one before it in its slot plus 1, or 0 for none.
+/// The labels as rows with their runs, and for each slot the span of its rows.
 pub(crate) struct Index {
-    pub(crate) newest: Vec<u32>,
-    pub(crate) older: Vec<u32>,
+    pub(crate) rows: Vec<Row>,
+    pub(crate) spans: Vec<Span>,
 }
 
 impl Drop for Index {
     fn drop(self) {
-        let Index {
-            newest: _,
-            older: _,
-        } = self;
+        let Index { rows: _, spans: _ } = self;
     }
 }
 
-/// The labels by their slots.
+/// The labels by their slots and their numbers.
 pub(crate) fn index_of<S: Space<State = Carry>>(
     alloc: Global,
     space: &S,
@@ -40,19 +40,15 @@ pub(crate) fn index_of<S: Space<State = Carry>>(
     if entries.len() > u32::MAX as usize {
         return Err(AllocError);
     }
-    let mut newest = Vec::new(alloc);
-    newest.resize(space.slots() as usize, 0)?;
-    let mut older = Vec::with_capacity(alloc, entries.len())?;
-    'entries: for place in 0..entries.len() {
-        let slot = space.slot(&carry(&entries[place])) as usize;
-        older.push(newest[slot])?;
-        newest[slot] = (place + 1) as u32;
-    }
-    Ok(Index { newest, older })
+    let mut rows = rows_of(alloc, space, entries)?;
+    sort(&mut rows);
+    join(&mut rows);
+    let spans = spans_of(alloc, space.slots(), rows.as_slice())?;
+    Ok(Index { rows, spans })
 }
 
-/// Whether a label covers a state at a cost. Covering holds in one slot alone, so only the labels
-/// of its slot are tested, the last first.
+/// Whether a label covers a state at a cost. What covers has its slot, and no number greater, so
+/// runs with a greater one are passed over.
 pub(crate) fn is_covered<S: Space<State = Carry>>(
     space: &S,
     entries: &[Entry],
@@ -67,14 +63,20 @@ pub(crate) fn is_covered<S: Space<State = Carry>>(
     ensures exact { IsTrue result ↔
         IsCoveredIn (S.rules space.now) (labels_of entries.now) state.now cost }
 {
-    let mut cursor = index.newest[space.slot(state) as usize];
-    'chain: while cursor > 0 {
-        let place = (cursor - 1) as usize;
-        let entry = entries[place];
-        if space.covers(&carry(&entry), entry.cost, state, cost) {
-            return true;
+    let span = index.spans[space.slot(state) as usize];
+    let point = space.point(state, cost);
+    let mut place = span.first;
+    'rows: while place < span.end && (place as usize) < index.rows.len() {
+        let row = &index.rows[place as usize];
+        if row.low.is_lower(&point, cost) {
+            let entry = &entries[row.place as usize];
+            if space.covers(&carry(entry), entry.cost, state, cost) {
+                return true;
+            }
+            place += 1;
+        } else {
+            place = row.end;
         }
-        cursor = index.older[place];
     }
     false
 }

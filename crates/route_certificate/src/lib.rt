@@ -9,10 +9,15 @@ mod entries;
 mod finding;
 mod index;
 mod leg;
+mod low;
 mod making;
+mod order;
 mod proving;
+mod rows;
+mod runs;
 mod settled;
 mod space;
+mod spans;
 mod verdict;
 
 pub use ask::TrackAsk;

@@ -1,11 +1,29 @@
-use Rattle.std.proofs.Common.{◌≡◌, Some, true, inl, inr, get_or, refl, arith, subst}
+use Rattle.std.proofs.Common.{◌≡◌, Some, true, inl, inr, refl, arith, subst}
 use Rattle.std.proofs.lemmas.Option.{slice_get_within, slice_get-get_or}
 use Rattle.std.specs.List.{slice_get}
 use Rattle.item_list.proofs.ListLemmas.{slice_get-same}
 use Rattle.item_list.proofs.TestLemmas.{below-next}
 use Rattle.certificate_text.specs.declared.certificate.Entry.{Entry}
 use Rattle.route_certificate.specs.Closing.{ClosesStepsOf}
+use Rattle.route_certificate.proofs.EntryLemmas.{no_entry}
 use Rattle.route_certificate.proofs.closing.closes_steps.Goals as goal
+
+pub closes_steps_of-requires-clause-one : goal.closes_steps_of-requires-clause-one
+closes_steps_of-requires-clause-one g c =
+    c.requires.bounded c.entries.place _ (slice_get-get_or c.args.entries.now c.entries.place no_entry c.entries-test.true)
+
+pub returns-then-not-closes_steps_of : goal.returns-then-not-closes_steps_of
+returns-then-not-closes_steps_of g c =
+    let there = slice_get-get_or c.args.entries.now c.entries.place no_entry c.entries-test.true in
+    record {
+      exact = (
+        λ never. absurd (cc),
+        λ all.
+            let yes = c.closes_steps_of.ensures.exact.1 (all c.entries.place _ there) in
+            let no = c.if-not-closes_steps_of.true in
+            cc,
+      );
+    }
 
 pub entries-preserved : goal.entries-preserved
 entries-preserved g c place entry below at =

@@ -2,7 +2,7 @@ use Rattle.std.proofs.Common.{refl, arith}
 use Rattle.std.proofs.lemmas.Option.{slice_get_within}
 use Rattle.bike_space.specs.Kept.{task_of}
 use Rattle.route_certificate.specs.Legs.{IsInBounds}
-use Rattle.route_certificate.proofs.ChainLemmas.{each-more}
+use Rattle.route_certificate.proofs.EntryLemmas.{each-more}
 use Rattle.route_certificate.proofs.entries.are_in_bounds.Goals as goal
 
 pub entries-preserved : goal.entries-preserved
