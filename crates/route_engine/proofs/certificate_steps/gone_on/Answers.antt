@@ -17,9 +17,12 @@ use Rattle.route_engine.proofs.certificate_steps.gone_on.Goals as goal
 pub turn-turned-requires-clause-on : goal.turn-turned-requires-clause-on
 turn-turned-requires-clause-on c =
     let plan = plan_of (world_of c.args.world.now) c.args.plan in
-    let leg = nth_leg plan (length c.args.legs.items) in
-    (Least, leg, plan.limit,
-    subst (λ (t : Terrain). IsProvingFor t Least leg plan.limit c.args.proving) (sym c.terrain.ensures.exact) c.requires.next.on)
+    let leg = nth_leg plan (length c.args.legs.items) in (
+      Least,
+      leg,
+      plan.limit,
+      subst (λ (t : Terrain). IsProvingFor t Least leg plan.limit c.args.proving) (sym c.terrain.ensures.exact) c.requires.next.on,
+    )
 
 pub ended-requires-clause-shown : goal.ended-requires-clause-shown
 ended-requires-clause-shown c =

@@ -12,7 +12,7 @@ pub returns-in-Some-clause-exact : goal.returns-in-Some-clause-exact
 returns-in-Some-clause-exact c = λ stored kept there.
     let world = world_of c.args.world.now in
     let found = c.in-Some.ensures.found in (
-      record { made = kept.made; makings = kept.makings },
+      record { made = kept.made; makings = kept.makings; once = kept.once },
       record {
         making = found.making;
         there = found.there;
@@ -30,7 +30,8 @@ returns-in-Ok-add-clause-exact c = λ stored kept there.
     let added = c.in-Ok-add.ensures.added in
     let from = begun-from world stored c.args.key c.args.overrides.now (sections_in c.args.profile.now) c.in-Ok.making c.requires.same
     there c.in-Ok.ensures.begins in (
-      added-kept world c.args.self.now new making c.in-Ok-add.k added stored refl kept from,
+      added-kept world c.args.self.now new making c.in-Ok-add.k added stored refl kept from
+          (c.in_default.ensures.none refl),
       record {
         making = making;
         there = added.puts.is;
