@@ -70,6 +70,13 @@ module _ (bytes : List ℕ) where
   upload-in long Post body fits = body-in long body fits
   upload-in long Other body fits = tt
 
+  -- that of a request by its path
+  pub path-in : (path : List ℕ) (long : ℕ) (method : Method) (query : Span) (body : ℕ) → long ≤ length bytes → IsSpanIn bytes query →
+      IsVerdictIn bytes (by_path path long method query body bytes)
+  path-in path long method query body fits stands =
+      path-so (IsVerdictIn bytes) path long method query body bytes (λ aim. query-in aim method query body stands)
+      (upload-in long method body fits) tt
+
   -- that of a head whose places stand within them
   head-in : (head : Head) (ended : Bool) → IsHeadWithin bytes head → IsVerdictIn bytes (verdict_by head bytes ended)
   head-in heads.TooLong ended within = tt
@@ -79,8 +86,7 @@ module _ (bytes : List ℕ) where
   head-in (heads.Whole long method path query body) ended within =
       let ends : query.end ≤ length bytes = omega (arith, within) in
       if-in (ended && not (is_whole long method body bytes)) _ _ (λ e. tt) (λ e.
-      path-so (IsVerdictIn bytes) (part bytes path) long method query body bytes
-      (λ aim. query-in aim method query body (record { ordered = within.4; fits = ends })) (upload-in long method body within.0) tt)
+      path-in (part bytes path) long method query body within.0 (record { ordered = within.4; fits = ends }))
 
 -- what is fixed stands within the bytes
 pub verdict_in : (bytes : List ℕ) (ended : Bool) (v : Verdict) → IsVerdict bytes ended v → IsVerdictIn bytes v

@@ -66,12 +66,7 @@ pub fn begin(
 
 /// The request that a query spells which is asked for this, of which no search settles more labels
 /// than these.
-fn request_for(
-    alloc: Global,
-    labels: u64,
-    aim: Aim,
-    query: &[u8],
-) -> Result<Request, RequestError>
+fn request_for(alloc: Global, labels: u64, aim: Aim, query: &[u8]) -> Result<Request, RequestError>
     ensures exact { (world : WorldValue) →
         Answers asked (request_at (site_of world labels) aim query.now) NoMemory result }
     ensures within { IfOk result (λ request. IsWithin (asked request)) }
