@@ -64,6 +64,7 @@ kept_more world stored more kept are = record {
         there = profile_more stored more making.key.place from.sections from.there;
         is = from.is;
       };
+  once = are.once;
 }
 
 -- ---- How far a search is
@@ -136,7 +137,8 @@ module _ (site : Site) (aim : Aim) (query : List ℕ) (p : Search) where
 
   module _ (kept : KeptProfiles) where
     -- by all profiles that are stored now
-    pub job_now : (stored : List Stored) → IsJobOf site stored kept aim query p → IsJobOf site (take (length stored) stored) kept aim query p
+    pub job_now : (stored : List Stored) → IsJobOf site stored kept aim query p →
+        IsJobOf site (take (length stored) stored) kept aim query p
     job_now stored =
         subst (λ (l : List Stored). IsJobOf site l kept aim query p) (sym (take_all (length stored) stored (omega arith)))
 

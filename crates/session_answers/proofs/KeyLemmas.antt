@@ -1,11 +1,13 @@
--- Keys that compare equal are one key.
-use Rattle.std.proofs.Common.{◌≡◌, ℕ, ℤ, Bool, true, ◌&&◌, nat_eq, List, [], ◌∷◌, refl, sym}
+-- Keys that compare equal are one key, and one key compares equal.
+use Rattle.std.proofs.Common.{◌≡◌, ℕ, ℤ, Bool, true, ◌&&◌, nat_eq, List, [], ◌∷◌, refl, sym, subst}
 use Rattle.session_answers.specs.declared.key.Key.{Key}
 use Rattle.std.specs.Cmp.{first_so, second_so, signed_Decides}
 use Rattle.std.specs.Cmp.Lexicographic.{same_text}
 use Rattle.std.specs.Ordering.{int_eq}
 use lib.Pointwise.{pointwise}
 use Rattle.std.proofs.lemmas.Bool.{eqb-true}
+use Rattle.std.proofs.lemmas.Cmp.{int_eq_equiv, nat_eq_equiv, nat_list_eq_equiv}
+use Rattle.std.specs.Cmp.Derive.{both_true}
 
 -- overrides, compared by name and number
 abbrev item_eq : List ℕ × ℤ → List ℕ × ℤ → Bool
@@ -33,3 +35,14 @@ key-same a b h =
     let overrides : a.overrides ≡ b.overrides =
     items-same a.overrides b.overrides (second_so (nat_eq a.place b.place) (pointwise item_eq a.overrides b.overrides) h) in
     λ i. record { place = place i; overrides = overrides i }
+
+-- overrides compare equal to themselves
+items-alike : (a : List (List ℕ × ℤ)) → pointwise item_eq a a ≡ true
+items-alike [] = refl
+items-alike (x ∷ a) = both_true (both_true (nat_list_eq_equiv.refl x.0) (int_eq_equiv.refl x.1)) (items-alike a)
+
+-- and so do keys
+pub same-key : (a b : Key) → a ≡ b → (nat_eq a.place b.place && pointwise item_eq a.overrides b.overrides) ≡ true
+same-key a b same =
+    subst (λ (k : Key). (nat_eq a.place k.place && pointwise item_eq a.overrides k.overrides) ≡ true) same
+    (both_true (nat_eq_equiv.refl a.place) (items-alike a.overrides))

@@ -1,6 +1,7 @@
 mod KeptLemmas
 mod KeyLemmas
 mod MakingLemmas
+mod OnceLemmas
 mod QueryLemmas
 mod ReadyLemmas
 mod ReceivedLemmas

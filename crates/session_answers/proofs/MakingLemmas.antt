@@ -1,5 +1,5 @@
 -- Profiles that are being made ready: what their turns leave, and the places where they stand.
-use Rattle.std.proofs.Common.{◌≡◌, ◌≢◌, ◌<◌, ◌≤◌, ℕ, ℤ, zero, suc, List, [], ◌∷◌, ◌++◌, length, get_or, set, Option, Some, None, Result, Ok, Err, Contains, inl, inr, refl, sym, ap, ◌∙◌, subst, arith, get_or-set_other, get_or-set_same}
+use Rattle.std.proofs.Common.{◌≡◌, ◌<◌, ◌≤◌, ℕ, ℤ, zero, suc, List, [], ◌∷◌, ◌++◌, length, get_or, set, Option, Some, None, Result, Ok, Err, Contains, inl, inr, refl, sym, ap, ◌∙◌, subst, arith, get_or-set_other, get_or-set_same}
 use Rattle.std.specs.Prelude.{slice_get}
 use Rattle.std.proofs.Math.Seq.{get_or-append_seam, get_or-append_right}
 use Rattle.std.proofs.lemmas.Bool.{cases_eq, cases_lt}
@@ -14,9 +14,10 @@ use Rattle.route_ready.specs.declared.linking.KeptTerms.{KeptTerms}
 use Rattle.route_ready.specs.declared.linking.Linking.{Linking}
 use Rattle.route_ready.specs.declared.ready.Ready.{Ready}
 use Rattle.session_answers.specs.Kept.{IsCounted, IsKept, IsMadeFrom, IsWanted, StayAwaited}
+use Rattle.session_answers.proofs.OnceLemmas.{once-added, once-dropped, once-turned, one-there}
 use Rattle.session_answers.specs.declared.kept.Wanted.{Wanted}
 use Rattle.session_answers.specs.declared.kept.Wanted.TheVariants as wants
-use Rattle.session_answers.specs.Makings.{GivesEnd, GivesReady, HasTurn, IsAdded, IsAwaited, IsMakingFrom, IsOngoing, IsProgressOf, Nearer, Puts, Shared, left_of, making_quota, making_turns}
+use Rattle.session_answers.specs.Makings.{GivesEnd, GivesReady, HasTurn, HaveOneMaking, IsAdded, IsMakingFrom, IsOngoing, IsProgressOf, Nearer, Puts, Shared, StandsAt, left_of, making_quota, making_turns}
 use Rattle.session_answers.specs.declared.kept.KeptProfiles.{KeptProfiles}
 use Rattle.session_answers.specs.declared.key.Key.{Key}
 use Rattle.session_answers.specs.declared.makings.Making.{Making}
@@ -86,10 +87,6 @@ place-within slots k making has = elim (cases_lt k (length slots)) [
       let clash : Some making ≡ None = sym has ∙ none in cc)
 ]
 
--- what stands at a place is one
-one-there : (slot : Option Making) (a b : Making) → slot ≡ Some a → slot ≡ Some b → a ≡ b
-one-there slot a b first second = cc
-
 -- none stands where there are no places
 pub none-stands : {P : Type 0} (slots : List (Option Making)) (k : ℕ) (making : Making) → slots ≡ [] → get_or slots k None ≡ Some making → P
 none-stands slots k making none there =
@@ -157,6 +154,7 @@ module _ (world : WorldValue) (old new : KeptProfiles) where
   same-kept stored cache same kept = record {
     made = λ entry within. kept.made entry (subst (λ c. Contains c.entries entry) cache within);
     makings = λ k making there. kept.makings k making (sym (ap (λ (l : List (Option Making)). get_or l k None) same) ∙ there);
+    once = subst HaveOneMaking (sym same) kept.once;
   }
 
   pub same-stay : new.makings.slots.items ≡ old.makings.slots.items → StayAwaited world old new
@@ -187,10 +185,11 @@ module _ (world : WorldValue) (old new : KeptProfiles) where
       }
     ]
 
-    -- and all are those of stored profiles, where this one is
+    -- and all are those of stored profiles, where this one is, and none stood under its key
     pub added-kept : (stored : List Sections) → new.cache ≡ old.cache → IsKept world stored old → IsMakingFrom world stored making →
-        IsKept world stored new
-    added-kept stored cache kept from = record {
+        ((j : ℕ) → StandsAt old.makings.slots.items making.key j → ⊥) → IsKept world stored new
+    added-kept stored cache kept from none = record {
+      once = once-added old.makings.slots.items new.makings.slots.items k making added none kept.once;
       made = λ entry within. kept.made entry (subst (λ c. Contains c.entries entry) cache within);
       makings = λ j found there. elim (cases_eq j k) [
         | inl same ↦
@@ -244,6 +243,7 @@ module _ (world : WorldValue) (old new : KeptProfiles) where
               (sym turned.key_same) (turned.sound (binding_in world was.sections turned.before.key.overrides) was.is);
         } in
         record {
+          once = once-turned old.makings.slots.items new.makings.slots.items k world end turned kept.once;
           made = λ entry within. kept.made entry (subst (λ c. Contains c.entries entry) cache within);
           makings = λ j found there. elim (cases_eq j k) [
             | inl same ↦
@@ -279,6 +279,7 @@ wanted-counted world sections place overrides kept (wants.Making k) is = tt
 pub dropped-kept : (world : WorldValue) (stored : List Sections) (old new : KeptProfiles) (k : ℕ) →
     Puts old.makings.slots.items new.makings.slots.items k None → new.cache ≡ old.cache → IsKept world stored old → IsKept world stored new
 dropped-kept world stored old new k puts cache kept = record {
+  once = once-dropped old.makings.slots.items new.makings.slots.items k puts kept.once;
   made = λ entry within. kept.made entry (subst (λ c. Contains c.entries entry) cache within);
   makings = λ j found there. elim (cases_eq j k) [
     | inl same ↦

@@ -5,7 +5,7 @@ use Rattle.session_answers.specs.declared.kept.Wanted.{Wanted}
 use Rattle.session_answers.specs.declared.kept.Wanted.TheVariants.{Ready, Making}
 use Rattle.session_answers.specs.declared.key.Key.{Key}
 use Rattle.session_answers.specs.declared.makings.Making.{Making as TheMaking}
-use Rattle.session_answers.specs.Makings.{GivesReady, IsAwaited, IsMakingFrom, Shared, making_turns}
+use Rattle.session_answers.specs.Makings.{GivesReady, HaveOneMaking, IsAwaited, IsMakingFrom, Shared, making_turns}
 use Rattle.profile_text.specs.Tree.{Sections}
 use Rattle.route_ready.specs.Readiness.{IsReadyOf}
 use Rattle.route_ready.specs.Worlds.{WorldValue, binding_in}
@@ -16,7 +16,8 @@ use Rattle.way_class.specs.Links.{links_of}
 
 -- a profile that is ready was made, for this world, from the stored profile that a key names, under the
 -- overrides of the key
-pub record IsMadeFrom (world : WorldValue) (stored : List Sections) (key : Key) (ready : TheReady) : Type 0 where
+pub record IsMadeFrom (world : WorldValue) (stored : List Sections) (key : Key)
+    (ready : TheReady) : Type 0 where
   pub sections : Sections
   pub there : slice_get stored key.place ≡ Some sections
   pub ready_is : IsReadyOf (binding_in world sections key.overrides) ready
@@ -25,11 +26,13 @@ pub record IsMadeFrom (world : WorldValue) (stored : List Sections) (key : Key) 
 abbrev pub IsMade : WorldValue → List Sections → Key × Shared → Type 0
 IsMade world stored entry = IsMadeFrom world stored entry.0 entry.1.value
 
--- everything that is kept was made so, and each making is that of a stored profile
+-- everything that is kept was made so, each making is that of a stored profile, and no profile has two makings
+-- under the same overrides
 pub record IsKept (world : WorldValue) (stored : List Sections) (kept : KeptProfiles) : Type 0 where
   pub made : (entry : Key × Shared) → Contains kept.cache.entries entry → IsMade world stored entry
   pub makings : (k : ℕ) (making : TheMaking) → get_or kept.makings.slots.items k None ≡ Some making →
       IsMakingFrom world stored making
+  pub once : HaveOneMaking kept.makings.slots.items
 
 -- whoever waited for a making may still wait for it
 abbrev pub StayAwaited : WorldValue → (old new : KeptProfiles) → Type 0
@@ -40,8 +43,8 @@ StayAwaited world old new =
 
 -- what a request comes to that wants a profile: it is ready, or is refused, or its making is to be waited for
 abbrev pub IsWanted :
-    (world : WorldValue) (binding : Binding) (place : ℕ) (overrides : List (List ℕ × ℤ)) (kept : KeptProfiles) →
-    Result Wanted RouteError → Type 0
+    (world : WorldValue) (binding : Binding) (place : ℕ) (overrides : List (List ℕ × ℤ)) →
+    (kept : KeptProfiles) → Result Wanted RouteError → Type 0
 IsWanted world binding place overrides kept (Ok (Ready shared)) = GivesReady binding (Ok shared)
 IsWanted world binding place overrides kept (Ok (Making k)) =
     IsAwaited world kept.makings.slots.items place overrides (making_turns world) k

@@ -37,11 +37,13 @@ making_quota = 20000
 abbrev pub making_turns : WorldValue → ℕ
 making_turns world = most_turns world making_quota
 
--- a profile is being made ready: whatever that ends with is the profile ready, or its refusal, and it takes no
--- more turns than any
-pub record IsOngoing (world : WorldValue) (binding : Binding) (p : Chain Linking Comparing KeptTerms) : Type 0 where
+-- a profile is being made ready: whatever that ends with is the profile ready, or its refusal, and it takes
+-- no more turns than any
+pub record IsOngoing (world : WorldValue) (binding : Binding)
+    (p : Chain Linking Comparing KeptTerms) : Type 0 where
   pub over : IsPreparing world p
-  pub ends : (end : Result Ready RouteError) → PreparingEnds world p end → Readies binding (ready_of binding) end
+  pub ends : (end : Result Ready RouteError) → PreparingEnds world p end →
+      Readies binding (ready_of binding) end
   pub few : preparing_left world making_quota p ≤ making_turns world
 
 -- so far is the making of a profile that is bound to a world
@@ -73,7 +75,8 @@ pub record IsMakingFrom (world : WorldValue) (stored : List Sections) (making : 
 -- ---- Places
 
 -- at a place stands the making of a profile that is bound to a world
-pub record IsMakingAt (world : WorldValue) (slots : List (Option Making)) (k : ℕ) (binding : Binding) : Type 0 where
+pub record IsMakingAt (world : WorldValue) (slots : List (Option Making)) (k : ℕ)
+    (binding : Binding) : Type 0 where
   pub making : Making
   pub there : get_or slots k None ≡ Some making
   pub is : IsProgressOf world binding making.progress
@@ -83,6 +86,10 @@ pub record StandsAt (slots : List (Option Making)) (key : Key) (k : ℕ) : Type 
   pub making : Making
   pub there : get_or slots k None ≡ Some making
   pub key_is : making.key ≡ key
+
+-- no key has two makings: two places where one under it stands are one place
+unfoldable pub HaveOneMaking : List (Option Making) → Type 0
+HaveOneMaking slots = (key : Key) (j k : ℕ) → StandsAt slots key j → StandsAt slots key k → j ≡ k
 
 -- this was put at a place, and the other places stay
 pub record Puts (old new : List (Option Making)) (k : ℕ) (slot : Option Making) : Type 0 where
@@ -97,9 +104,11 @@ pub record IsAdded (old new : List (Option Making)) (making : Making) (k : ℕ) 
 -- a call gives what a making came to, where it is at its end
 abbrev pub GivesEnd : WorldValue → Progress → Option (Result Shared RouteError) → Type 0
 GivesEnd world progress None = IsGoing progress
-GivesEnd world progress (Some end) = (binding : Binding) → IsProgressOf world binding progress → GivesReady binding end
+GivesEnd world progress (Some end) =
+    (binding : Binding) → IsProgressOf world binding progress → GivesReady binding end
 
--- the making at a place had a turn: it is still that of its profile, and has fewer turns left where it goes on
+-- the making at a place had a turn: it is still that of its profile, and has fewer turns left where it goes
+-- on
 pub record HasTurn (world : WorldValue) (old new : List (Option Making)) (k : ℕ)
     (end : Option (Result Shared RouteError)) : Type 0 where
   pub before : Making
@@ -107,12 +116,13 @@ pub record HasTurn (world : WorldValue) (old new : List (Option Making)) (k : �
   pub after : Making
   pub puts : Puts old new k (Some after)
   pub key_same : after.key ≡ before.key
-  pub sound : (binding : Binding) → IsProgressOf world binding before.progress → IsProgressOf world binding after.progress
+  pub sound : (binding : Binding) → IsProgressOf world binding before.progress →
+      IsProgressOf world binding after.progress
   pub nearer : Nearer world before.progress after.progress
   pub gives : GivesEnd world after.progress end
 
--- at a place stands the making of a profile, by its place among the stored ones and its overrides, which goes on for
--- so many turns at most
+-- at a place stands the making of a profile, by its place among the stored ones and its overrides, which goes
+-- on for so many turns at most
 pub record IsAwaited (world : WorldValue) (slots : List (Option Making)) (place : ℕ)
     (overrides : List (List ℕ × ℤ)) (left : ℕ) (k : ℕ) : Type 0 where
   pub making : Making

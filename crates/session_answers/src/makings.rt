@@ -1,6 +1,6 @@
 //! Profiles that are being made ready for the sessions that wait for them.
 
-ghost use Rattle.std.specs.Prelude.{◌≡◌, ◌<◌, [], IfErr, IfOk, IfSome, None, OnErr, Some, get_or, length, true};
+ghost use Rattle.std.specs.Prelude.{◌≡◌, ◌≢◌, ◌<◌, [], ℕ, IfErr, IfOk, IfSome, None, OnErr, Some, false, get_or, length, true};
 ghost use Rattle.route_ready.specs.World.{world_of};
 ghost use Rattle.route_ready.specs.Worlds.{WorldValue};
 ghost use Rattle.session_answers.specs.Makings.{GivesEnd, HasTurn, IsAdded, IsMakingAt, IsProgressOf, Nearer, Puts, StandsAt};
@@ -85,6 +85,7 @@ impl Makings {
     /// The place of a making under this key, where one stands.
     pub(crate) fn find(&self, key: &Key) -> Option<usize>
         ensures found { IfSome result (StandsAt self.now.slots.items key.now) }
+        ensures none { result ≡ None → (k : ℕ) → StandsAt self.now.slots.items key.now k → ⊥ }
     {
         'slots: for k in 0..self.slots.len() {
             if is_under(&self.slots[k], key) {
@@ -134,7 +135,8 @@ impl Makings {
 
     /// The key of the making at a place.
     pub(crate) fn key(&self, alloc: Global, k: usize) -> Result<Key, AllocError>
-        requires stands { (making : TheMaking) × (get_or self.now.slots.items k None ≡ Some making) }
+        requires stands { (making : TheMaking) ×
+            (get_or self.now.slots.items k None ≡ Some making) }
         ensures exact { (making : TheMaking) → get_or self.now.slots.items k None ≡ Some making →
             IfOk result (λ key. key ≡ making.key) }
     {
@@ -156,7 +158,10 @@ impl Makings {
 
 /// Whether a place has a making under this key.
 fn is_under(slot: &Option<Making>, key: &Key) -> bool
-    ensures found { result ≡ true → (making : TheMaking) × (slot.now ≡ Some making) × (making.key ≡ key.now) }
+    ensures found { result ≡ true → (making : TheMaking) × (slot.now ≡ Some making) ×
+        (making.key ≡ key.now) }
+    ensures none { result ≡ false → (making : TheMaking) → slot.now ≡ Some making →
+        making.key ≢ key.now }
 {
     match slot {
         Some(making) => making.key == *key,

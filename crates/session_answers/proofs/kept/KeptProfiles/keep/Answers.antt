@@ -11,6 +11,7 @@ returns-in-Ok c = record {
         c.put.ensures.entries c.put.ensures.err kept.made
         (subst (IsMadeFrom world stored c.args.key) (sym c.in-Ok.ensures.cases) made);
     makings = kept.makings;
+    once = kept.once;
   };
   makings = refl;
 }

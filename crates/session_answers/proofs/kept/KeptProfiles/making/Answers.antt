@@ -1,7 +1,7 @@
 use Rattle.std.proofs.Common.{◌∙◌, ap, refl}
 use Rattle.profile_text.specs.Expr.{sections_in}
 use Rattle.route_ready.specs.World.{world_of}
-use Rattle.session_answers.proofs.MakingLemmas.{added-kept, added-stay, begun-from, from-few}
+use Rattle.session_answers.proofs.MakingLemmas.{added-kept, begun-from, from-few}
 use Rattle.session_answers.specs.declared.kept.KeptProfiles.{KeptProfiles}
 use Rattle.session_answers.specs.declared.key.Key.{Key}
 use Rattle.session_answers.specs.declared.makings.Making.{Making}
@@ -12,7 +12,7 @@ pub returns-in-Some-clause-exact : goal.returns-in-Some-clause-exact
 returns-in-Some-clause-exact c = λ stored kept there.
     let world = world_of c.args.world.now in
     let found = c.in-Some.ensures.found in (
-      record { made = kept.made; makings = kept.makings },
+      record { made = kept.made; makings = kept.makings; once = kept.once },
       record {
         making = found.making;
         there = found.there;
@@ -30,7 +30,8 @@ returns-in-Ok-add-clause-exact c = λ stored kept there.
     let added = c.in-Ok-add.ensures.added in
     let from = begun-from world stored c.args.key c.args.overrides.now (sections_in c.args.profile.now) c.in-Ok.making c.requires.same
     there c.in-Ok.ensures.begins in (
-      added-kept world c.args.self.now new making c.in-Ok-add.k added stored refl kept from,
+      added-kept world c.args.self.now new making c.in-Ok-add.k added stored refl kept from
+          (c.in_default.ensures.none refl),
       record {
         making = making;
         there = added.puts.is;

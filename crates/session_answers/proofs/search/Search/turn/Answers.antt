@@ -59,3 +59,12 @@ returns-in-Ok-clause-exact c = λ labels before aim query job.
     query-told (site_of world labels) (take before stored) c.args.kept.now aim query p job sections
     (sections-same (slice_get (profiles_of stored) p.place) sections job.sections c.profile.ensures.value there) c.in-Done.end
     c.in-Ok.answer.items (subst (λ a. EndsFor world job.sections a job.asked c.in-Done.end) job.is.aim_is ends) c.in-Ok.ensures.exact
+
+pub returns-in-More-clause-kept : goal.returns-in-More-clause-kept
+returns-in-More-clause-kept c = c.stepped.ensures.kept (profiles_of (stored_of c.args.profiles.now)) c.requires.kept
+
+pub returns-in-Ok-clause-kept : goal.returns-in-Ok-clause-kept
+returns-in-Ok-clause-kept c = c.stepped.ensures.kept (profiles_of (stored_of c.args.profiles.now)) c.requires.kept
+
+pub returns-in-Err-clause-kept : goal.returns-in-Err-clause-kept
+returns-in-Err-clause-kept c = c.stepped.ensures.kept (profiles_of (stored_of c.args.profiles.now)) c.requires.kept
