@@ -1,5 +1,5 @@
 -- Profiles that are being made ready: what their turns leave, and the places where they stand.
-use Rattle.std.proofs.Common.{◌≡◌, ◌≢◌, ◌<◌, ◌≤◌, ℕ, ℤ, zero, suc, List, [], ◌∷◌, ◌++◌, length, get_or, set, Option, Some, None, Result, Ok, Err, Contains, inl, inr, refl, sym, ap, ◌∙◌, subst, arith, get_or-set_other, get_or-set_same}
+use Rattle.std.proofs.Common.{◌≡◌, ◌<◌, ◌≤◌, ℕ, ℤ, zero, suc, List, [], ◌∷◌, ◌++◌, length, get_or, set, Option, Some, None, Result, Ok, Err, Contains, inl, inr, refl, sym, ap, ◌∙◌, subst, arith, get_or-set_other, get_or-set_same}
 use Rattle.std.specs.Prelude.{slice_get}
 use Rattle.std.proofs.Math.Seq.{get_or-append_seam, get_or-append_right}
 use Rattle.std.proofs.lemmas.Bool.{cases_eq, cases_lt}
@@ -17,7 +17,7 @@ use Rattle.session_answers.specs.Kept.{IsCounted, IsKept, IsMadeFrom, IsWanted, 
 use Rattle.session_answers.proofs.OnceLemmas.{once-added, once-dropped, once-turned, one-there}
 use Rattle.session_answers.specs.declared.kept.Wanted.{Wanted}
 use Rattle.session_answers.specs.declared.kept.Wanted.TheVariants as wants
-use Rattle.session_answers.specs.Makings.{GivesEnd, GivesReady, HasTurn, HaveOneMaking, IsAdded, IsAwaited, IsMakingFrom, IsOngoing, IsProgressOf, Nearer, Puts, Shared, StandsAt, left_of, making_quota, making_turns}
+use Rattle.session_answers.specs.Makings.{GivesEnd, GivesReady, HasTurn, HaveOneMaking, IsAdded, IsMakingFrom, IsOngoing, IsProgressOf, Nearer, Puts, Shared, StandsAt, left_of, making_quota, making_turns}
 use Rattle.session_answers.specs.declared.kept.KeptProfiles.{KeptProfiles}
 use Rattle.session_answers.specs.declared.key.Key.{Key}
 use Rattle.session_answers.specs.declared.makings.Making.{Making}

@@ -1,7 +1,7 @@
 use Rattle.std.proofs.Common.{◌∙◌, ap, refl}
 use Rattle.profile_text.specs.Expr.{sections_in}
 use Rattle.route_ready.specs.World.{world_of}
-use Rattle.session_answers.proofs.MakingLemmas.{added-kept, added-stay, begun-from, from-few}
+use Rattle.session_answers.proofs.MakingLemmas.{added-kept, begun-from, from-few}
 use Rattle.session_answers.specs.declared.kept.KeptProfiles.{KeptProfiles}
 use Rattle.session_answers.specs.declared.key.Key.{Key}
 use Rattle.session_answers.specs.declared.makings.Making.{Making}

@@ -1,4 +1,4 @@
-use Rattle.std.proofs.Common.{refl, subst, sym}
+use Rattle.std.proofs.Common.{refl, subst}
 use Rattle.route_ready.specs.World.{world_of}
 use Rattle.session_answers.proofs.MakingLemmas.{turned-kept}
 use Rattle.session_answers.specs.Makings.{GivesEnd}

@@ -1,8 +1,7 @@
-use Rattle.std.proofs.Common.{List, Option, Some, refl, subst, arith, ◌∷◌, ◌++◌, [], set}
+use Rattle.std.proofs.Common.{Some, refl, subst, arith, set}
 use Rattle.session_answers.proofs.MakingLemmas.{added-free, added-last}
 use Rattle.session_answers.specs.Makings.{IsAdded}
 use Rattle.session_answers.specs.declared.makings.Makings.{Makings}
-use Rattle.session_answers.specs.declared.makings.Making.{Making}
 use Rattle.session_answers.proofs.makings.Makings.add.Goals as goal
 
 pub returns-then-is_free-clause-added : goal.returns-then-is_free-clause-added
