@@ -2,6 +2,7 @@ pub mod Causes
 pub mod Inside
 pub mod Law
 pub mod Served
+pub mod Swept
 pub mod Turns
 pub mod Uploads
 pub mod View

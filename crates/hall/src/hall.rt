@@ -5,7 +5,6 @@ ghost use Rattle.hall_seats.specs.Parts.{seat_count};
 
 use crate::opening::MOST_SESSIONS;
 use crate::stepping::step;
-use crate::sweeping::sweep;
 use crate::working::work;
 use edge_io::{Event, Hub};
 use hall_seats::{Desk, ReadyFrames, Room, SEATS, Seat, serve_seats};
@@ -112,7 +111,6 @@ impl Hall {
         ensures same { service_of self.new ≡ service_of self.old }
     {
         work(&mut self.room);
-        sweep(&mut self.room);
     }
 
     /// Sends and closes what each connection has to send and to close. So after each turn no more

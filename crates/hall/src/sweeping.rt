@@ -1,8 +1,8 @@
 //! Makings for which no session waits any more.
 
-ghost use Rattle.std.specs.Prelude.{◌≡◌, ◌<◌, ℕ, None, Some, false, get_or, length};
+ghost use Rattle.std.specs.Prelude.{◌≡◌, ◌≢◌, ◌<◌, ℕ, MatchOption, false, length, true};
+ghost use Rattle.hall.specs.Swept.{HasNoWaiter, HasWaiter, IsSwept, IsSweptAt};
 ghost use Rattle.hall_seats.specs.Parts.{IsHeld, is_awaited_by, service_in, state_in};
-ghost use Rattle.hall_seats.specs.declared.seat.Seat.{Seat as TheSeat};
 
 use hall_seats::{Phase, Room, Seat};
 
@@ -12,6 +12,7 @@ pub(crate) fn sweep(room: &mut Room)
     ensures held { IsHeld room.new }
     ensures state { state_in room.new ≡ state_in room.old }
     ensures same { service_in room.new ≡ service_in room.old }
+    ensures swept { IsSwept room.new }
 {
     let makings = room.desk.kept.makings();
     'makings: for k in 0..makings {
@@ -28,6 +29,8 @@ fn sweep_place(room: &mut Room, k: usize)
     ensures same { service_in room.new ≡ service_in room.old }
     ensures long { length room.new.desk.kept.makings.slots.items ≡
         length room.old.desk.kept.makings.slots.items }
+    ensures swept { IsSweptAt room.new k }
+    ensures others { (j : ℕ) → j ≢ k → IsSweptAt room.old j → IsSweptAt room.new j }
 {
     if is_awaited(&room.seats, k) {
         return;
@@ -37,8 +40,8 @@ fn sweep_place(room: &mut Room, k: usize)
 
 /// Whether some session waits for the making at a place.
 fn is_awaited(seats: &[Option<Seat>], k: usize) -> bool
-    ensures none { result ≡ false → (j : ℕ) (seat : TheSeat) → get_or seats.now j None ≡ Some seat →
-        is_awaited_by seat.phase k ≡ false }
+    ensures found { result ≡ true → HasWaiter seats.now k }
+    ensures none { result ≡ false → HasNoWaiter seats.now k }
 {
     'seats: for j in 0..seats.len() {
         if is_awaited_in(&seats[j], k) {
@@ -50,8 +53,8 @@ fn is_awaited(seats: &[Option<Seat>], k: usize) -> bool
 
 /// Whether the session of a seat waits for it.
 fn is_awaited_in(seat: &Option<Seat>, k: usize) -> bool
-    ensures none { result ≡ false → (taken : TheSeat) → seat.now ≡ Some taken →
-        is_awaited_by taken.phase k ≡ false }
+    ensures exact { MatchOption seat.now (result ≡ false)
+        (λ taken. result ≡ is_awaited_by taken.phase k) }
 {
     match seat {
         Some(seat) => match &seat.phase {

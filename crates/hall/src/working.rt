@@ -1,6 +1,7 @@
 //! Turns of searches.
 
 ghost use Rattle.std.specs.Prelude.{◌≡◌};
+ghost use Rattle.hall.specs.Swept.{IsSwept};
 ghost use Rattle.hall_seats.specs.Parts.{AreReadied, HasTurn, IsHeld, IsSearchAt, IsSearchOf, IsWaitingIn, Makes, connection_of, service_in, site_at, state_in, waiting_for};
 ghost use Rattle.hall_seats.specs.Steps.{Works};
 ghost use Rattle.session_answers.specs.Profiles.{stored_of};
@@ -9,13 +10,27 @@ ghost use Rattle.session_answers.specs.Received.{received_of};
 use crate::queue::joined;
 use crate::seating::answered;
 use crate::seats::seat_of;
+use crate::sweeping::sweep;
 use hall_seats::{Desk, Frame, Phase, Room, Seat, lifted, put};
 use item_list::Turn;
 use session_answers::Search;
 use std::mem::replace;
 
-/// Gives a turn to the search that waited longest.
+/// Gives a turn to the search that waited longest, and drops the makings for which no session waits
+/// any more.
 pub(crate) fn work(room: &mut Room)
+    requires held { IsHeld room.old }
+    ensures works { Works (service_in room.old) (state_in room.old) (state_in room.new) }
+    ensures held { IsHeld room.new }
+    ensures same { service_in room.new ≡ service_in room.old }
+    ensures swept { IsSwept room.new }
+{
+    give_turn(room);
+    sweep(room);
+}
+
+/// Gives a turn to the search that waited longest.
+fn give_turn(room: &mut Room)
     requires held { IsHeld room.old }
     ensures works { Works (service_in room.old) (state_in room.old) (state_in room.new) }
     ensures held { IsHeld room.new }

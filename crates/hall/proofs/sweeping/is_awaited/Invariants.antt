@@ -4,4 +4,5 @@ use Rattle.hall_seats.specs.declared.seat.Seat.{Seat}
 use Rattle.hall.proofs.sweeping.is_awaited.Given as goal
 
 abbrev pub invariant-seats : goal.invariant-seats
-invariant-seats l = (i : ℕ) (seat : Seat) → i < l.j → get_or l.seats i None ≡ Some seat → is_awaited_by seat.phase l.k ≡ false
+invariant-seats l = (i : ℕ) (seat : Seat) → i < l.j → get_or l.seats i None ≡ Some seat →
+    is_awaited_by seat.phase l.k ≡ false
