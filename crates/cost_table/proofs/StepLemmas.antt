@@ -4,6 +4,7 @@ use Rattle.std.specs.List.{slice_get}
 use Rattle.std.proofs.lemmas.Option.{slice_get_within}
 use Rattle.cost_model.specs.declared.parts.Carry.{Carry}
 use Rattle.item_list.proofs.ListLemmas.{slice_get-append, slice_get-there}
+use Rattle.space_search.proofs.CallerLemmas.{kept-grow}
 use Rattle.space_search.specs.Searches.{IsSearchOf}
 use Rattle.space_search.specs.Turns.{EndsSearch, GoesOn, IsClosedSoFar}
 use Rattle.space_search.specs.View.{IsShown, KeepsPlaces, Reached, listed, view}
@@ -27,15 +28,6 @@ use Rattle.cost_table.proofs.ArriveLemmas.{grown-by, place-before}
 use Rattle.cost_table.proofs.NoWayLemmas.{no-way-known}
 use Rattle.cost_table.proofs.NoteLemmas.{IsKnown, note-known}
 use Rattle.cost_table.proofs.SpentLemmas.{spent-known, spent_walks}
-
--- a list whose places are kept isn't longer
-pub keeps-longer :
-    (before after : List (Reached Carry)) → KeepsPlaces before after → length before ≤ length after
-keeps-longer [] after kept = omega arith
-keeps-longer (first ∷ rest) after kept =
-    let there = slice_get-there (first ∷ rest) (length rest) (omega arith) in
-    let within = slice_get_within after (length rest) there.0 (kept (length rest) there.0 there.1) in
-    omega (arith, within)
 
 -- what is found after labels is found after those of them that stand at their places
 fewer-by :
@@ -84,7 +76,7 @@ module _ (task : Task) (lawful : IsTask task) (unused : (link : ℕ) → task.us
     want = refl;
     limit = kept.limit;
     stage = refl;
-    grows = omega (arith, way.counted, counted, keeps-longer (view reach.search).settled (view search).settled kept.kept);
+    grows = omega (arith, way.counted, counted, kept-grow (view reach.search).settled (view search).settled kept.kept);
     within = omega (arith, counted, kept.within, kept.limit);
   }
 

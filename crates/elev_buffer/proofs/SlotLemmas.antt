@@ -9,7 +9,7 @@ use Rattle.elev_buffer.specs.declared.labels.Modes.{Modes}
 use Rattle.elev_buffer.specs.declared.labels.Pair.{Pair}
 
 -- two buffers that have the order of their mode have one shared part
-order-shares : (mode : Mode) (x y : ℤ) → IsInOrder mode x y → shared_part mode x ≡ shared_part mode y
+pub order-shares : (mode : Mode) (x y : ℤ) → IsInOrder mode x y → shared_part mode x ≡ shared_part mode y
 order-shares Compensated x y h = refl
 order-shares Ordered x y h = refl
 order-shares Equal x y h = ap unsigned_abs h

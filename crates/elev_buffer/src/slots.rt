@@ -67,7 +67,7 @@ fn is_equal(mode: Mode) -> bool
 }
 
 /// What labels share of a buffer where one covers the other.
-fn shared_part(mode: Mode, buffer: i64) -> u64
+pub(crate) fn shared_part(mode: Mode, buffer: i64) -> u64
     requires buffer { IsBuffer buffer }
     ensures exact { result ≡ shared_part mode buffer }
     ensures within { result ≤ 1000000000000000 }

@@ -11,6 +11,7 @@ use Rattle.cost_model.specs.Rides.{Leg, Terrain}
 use Rattle.cost_model.specs.declared.parts.Carry.{Carry}
 use Rattle.space_search.specs.Rules.{Rules}
 use Rattle.space_search.specs.Searches.{IsSearchOf}
+use Rattle.space_search.proofs.CallerLemmas.{kept-grow}
 use Rattle.space_search.specs.View.{KeepsPlaces, Reached, view}
 use Rattle.space_search.specs.declared.outcome.Outcome.{Outcome}
 use Rattle.space_search.specs.declared.search.Search.{Search}
@@ -19,12 +20,6 @@ use Rattle.route_certificate.specs.Legs.{AreRests}
 use Rattle.route_certificate.specs.Provings.{IsSearchedFor}
 use Rattle.route_certificate.specs.declared.proving.Searched.{Searched}
 use Rattle.route_certificate.proofs.WritableLemmas.{shown-written}
-
--- where each label keeps its place, there are no fewer
-pub kept-grow : {S : Type 0} (before after : List (Reached S)) → KeepsPlaces before after → length before ≤ length after
-kept-grow [] after keeps = omega arith
-kept-grow (x ∷ xs) [] keeps = let never : slice_get [] 0 ≡ Some x = keeps 0 x refl in absurd (cc)
-kept-grow (x ∷ xs) (y ∷ ys) keeps = omega (arith, kept-grow xs ys (λ place label s. keeps (suc place) label s))
 
 -- what a space of a leg is when it is made
 pub record SpaceMade (terrain : Terrain) (bound : LowerBound) (leg : Leg) (kept : Rested) : Type 0 where

@@ -1,6 +1,7 @@
 -- What crates above may take from a search over a space, and of runs over a space that keeps the laws.
-use Rattle.std.proofs.Common.{ℕ, ◌<◌, ◌≤◌, ◌*◌, ◌⊎◌, List, ◌++◌, [], ◌∷◌, length, Option, Some, arith, sym, subst, length-append}
+use Rattle.std.proofs.Common.{◌≡◌, ℕ, suc, refl, ◌<◌, ◌≤◌, ◌*◌, ◌⊎◌, List, ◌++◌, [], ◌∷◌, length, Option, Some, arith, sym, subst, length-append}
 use Rattle.std.specs.Bool.{IsTrue}
+use Rattle.std.specs.List.{slice_get}
 use Rattle.space_search.specs.Books.{books}
 use Rattle.space_search.specs.Laws.{IsSpace, HasEvenBound, IsBlind, IsDearest}
 use Rattle.space_search.specs.Limits.{CoversByKey, HasFewPerCell}
@@ -8,7 +9,7 @@ use Rattle.space_search.specs.Rules.{Rules}
 use Rattle.space_search.specs.Runs.{IsRun}
 use Rattle.space_search.specs.Searches.{IsSearchOf, IsReadable}
 use Rattle.space_search.specs.Turns.{AreInOrder, EndsFound, IsClosedAndOrdered, IsCoveredBy, IsDone}
-use Rattle.space_search.specs.View.{Reached, view, listed}
+use Rattle.space_search.specs.View.{KeepsPlaces, Reached, view, listed}
 use Rattle.space_search.specs.declared.search.Search.{Search}
 -- where a run ends is valid
 pub use Rattle.space_search.proofs.DoneLemmas.{run-valid}
@@ -73,3 +74,9 @@ module _ {S : Type 0} (rules : Rules S) (laws : IsSpace rules) where
       (dearest : ℕ) → IsDearest rules dearest → {end : S} {choices : List ℕ} {cost : ℕ} → IsRun rules choices end cost →
       cost ≤ length choices * dearest
   run-cost dearest is_dearest run = cost-run rules laws dearest is_dearest run
+
+-- where each label keeps its place, there are no fewer
+pub kept-grow : {S : Type 0} (before after : List (Reached S)) → KeepsPlaces before after → length before ≤ length after
+kept-grow [] after keeps = omega arith
+kept-grow (x ∷ xs) [] keeps = let never : slice_get [] 0 ≡ Some x = keeps 0 x refl in absurd (cc)
+kept-grow (x ∷ xs) (y ∷ ys) keeps = omega (arith, kept-grow xs ys (λ place label s. keeps (suc place) label s))

@@ -2,7 +2,8 @@ use Rattle.std.proofs.Common.{◌+◌, ◌∙◌, ap, length, subst, sym, arith}
 use Rattle.bike_space.specs.Kept.{task_of}
 use Rattle.item_list.specs.Turns.{Settles}
 use Rattle.space_search.specs.View.{view}
-use Rattle.route_certificate.proofs.ProvingLemmas.{kept-grow, searched-fits, searched-shown}
+use Rattle.space_search.proofs.CallerLemmas.{kept-grow}
+use Rattle.route_certificate.proofs.ProvingLemmas.{searched-fits, searched-shown}
 use Rattle.route_certificate.proofs.proving.Searched.turn.Goals as goal
 
 pub overflow_sub-settled : goal.overflow_sub-settled
