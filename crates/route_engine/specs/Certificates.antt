@@ -1,6 +1,6 @@
 -- The certificate of a request: what shows the walk of each leg least, by the least sums of what still has to be paid;
 -- and its bytes. This project's own rule.
-use Rattle.std.specs.Prelude.{◌≡◌, ℕ, ◌+◌, ◌-◌, ◌*◌, ◌<◌, List, map, length, Some}
+use Rattle.std.specs.Prelude.{◌≡◌, ℕ, suc, ◌+◌, ◌-◌, ◌*◌, ◌<◌, List, map, length, Some}
 use Rattle.std.specs.List.{slice_get}
 use Rattle.certificate_text.specs.Texts.{AreLegs, certificate_text, leg_of, value_of}
 use Rattle.certificate_text.specs.declared.certificate.Certificate.{Certificate}
@@ -28,7 +28,7 @@ pub record AreProofs (plan : Plan) (legs : List Proof) : Type 0 where
 -- this is a certificate of the track that a plan asks for in its first alternative, by the least sums
 pub record IsCertificateFor (plan : Plan) (certificate : Certificate) : Type 0 where
   pub by_sums : certificate.bound ≡ Least
-  pub count : length certificate.legs.items ≡ leg_count plan
+  pub count : suc (length certificate.legs.items) ≡ length plan.nodes
   pub proofs : AreProofs plan certificate.legs.items
 
 -- ---- No certificate
