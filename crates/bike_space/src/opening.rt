@@ -1,6 +1,6 @@
 //! A space of a leg is opened, widened, put to rest and woken.
 
-ghost use Rattle.std.specs.Prelude.{◌≡◌, ◌<◌, ◌-◌, ◌^◌, IfOk, None, false, length};
+ghost use Rattle.std.specs.Prelude.{◌≡◌, ◌<◌, ◌-◌, ◌^◌, IfOk, None, length};
 ghost use Rattle.space_search.specs.Laws.{HasEvenBound, IsDearest};
 ghost use Rattle.bike_space.specs.Kept.{Wakes, leg_asked, task_of};
 ghost use Rattle.bike_space.specs.Marks.{is_marked};
@@ -12,16 +12,18 @@ use crate::remaining::remaining;
 use crate::rested::Rested;
 use crate::space::BikeSpace;
 use cost_model::TerrainOf;
+use least_sums::Near;
 use std::alloc::{AllocError, Global};
 
 impl<G: TerrainOf> BikeSpace<G> {
-    /// The space of the walks of a leg on a terrain. With `near` what still has to be paid is found
-    /// up to a radius alone, a little beyond the start; what is farther has that radius at least.
+    /// The space of the walks of a leg on a terrain. What still has to be paid is found up to a
+    /// radius alone, as far as `near` says, and what is farther has that radius at least; without
+    /// `near` it is found for all nodes.
     pub fn new(
         alloc: Global,
         terrain: G,
         ask: &LegAsk,
-        near: bool,
+        near: Option<Near>,
     ) -> Result<BikeSpace<G>, AllocError>
         requires start { ask.now.start < length (G.terrain terrain).map.nodes }
         requires target { ask.now.target < length (G.terrain terrain).map.nodes }
@@ -33,8 +35,8 @@ impl<G: TerrainOf> BikeSpace<G> {
         ensures used { IfOk result (λ space.
             (task_of (G.terrain terrain) space.kept).used ≡ is_marked ask.now.used.now) }
 
-        // What still has to be paid is found for all nodes where `near` doesn't say otherwise.
-        ensures whole { near ≡ false → IfOk result (λ space.
+        // Without `near` what still has to be paid is found for all nodes.
+        ensures whole { near ≡ None → IfOk result (λ space.
             (task_of (G.terrain terrain) space.kept).radius ≡ None) }
 
         // It is lawful, its runs are the walks of the leg, a start or step costs below 2^81, and
@@ -70,8 +72,16 @@ impl<G: TerrainOf> BikeSpace<G> {
             target: kept.target,
             turns: kept.turns,
         };
-        let low = remaining(alloc, &terrain, &ask, false)?;
+        let low = remaining(alloc, &terrain, &ask, None)?;
         Ok(kept.with(low).wake(terrain))
+    }
+
+    /// The sum up to which it is known what still has to be paid; none where it is for all nodes.
+    pub fn radius(&self) -> Option<u128>
+        ensures value { result ≡
+            (task_of (G.terrain self.now.terrain) self.now.kept).radius }
+    {
+        self.kept.low.radius()
     }
 
     /// What the space keeps of its own. It takes no memory.
@@ -89,7 +99,7 @@ fn rested<G: TerrainOf>(
     alloc: Global,
     terrain: &G,
     ask: &LegAsk,
-    near: bool,
+    near: Option<Near>,
 ) -> Result<Rested, AllocError>
     requires start { ask.now.start < length (G.terrain terrain.now).map.nodes }
     requires target { ask.now.target < length (G.terrain terrain.now).map.nodes }
@@ -97,7 +107,7 @@ fn rested<G: TerrainOf>(
         leg_asked (G.terrain terrain.now) ask.now) }
     ensures used { IfOk result (λ kept.
         (task_of (G.terrain terrain.now) kept).used ≡ is_marked ask.now.used.now) }
-    ensures whole { near ≡ false → IfOk result (λ kept.
+    ensures whole { near ≡ None → IfOk result (λ kept.
         (task_of (G.terrain terrain.now) kept).radius ≡ None) }
     ensures wakes { IfOk result (Wakes (G.terrain terrain.now)) }
 {

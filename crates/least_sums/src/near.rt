@@ -1,5 +1,5 @@
-//! The least sums of the nodes near a target, found from the target backward as far as a search
-//! needs them.
+//! The least sums of the nodes near a target, found from the target backward as far as they are
+//! needed.
 
 ghost use Rattle.std.specs.Prelude.{◌≡◌, ◌<◌, ◌≤◌, IfOk, length, option_map};
 ghost use Rattle.overpass_graph.specs.Maps.{roads_of};
@@ -19,14 +19,41 @@ use std::alloc::{AllocError, Global};
 /// climbs: the price of 100 metres at costfactor 1.
 const MORE: u128 = 100000000;
 
-/// The least sum of each node of a map up to a radius, which is a little more than the sum of
-/// `start`; or all sums, where that has none or nothing is beyond the radius.
+/// How far from a target sums are found.
+#[derive(Clone, Copy)]
+pub enum Near {
+    /// A little farther than the sum of this node.
+    Node(u32),
+    /// As far as this sum.
+    Sum(u128),
+}
+
+impl Near {
+    /// The sum from which on none is needed; the greatest number where a node is looked for.
+    fn most(&self) -> u128 {
+        match self {
+            Near::Node(_) => u128::MAX,
+            Near::Sum(sum) => *sum,
+        }
+    }
+
+    /// Whether this node is looked for.
+    fn is_at(&self, node: u32) -> bool {
+        match self {
+            Near::Node(start) => node == *start,
+            Near::Sum(_) => false,
+        }
+    }
+}
+
+/// The least sum of each node of a map up to a radius, by how far they are needed; or all sums,
+/// where the node that is looked for has none or nothing is beyond the radius.
 pub fn least_sums_near<P: LinkPrices>(
     alloc: Global,
     map: &Map,
     prices: &P,
     target: u32,
-    start: u32,
+    near: Near,
 ) -> Result<Sums, AllocError>
     requires priced { length map.now.links ≤ (P.priced prices.now).count }
     requires in_range { target < length map.now.nodes }
@@ -34,7 +61,7 @@ pub fn least_sums_near<P: LinkPrices>(
         AreLeastSumsUpTo (roads_of map.now) (P.priced prices.now).price target found) }
     ensures small { IfOk result (λ found. AreBelow found.sums) }
 {
-    let found: Ring<u64> = found_near(alloc, map, prices, target, start)?;
+    let found: Ring<u64> = found_near(alloc, map, prices, target, near)?;
     let Ring { board, radius } = found;
     let Board { sums, cut, .. } = board;
     match radius {
@@ -60,14 +87,13 @@ struct Ring<N: Copy + Drop + Ord> {
     radius: Option<N>,
 }
 
-/// The sums that fit this width, until the sum of `start` is found and the radius is passed that
-/// this gives.
+/// The sums that fit this width, until the radius is passed up to which they are needed.
 fn found_near<N: Amount, P: LinkPrices>(
     alloc: Global,
     map: &Map,
     prices: &P,
     target: u32,
-    start: u32,
+    near: Near,
 ) -> Result<Ring<N>, AllocError>
     requires priced { length map.now.links ≤ (P.priced prices.now).count }
     requires in_range { target < length map.now.nodes }
@@ -76,7 +102,7 @@ fn found_near<N: Amount, P: LinkPrices>(
 {
     let mut board = Board::new(alloc, map.nodes())?;
     board.lower(target, 0)?;
-    let mut most = u128::MAX;
+    let mut most = near.most();
     'waiting: while let Some(entry) = board.pop() {
         let (sum, node) = entry;
         if most <= sum {
@@ -88,7 +114,7 @@ fn found_near<N: Amount, P: LinkPrices>(
         }
         if sum == board.sum(node) {
             spread(map, prices, target, &mut board, node)?;
-            if node == start {
+            if near.is_at(node) {
                 most = radius_for(sum);
             }
         }

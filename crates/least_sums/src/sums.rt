@@ -40,6 +40,16 @@ impl Model for Sums {
 }
 
 impl Sums {
+    /// The radius up to which sums were found; none where all were.
+    pub fn radius(&self) -> Option<u128>
+        ensures value { result ≡ self.now.radius }
+    {
+        match &self.kept {
+            Kept::Near { radius, .. } => Some(*radius as u128),
+            _ => None,
+        }
+    }
+
     /// The sum of a node: the least one, none where no walk leads from it to the target; up to a
     /// radius the least one or the radius, whichever is less.
     pub fn of(&self, node: u32) -> Option<u128>

@@ -8,6 +8,7 @@ ghost use Rattle.leg_search.specs.Quests.{IsSearchOn, quest_of, settled_of};
 use crate::search::{Aim, FIRST_LABELS, LegSearch};
 use bike_space::{BikeSpace, LegAsk};
 use cost_model::TerrainOf;
+use least_sums::Near;
 use space_search::Search;
 use std::alloc::{AllocError, Global};
 
@@ -38,7 +39,7 @@ impl LegSearch {
         }) }
         ensures fresh { IfOk result (λ search. settled_of search ≡ 0) }
     {
-        let space = BikeSpace::new(alloc, terrain, ask, true)?;
+        let space = BikeSpace::new(alloc, terrain, ask, Some(Near::Node(ask.start)))?;
         Ok(LegSearch {
             search: Search::new(alloc, limit.min(FIRST_LABELS)),
             kept: space.rest(),

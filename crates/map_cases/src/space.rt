@@ -14,6 +14,7 @@ use bike_space::{BikeSpace, LegAsk, Walk, least_walk};
 use case_inputs::{Case, place_of};
 use cost_model::{FactsOf, PricedMap, Rates, TerrainOf, modes};
 use junction_runs::least_walk_by_runs;
+use least_sums::Near;
 use overpass_graph::Map;
 use space_search::Outcome;
 use std::alloc::{AllocError, Global};
@@ -111,7 +112,12 @@ fn walk(
         target: ends.target,
         turns: case.count(4) == 1,
     };
-    let near = place_of(&SEARCHES, case.word(0)) == RING;
+    let is_ring = place_of(&SEARCHES, case.word(0)) == RING;
+    let near = if is_ring {
+        Some(Near::Node(ends.from))
+    } else {
+        None
+    };
     let space = BikeSpace::new(alloc, terrain, &ask, near)?;
     walked(alloc, case, space, terrain, ends.limit)
 }

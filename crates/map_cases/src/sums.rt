@@ -7,7 +7,7 @@ ghost use Rattle.std.specs.Prelude.{◌≡◌, ◌<◌, ◌≤◌, length};
 use crate::answers::OUTSIDE;
 use crate::sums::tariff::Tariff;
 use case_inputs::Case;
-use least_sums::{Sums, least_sums, least_sums_near};
+use least_sums::{Near, Sums, least_sums, least_sums_near};
 use overpass_graph::Map;
 use std::alloc::{AllocError, Global};
 
@@ -35,7 +35,7 @@ pub(crate) fn near_sums(alloc: Global, case: &Case, map: &Map) -> Result<String,
     }
     let tariff = tariff_of(alloc, case, 4)?;
     if map.links() as usize <= tariff.prices.len() {
-        let sums = least_sums_near(alloc, map, &tariff, target as u32, start as u32)?;
+        let sums = least_sums_near(alloc, map, &tariff, target as u32, Near::Node(start as u32))?;
         line(alloc, map, &sums)
     } else {
         String::from_str(alloc, OUTSIDE)

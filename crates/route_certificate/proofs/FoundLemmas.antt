@@ -22,6 +22,7 @@ use Rattle.route_certificate.specs.Closing.{Closes}
 use Rattle.route_certificate.specs.Entries.{carry_of, labels_of}
 use Rattle.route_certificate.specs.Legs.{AreInBounds, AreRests, leg_rules}
 use Rattle.route_certificate.proofs.ClosingLemmas.{flaw-alike, list-closes}
+use Rattle.route_certificate.proofs.KnownLemmas.{rests-below}
 use Rattle.route_certificate.proofs.LegLemmas.{cost-plain, flaw-one, plain-alike}
 use Rattle.route_certificate.proofs.SettledLemmas.{settled-as}
 
@@ -93,9 +94,9 @@ module _ (task : Task) (lawful : IsTask task) (none : (link : ℕ) → task.used
           bounds = found-bounds;
         };
         closed = λ low other.
-            flaw-one bound task.leg task.low low rests other proof None
+            flaw-one bound task.leg proof task.low low (rests-below bound task.leg proof.cost task.low rests) other None
             (flaw-alike (rules_of task) (leg_rules task.leg task.low) proof.cost proof.entries.items
-            (plain-alike task none proof.entries.items) None found-closes);
+            (plain-alike task none proof.cost proof.entries.items) None found-closes);
       };
       least = found-walk;
       short =

@@ -3,7 +3,6 @@ use Rattle.std.proofs.Common.{◌≡◌, ◌≢◌, ℕ, IfOk, Result, Ok, Err, 
 use Rattle.std.proofs.lemmas.Bool.Decides.{nat_tests}
 use Rattle.certificate_text.specs.declared.certificate.Entry.{Entry}
 use Rattle.certificate_text.specs.declared.certificate.LowerBound.{LowerBound}
-use Rattle.certificate_text.specs.declared.certificate.LowerBound.TheVariants.{Zero, Least}
 use Rattle.certificate_text.specs.declared.certificate.Proof.{Proof}
 use Rattle.cost_model.specs.Parts.{entry_cost}
 use Rattle.cost_model.specs.Rides.{Leg}
@@ -15,13 +14,14 @@ use Rattle.track_legs.specs.Tracks.{IsWalkAt}
 use Rattle.bike_space.specs.Lawful.{IsTask}
 use Rattle.bike_space.specs.LegWalks.{IsLeastWalk, IsLegWalk, leg_cost, leg_rank}
 use Rattle.bike_space.specs.Tasks.{Task, chosen, entered, may_take, rules_of, start_by, step_by}
-use Rattle.bike_space.proofs.CallerLemmas.{closed-walks, rank-agrees, remaining-one, start-within, step-within, walk-fits}
+use Rattle.bike_space.proofs.CallerLemmas.{closed-walks, rank-agrees, start-within, step-within, walk-fits}
 use Rattle.route_certificate.specs.Closing.{Closes, IsFirstFlaw}
 use Rattle.route_certificate.specs.Entries.{AreBounded, carry_of, labels_of}
-use Rattle.route_certificate.specs.Legs.{AreInBounds, AreRests, IsFirstFault, IsWalkOf, ShowsLeast, leg_rules, leg_task, unused}
+use Rattle.route_certificate.specs.Legs.{AreInBounds, AreRestsBelow, IsFirstFault, IsWalkOf, ShowsLeast, leg_rules, leg_task}
 use Rattle.route_certificate.specs.declared.verdict.Why.{Why}
 use Rattle.route_certificate.specs.declared.verdict.Why.TheVariants.{Legs, Walk, Bounds, Start, Step, Goal}
 use Rattle.route_certificate.proofs.ClosingLemmas.{Alike, closed-list, flaw-alike}
+use Rattle.route_certificate.proofs.KnownLemmas.{rests-dear}
 
 -- ---- The walk
 
@@ -44,38 +44,32 @@ module _ (leg : Leg) (proof : Proof) (walk : List ℕ) (same : walk ≡ proof.wa
 
 -- ---- One lower bound
 
--- two lower bounds that are what still has to be paid behind links are one there
-rests-one : (bound : LowerBound) (leg : Leg) (low other : ℕ → Option ℕ) → AreRests bound leg low → AreRests bound leg other → (state : Carry) →
-    state.link < leg.ride.roads.links → (leg_rules leg low).low state ≡ (leg_rules leg other).low state
-rests-one Zero leg low other p q state within = p state.link within ∙ sym (q state.link within)
-rests-one Least leg low other p q state within =
-    remaining-one leg unused (leg.ride.roads.to state.link) (low (leg.ride.roads.to state.link))
-    (other (leg.ride.roads.to state.link)) (p state.link within) (q state.link within)
-
--- so their spaces answer alike
-rests-alike : (bound : LowerBound) (leg : Leg) (low other : ℕ → Option ℕ) → AreRests bound leg low → AreRests bound leg other → (entries : List Entry) →
-    Alike (leg_rules leg low) (leg_rules leg other) entries
+-- the spaces of two lower bounds that are known as far as a cost answer alike
+rests-alike : (bound : LowerBound) (leg : Leg) (below : ℕ) (low other : ℕ → Option ℕ) → AreRestsBelow bound leg below low →
+    AreRestsBelow bound leg below other → (entries : List Entry) → Alike (leg_rules leg low) (leg_rules leg other) below entries
 unfolding entered
-rests-alike bound leg low other p q entries = record {
+rests-alike bound leg below low other p q entries = record {
   starts = refl;
   start = λ number. refl;
   steps = λ state. refl;
   step = λ state number. refl;
   goal = λ state. refl;
   covers = λ x cx y cy. refl;
-  start_low = λ number state cost within is.
-      rests-one bound leg low other p q state (start-within (leg_task leg low) number state cost within is);
-  step_low = λ place entry there number state cost within is.
-      rests-one bound leg low other p q state (step-within (leg_task leg low) (carry_of entry) number state cost within is);
+  start_dear = λ number state cost within is at.
+      let inside = start-within (leg_task leg low) number state cost within is in
+      (rests-dear leg below low other state inside at bound p q, rests-dear leg below other low state inside at bound q p);
+  step_dear = λ place entry there number state cost within is at.
+      let inside = step-within (leg_task leg low) (carry_of entry) number state cost within is in
+      (rests-dear leg below low other state inside at bound p q, rests-dear leg below other low state inside at bound q p);
 }
 
 -- what fails by the one fails by the other
-pub flaw-one : (bound : LowerBound) (leg : Leg) (low other : ℕ → Option ℕ) → AreRests bound leg low → AreRests bound leg other → (proof : Proof)
-    (flaw : Option Why) → IsFirstFlaw (leg_rules leg low) proof.cost proof.entries.items flaw →
+pub flaw-one : (bound : LowerBound) (leg : Leg) (proof : Proof) (low other : ℕ → Option ℕ) → AreRestsBelow bound leg proof.cost low →
+    AreRestsBelow bound leg proof.cost other → (flaw : Option Why) → IsFirstFlaw (leg_rules leg low) proof.cost proof.entries.items flaw →
     IsFirstFlaw (leg_rules leg other) proof.cost proof.entries.items flaw
-flaw-one bound leg low other p q proof flaw is =
+flaw-one bound leg proof low other p q flaw is =
     flaw-alike (leg_rules leg low) (leg_rules leg other) proof.cost proof.entries.items
-    (rests-alike bound leg low other p q proof.entries.items) flaw is
+    (rests-alike bound leg proof.cost low other p q proof.entries.items) flaw is
 
 -- ---- The leg's own space
 
@@ -103,16 +97,16 @@ module _ (task : Task) (none : (link : ℕ) → task.used link ≡ false) where
       (none link)
 
   -- the space answers as that of the leg
-  pub plain-alike : (entries : List Entry) → Alike (rules_of task) (leg_rules task.leg task.low) entries
-  plain-alike entries = record {
+  pub plain-alike : (below : ℕ) (entries : List Entry) → Alike (rules_of task) (leg_rules task.leg task.low) below entries
+  plain-alike below entries = record {
     starts = refl;
     start = λ number. start-plain (chosen task.leg.ride.roads task.leg.start number);
     steps = λ state. refl;
     step = λ state number. step-plain state (chosen task.leg.ride.roads (task.leg.ride.roads.to state.link) number);
     goal = λ state. refl;
     covers = λ x cx y cy. refl;
-    start_low = λ number state cost within is. refl;
-    step_low = λ place entry there number state cost within is. refl;
+    start_dear = λ number state cost within is at. (λ d. record { ranks = d.ranks }, λ d. record { ranks = d.ranks });
+    step_dear = λ place entry there number state cost within is at. (λ d. record { ranks = d.ranks }, λ d. record { ranks = d.ranks });
   }
 
   -- a rank is a cost
@@ -147,12 +141,12 @@ module _ (task : Task) (none : (link : ℕ) → task.used link ≡ false) where
     }
 
     -- the first condition that fails, by the first part of a closed list that does
-    fault-of : (bound : LowerBound) → AreRests bound task.leg task.low → (flaw : Option Why) →
+    fault-of : (bound : LowerBound) → AreRestsBelow bound task.leg proof.cost task.low → (flaw : Option Why) →
         IsFirstFlaw (leg_rules task.leg task.low) proof.cost proof.entries.items flaw → IsFirstFault bound task.leg proof flaw
     fault-of bound rests None is =
         record {
           sound = record { walk = walk; bounds = bounds };
-          closed = λ low other. flaw-one bound task.leg task.low low rests other proof None is;
+          closed = λ low other. flaw-one bound task.leg proof task.low low rests other None is;
         }
     fault-of bound rests (Some Legs) fails = fails
     fault-of bound rests (Some Walk) fails = absurd fails
@@ -165,12 +159,12 @@ module _ (task : Task) (none : (link : ℕ) → task.used link ≡ false) where
         record { sound = record { walk = walk; bounds = bounds }; low = task.low; rests = rests; flaw = fails }
 
     -- so what a call answers of the list over the space is what it answers of the leg
-    pub fault-answers : {E : Type 0} (bound : LowerBound) → AreRests bound task.leg task.low → (answer : Result (Option Why) E) →
+    pub fault-answers : {E : Type 0} (bound : LowerBound) → AreRestsBelow bound task.leg proof.cost task.low → (answer : Result (Option Why) E) →
         IfOk answer (IsFirstFlaw (rules_of task) proof.cost proof.entries.items) → IfOk answer (IsFirstFault bound task.leg proof)
     fault-answers bound rests (Ok flaw) is =
         fault-of bound rests flaw
         (flaw-alike (rules_of task) (leg_rules task.leg task.low) proof.cost proof.entries.items
-        (plain-alike proof.entries.items) flaw is)
+        (plain-alike proof.cost proof.entries.items) flaw is)
     fault-answers bound rests (Err e) is = is
 
   -- a walk of at most 2^32 links costs below 2^113

@@ -1,6 +1,7 @@
 pub mod CallerLemmas
 pub mod EntryLemmas
 pub mod IndexLemmas
+pub mod KnownLemmas
 pub mod PassedLemmas
 pub mod ClosingLemmas
 pub mod LegLemmas

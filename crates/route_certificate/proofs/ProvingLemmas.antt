@@ -1,6 +1,5 @@
 -- The search for the walk of a leg with what shows it least: how it begins, goes on and ends.
-use Rattle.std.proofs.Common.{◌≡◌, ◌≢◌, ℕ, suc, ◌<◌, ◌≤◌, ◌^◌, false, List, [], ◌∷◌, length, Some, refl, ap, sym, subst, ◌∙◌, Ok, Result, arith}
-use Rattle.std.specs.List.{slice_get}
+use Rattle.std.proofs.Common.{◌≡◌, ◌≢◌, ℕ, ◌<◌, ◌^◌, false, sym, subst, ◌∙◌, Ok, Result}
 use Rattle.std.specs.declared.alloc.AllocError.{AllocError}
 use Rattle.bike_space.specs.Kept.{Wakes, task_of}
 use Rattle.bike_space.specs.Tasks.{rules_of}
@@ -11,8 +10,7 @@ use Rattle.cost_model.specs.Rides.{Leg, Terrain}
 use Rattle.cost_model.specs.declared.parts.Carry.{Carry}
 use Rattle.space_search.specs.Rules.{Rules}
 use Rattle.space_search.specs.Searches.{IsSearchOf}
-use Rattle.space_search.proofs.CallerLemmas.{kept-grow}
-use Rattle.space_search.specs.View.{KeepsPlaces, Reached, view}
+use Rattle.space_search.specs.View.{view}
 use Rattle.space_search.specs.declared.outcome.Outcome.{Outcome}
 use Rattle.space_search.specs.declared.search.Search.{Search}
 use Rattle.route_certificate.specs.Certified.{IsShown, IsWritable}

@@ -1,5 +1,5 @@
 -- What has to hold of a leg of a certificate, in the order in which it is tried (this project's own rule).
-use Rattle.std.specs.Prelude.{ℕ, ◌≡◌, ◌<◌, ◌^◌, Bool, IsTrue, false, List, Option, Some, None}
+use Rattle.std.specs.Prelude.{ℕ, ◌≡◌, ◌<◌, ◌≤◌, ◌^◌, Bool, IsTrue, false, List, Option, Some, None}
 use Rattle.std.specs.List.{slice_get}
 use Rattle.certificate_text.specs.declared.certificate.Entry.{Entry}
 use Rattle.certificate_text.specs.declared.certificate.LowerBound.{LowerBound}
@@ -9,7 +9,7 @@ use Rattle.cost_model.specs.Rides.{Leg}
 use Rattle.cost_model.specs.declared.parts.Carry.{Carry}
 use Rattle.space_search.specs.Rules.{Rules}
 use Rattle.bike_space.specs.LegWalks.{IsLegWalk, leg_cost}
-use Rattle.bike_space.specs.Remaining.{IsRemaining}
+use Rattle.bike_space.specs.Remaining.{IsRemaining, IsRemainingUpTo}
 use Rattle.bike_space.specs.Tasks.{Task, is_carried, rules_of}
 use Rattle.route_certificate.specs.Closing.{Closes, IsFirstFlaw}
 use Rattle.route_certificate.specs.Entries.{carry_of}
@@ -36,6 +36,18 @@ AreRests Least leg low =
     (link : ℕ) → link < leg.ride.roads.links →
     IsRemaining leg unused (leg.ride.roads.to link) (low (leg.ride.roads.to link))
 
+-- what still has to be paid behind each link of the map, up to a radius that is no less than a cost, or without one
+pub record AreKnownBelow (leg : Leg) (below : ℕ) (low : ℕ → Option ℕ) : Type 0 where
+  pub radius : Option ℕ
+  pub far : (most : ℕ) → radius ≡ Some most → below ≤ most
+  pub each : (link : ℕ) → link < leg.ride.roads.links →
+      IsRemainingUpTo leg unused radius (leg.ride.roads.to link) (low (leg.ride.roads.to link))
+
+-- the lower bound behind each link as far as a cost: what ranks below it by one such bound does so by each
+abbrev pub AreRestsBelow : LowerBound → Leg → (below : ℕ) → (ℕ → Option ℕ) → Type 0
+AreRestsBelow Zero leg below low = AreRests Zero leg low
+AreRestsBelow Least leg below low = AreKnownBelow leg below low
+
 -- the walk is one of the leg at the cost that is kept; where the leg's nodes are one, that is 0
 pub record IsWalkOf (leg : Leg) (proof : Proof) : Type 0 where
   pub is_walk : IsLegWalk leg proof.walk.items
@@ -61,13 +73,13 @@ pub record IsSound (leg : Leg) (proof : Proof) : Type 0 where
 pub record ShowsLeast (bound : LowerBound) (leg : Leg) (proof : Proof) : Type 0 where
   pub sound : IsSound leg proof
   pub closed :
-      (low : ℕ → Option ℕ) → AreRests bound leg low → Closes (leg_rules leg low) proof.cost proof.entries.items
+      (low : ℕ → Option ℕ) → AreRestsBelow bound leg proof.cost low → Closes (leg_rules leg low) proof.cost proof.entries.items
 
 -- the labels are in bounds, and this is the first part of a closed list that fails
 pub record IsOpenAt (bound : LowerBound) (leg : Leg) (proof : Proof) (why : Why) : Type 0 where
   pub sound : IsSound leg proof
   pub low : ℕ → Option ℕ
-  pub rests : AreRests bound leg low
+  pub rests : AreRestsBelow bound leg proof.cost low
   pub flaw : IsFirstFlaw (leg_rules leg low) proof.cost proof.entries.items (Some why)
 
 -- the first condition that fails of a leg; none where all hold

@@ -4,12 +4,10 @@ use Rattle.std.specs.Prelude.{ℕ, ◌≡◌, ◌≢◌, ◌+◌, ◌<◌, ◌�
 use Rattle.bike_space.specs.Kept.{Wakes, task_of}
 use Rattle.bike_space.specs.Tasks.{rules_of}
 use Rattle.certificate_text.specs.declared.certificate.LowerBound.{LowerBound}
-use Rattle.certificate_text.specs.declared.certificate.Proof.{Proof}
 use Rattle.cost_model.specs.Rides.{Leg, Terrain}
 use Rattle.item_list.specs.Turns.{Says, Settles}
 use Rattle.space_search.specs.Searches.{IsSearchOf}
 use Rattle.space_search.specs.View.{view}
-use Rattle.space_search.specs.declared.outcome.Outcome.{Outcome}
 use Rattle.route_certificate.specs.Certified.{IsShown, IsWritable}
 use Rattle.route_certificate.specs.Legs.{AreRests}
 use Rattle.route_certificate.specs.declared.proving.Proving.{Proving}

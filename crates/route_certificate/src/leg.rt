@@ -6,12 +6,12 @@ ghost use Rattle.bike_space.specs.LegWalks.{IsLeastWalk};
 ghost use Rattle.certificate_text.specs.declared.certificate.LowerBound.{LowerBound};
 ghost use Rattle.cost_model.specs.Rides.{leg_between};
 ghost use Rattle.route_certificate.specs.Asks.{IsAsk, leg_in, setting_in};
-ghost use Rattle.route_certificate.specs.Legs.{AreRests, IsFirstFault, IsWalkOf};
+ghost use Rattle.route_certificate.specs.Legs.{AreRestsBelow, IsFirstFault, IsWalkOf};
 
 use crate::ask::TrackAsk;
 use crate::closing::first_flaw;
 use crate::entries::are_in_bounds;
-use crate::space::leg_space;
+use crate::space::leg_space_below;
 use crate::verdict::Why;
 use bike_space::BikeSpace;
 use certificate_text::{LowerBound, Proof};
@@ -42,7 +42,7 @@ pub(crate) fn leg_fault<G: TerrainOf>(
     if !is_walk_of(&terrain, ask, start, target, proof) {
         return Ok(Some(Why::Walk));
     }
-    let space = leg_space(alloc, terrain, ask, place, bound)?;
+    let space = leg_space_below(alloc, terrain, ask, place, bound, proof.cost)?;
     space_fault(alloc, &space, proof)
 }
 
@@ -80,8 +80,8 @@ fn space_fault<G: TerrainOf>(
     requires unused { (link : ℕ) →
         (task_of (G.terrain space.now.terrain) space.now.kept).used link ≡ false }
     requires walk { IsWalkOf (task_of (G.terrain space.now.terrain) space.now.kept).leg proof.now }
-    ensures exact { (bound : LowerBound) → AreRests bound
-        (task_of (G.terrain space.now.terrain) space.now.kept).leg
+    ensures exact { (bound : LowerBound) → AreRestsBelow bound
+        (task_of (G.terrain space.now.terrain) space.now.kept).leg proof.now.cost
         (task_of (G.terrain space.now.terrain) space.now.kept).low → IfOk result
         (IsFirstFault bound (task_of (G.terrain space.now.terrain) space.now.kept).leg proof.now) }
     ensures least { result ≡ Ok None → IsLeastWalk

@@ -104,7 +104,7 @@ impl<'a> Ground<'a> {
             target: to,
             turns: true,
         };
-        let space = BikeSpace::new(rt.alloc(), terrain, &ask, false)?;
+        let space = BikeSpace::new(rt.alloc(), terrain, &ask, None)?;
         self.settle(rt, &space, plan)
     }
 

@@ -1,4 +1,4 @@
-use Rattle.std.proofs.Common.{◌-◌, ◌+◌}
+use Rattle.std.proofs.Common.{◌-◌}
 use Rattle.route_certificate.specs.Asks.{leg_in}
 use Rattle.route_certificate.specs.Provings.{IsProvingFor, settled_of}
 use Rattle.route_certificate.proofs.finding.certify_leg.Given as goal

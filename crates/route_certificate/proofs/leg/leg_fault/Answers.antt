@@ -2,7 +2,7 @@ use Rattle.std.proofs.Common.{◌≡◌, ◌∙◌, ap, sym, subst, Ok, None, If
 use Rattle.cost_model.specs.Rides.{Leg, Terrain}
 use Rattle.bike_space.specs.Kept.{task_of}
 use Rattle.bike_space.specs.LegWalks.{IsLeastWalk}
-use Rattle.route_certificate.specs.Legs.{AreRests, IsFirstFault, IsWalkOf}
+use Rattle.route_certificate.specs.Legs.{AreRestsBelow, IsFirstFault, IsWalkOf}
 use Rattle.route_certificate.proofs.leg.leg_fault.Goals as goal
 
 pub space_fault-requires : goal.space_fault-requires
@@ -21,7 +21,7 @@ returns g c =
     let kept = c.in_ok-space.space.kept in
     let same = ap (λ (t : Terrain). (task_of t kept).leg) (ap g.G.TerrainOf.terrain c.in_ok-space.ensures.terrain)
     ∙ c.in_ok-space.ensures.leg in
-    let rests = subst (λ (t : Terrain). AreRests c.args.bound (task_of t kept).leg (task_of t kept).low)
+    let rests = subst (λ (t : Terrain). AreRestsBelow c.args.bound (task_of t kept).leg c.args.proof.now.cost (task_of t kept).low)
     (sym (ap g.G.TerrainOf.terrain c.in_ok-space.ensures.terrain)) c.in_ok-space.ensures.rests in
     record {
       exact = subst (λ (leg : Leg). IfOk c.space_fault.result (IsFirstFault c.args.bound leg c.args.proof.now)) same

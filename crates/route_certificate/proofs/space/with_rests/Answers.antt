@@ -1,24 +1,36 @@
-use Rattle.std.proofs.Common.{ℕ, Bool, ap, arith, refl}
+use Rattle.std.proofs.Common.{ℕ, Bool, List, ◌∙◌, ap, arith, refl}
 use Rattle.std.proofs.lemmas.Result.{IfOk-weaker}
 use Rattle.bike_space.specs.Kept.{task_of}
+use Rattle.bike_space.specs.Marks.{is_marked}
+use Rattle.bike_space.specs.declared.ask.LegAsk.{LegAsk}
 use Rattle.bike_space.proofs.CallerLemmas.{rest-behind}
 use Rattle.route_certificate.proofs.SpaceLemmas.{three-ok}
 use Rattle.route_certificate.proofs.space.with_rests.Goals as goal
 
-pub new-requires : goal.new-requires
-new-requires g c = record {
-  start = c.requires.asked.nodes c.args.place (omega (arith, c.requires.within));
-  target = c.requires.asked.nodes _ c.requires.within;
-}
+pub new-requires-clause-start : goal.new-requires-clause-start
+new-requires-clause-start g c =
+    let start = ap (λ (a : LegAsk). a.start) c.leg_ask.ensures.value in
+    let inside = c.requires.asked.nodes c.args.place (omega (arith, c.requires.within)) in
+    omega (arith, start, inside)
+
+pub new-requires-clause-target : goal.new-requires-clause-target
+new-requires-clause-target g c =
+    let target = ap (λ (a : LegAsk). a.target) c.leg_ask.ensures.value in
+    let inside = c.requires.asked.nodes _ c.requires.within in
+    omega (arith, target, inside)
 
 pub returns-clause-unused : goal.returns-clause-unused
 returns-clause-unused g c =
-    IfOk-weaker c.new.result _ _ (λ space used link. ap (λ (u : ℕ → Bool). u link) used) c.new.ensures.used
+    IfOk-weaker c.new.result _ _
+    (λ space used link.
+    ap (λ (u : ℕ → Bool). u link) used ∙ ap (λ (m : List Bool). is_marked m link) c.leg_ask.ensures.unused)
+    c.new.ensures.used
 
 pub returns-clause-rests : goal.returns-clause-rests
 returns-clause-rests g c =
     let terrain = g.G.TerrainOf.terrain c.args.terrain in
     three-ok
     (λ space wakes used whole.
-    rest-behind (task_of terrain space.kept) wakes.lawful (λ link. ap (λ (u : ℕ → Bool). u link) used) whole)
+    rest-behind (task_of terrain space.kept) wakes.lawful
+    (λ link. ap (λ (u : ℕ → Bool). u link) used ∙ ap (λ (m : List Bool). is_marked m link) c.leg_ask.ensures.unused) whole)
     c.new.result c.new.ensures.wakes c.new.ensures.used (c.new.ensures.whole refl)

@@ -1,5 +1,4 @@
-use Rattle.std.proofs.Common.{◌+◌, ◌∙◌, ap, length, subst, sym, arith}
-use Rattle.bike_space.specs.Kept.{task_of}
+use Rattle.std.proofs.Common.{◌+◌, ap, length, subst, arith}
 use Rattle.item_list.specs.Turns.{Settles}
 use Rattle.space_search.specs.View.{view}
 use Rattle.space_search.proofs.CallerLemmas.{kept-grow}
