@@ -7,6 +7,7 @@ PROGRAM is the program where not the one that `./build` makes. The map is a stre
 buffers and never reduces them; half of the labels are of its first link, half of its second, each of which covers what one of the first
 half leads to. In kind `alike` all have the same buffers and rising costs; in `two` and `three` none makes another needless, by two numbers
 or by three; in `column` none does, and each pair of them differs in two numbers alone; `dear` is `three` with one label of a very high cost.
+In `slot` the profile asks for equal buffers, and all labels of a link have buffers that put them into one slot.
 The first form is answered with yes; of the second, labels are cheaper than can be, and so refused at the goal, once all steps are tested."""
 import os
 import random
@@ -29,6 +30,9 @@ assign elevationbufferreduce 0
 ---context:way
 assign costfactor 1
 '''
+EQUAL = 'assign downhillcostfactor 0.5\nassign uphillcostfactor 0.5\n'
+# How many slots there are where a buffer must be equal.
+SLOTS = 1048573
 FIRST, SECOND, THIRD = 111320000, 111320000, 22264000000
 WANTED = {1: 'yes cost 22486.640000', 2: 'certificate refused: leg 0, goal'}
 PLACES = [49000000, 49001000, 49002000, 49202000]
@@ -39,6 +43,7 @@ KINDS = {
     'column': lambda count: [(60 * (place // 2), count - place // 2 + place % 2, count - place // 2 + 1 - place % 2)
                              for place in range(count)],
     'dear': lambda count: KINDS['three'](count - 1) + [(2**119, 0, 0)],
+    'slot': lambda count: [(place, SLOTS * (place % 9000), SLOTS * (place // 9000)) for place in range(count)],
 }
 ORDERS = {'rising': sorted, 'falling': lambda labels: sorted(labels, reverse=True),
           'random': lambda labels: random.sample(labels, len(labels))}
@@ -80,12 +85,12 @@ def main():
         folder = Path(name)
         samples = (HERE / 'crates/case_inputs/src/samples.rt').read_text()
         (folder / 'look').write_text(samples.split('pub const LOOK: ')[1].split('"', 1)[1].split('";')[0])
-        (folder / 'profile.brf').write_text(PROFILE)
         (folder / 'map').write_text(street())
         print('| form | kind | order | ' + ' | '.join(f'{count:,} labels' for count in counts) + ' |')
         print('|---|---|---|' + '---|' * len(counts))
         for form in (1, 2):
             for kind, make in KINDS.items():
+                (folder / 'profile.brf').write_text(PROFILE + (EQUAL if kind == 'slot' else ''))
                 for order, put in ORDERS.items():
                     random.seed(1)
                     rows = [seconds(folder, form, put(make(count // 2))) for count in counts]

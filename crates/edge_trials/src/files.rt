@@ -1,39 +1,20 @@
 //! The adapters over real files, and the standard output.
 
+use crate::texts::long_text;
+use crate::told::is_told;
 use edge_io::{DirFiles, Failed, Files, StdSink, WholeError, WriteSink, read_whole, send_all};
-use std::alloc::{AllocError, Global};
+use std::alloc::Global;
 use std::fs;
 use std::fs::File;
 use std::test::Fail;
 
-/// What kept a file from being read, in words.
-fn words_of(error: WholeError) -> &'static [u8] {
-    match error {
-        WholeError::Fault => b"(fault)",
-        WholeError::TooLong => b"(too long)",
-        WholeError::NoMemory => b"(no memory)",
-    }
-}
-
 /// Whether the file of this name holds a text; where it can't be read, whether the text says why.
 fn holds<F: Files>(alloc: Global, files: &mut F, name: &str, text: &[u8]) -> bool {
     match files.open(name) {
-        Ok(true) => match read_whole(alloc, files, 20_000) {
-            Ok(bytes) => bytes.as_slice() == text,
-            Err(error) => words_of(error) == text,
-        },
+        Ok(true) => is_told(&read_whole(alloc, files, 20_000), text),
         Ok(false) => text == b"(missing)".as_slice(),
-        Err(Failed) => text == b"(fault)".as_slice(),
+        Err(Failed) => is_told(&Err(WholeError::Fault), text),
     }
-}
-
-/// A text of 10,000 bytes, each different from those around it.
-fn long_text(alloc: Global) -> Result<Vec<u8>, AllocError> {
-    let mut text = Vec::new(alloc);
-    for i in 0u32..10_000 {
-        text.push((i % 251) as u8)?;
-    }
-    Ok(text)
 }
 
 /// Whether a text is written whole into the file of this name.
@@ -50,7 +31,7 @@ fn is_read(rt: &HostRuntime, name: &str, text: &[u8]) -> bool {
 
 /// Whether a long text is written whole into the file of this name, and read back.
 fn is_kept(rt: &HostRuntime, name: &str) -> Result<bool, Fail> {
-    let text = long_text(rt.alloc())?;
+    let text = long_text(rt.alloc(), 10_000)?;
     let written = is_written(rt, name, text.as_slice())?;
     Ok(written && is_read(rt, name, text.as_slice()))
 }

@@ -1,5 +1,6 @@
 //! The network over the loopback, in one thread.
 
+use crate::heard::Heard;
 use edge_io::{Event, Failed, Hub, TcpHub};
 use std::alloc::{AllocError, Global};
 use std::io;
@@ -28,42 +29,12 @@ fn opened<H: Hub>(alloc: Global, hub: &mut H, hangup: bool) -> Result<u16, Alloc
     Ok(0)
 }
 
-/// What a hub told: how many connections opened, ended and were lost, the last that opened, and the
-/// bytes.
-#[derive(Drop)]
-struct Heard {
-    opened: u64,
-    ended: u64,
-    lost: u64,
-    last: u64,
-    bytes: Vec<u8>,
-}
-
-impl Heard {
-    fn new(alloc: Global) -> Heard {
-        Heard {
-            opened: 0,
-            ended: 0,
-            lost: 0,
-            last: 0,
-            bytes: Vec::new(alloc),
-        }
-    }
-
-    /// Takes the hub's next event.
-    fn hear<H: Hub>(&mut self, hub: &mut H) -> Result<(), AllocError> {
-        let mut buf = [0u8; 16];
-        match hub.next(&mut buf, false) {
-            Ok(Event::Opened { id }) => {
-                self.opened = self.opened.saturating_add(1);
-                self.last = id;
-            }
-            Ok(Event::Bytes { id: _, n }) => self.bytes.extend_from_slice(&buf[..n])?,
-            Ok(Event::Ended { id: _ }) => self.ended = self.ended.saturating_add(1),
-            Ok(Event::Lost { id: _ }) => self.lost = self.lost.saturating_add(1),
-            Ok(Event::Quiet) | Ok(Event::Over) | Err(Failed) => {}
-        }
-        Ok(())
+/// Takes the hub's next event.
+fn hear<H: Hub>(heard: &mut Heard, hub: &mut H) -> Result<(), AllocError> {
+    let mut buf = [0u8; 16];
+    match hub.next(&mut buf, false) {
+        Ok(event) => heard.take(event, &buf),
+        Err(Failed) => Ok(()),
     }
 }
 
@@ -76,8 +47,8 @@ fn hear_until<H: Hub>(
     ended: u64,
 ) -> Result<(), AllocError> {
     for _ in 0..1000 {
-        if heard.bytes.len() < bytes || heard.ended.saturating_add(heard.lost) < ended {
-            heard.hear(hub)?;
+        if !heard.has(bytes, ended) {
+            hear(heard, hub)?;
         }
     }
     Ok(())
@@ -88,7 +59,7 @@ fn head_comes<H: Hub>(hub: &mut H, peer: &mut TcpStream, heard: &mut Heard) -> i
     let head = b"GET /brouter HTTP/1.1\r\nHost: here\r\n\r\n".as_slice();
     peer.write_all(head)?;
     hear_until(heard, hub, head.len(), 0)?;
-    Ok(heard.opened == 1 && heard.bytes.as_slice() == head)
+    Ok(heard.has_message(head))
 }
 
 /// Whether a peer gets the bytes that are sent to it.
@@ -146,16 +117,6 @@ fn a_head_comes_and_an_answer_goes_back(rt: HostRuntime) -> Result<(), Fail> {
     Ok(())
 }
 
-/// Whether the end of a peer is told as a loss, after which the hub holds it no more, or as an end.
-fn is_told_as<H: Hub>(hub: &mut H, heard: &Heard, lost: bool) -> bool {
-    let held = hub.send(heard.last, b"late").is_ok();
-    if lost {
-        heard.lost == 1 && heard.ended == 0 && !held
-    } else {
-        heard.lost == 0 && heard.ended == 1 && held
-    }
-}
-
 /// Whether a hub that is opened so tells the end of a peer, after its whole request, accordingly.
 fn tells_the_end<H: Hub>(rt: &HostRuntime, hub: &mut H, hangup: bool) -> io::Result<bool> {
     let port = opened(rt.alloc(), hub, hangup)?;
@@ -164,7 +125,8 @@ fn tells_the_end<H: Hub>(rt: &HostRuntime, hub: &mut H, hangup: bool) -> io::Res
     let came = head_comes(hub, &mut peer, &mut heard)?;
     peer.shutdown(Shutdown::Write)?;
     hear_until(&mut heard, hub, 0, 1)?;
-    Ok(came && is_told_as(hub, &heard, hangup))
+    let held = hub.send(heard.last, b"late").is_ok();
+    Ok(came && heard.ends_as(hangup, held))
 }
 
 #[test]
@@ -199,25 +161,13 @@ fn add_peers(rt: &HostRuntime, peers: &mut Vec<TcpStream>, port: u16) -> io::Res
     Ok(())
 }
 
-/// How many bytes aren't of the peer that sent the most.
-fn others_of(bytes: &[u8]) -> usize {
-    let mut others = 0usize;
-    for byte in bytes {
-        if *byte != b'x' {
-            others = others.saturating_add(1);
-        }
-    }
-    others
-}
-
 /// Whether of so many events all peers are heard, though the first sends without end.
 fn hears_all<H: Hub>(alloc: Global, hub: &mut H) -> io::Result<bool> {
     let mut heard = Heard::new(alloc);
     for _ in 0..1500 {
-        heard.hear(hub)?;
+        hear(&mut heard, hub)?;
     }
-    let others = others_of(heard.bytes.as_slice());
-    Ok(heard.opened == 151 && others == 450 && heard.bytes.len() < 40_000)
+    Ok(heard.has_peers(151, 450, b'x', 40_000))
 }
 
 /// Whether a hub that is opened here hears all its peers.

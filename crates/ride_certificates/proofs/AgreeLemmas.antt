@@ -7,7 +7,7 @@ use Rattle.cost_model.specs.Rides.{Setting}
 use Rattle.overpass_graph.specs.Maps.{MapValue}
 use Rattle.ride_certificates.specs.Certificates.{AsksFor, Certifies, CertifiesTo, IsCertificateAnswer, refused as uncertified, shown, spent, told_of, trackless}
 use Rattle.ride_certificates.specs.Checks.{AreAgreed, ChecksTo, IsCheckAnswer, checked, refused}
-use Rattle.ride_certificates.specs.Grounds.{HasLegs, HasNoLegs}
+use Rattle.ride_certificates.specs.Grounds.{HasLegs}
 use Rattle.route_certificate.proofs.VerdictLemmas.{accepted-alone}
 use Rattle.route_certificate.specs.Certified.{AreWritable}
 use Rattle.route_certificate.specs.Legs.{ShowsLeast}
@@ -17,6 +17,7 @@ use Rattle.route_certificate.specs.declared.making.Certified.{Certified}
 use Rattle.route_certificate.specs.declared.making.Certified.TheVariants.{Shown, NoWalk, Spent}
 use Rattle.route_certificate.specs.declared.verdict.Verdict.{Verdict}
 use Rattle.route_certificate.specs.declared.verdict.Verdict.TheVariants.{Yes}
+use Rattle.route_engine.specs.Refusals.{IsEarly, RefusesEarly}
 use Rattle.route_engine.specs.Settings.{Question}
 use Rattle.route_ready.specs.declared.error.RouteError.{RouteError}
 use Rattle.route_ready.specs.declared.error.RouteError.TheVariants.{NoMemory}
@@ -92,14 +93,14 @@ told-writable roads (NoWalk leg) are = _
 told-writable roads (Spent leg) are = _
 
 -- why a question has no legs is the answer to a request for a certificate
-pub none-answers : (question : Question) (bound : LowerBound) (e : RouteError) → (e ≡ NoMemory) ⊎ HasNoLegs question e →
+pub none-answers : (question : Question) (bound : LowerBound) (e : RouteError) → RefusesEarly question e →
     (e ≡ NoMemory) ⊎ IsCertificateAnswer question bound (Err e)
 none-answers question bound e (inl no_memory) = inl no_memory
 none-answers question bound e (inr none) = inr (uncertified none)
 
 -- and to a check of one
 pub none-checked :
-    (question : Question) (certificate : Certificate) (e : RouteError) → (e ≡ NoMemory) ⊎ HasNoLegs question e →
+    (question : Question) (certificate : Certificate) (e : RouteError) → RefusesEarly question e →
     (e ≡ NoMemory) ⊎ IsCheckAnswer question certificate (Err e)
 none-checked question certificate e (inl no_memory) = inl no_memory
 none-checked question certificate e (inr none) = inr (refused none)

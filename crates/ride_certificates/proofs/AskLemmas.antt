@@ -111,7 +111,7 @@ module _ (world : WorldValue) (setting : Setting) (waypoints : List Place) (basi
 module _ (world : WorldValue) (question : Question) (basis : Basis) (is : IsBasisOf world question basis) where
   -- a request that was made ready has legs
   pub basis-legs : HasLegs question is.setting basis.nodes.items
-  basis-legs = record { whole = is.whole; are = is.is.nodes }
+  basis-legs = record { over = is.over; are = is.is.nodes }
 
   -- with yes its walks are least, at the costs that are kept
   pub yes-least : (certificate : Certificate) (verdict : Verdict) (cost : ℕ) →

@@ -1,7 +1,6 @@
 -- A request that is made ready, by what the calls below say.
 use Rattle.std.proofs.Common.{◌≡◌, ◌⊎◌, inl, inr, ℕ, zero, suc, ◌≤◌, Bool, false, List, [], ◌∷◌, map, length, get_or, Result, Ok, Err, MatchResult, refl, ap, ◌∙◌, subst, arith}
 use Rattle.std.proofs.lemmas.Bool.Decides.{nat_tests}
-use Rattle.std.proofs.lemmas.Option.{slice_get_past}
 use Rattle.cost_model.specs.OpenLinks.{is_cut, open_by}
 use Rattle.cost_model.specs.Rides.{Setting}
 use Rattle.geo_int.specs.Place.{Place}
@@ -10,11 +9,11 @@ use Rattle.nogo_areas.specs.declared.circle.Circle.{Circle}
 use Rattle.overpass_graph.specs.Maps.{MapValue}
 use Rattle.overpass_graph.specs.declared.link.Link.{Link}
 use Rattle.ride_certificates.specs.Bases.{IsBasisFor, IsBasisOf}
-use Rattle.ride_certificates.specs.Grounds.{HasNoLegs, IsWhole, refused, unmapped}
 use Rattle.ride_certificates.specs.declared.basis.Basis.{Basis}
 use Rattle.route_engine.proofs.RouteLemmas.{ready-setting}
 use Rattle.route_engine.proofs.SettingLemmas.{cut-seen, nodes-in}
 use Rattle.route_engine.specs.Jobs.{setting_of}
+use Rattle.route_engine.specs.Refusals.{RefusesEarly, profile, waypoint}
 use Rattle.route_engine.specs.Settings.{Question, cut_links, open_map_of}
 use Rattle.route_engine.specs.Waypoints.{AreNodes, OpenMap, RefusesWaypoint}
 use Rattle.route_http.specs.Seen.{circles_seen}
@@ -23,7 +22,6 @@ use Rattle.route_ready.specs.Worlds.{WorldValue}
 use Rattle.route_ready.specs.declared.error.RouteError.{RouteError}
 use Rattle.route_ready.specs.declared.error.RouteError.TheVariants.{NoMemory}
 use Rattle.route_ready.specs.declared.ready.Ready.{Ready}
-use Rattle.way_class.specs.Bound.{facts_if}
 use Rattle.way_class.specs.Links.{links_of}
 use Rattle.ride_certificates.proofs.LegLemmas.{TellSame, open-same}
 
@@ -98,30 +96,21 @@ basis-over world basis circles waypoints counted some few are nodes = record {
 
 module _ (question : Question) (world : WorldValue) (ready : Ready) (same : world.map ≡ question.binding.map)
     (is : IsReadyBy question.binding (ready_of question.binding) ready) where
-  -- a profile that is ready tells no facts beyond the links of the map
-  ready-whole : IsWhole question (setting_of world ready question.asked.circles)
-  ready-whole = record {
-    over = ready-setting question world ready same is;
-    beyond = λ link past.
-        ap (facts_if ready.bound.ways.items ready.bound.nodes.items)
-        (slice_get_past ready.bound.rows link (omega (arith, is.count, past)));
-  }
-
-  -- so a request that is made ready by it is so for the question
+  -- a request that is made ready by a profile is so for the question
   pub ready-basis : (r : Result Basis RouteError) →
       MatchResult r (IsBasisFor world (setting_of world ready question.asked.circles) question.asked.waypoints)
       (λ e. (e ≡ NoMemory) ⊎ RefusesWaypoint (open_map_of (setting_of world ready question.asked.circles)) question.asked.waypoints e) →
-      MatchResult r (IsBasisOf world question) (λ e. (e ≡ NoMemory) ⊎ HasNoLegs question e)
+      MatchResult r (IsBasisOf world question) (RefusesEarly question)
   ready-basis (Ok basis) made = record {
     setting = setting_of world ready question.asked.circles;
-    whole = ready-whole;
+    over = ready-setting question world ready same is;
     is = made;
   }
   ready-basis (Err e) (inl no_memory) = inl no_memory
-  ready-basis (Err e) (inr refuses) = inr (unmapped ready-whole refuses)
+  ready-basis (Err e) (inr refuses) = inr (waypoint (ready-setting question world ready same is) refuses)
 
--- a profile that is refused leaves the question without legs
+-- a profile that is refused is why the question has none
 pub profile-refusal : (question : Question) (e : RouteError) → (e ≡ NoMemory) ⊎ (ready_of question.binding ≡ Err e) →
-    (e ≡ NoMemory) ⊎ HasNoLegs question e
+    RefusesEarly question e
 profile-refusal question e (inl no_memory) = inl no_memory
-profile-refusal question e (inr refusal) = inr (refused refusal)
+profile-refusal question e (inr refusal) = inr (profile refusal)

@@ -1,12 +1,13 @@
--- A question has one setting without facts beyond its map, and so the legs that it has are one list.
+-- A question has one setting, and so the legs that it has are one list.
 use Rattle.std.proofs.Common.{◌≡◌, ℕ, inl, inr, Bool, List, length, Ok, sym, ap, ◌∙◌, subst, arith}
 use Rattle.std.proofs.lemmas.Bool.{cases_lt}
 use Rattle.cost_model.specs.Rides.{Setting}
 use Rattle.cost_model.specs.declared.facts.LinkFacts.{LinkFacts}
 use Rattle.overpass_graph.specs.Maps.{MapValue}
-use Rattle.ride_certificates.specs.Grounds.{HasLegs, HasNoLegs, IsWhole, refused, unmapped}
+use Rattle.ride_certificates.specs.Grounds.{HasLegs}
 use Rattle.route_engine.proofs.WaypointLemmas.{nodes-or-refusal, nodes-same}
-use Rattle.route_engine.specs.Settings.{Question, open_map_of}
+use Rattle.route_engine.specs.Refusals.{IsEarly, profile, waypoint}
+use Rattle.route_engine.specs.Settings.{IsSettingOf, Question, open_map_of}
 use Rattle.route_engine.specs.Waypoints.{AreNodes}
 use Rattle.route_ready.specs.Readiness.{Terms, ready_of}
 use Rattle.route_ready.specs.declared.error.RouteError.{RouteError}
@@ -37,45 +38,45 @@ parts-same a b maps counts facts terms cuts =
     ∙ ap (λ (t : Terms). setting_from b.terrain.map b.terrain.links.count b.terrain.links.facts t a.cut) terms
     ∙ ap (setting_from b.terrain.map b.terrain.links.count b.terrain.links.facts (terms_on b)) cuts
 
-module _ (question : Question) (a b : Setting) (one : IsWhole question a) (other : IsWhole question b) where
+module _ (question : Question) (a b : Setting) (one : IsSettingOf question a) (other : IsSettingOf question b) where
   -- the facts of a link are one
   facts-same : (link : ℕ) → a.terrain.links.facts link ≡ b.terrain.links.facts link
   facts-same link = elim (cases_lt link (length question.binding.map.links)) [
-    | inl below ↦ one.over.facts link below ∙ sym (other.over.facts link below)
+    | inl below ↦ one.facts link below ∙ sym (other.facts link below)
     | inr past ↦ one.beyond link (omega (arith, past)) ∙ sym (other.beyond link (omega (arith, past)))
   ]
 
   -- so are the terms
   terms-same : terms_on a ≡ terms_on b
   terms-same =
-      let first : ready_of question.binding ≡ Ok (terms_on a) = one.over.accepted in
-      let second : ready_of question.binding ≡ Ok (terms_on b) = other.over.accepted in
+      let first : ready_of question.binding ≡ Ok (terms_on a) = one.accepted in
+      let second : ready_of question.binding ≡ Ok (terms_on b) = other.accepted in
       cc
 
   -- so are the settings
-  pub whole-same : a ≡ b
-  whole-same =
-      parts-same a b (one.over.map ∙ sym other.over.map) (one.over.count ∙ sym other.over.count)
-      (functions-same facts-same) terms-same (one.over.cut ∙ sym other.over.cut)
+  pub setting-same : a ≡ b
+  setting-same =
+      parts-same a b (one.map ∙ sym other.map) (one.count ∙ sym other.count)
+      (functions-same facts-same) terms-same (one.cut ∙ sym other.cut)
 
 module _ (question : Question) (a : Setting) (nodes : List ℕ) (legs : HasLegs question a nodes) where
   -- the nodes of the waypoints over another such setting
-  moved : (b : Setting) → IsWhole question b → AreNodes (open_map_of b) question.asked.waypoints nodes
-  moved b whole =
-      subst (λ (s : Setting). AreNodes (open_map_of s) question.asked.waypoints nodes) (whole-same question a b legs.whole whole)
+  moved : (b : Setting) → IsSettingOf question b → AreNodes (open_map_of b) question.asked.waypoints nodes
+  moved b over =
+      subst (λ (s : Setting). AreNodes (open_map_of s) question.asked.waypoints nodes) (setting-same question a b legs.over over)
       legs.are
 
   -- the legs of a question are one list
   pub legs-same : (b : Setting) (others : List ℕ) → HasLegs question b others → (a ≡ b) × (nodes ≡ others)
   legs-same b others other = (
-    whole-same question a b legs.whole other.whole,
-    nodes-same (open_map_of b) question.asked.waypoints nodes others (moved b other.whole) other.are,
+    setting-same question a b legs.over other.over,
+    nodes-same (open_map_of b) question.asked.waypoints nodes others (moved b other.over) other.are,
   )
 
   -- a question that has legs isn't one that has none
-  pub never-none : (e : RouteError) → HasNoLegs question e → ⊥
-  never-none e (refused is) =
-      let both = sym legs.whole.over.accepted ∙ is in
+  pub never-none : (e : RouteError) → IsEarly question e → ⊥
+  never-none e (profile is) =
+      let both = sym legs.over.accepted ∙ is in
       cc
-  never-none e (unmapped {setting = b} whole refuses) =
-      nodes-or-refusal (open_map_of b) question.asked.waypoints nodes e (moved b whole) refuses
+  never-none e (waypoint {setting = b} over refuses) =
+      nodes-or-refusal (open_map_of b) question.asked.waypoints nodes e (moved b over) refuses

@@ -6,4 +6,5 @@ pub mod GroundLemmas
 pub mod LegLemmas
 pub mod RefusalLemmas
 pub mod SameLemmas
+pub mod ServedLemmas
 pub mod ShownLemmas

@@ -3,10 +3,9 @@ use Rattle.std.specs.Prelude.{◌≡◌, ℕ, ◌<◌, ◌≤◌, List, length, 
 use Rattle.cost_model.specs.OpenLinks.{is_cut}
 use Rattle.cost_model.specs.Rides.{Setting}
 use Rattle.geo_int.specs.Place.{Place}
-use Rattle.ride_certificates.specs.Grounds.{IsWhole}
 use Rattle.ride_certificates.specs.declared.basis.Basis.{Basis}
 use Rattle.route_engine.specs.Jobs.{setting_by, terrain_of}
-use Rattle.route_engine.specs.Settings.{Question, open_map_of}
+use Rattle.route_engine.specs.Settings.{IsSettingOf, Question, open_map_of}
 use Rattle.route_engine.specs.Waypoints.{AreNodes}
 use Rattle.route_ready.specs.Worlds.{WorldValue}
 use Rattle.way_class.specs.Links.{links_of}
@@ -33,5 +32,5 @@ pub record IsBasisFor (world : WorldValue) (setting : Setting) (waypoints : List
 -- it is made for a question
 pub record IsBasisOf (world : WorldValue) (question : Question) (basis : Basis) : Type 0 where
   pub setting : Setting
-  pub whole : IsWhole question setting
+  pub over : IsSettingOf question setting
   pub is : IsBasisFor world setting question.asked.waypoints basis

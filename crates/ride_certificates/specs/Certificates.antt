@@ -4,12 +4,13 @@ use Rattle.certificate_text.specs.declared.certificate.Certificate.{Certificate}
 use Rattle.certificate_text.specs.declared.certificate.LowerBound.{LowerBound}
 use Rattle.cost_model.specs.OpenLinks.{is_cut}
 use Rattle.cost_model.specs.Rides.{Setting}
-use Rattle.ride_certificates.specs.Grounds.{HasLegs, HasNoLegs}
+use Rattle.ride_certificates.specs.Grounds.{HasLegs}
 use Rattle.route_certificate.specs.Certified.{IsCertified}
 use Rattle.route_certificate.specs.declared.ask.TrackAsk.{TrackAsk}
 use Rattle.route_certificate.specs.declared.making.Certified.{Certified}
 use Rattle.route_certificate.specs.declared.making.Certified.TheVariants.{Shown, NoWalk, Spent}
 use Rattle.route_engine.specs.Answers.{IsAnswer}
+use Rattle.route_engine.specs.Refusals.{IsEarly}
 use Rattle.route_engine.specs.Settings.{Question}
 use Rattle.route_ready.specs.declared.error.RouteError.{RouteError}
 use Rattle.route_ready.specs.declared.error.RouteError.TheVariants.{Budget, NoMemory, NoTrack}
@@ -44,7 +45,7 @@ told_of (Spent leg) = Err (Budget leg 0)
 -- the answer to a request for a certificate by a lower bound. There are no legs, for this reason; or each leg is shown a least
 -- walk; or this leg is the first that has none; or on this leg the limit of labels was spent, with its evidence
 pub data IsCertificateAnswer (question : Question) (bound : LowerBound) : Result Certificate RouteError → Type 0 where
-  refused : {e : RouteError} → HasNoLegs question e → IsCertificateAnswer question bound (Err e)
+  refused : {e : RouteError} → IsEarly question e → IsCertificateAnswer question bound (Err e)
   shown : {certificate : Certificate} → ComesTo question bound (Shown certificate) →
       IsCertificateAnswer question bound (Ok certificate)
   trackless : {leg : ℕ} → ComesTo question bound (NoWalk leg) → IsCertificateAnswer question bound (Err (NoTrack leg))

@@ -6,11 +6,14 @@ use Rattle.certificate_text.specs.declared.certificate.Certificate.{Certificate}
 use Rattle.certificate_text.specs.declared.certificate.Proof.{Proof}
 use Rattle.cost_model.specs.Rides.{Setting}
 use Rattle.ride_certificates.specs.Certificates.{AsksFor}
-use Rattle.ride_certificates.specs.Grounds.{HasLegs, HasNoLegs, leg_of}
+use Rattle.ride_certificates.specs.Grounds.{HasLegs, leg_of}
 use Rattle.route_certificate.specs.Verdicts.{IsLegAt, IsVerdict, total_cost}
 use Rattle.route_certificate.specs.declared.ask.TrackAsk.{TrackAsk}
 use Rattle.route_certificate.specs.declared.verdict.Verdict.{Verdict}
 use Rattle.route_certificate.specs.declared.verdict.Verdict.TheVariants.{Yes}
+use Rattle.route_engine.specs.Answers.{IsAnswerOf}
+use Rattle.route_engine.specs.Certificates.{IsCertificateFor, IsCertificateRefusal}
+use Rattle.route_engine.specs.Refusals.{IsEarly}
 use Rattle.route_engine.specs.Settings.{Question}
 use Rattle.route_ready.specs.declared.error.RouteError.{RouteError}
 use Rattle.route_ready.specs.declared.error.RouteError.TheVariants.{NoMemory}
@@ -24,7 +27,7 @@ pub record ChecksTo (setting : Setting) (nodes : List ℕ) (certificate : Certif
 -- the answer to a check of a certificate of a request: there are no legs, for this reason; or there are, and
 -- this is the verdict on them
 pub data IsCheckAnswer (question : Question) (certificate : Certificate) : Result Verdict RouteError → Type 0 where
-  refused : {e : RouteError} → HasNoLegs question e → IsCheckAnswer question certificate (Err e)
+  refused : {e : RouteError} → IsEarly question e → IsCheckAnswer question certificate (Err e)
   checked :
       {setting : Setting} {nodes : List ℕ} {verdict : Verdict} → HasLegs question setting nodes →
       ChecksTo setting nodes certificate verdict → IsCheckAnswer question certificate (Ok verdict)
@@ -40,6 +43,17 @@ abbrev pub AreAgreed : Question → CertificateValue → Type 0
 AreAgreed question value =
     (certificate : Certificate) (answer : Result Verdict RouteError) → value_of certificate ≡ value →
     IsCheckAnswer question certificate answer → answer ≡ Ok (Yes (total_cost certificate))
+
+-- this is what a server gives for a request as its certificate
+abbrev pub IsServed : Question → Certificate → Type 0
+IsServed question made = IsAnswerOf IsCertificateFor IsCertificateRefusal question (Ok made)
+
+-- of what a server gives for a question, and of whatever says the same, a check tells yes with what the legs cost, or
+-- reports want of memory
+abbrev pub AgreesWithServed : Question → Certificate → Result Verdict RouteError → Type 0
+AgreesWithServed question certificate result =
+    (made : Certificate) → IsServed question made → value_of certificate ≡ value_of made →
+    (result ≡ Ok (Yes (total_cost certificate))) ⊎ (result ≡ Err NoMemory)
 
 -- each walk of a certificate is one of its leg between these nodes over a setting, and no walk of the leg
 -- costs less

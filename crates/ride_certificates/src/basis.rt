@@ -6,8 +6,8 @@ ghost use Rattle.cost_model.specs.Rides.{Terrain};
 ghost use Rattle.nogo_areas.specs.Cuts.{cut_of};
 ghost use Rattle.profile_text.specs.Expr.{sections_in};
 ghost use Rattle.ride_certificates.specs.Bases.{IsBasisFor, IsBasisOf, IsBasisOn};
-ghost use Rattle.ride_certificates.specs.Grounds.{HasNoLegs};
 ghost use Rattle.route_engine.specs.Jobs.{IsWithin, setting_of, terrain_of};
+ghost use Rattle.route_engine.specs.Refusals.{RefusesEarly};
 ghost use Rattle.route_engine.specs.Replies.{question_of};
 ghost use Rattle.route_engine.specs.Settings.{open_map_of};
 ghost use Rattle.route_engine.specs.Waypoints.{RefusesWaypoint};
@@ -56,7 +56,7 @@ pub(crate) fn basis_of(
     ensures exact { let question =
         question_of (world_of world.now) (sections_in profile.now) (asked request.now) in
         MatchResult result (IsBasisOf (world_of world.now) question)
-        (λ e. (e ≡ NoMemory) ⊎ HasNoLegs question e) }
+        (RefusesEarly question) }
 {
     match prepare(alloc, world, profile, &request.overrides) {
         Ok(ready) => basis_by(alloc, world, ready, request),

@@ -3,7 +3,7 @@
 ghost use Rattle.std.specs.Prelude.{◌≡◌, ◌⊎◌, ℕ, Err, IfErr, IfOk};
 ghost use Rattle.profile_text.specs.Expr.{sections_in};
 ghost use Rattle.ride_certificates.specs.Bases.{IsBasisOn, setting_on};
-ghost use Rattle.ride_certificates.specs.Checks.{AreLeastFor, AreLeastOn, Checks, ChecksTo};
+ghost use Rattle.ride_certificates.specs.Checks.{AgreesWithServed, AreLeastFor, AreLeastOn, Checks, ChecksTo};
 ghost use Rattle.route_certificate.specs.Verdicts.{AreShort};
 ghost use Rattle.route_certificate.specs.declared.verdict.Verdict.TheVariants.{Yes};
 ghost use Rattle.route_engine.specs.Answers.{IsAnswer};
@@ -43,6 +43,12 @@ pub fn check_certificate(
         question_of (world_of world.now) (sections_in profile.now) (asked request.now) in
         IfOk result (λ verdict. (cost : ℕ) → verdict ≡ Yes cost →
         AreLeastFor question certificate.now cost) }
+
+    // Of whatever a server gives for the question, and of any certificate that says the same, it
+    // says yes.
+    ensures served { let question =
+        question_of (world_of world.now) (sections_in profile.now) (asked request.now) in
+        AgreesWithServed question certificate.now result }
 
     // Whatever refuses the check refuses the track too.
     ensures refused { let question =

@@ -42,7 +42,8 @@ pub record IsBegun (site : Site) (stored : List Stored) (kept : KeptProfiles) (a
 -- ---- What calls answer
 
 -- what a query comes to at once: a frame that answers it before any search, or its search
-abbrev pub Begins : Site → List Stored → KeptProfiles → Aim → List ℕ → Begun → Type 0
+abbrev pub Begins : (site : Site) (stored : List Stored) (kept : KeptProfiles) (aim : Aim) (query : List ℕ) →
+    Begun → Type 0
 Begins site stored kept aim query (begun.Frame frame) = IsEarlyFrame site stored aim query frame.items
 Begins site stored kept aim query (begun.Job p) = IsBegun site stored kept aim query p
 
