@@ -7,3 +7,4 @@ pub mod HelpLemmas
 pub mod KeyLemmas
 pub mod ReadLemmas
 pub mod ServeLemmas
+pub mod UsageLemmas

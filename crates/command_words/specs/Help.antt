@@ -1,6 +1,8 @@
 -- What the program tells of itself. This project's own rule.
-use Rattle.std.specs.Prelude.{ℕ, ◌==◌, cond, nat_eq, List, [], ◌∷◌, ◌++◌, Option, Some, None, codes, decimal}
+use Rattle.std.specs.Prelude.{ℕ, ◌==◌, cond, ◌||◌, nat_eq, List, [], ◌∷◌, ◌++◌, Option, Some, None, codes, decimal}
 use lib.Pointwise.{pointwise}
+use Rattle.command_words.specs.Command.{command_named}
+use Rattle.command_words.specs.Meanings.{default_text, meaning_of}
 use Rattle.command_words.specs.Rows.{key_name, command_name, keys_of, about_of, commands}
 use Rattle.command_words.specs.declared.rows.Form.{Form}
 use Rattle.command_words.specs.declared.rows.Form.TheVariants.{Number, Place, Product, File, ProfileFile, Query, Address, Cost}
@@ -50,6 +52,47 @@ commands_text (command ∷ more) = command_text command ++ commands_text more
 abbrev pub help_text : List ℕ
 help_text = commands_text commands
 
+-- a command of the list, with its sentence
+unfoldable pub item_text : CommandName → List ℕ
+item_text command = codes "  " ++ (command_name command ++ (codes ": " ++ (about_of command ++ 10 ∷ [])))
+
+-- commands of the list, one after the other
+abbrev pub items_text : List CommandName → List ℕ
+items_text [] = []
+items_text (command ∷ more) = item_text command ++ items_text more
+
+-- the list of the commands
+abbrev pub list_text : List ℕ
+list_text =
+    codes "usage: route_serve COMMAND KEY=VALUE ..\n"
+    ++ (items_text commands ++ codes "route_serve COMMAND --help tells the keys of a command, route_serve --help those of all\n")
+
+-- a key with the form of its value
+abbrev pub pair_text : KeyRow → List ℕ
+pair_text row = key_name row.key ++ (61 ∷ form_text row.form)
+
+-- how often a key may come, where it may come more than once
+abbrev pub most_text : ℕ → List ℕ
+most_text most = cond (most == 1) [] (codes ", at most " ++ decimal most)
+
+-- whether a key is wanted, or what stands for it where it isn't given
+abbrev pub wanted_text : KeyRow → List ℕ
+wanted_text row =
+    cond (row.least == 0) (codes "; default " ++ (default_text row.key ++ most_text row.most)) (codes "; wanted")
+
+-- a key with the form of its value, what it means, and whether it is wanted, on a line of its own
+unfoldable pub detail_text : KeyRow → List ℕ
+detail_text row = codes "  " ++ (pair_text row ++ (codes ": " ++ (meaning_of row.key ++ (wanted_text row ++ 10 ∷ []))))
+
+-- such lines of keys
+abbrev pub details_text : List KeyRow → List ℕ
+details_text [] = []
+details_text (row ∷ rows) = detail_text row ++ details_text rows
+
+-- what `--help` tells behind a command: its row, and its keys
+abbrev pub command_details : CommandName → List ℕ
+command_details command = command_text command ++ details_text (keys_of command)
+
 -- what `--version` tells
 abbrev pub version_text : List ℕ
 version_text = codes "route_serve 0.1.0\n"
@@ -58,10 +101,21 @@ version_text = codes "route_serve 0.1.0\n"
 unfoldable pub told_by : List ℕ → Option (List ℕ)
 told_by word =
     cond (pointwise nat_eq word (codes "--help")) (Some help_text)
-    (cond (pointwise nat_eq word (codes "--version")) (Some version_text) None)
+    (cond (pointwise nat_eq word (codes "-h") || pointwise nat_eq word (codes "help")) (Some list_text)
+    (cond (pointwise nat_eq word (codes "--version") || pointwise nat_eq word (codes "-V")) (Some version_text) None))
 
--- what words ask to be told instead of a command: a lone word alone does
+-- the keys of a command, if there is one
+abbrev pub details_by : Option CommandName → Option (List ℕ)
+details_by None = None
+details_by (Some command) = Some (command_details command)
+
+-- what a command and a word behind it ask to be told
+unfoldable pub told_with : List ℕ → List ℕ → Option (List ℕ)
+told_with name word = cond (pointwise nat_eq word (codes "--help")) (details_by (command_named name)) None
+
+-- what words ask to be told instead of a command: a lone word does, or one behind a command
 abbrev pub told_of : List (List ℕ) → Option (List ℕ)
 told_of [] = None
 told_of (word ∷ []) = told_by word
-told_of (word ∷ other ∷ words) = None
+told_of (name ∷ word ∷ []) = told_with name word
+told_of (name ∷ word ∷ other ∷ words) = None

@@ -4,7 +4,11 @@ pub mod FileNames
 pub mod Fit
 pub mod Given
 pub mod Help
+pub mod Meanings
 pub mod Reader
+pub mod Reasons
 pub mod Refusals
 pub mod Rows
+pub mod Shown
+pub mod Usage
 pub mod Value

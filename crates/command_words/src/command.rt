@@ -113,7 +113,7 @@ impl<'a> Drop for ServeCommand<'a> {
 }
 
 /// Where a server listens that isn't told.
-const ADDRESS: &str = "127.0.0.1:17777";
+pub const ADDRESS: &str = "127.0.0.1:17777";
 
 impl<'a> ServeCommand<'a> {
     /// The address to listen at.
@@ -161,7 +161,7 @@ pub fn command_of(alloc: Global, words: &[String]) -> Result<Command<'_>, Refusa
 
 /// The command that a word names.
 #[tactic(auto, unfolding(crate::specs::Command::command_named))]
-fn command_named(name: &[u8]) -> Option<CommandName>
+pub fn command_named(name: &[u8]) -> Option<CommandName>
     ensures exact { result ≡ command_named name.now }
 {
     COMMANDS

@@ -154,7 +154,7 @@ const ALL_KEYS: [Key; 18] = [
 
 /// The key that a text names.
 #[tactic(auto, unfolding(crate::specs::Reader::key_of))]
-fn key_of(text: &[u8]) -> Option<Key>
+pub fn key_of(text: &[u8]) -> Option<Key>
     ensures exact { result ≡ key_of text.now }
 {
     ALL_KEYS

@@ -5,12 +5,17 @@
 mod addresses;
 mod command;
 mod completing;
+mod details;
 mod entry;
 mod file_names;
 mod help;
 mod keys;
+mod meanings;
 mod reader;
+mod reason;
 mod rows;
+mod shown;
+mod usage;
 mod value;
 
 pub use command::{
@@ -21,4 +26,5 @@ pub use entry::FileWord;
 pub use file_names::{is_profile_file, profile_name};
 pub use help::told_text;
 pub use reader::Refusal;
+pub use usage::append_usage;
 pub use value::{Place, Product};

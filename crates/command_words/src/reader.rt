@@ -38,7 +38,7 @@ pub fn entries_of<'a>(
 
 /// What the words after a command give, each key no more often than its row wants it, and no
 /// profile's name twice.
-fn read_entries<'a>(
+pub fn read_entries<'a>(
     alloc: Global,
     keys: &[KeyRow],
     words: &'a [String],
@@ -74,14 +74,14 @@ fn may_follow(keys: &[KeyRow], before: &[Entry], entry: &Entry) -> bool
 }
 
 /// Whether one of these names a profile of the same name.
-fn has_profile_of(entries: &[Entry], entry: &Entry) -> bool
+pub fn has_profile_of(entries: &[Entry], entry: &Entry) -> bool
     ensures exact { result ≡ has_profile_of entry.now entries.now }
 {
     entries.iter().any(|other| other.names_as(entry))
 }
 
 /// How often a key is wanted at most over these rows.
-fn most_of(keys: &[KeyRow], key: Key) -> usize
+pub fn most_of(keys: &[KeyRow], key: Key) -> usize
     ensures exact { result ≡ most_of keys.now key }
 {
     match row_for(keys, key) {
@@ -100,7 +100,7 @@ fn has_all(keys: &[KeyRow], entries: &[Entry]) -> bool
 }
 
 /// How many give a key.
-fn count_of(entries: &[Entry], key: Key) -> usize
+pub fn count_of(entries: &[Entry], key: Key) -> usize
     ensures exact { result ≡ count_of key entries.now }
 {
     entries.iter().filter(|entry| entry.is_of(key)).count()

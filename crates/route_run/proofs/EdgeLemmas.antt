@@ -2,7 +2,7 @@
 use Rattle.std.proofs.Common.{◌≡◌, ℕ, inl, inr, List, Option, Some, None, Result, Ok, Err, OnOk, OnErr, refl, subst}
 use Rattle.edge_io.specs.Files.{FilesSeen}
 use Rattle.edge_io.specs.Sink.{SinkSeen, Grows, BreaksOff}
-use Rattle.route_run.specs.Edge.{IsReplyBy, IsTelling, IsPrinted, IsTold, told_line}
+use Rattle.route_run.specs.Edge.{IsReplyBy, IsTelling, IsPrinted, IsTold}
 use Rattle.route_run.specs.Ends.{Ends}
 use Rattle.route_run.specs.Outcome.{Reach, reach}
 use Rattle.run_files.specs.Status.{number_of_status}
@@ -37,11 +37,11 @@ is_written (Ok a) bytes old new whole front = inl whole
 is_written (Err e) bytes old new whole front = inr front
 
 -- a status whose line was sent is told
-pub telling : {T E : Type 0} (result : Result T E) (status told : Status) (bytes : List ℕ) (old new : SinkSeen) (number : ℕ) →
-    IsTold status told → bytes ≡ told_line told
+pub telling : {T E : Type 0} (result : Result T E) (lines : Status → List ℕ) (status told : Status) (bytes : List ℕ)
+    (old new : SinkSeen) (number : ℕ) → IsTold status told → bytes ≡ lines told
     → OnOk result (Grows old new bytes) → OnErr result (BreaksOff old new bytes) → number ≡ number_of_status told →
-    IsTelling status old new number
-telling result status told bytes old new number is_told is whole front number_is = record {
+    IsTelling lines status old new number
+telling result lines status told bytes old new number is_told is whole front number_is = record {
   told = told;
   is_told = is_told;
   line = subst (λ b. IsPrinted b old new) is (is_written result bytes old new whole front);

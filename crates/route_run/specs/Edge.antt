@@ -1,5 +1,5 @@
 -- What the program does with a command line, as the system sees it. This project's own rule.
-use Rattle.std.specs.Prelude.{ℕ, ◌≡◌, ◌≢◌, ◌==◌, ◌⊎◌, cond, List, [], ◌∷◌, ◌++◌, Option, Some, None, Result, Ok, Err, Vec, String}
+use Rattle.std.specs.Prelude.{ℕ, ◌≡◌, ◌≢◌, ◌==◌, ◌⊎◌, Bool, true, false, cond, List, [], ◌∷◌, ◌++◌, Option, Some, None, Result, Ok, Err, Vec, String, codes}
 use Rattle.std.specs.declared.alloc.Global.{Global}
 use Rattle.edge_io.specs.Sink.{SinkSeen, Grows, BreaksOff}
 use Rattle.item_list.specs.Answer.{answer_map}
@@ -9,8 +9,9 @@ use Rattle.run_files.specs.Chain.{Settles}
 use Rattle.run_files.specs.Status.{number_of_status, line_of}
 use Rattle.command_words.specs.Help.{told_of}
 use Rattle.command_words.specs.Refusals.{texts_of}
+use Rattle.command_words.specs.Usage.{usage_text}
 use Rattle.run_files.specs.declared.status.Status.{Status}
-use Rattle.run_files.specs.declared.status.Status.TheVariants.{NoMemory}
+use Rattle.run_files.specs.declared.status.Status.TheVariants.{NoMemory, Usage}
 
 -- the texts of words that were read, or why they weren't
 abbrev pub args_in : Result (Vec (String Global) Global) Status → Result (List (List ℕ)) Status
@@ -35,9 +36,26 @@ abbrev pub IsReply : Result (List (List ℕ)) Status → Reach → Reach → Sta
 IsReply (Ok words) old new status = IsReplyBy words (told_of words) old new status
 IsReply (Err refusal) old new status = (status ≡ refusal) × (new ≡ old)
 
--- the line that tells a status, with its end; success has none
-abbrev pub told_line : Status → List ℕ
-told_line status = cond (number_of_status status == 0) [] (line_of status ++ 10 ∷ [])
+-- what is told of a command line that is no text
+abbrev pub unread_text : List ℕ
+unread_text = codes "the words can't be read as UTF-8\n"
+
+-- what stands below the line of a status: of a faulty command line the word, why it is at fault and the row of
+-- its command, or that it is no text
+abbrev pub below_line : (is_read : Bool) (words : List (List ℕ)) → Status → List ℕ
+below_line is_read words (Usage word) = cond is_read (usage_text words word) unread_text
+below_line is_read words status = []
+
+-- what tells a status of words, which may be those of a command line that is no text: its line, and what stands
+-- below it; success has none
+abbrev pub told_by : (is_read : Bool) (words : List (List ℕ)) → Status → List ℕ
+told_by is_read words status =
+    cond (number_of_status status == 0) [] (line_of status ++ (10 ∷ below_line is_read words status))
+
+-- what tells a status of a command line
+abbrev pub told_lines : Result (List (List ℕ)) Status → Status → List ℕ
+told_lines (Ok words) status = told_by true words status
+told_lines (Err refusal) status = told_by false [] status
 
 -- these bytes were written, whole or a front of them before a write fault
 abbrev pub IsPrinted : List ℕ → SinkSeen → SinkSeen → Type 0
@@ -48,11 +66,11 @@ IsPrinted bytes old new = Grows old new bytes ⊎ BreaksOff old new bytes
 abbrev pub IsTold : Status → Status → Type 0
 IsTold status told = (told ≡ status) ⊎ ((told ≡ NoMemory) × (number_of_status status ≢ 0))
 
--- a status is told: its line, and its number as the exit status
-pub record IsTelling (status : Status) (old new : SinkSeen) (number : ℕ) : Type 0 where
+-- a status is told by these lines, and its number is the exit status
+pub record IsTelling (lines : Status → List ℕ) (status : Status) (old new : SinkSeen) (number : ℕ) : Type 0 where
   pub told : Status
   pub is_told : IsTold status told
-  pub line : IsPrinted (told_line told) old new
+  pub line : IsPrinted (lines told) old new
   pub number_is : number ≡ number_of_status told
 
 -- what the program does with a command line, and the exit status with which it ends, with what stands where
@@ -61,4 +79,4 @@ pub record IsEnd (args : Result (List (List ℕ)) Status) (old new : Reach) (err
     (number : ℕ) : Type 0 where
   pub status : Status
   pub reply : IsReply args old new status
-  pub telling : IsTelling status err_old err_new number
+  pub telling : IsTelling (told_lines args) status err_old err_new number

@@ -1,15 +1,16 @@
 //! A command line over files, an output, and a place where the program tells how it ended.
 
-ghost use Rattle.std.specs.Prelude.{◌≡◌, ◌≢◌, IfOk, OnErr};
+ghost use Rattle.std.specs.Prelude.{◌≡◌, ◌≢◌, ◌++◌, IfOk, OnOk, OnErr};
 ghost use Rattle.command_words.specs.Help.{told_of};
 ghost use Rattle.command_words.specs.Refusals.{texts_of};
-ghost use Rattle.route_run.specs.Edge.{IsEnd, IsReplyBy, IsTelling, args_in, told_line};
+ghost use Rattle.route_run.specs.Edge.{IsEnd, IsReplyBy, IsTelling, args_in, below_line, told_by};
 ghost use Rattle.route_run.specs.Outcome.{reach};
 ghost use Rattle.run_files.specs.Status.{number_of_status};
+ghost use Rattle.run_files.specs.declared.status.Status.{Status as TheStatus};
 
 use crate::sending::send;
 use crate::top::run;
-use command_words::told_text;
+use command_words::{append_usage, told_text};
 use edge_io::{Files, Hub, Sink, send_all};
 use item_list::append_bytes;
 use run_files::Status;
@@ -30,11 +31,13 @@ pub fn edge<F: Files, O: Sink, H: Hub, E: Sink>(
         (reach (F.seen files.new) (O.seen out.new) (H.seen hub.new)) (E.seen err.old)
         (E.seen err.new) result }
 {
-    let status = match args {
-        Ok(words) => reply(alloc, words.as_slice(), files, out, hub),
-        Err(refusal) => refusal,
-    };
-    tell(alloc, status, err)
+    match args {
+        Ok(words) => {
+            let status = reply(alloc, words.as_slice(), files, out, hub);
+            tell(alloc, words.as_slice(), true, status, err)
+        }
+        Err(refusal) => tell(alloc, &[], false, refusal, err),
+    }
 }
 
 /// Answers words, or tells what they ask to be told; the status in which that ends.
@@ -56,11 +59,19 @@ fn reply<F: Files, O: Sink, H: Hub>(
     }
 }
 
-/// Tells a status: the line on `err`, if it isn't success, and the exit status.
-fn tell<E: Sink>(alloc: Global, status: Status, err: &mut E) -> u8
-    ensures exact { IsTelling status (E.seen err.old) (E.seen err.new) result }
+/// Tells a status of these words, if they could be read: the lines on `err`, if it isn't success, and
+/// the exit status.
+fn tell<E: Sink>(
+    alloc: Global,
+    words: &[String],
+    is_read: bool,
+    status: Status,
+    err: &mut E,
+) -> u8
+    ensures exact { IsTelling (told_by is_read (texts_of words.now)) status (E.seen err.old)
+        (E.seen err.new) result }
 {
-    match line(alloc, &status) {
+    match lines(alloc, words, is_read, &status) {
         Ok(text) => {
             let _ = send_all(err, text.as_slice());
             status.number()
@@ -72,9 +83,16 @@ fn tell<E: Sink>(alloc: Global, status: Status, err: &mut E) -> u8
     }
 }
 
-/// The line that tells a status, with its end; that of success is empty and takes no memory.
-fn line(alloc: Global, status: &Status) -> Result<Vec<u8>, AllocError>
-    ensures exact { IfOk result (λ text. text.items ≡ told_line status.now) }
+/// The lines that tell a status of these words, if they could be read; those of success are empty and
+/// take no memory.
+fn lines(
+    alloc: Global,
+    words: &[String],
+    is_read: bool,
+    status: &Status,
+) -> Result<Vec<u8>, AllocError>
+    ensures exact { IfOk result (λ text.
+        text.items ≡ told_by is_read (texts_of words.now) status.now) }
     ensures only { OnErr result (number_of_status status.now ≢ 0) }
 {
     if status.number() == 0 {
@@ -82,5 +100,41 @@ fn line(alloc: Global, status: &Status) -> Result<Vec<u8>, AllocError>
     }
     let mut text = status.line(alloc)?;
     append_bytes(&mut text, b"\n")?;
+    append_below(alloc, &mut text, words, is_read, status)?;
     Ok(text)
+}
+
+/// Appends what stands below the line of a status of these words, if they could be read.
+fn append_below(
+    alloc: Global,
+    text: &mut Vec<u8>,
+    words: &[String],
+    is_read: bool,
+    status: &Status,
+) -> Result<(), AllocError>
+    ensures exact { OnOk result (text.new.items ≡
+        text.old.items ++ below_line is_read (texts_of words.now) status.now) }
+{
+    match status {
+        Status::Usage { word } => append_usage_of(alloc, text, words, is_read, *word),
+        _ => Ok(()),
+    }
+}
+
+/// Appends what is told of words that are at fault at this place, if they could be read.
+fn append_usage_of(
+    alloc: Global,
+    text: &mut Vec<u8>,
+    words: &[String],
+    is_read: bool,
+    word: u64,
+) -> Result<(), AllocError>
+    ensures exact { OnOk result (text.new.items ≡
+        text.old.items ++ below_line is_read (texts_of words.now) (TheStatus.Usage word)) }
+{
+    if is_read {
+        append_usage(alloc, text, words, word)
+    } else {
+        append_bytes(text, b"the words can't be read as UTF-8\n")
+    }
 }

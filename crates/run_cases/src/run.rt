@@ -20,7 +20,7 @@ pub(crate) use world::World;
 pub(crate) const SETTINGS: [&str; 6] = ["world", "file", "tile", "reading", "output", "hub"];
 
 /// The calls that run command lines.
-pub(crate) const RUNS: [&str; 11] = [
+pub(crate) const RUNS: [&str; 12] = [
     "run",
     "cost",
     "size",
@@ -31,6 +31,7 @@ pub(crate) const RUNS: [&str; 11] = [
     "each_write",
     "each_call",
     "listened",
+    "fault",
     "out_of_memory",
 ];
 
@@ -102,6 +103,7 @@ fn append_answer(told: &mut Vec<u8>, case: &Case, world: &mut World) -> Result<(
         7 => faults::append_writes(told, world, case),
         8 => faults::append_calls(told, world, case),
         9 => peers::append_listened(told, world, case),
+        10 => answers::append_fault(told, world, case),
         _ => answers::append_no_memory(told, world.alloc()),
     }
 }

@@ -112,6 +112,26 @@ pub(crate) fn append_edge(
     append_in_brackets(told, over.out.bytes())
 }
 
+/// Appends what a faulty command line comes to: the exit status, and the second line that is told,
+/// which says of a word why it is at fault.
+pub(crate) fn append_fault(
+    told: &mut Vec<u8>,
+    world: &World,
+    case: &Case,
+) -> Result<(), AllocError> {
+    let mut over = world.outside()?;
+    let exit = world.exit(case, &mut over)?;
+    append_number(told, u64::from(exit))?;
+    append_bytes(told, b" ")?;
+    append_bytes(told, second_line(over.err.bytes()).as_bytes())
+}
+
+/// The second line of a text; nothing where there is none.
+fn second_line(text: &[u8]) -> &str {
+    let text = str::from_utf8(text).unwrap_or("");
+    between(text, "\n", "\n")
+}
+
 /// Appends the number and the line of want of memory, which no command line is sure to meet.
 pub(crate) fn append_no_memory(told: &mut Vec<u8>, alloc: Global) -> Result<(), AllocError> {
     append_number(told, u64::from(Status::NoMemory.number()))?;

@@ -154,7 +154,7 @@ impl World {
     pub(crate) fn outside(&self) -> Result<Outside, AllocError> {
         let files = self.mem_files()?;
         let out = self.mem_sink()?;
-        let err = MemSink::new(self.alloc, 1000, 1000, Vec::new(self.alloc))?;
+        let err = MemSink::new(self.alloc, 10_000, 1000, Vec::new(self.alloc))?;
         Ok(Outside { files, out, err })
     }
 
