@@ -1,6 +1,6 @@
 //! The connections that are held, by their numbers, and who of them is in line.
 
-ghost use Rattle.std.specs.Prelude.{◌≡◌, ◌<◌, ◌≤◌, ◌+◌, ◌==◌, ◌||◌, ℕ, true, false, None, Some, [], ◌∷◌, ◌++◌, length, IfSome, OnOk, OnSome, is_ok, is_some, option_map, if◌then◌else◌};
+ghost use Rattle.std.specs.Prelude.{◌≡◌, ◌<◌, ◌≤◌, ◌+◌, ◌==◌, ◌||◌, ℕ, true, false, None, Some, [], ◌∷◌, ◌++◌, length, IfSome, OnOk, OnSome, if◌then◌else◌};
 ghost use Rattle.std.specs.BTreeMap.{get, Updates, btree_map_len};
 ghost use Rattle.std.specs.Ordering.{nat_cmp};
 ghost use Rattle.edge_io.specs.Hub.{FitsBuffer, TellsEnd};

@@ -1,7 +1,7 @@
 //! The network of the system: its listening socket, the connections that are held, and those that
 //! are left.
 
-ghost use Rattle.std.specs.Prelude.{◌≡◌, ◌≢◌, ◌<◌, ◌≤◌, ◌==◌, ◌||◌, ℕ, Bool, true, false, List, None, Some, length, IfOk, IfSome, OnOk, OnErr, OnSome, IsSome, IsNone};
+ghost use Rattle.std.specs.Prelude.{◌≡◌, ◌≢◌, ◌<◌, ◌≤◌, ◌==◌, ◌||◌, ℕ, true, false, None, Some, length, IfOk, IfSome, OnOk, OnErr, OnSome, IsSome, IsNone};
 ghost use Rattle.std.specs.BTreeMap.{get, Updates};
 ghost use Rattle.std.specs.Duration.{as_nanos};
 ghost use Rattle.std.specs.Ordering.{nat_cmp};
