@@ -17,7 +17,7 @@ use Rattle.route_certificate.specs.declared.making.Certified.{Certified}
 use Rattle.route_certificate.specs.declared.making.Certified.TheVariants.{Shown, NoWalk, Spent}
 use Rattle.route_certificate.specs.declared.verdict.Verdict.{Verdict}
 use Rattle.route_certificate.specs.declared.verdict.Verdict.TheVariants.{Yes}
-use Rattle.route_engine.specs.Refusals.{IsEarly, RefusesEarly}
+use Rattle.route_engine.specs.Refusals.{RefusesEarly}
 use Rattle.route_engine.specs.Settings.{Question}
 use Rattle.route_ready.specs.declared.error.RouteError.{RouteError}
 use Rattle.route_ready.specs.declared.error.RouteError.TheVariants.{NoMemory}

@@ -1,5 +1,5 @@
 -- What refuses a certificate refuses the track that is asked for too, but for a spent limit.
-use Rattle.std.proofs.Common.{◌≡◌, ◌⊎◌, inl, inr, ℕ, suc, ◌+◌, List, length, get_or, Err, IfErr, refl, sym, ap, ◌∙◌, subst, arith}
+use Rattle.std.proofs.Common.{◌≡◌, ◌⊎◌, inl, inr, ℕ, suc, ◌+◌, List, length, get_or, Err, IfErr, refl, ap, ◌∙◌, subst, arith}
 use Rattle.bike_space.specs.LegWalks.{HasNoWalk, IsLegWalk}
 use Rattle.certificate_text.specs.declared.certificate.LowerBound.{LowerBound}
 use Rattle.cost_model.specs.Rides.{Leg, Setting, Terrain, leg_between}

@@ -11,7 +11,7 @@ use Rattle.certificate_text.specs.declared.certificate.Proof.{Proof}
 use Rattle.cost_model.specs.Rides.{Leg, Terrain}
 use Rattle.route_certificate.specs.Asks.{leg_in}
 use Rattle.route_certificate.specs.Closing.{Closes}
-use Rattle.route_certificate.specs.Legs.{AreInBounds, ShowsLeast, leg_rules}
+use Rattle.route_certificate.specs.Legs.{AreInBounds, AreRestsBelow, ShowsLeast, leg_rules}
 use Rattle.route_certificate.specs.Verdicts.{IsAccepted, total_cost}
 use Rattle.route_certificate.specs.declared.ask.TrackAsk.{TrackAsk}
 
@@ -32,7 +32,8 @@ shows-same bound leg one other same is =
         bounds = subst (AreInBounds leg) entries is.sound.bounds;
       };
       closed = λ low rests. subst (λ (n : ℕ). Closes (leg_rules leg low) n other.entries.items) cost
-          (subst (Closes (leg_rules leg low) one.cost) entries (is.closed low rests));
+          (subst (Closes (leg_rules leg low) one.cost) entries
+          (is.closed low (subst (λ (n : ℕ). AreRestsBelow bound leg n low) (sym cost) rests)));
     }
 
 -- the leg of a number in another list of the same legs

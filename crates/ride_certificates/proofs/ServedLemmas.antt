@@ -1,10 +1,9 @@
 -- Of what a server gives for a question a check says yes: its legs are those of the question, and each is shown least.
-use Rattle.std.proofs.Common.{◌≡◌, ◌⊎◌, inl, inr, ℕ, suc, ◌+◌, ◌<◌, List, length, Result, Ok, Err, refl, sym, ap, ◌∙◌, subst, arith}
+use Rattle.std.proofs.Common.{◌≡◌, inl, inr, ℕ, List, length, Result, Ok, Err, refl, sym, ap, ◌∙◌, subst, arith}
 use Rattle.certificate_text.specs.Texts.{value_of}
 use Rattle.certificate_text.specs.declared.certificate.Certificate.{Certificate}
 use Rattle.certificate_text.specs.declared.certificate.LowerBound.{LowerBound}
 use Rattle.certificate_text.specs.declared.certificate.LowerBound.TheVariants.{Least}
-use Rattle.certificate_text.specs.declared.certificate.Proof.{Proof}
 use Rattle.cost_model.specs.Rides.{Leg, Setting}
 use Rattle.route_certificate.specs.Asks.{leg_in}
 use Rattle.route_certificate.specs.Legs.{ShowsLeast}
@@ -17,10 +16,9 @@ use Rattle.route_engine.specs.Certificates.{IsCertificateFor}
 use Rattle.route_engine.specs.Plans.{Plan, nth_leg}
 use Rattle.route_engine.specs.Settings.{Question}
 use Rattle.route_ready.specs.declared.error.RouteError.{RouteError}
-use Rattle.route_ready.specs.declared.error.RouteError.TheVariants.{NoMemory}
 use Rattle.ride_certificates.specs.Certificates.{AsksFor}
 use Rattle.ride_certificates.specs.Checks.{AgreesWithServed, Checks, IsCheckAnswer, IsServed, checked, refused}
-use Rattle.ride_certificates.specs.Grounds.{HasLegs, leg_of}
+use Rattle.ride_certificates.specs.Grounds.{HasLegs}
 use Rattle.ride_certificates.proofs.AgreeLemmas.{answer-yes}
 use Rattle.ride_certificates.proofs.GroundLemmas.{legs-same, never-none}
 use Rattle.ride_certificates.proofs.LegLemmas.{leg-asked}
