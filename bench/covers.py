@@ -59,17 +59,18 @@ def street():
     return '{"elements":[%s]}' % ','.join(nodes + ways)
 
 
-def certificate(form, labels):
+def certificate(form, kind, labels):
     base = FIRST if form == 1 else 0
     rows = [f'label 10/0/f {base} 0 0', f'label 11/0/f {base + SECOND} 0 0']
-    rows += ['label 12/0/f 0 0 0'] if form == 2 else []
+    ends = [label[1:] for label in labels] if kind == 'slot' else [(0, 0)]
+    rows += [f'label 12/0/f 0 {down} {up}' for down, up in ends] if form == 2 else []
     for way, start in ((10, base), (11, base + SECOND)):
         rows += [f'label {way}/0/f {start + cost} {down} {up}' for cost, down, up in labels]
     return '\n'.join([f'certificate {form}', 'leg 10/0/f 11/0/f 12/0/f', f'cost {FIRST + SECOND + THIRD}', *rows, 'end', ''])
 
 
-def seconds(folder, form, labels):
-    (folder / 'text').write_text(certificate(form, labels))
+def seconds(folder, form, kind, labels):
+    (folder / 'text').write_text(certificate(form, kind, labels))
     before = resource.getrusage(resource.RUSAGE_CHILDREN).ru_utime
     told = subprocess.run(
         [PROGRAM, 'check', f'lookups={folder}/look', f'profile={folder}/profile.brf', f'map={folder}/map',
@@ -93,7 +94,7 @@ def main():
                 (folder / 'profile.brf').write_text(PROFILE + (EQUAL if kind == 'slot' else ''))
                 for order, put in ORDERS.items():
                     random.seed(1)
-                    rows = [seconds(folder, form, put(make(count // 2))) for count in counts]
+                    rows = [seconds(folder, form, kind, put(make(count // 2))) for count in counts]
                     print(f'| {form} | {kind} | {order} | ' + ' | '.join(f'{took:.2f} s' for took, _ in rows) + ' |', flush=True)
                     for _, told in rows:
                         if told != WANTED[form]:
