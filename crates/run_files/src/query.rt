@@ -30,6 +30,6 @@ pub fn lined_in(alloc: Global, text: &[u8]) -> Result<Request, Status>
     match lined_request(alloc, text) {
         Ok(request) => Ok(request),
         Err(RequestError::NoMemory) => Err(Status::NoMemory),
-        Err(error) => Err(Status::Query { error }),
+        Err(other) => Err(Status::Query { error: other }),
     }
 }
