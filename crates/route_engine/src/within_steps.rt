@@ -41,11 +41,13 @@ pub(crate) fn gone_on(
 {
     let turned = source.turn(terrain(world, &plan), world.map(), quota);
     match turned {
-        Ok(SourceTurn {
-            settled,
-            turn,
-            source,
-        }) => Stepped {
+        Ok(
+            SourceTurn {
+                settled,
+                turn,
+                source,
+            },
+        ) => Stepped {
             spent: settled,
             turn: turned_to(alloc, world, plan, lists, source, turn),
         },
@@ -134,13 +136,7 @@ pub(crate) fn begun(
             turn: Turn::Done(Ok(Nearby { cost, lists })),
         };
     }
-    match source_of(
-        alloc,
-        world,
-        &plan,
-        number,
-        Want::Within(plan.cost as u128),
-    ) {
+    match source_of(alloc, world, &plan, number, Want::Within(plan.cost as u128)) {
         Ok(source) => Stepped {
             spent: 0,
             turn: Turn::More(WithinJob {

@@ -188,7 +188,6 @@ keyed-limited Runs name value p q are is =
     let new : Parts = record p { runs = Some w.value } in
     let same : new ≡ q = let rest = w.rest in cc in
     subst AreLimited same (record { waypoints = are.waypoints; alternative = are.alternative; labels = are.labels })
-
 keyed-limited Cost name value p q are is =
     let w = went (once Cost p.cost _) _ q is in
     let new : Parts = record p { cost = Some w.value } in
