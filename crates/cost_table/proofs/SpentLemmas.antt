@@ -1,5 +1,5 @@
 -- The end of a search whose limit is spent: its evidence, in walks.
-use Rattle.std.proofs.Common.{◌≡◌, ℕ, pos, ◌+◌, ◌<◌, ◌≤◌, inl, inr, false, List, [], ◌∷◌, ◌++◌, length, map, Some, IsTrue, refl, sym, ap, ◌∙◌, subst, arith, length-append, Vec, Global}
+use Rattle.std.proofs.Common.{◌≡◌, ℕ, pos, ◌+◌, ◌<◌, ◌≤◌, inl, inr, false, List, length, map, Some, IsTrue, refl, sym, ap, ◌∙◌, subst, arith, Vec, Global}
 use Rattle.std.proofs.lemmas.List.{length-map}
 use Rattle.std.specs.List.{slice_get}
 use Rattle.cost_model.specs.Labels.{label_of}
@@ -8,10 +8,10 @@ use Rattle.cost_model.specs.Walks.{pair_of}
 use Rattle.cost_model.specs.declared.parts.Carry.{Carry}
 use Rattle.elev_buffer.specs.Covers.{CoversLabel, label}
 use Rattle.elev_buffer.proofs.CallerLemmas.{covers-test}
-use Rattle.item_list.proofs.ListLemmas.{slice_get-append, slice_get-pushed, slice_get-there}
+use Rattle.item_list.proofs.ListLemmas.{slice_get-there}
 use Rattle.space_search.specs.Laws.{HasRank}
-use Rattle.space_search.specs.Turns.{EndsSpent}
-use Rattle.space_search.specs.View.{Reached, View}
+use Rattle.space_search.specs.Turns.{AreInOrder, IsClosedAndOrdered}
+use Rattle.space_search.specs.View.{Reached}
 use Rattle.bike_space.specs.Lawful.{IsTask}
 use Rattle.bike_space.specs.LegWalks.{IsWalkTo, end_link, leg_cost}
 use Rattle.bike_space.specs.Runs.{IsWalkWith}
@@ -21,12 +21,13 @@ use Rattle.bike_space.proofs.CallerLemmas.{nth-at, parts-cover, walk-some, walk_
 use Rattle.bike_space.proofs.LeastLemmas.{end-carried}
 use Rattle.cost_table.specs.Costs.{AreReached, AreWithin, FallsShort, IsMissed, IsSpentOn, Quest, cost_label, leg_to}
 use Rattle.cost_table.specs.Endless.{endless}
-use Rattle.cost_table.specs.Found.{waits}
-use Rattle.cost_table.specs.Reaches.{AreNamed, AreNear, IsFoundAfter}
+use Rattle.cost_table.specs.Found.{PassesBy, waits}
+use Rattle.cost_table.specs.Reaches.{AreNamed, IsFoundAfter}
 use Rattle.cost_table.specs.declared.found.Found.{Found}
+use Rattle.cost_table.specs.declared.turn.ReachTurn.TheVariants.{Budget}
 use Rattle.cost_table.specs.declared.want.Want.{Want}
 use Rattle.cost_table.specs.declared.want.Want.TheVariants.{Nodes, Within}
-use Rattle.cost_table.proofs.ArriveLemmas.{cost-of, label-walk, quest_on, walk-arrives}
+use Rattle.cost_table.proofs.ArriveLemmas.{IsGrown, cost-of, label-walk, quest_on, walk-arrives}
 
 -- what is known of a label that is shown, at its place
 record IsShownAt (task : Task) (shown : List (Reached Carry)) (k : ℕ) : Type 0 where
@@ -40,12 +41,9 @@ cost-ranked : (task : Task) (one : Reached Carry) → HasRank (endless (rules_of
 cost-ranked task one = record { low = 0; is = refl; sum = omega arith }
 
 module _ (task : Task) (lawful : IsTask task) (unused : (link : ℕ) → task.used link ≡ false)
-    (shown : View Carry) (spent : EndsSpent (endless (rules_of task)) shown) where
-  -- the labels that are shown: the settled ones and the one that was taken
-  abbrev labels : List (Reached Carry)
-  labels = shown.settled ++ spent.taken ∷ []
-
-  -- their walks
+    (limit : ℕ) (labels : List (Reached Carry)) (count : length labels ≡ limit + 1)
+    (ordered : AreInOrder (endless (rules_of task)) labels) where
+  -- the walks of these labels, which are one more than the limit
   abbrev pub spent_walks : List (List ℕ)
   spent_walks = map (walk_of task) labels
 
@@ -57,7 +55,7 @@ module _ (task : Task) (lawful : IsTask task) (unused : (link : ℕ) → task.us
         one = t.0;
         at = t.1;
         walk = nth-at (λ choices. choices) task labels k t.0 t.1;
-        with = label-walk task lawful unused _ t.0 (spent.spent.ordered.each k t.0 t.1);
+        with = label-walk task lawful unused _ t.0 (ordered.each k t.0 t.1);
       }
 
   -- the last link of its walk
@@ -77,7 +75,7 @@ module _ (task : Task) (lawful : IsTask task) (unused : (link : ℕ) → task.us
   -- of two the later costs no less
   rising-at : (i j : ℕ) → i ≤ j → (s : IsShownAt task labels i) (t : IsShownAt task labels j) → s.one.cost ≤ t.one.cost
   rising-at i j less s t =
-      spent.spent.ordered.rising i j s.one t.one s.one.cost t.one.cost less s.at t.at (cost-ranked task s.one)
+      ordered.rising i j s.one t.one s.one.cost t.one.cost less s.at t.at (cost-ranked task s.one)
       (cost-ranked task t.one)
 
   -- the earlier doesn't make the later needless
@@ -98,7 +96,7 @@ module _ (task : Task) (lawful : IsTask task) (unused : (link : ℕ) → task.us
       let yes_ : IsTrue (covers_carry task.leg s.one.state s.one.cost t.one.state t.one.cost) =
       parts-cover task.leg s.one.state t.one.state s.one.cost t.one.cost one ((covers-test _ _ _).1 both) in
       let no_ : covers_carry task.leg s.one.state s.one.cost t.one.state t.one.cost ≡ false =
-      spent.spent.ordered.apart i j s.one t.one less s.at t.at in
+      ordered.apart i j s.one t.one less s.at t.at in
       let never : ⊥ = cc in
       never
 
@@ -107,9 +105,9 @@ module _ (task : Task) (lawful : IsTask task) (unused : (link : ℕ) → task.us
   home = record { ride = task.leg.ride; start = task.leg.start; target = task.leg.start }
 
   -- the walks are such as are reached
-  spent-reached : AreReached home (shown.limit + 1) spent_walks
+  spent-reached : AreReached home (limit + 1) spent_walks
   spent-reached = record {
-    counted = length-map labels (walk_of task) ∙ spent.spent.count;
+    counted = length-map labels (walk_of task) ∙ count;
     each = λ k below.
         let s = shown-at k below in
         let led : task.leg.ride.roads.to s.one.state.link ≡ task.leg.ride.roads.to (end_link (nth_walk spent_walks k)) =
@@ -129,75 +127,73 @@ module _ (task : Task) (lawful : IsTask task) (unused : (link : ℕ) → task.us
         apart-at i j less s t (sym (end-at i s) ∙ same ∙ end-at j t) covers;
   }
 
-  -- each costs no more than the label that was taken
-  below-taken : (k : ℕ) (s : IsShownAt task labels k) → k ≤ length shown.settled → s.one.cost ≤ spent.taken.cost
-  below-taken k s within =
-      spent.spent.ordered.rising k (length shown.settled) s.one spent.taken s.one.cost spent.taken.cost within s.at
-      (slice_get-pushed shown.settled spent.taken) (cost-ranked task s.one) (cost-ranked task spent.taken)
+  module _ (before : List (Reached Carry)) (last : Reached Carry) (grown : IsGrown before labels last)
+      (longer : length labels ≡ length before + 1)
+      (closed : IsClosedAndOrdered (endless (rules_of task)) labels (Some last.cost)) where
+    -- each costs no more than the last label
+    below-last : (k : ℕ) (s : IsShownAt task labels k) → k ≤ length before → s.one.cost ≤ last.cost
+    below-last k s within =
+        ordered.rising k (length before) s.one last s.one.cost last.cost within s.at grown.there (cost-ranked task s.one)
+        (cost-ranked task last)
 
-  module _ (found : Found) where
-    -- where nodes are named one that waits is reached at no less
-    spent-missed :
-        (nodes : Vec ℕ Global) → IsFoundAfter task (quest_on task lawful unused (Nodes nodes) shown.limit) found shown.settled →
-        IsMissed (quest_on task lawful unused (Nodes nodes) shown.limit) nodes.items spent_walks
-    spent-missed nodes is =
-        let quest : Quest = quest_on task lawful unused (Nodes nodes) shown.limit in
-        let are : AreNamed task nodes.items found shown.settled = is.by_want in
-        let node : ℕ = are.some.0 in
-        record {
-          node = node;
-          named = are.named node are.some.1;
-          below = λ k below other leads.
-              let s = shown-at k below in
-              let size = length-append shown.settled (spent.taken ∷ []) in
-              let long = length-map labels (walk_of task) in
-              let cheap = below-taken k s (omega (arith, below, long, size)) in
-              let low : 0 ≡ spent.ranked.low = let is_low = spent.ranked.is in cc in
-              let some = walk-some (leg_to quest node) other
-              (λ at.
-              let away : waits found node ≡ false = subst (λ (n : ℕ). waits found n ≡ false) at are.away in
-              let waiting = are.some.1 in
-              let never : ⊥ = cc in
-              never) leads in
-              elim (walk-arrives task lawful unused shown.settled (Some spent.rank) spent.closed node other some leads) [
-                | inl a ↦
-                    let no : waits found node ≡ false =
-                    subst (λ (n : ℕ). waits found n ≡ false) a.at (are.unseen a.place a.label a.there) in
-                    let waiting = are.some.1 in
-                    let never : ⊥ = cc in
-                    absurd never
-                | inr b ↦
-                    let is_bound = b.is in
-                    let one : spent.rank ≡ b.bound = cc in
-                    omega (arith, b.below, one, cheap, spent.ranked.sum, low, cost-at k s)
-              ];
-        }
+    -- so does its walk
+    walk-below : (k : ℕ) → k < length spent_walks → leg_cost task.leg (nth_walk spent_walks k) ≤ last.cost
+    walk-below k below =
+        let s = shown-at k below in
+        let cheap = below-last k s (omega (arith, below, length-map labels (walk_of task), longer)) in
+        omega (arith, cheap, cost-at k s)
 
-    -- where all within a cost are asked for each walk but the last costs at most that
-    spent-within :
-        (most : ℕ) → IsFoundAfter task (quest_on task lawful unused (Within most) shown.limit) found shown.settled →
-        AreWithin task.leg most spent_walks
-    spent-within most is k below =
-        let are : AreNear task most found shown.settled = is.by_want in
-        let size = length-append shown.settled (spent.taken ∷ []) in
-        let long = length-map labels (walk_of task) in
-        let s = shown-at k (omega (arith, below)) in
-        let t = slice_get-there shown.settled k (omega (arith, below, long, size)) in
-        let there = slice_get-append shown.settled (spent.taken ∷ []) k t.0 t.1 in
-        let at = s.at in
-        let one : t.0 ≡ s.one = cc in
-        let same : t.0.cost ≡ s.one.cost = ap (λ (l : Reached Carry). l.cost) one in
-        omega (arith, are.near k t.0 t.1, same, cost-at k s)
+    module _ (found : Found) where
+      -- where nodes are named one that waits is reached at no less
+      spent-missed :
+          (nodes : Vec ℕ Global) → IsFoundAfter task (quest_on task lawful unused (Nodes nodes) limit) found before →
+          IsMissed (quest_on task lawful unused (Nodes nodes) limit) nodes.items spent_walks
+      spent-missed nodes is =
+          let quest : Quest = quest_on task lawful unused (Nodes nodes) limit in
+          let are : AreNamed task nodes.items found before = is.by_want in
+          let node : ℕ = are.some.0 in
+          record {
+            node = node;
+            named = are.named node are.some.1;
+            below = λ k below other leads.
+                let cheap = walk-below k below in
+                let some = walk-some (leg_to quest node) other
+                (λ at.
+                let away : waits found node ≡ false = subst (λ (n : ℕ). waits found n ≡ false) at are.away in
+                let waiting = are.some.1 in
+                let never : ⊥ = cc in
+                never) leads in
+                elim (walk-arrives task lawful unused labels (Some last.cost) closed node other some leads) [
+                  | inl a ↦
+                      elim (grown.each a.place a.label a.there) [
+                        | inl was ↦
+                            let no : waits found node ≡ false =
+                            subst (λ (n : ℕ). waits found n ≡ false) a.at (are.unseen a.place a.label was) in
+                            let waiting = are.some.1 in
+                            let never : ⊥ = cc in
+                            absurd never
+                        | inr it ↦
+                            let costs : a.label.cost ≡ last.cost = ap (λ (l : Reached Carry). l.cost) it in
+                            omega (arith, a.cheaper, costs, cheap)
+                      ]
+                  | inr b ↦
+                      let is_bound = b.is in
+                      let one : last.cost ≡ b.bound = cc in
+                      omega (arith, b.below, one, cheap)
+                ];
+          }
 
-    -- so the walks fall short of what is asked
-    spent-short :
-        (want : Want) → IsFoundAfter task (quest_on task lawful unused want shown.limit) found shown.settled →
-        FallsShort (quest_on task lawful unused want shown.limit) spent_walks want
-    spent-short (Nodes nodes) is = spent-missed nodes is
-    spent-short (Within most) is = spent-within most is
+      -- the walks fall short of what is asked where the last label spends the limit
+      spent-short :
+          (want : Want) → PassesBy want last.cost Budget →
+          IsFoundAfter task (quest_on task lawful unused want limit) found before →
+          FallsShort (quest_on task lawful unused want limit) spent_walks want
+      spent-short (Nodes nodes) passes is = spent-missed nodes is
+      spent-short (Within most) passes is = λ k below. omega (arith, walk-below k below, passes)
 
-    -- a spent limit has its evidence
-    pub spent-known :
-        (want : Want) → IsFoundAfter task (quest_on task lawful unused want shown.limit) found shown.settled →
-        IsSpentOn (quest_on task lawful unused want shown.limit) spent_walks
-    spent-known want is = record { reached = spent-reached; short = spent-short want is }
+      -- a spent limit has its evidence
+      pub spent-known :
+          (want : Want) → PassesBy want last.cost Budget →
+          IsFoundAfter task (quest_on task lawful unused want limit) found before →
+          IsSpentOn (quest_on task lawful unused want limit) spent_walks
+      spent-known want passes is = record { reached = spent-reached; short = spent-short want passes is }

@@ -1,10 +1,8 @@
 -- One label is settled and noted, or the search is at its end.
 use Rattle.std.proofs.Common.{◌≡◌, ℕ, ◌+◌, ◌<◌, ◌≤◌, Bool, true, false, List, [], ◌∷◌, length, Some, IsTrue, refl, sym, ap, ◌∙◌, subst, arith}
 use Rattle.std.specs.List.{slice_get}
-use Rattle.std.proofs.lemmas.Option.{slice_get_within}
 use Rattle.cost_model.specs.declared.parts.Carry.{Carry}
 use Rattle.item_list.proofs.ListLemmas.{slice_get-append, slice_get-there}
-use Rattle.space_search.proofs.CallerLemmas.{kept-grow}
 use Rattle.space_search.specs.Searches.{IsSearchOf}
 use Rattle.space_search.specs.Turns.{EndsSearch, GoesOn, IsClosedSoFar}
 use Rattle.space_search.specs.View.{IsShown, KeepsPlaces, Reached, listed, view}
@@ -14,70 +12,39 @@ use Rattle.space_search.specs.declared.search.Search.{Search}
 use Rattle.bike_space.specs.Lawful.{IsTask}
 use Rattle.bike_space.specs.Tasks.{Task, rules_of}
 use Rattle.bike_space.proofs.CarryLemmas.{carried-is}
-use Rattle.cost_table.specs.Costs.{IsSpentOn, Quest}
+use Rattle.cost_table.specs.Costs.{AreCosts, IsSpentOn, Quest}
 use Rattle.cost_table.specs.Endless.{endless}
-use Rattle.cost_table.specs.Found.{NotesBy}
-use Rattle.cost_table.specs.Reaches.{CountsReach, IsFoundAfter, IsFoundBy, IsGoing, IsNoted, IsOneMore, IsUnderWay, StaysReach, StepsTo, arrival, ended_by, quest_of}
+use Rattle.cost_table.specs.Found.{NotesBy, PassesBy, beyond}
+use Rattle.cost_table.specs.Reaches.{CountsReach, EndsBy, IsFoundAfter, IsNoted, IsOneMore, IsUnderWay, StaysReach, StepsTo, arrival, cost_in, quest_of}
 use Rattle.cost_table.specs.declared.found.Found.{Found}
 use Rattle.cost_table.specs.declared.reach.Reach.{Reach}
 use Rattle.cost_table.specs.declared.turn.ReachTurn.{ReachTurn}
 use Rattle.cost_table.specs.declared.turn.ReachTurn.TheVariants.{More, Done, Budget}
 use Rattle.cost_table.specs.declared.want.Want.{Want}
 use Rattle.cost_table.specs.declared.want.Want.TheVariants.{Nodes, Within}
-use Rattle.cost_table.proofs.ArriveLemmas.{grown-by, place-before}
+use Rattle.cost_table.proofs.ArriveLemmas.{IsGrown, grown-by}
 use Rattle.cost_table.proofs.NoWayLemmas.{no-way-known}
 use Rattle.cost_table.proofs.NoteLemmas.{IsKnown, note-known}
 use Rattle.cost_table.proofs.SpentLemmas.{spent-known, spent_walks}
 
--- what is found after labels is found after those of them that stand at their places
-fewer-by :
-    (want : Want) (task : Task) (found : Found) (more fewer : List (Reached Carry)) →
-    ((place : ℕ) (one : Reached Carry) → slice_get fewer place ≡ Some one → slice_get more place ≡ Some one) →
-    IsFoundBy want task found more → IsFoundBy want task found fewer
-fewer-by (Nodes nodes) task found more fewer sub is = record {
-  named = is.named;
-  rest = is.rest;
-  away = is.away;
-  some = is.some;
-  unseen = λ place one at. is.unseen place one (sub place one at);
-}
-fewer-by (Within most) task found more fewer sub is = record {
-  low = is.low;
-  near = λ place one at. is.near place one (sub place one at);
-  seen = λ place one at. is.seen place one (sub place one at);
-}
-
--- so it is with all of it
-fewer-found :
-    (task : Task) (quest : Quest) (found : Found) (more fewer : List (Reached Carry)) →
-    ((place : ℕ) (one : Reached Carry) → slice_get fewer place ≡ Some one → slice_get more place ≡ Some one) →
-    IsFoundAfter task quest found more → IsFoundAfter task quest found fewer
-fewer-found task quest found more fewer sub is = record {
-  sound = is.sound;
-  home = is.home;
-  by_want = fewer-by quest.want task found more fewer sub is.by_want;
-}
-
 module _ (task : Task) (lawful : IsTask task) (unused : (link : ℕ) → task.used link ≡ false) (reach : Reach)
-    (way : IsUnderWay task reach) (search : Search Carry) (settled : ℕ)
+    (way : IsUnderWay task reach) (search : Search Carry)
     (of : IsSearchOf (endless (rules_of task)) search)
-    (kept : GoesOn (endless (rules_of task)) (view reach.search) (view search))
-    (counted : settled ≡ length (view search).settled) where
+    (kept : GoesOn (endless (rules_of task)) (view reach.search) (view search)) where
   -- the reach after a turn of its search
   abbrev pub searched : Reach
-  searched = record reach { search = search; settled = settled }
+  searched = record reach { search = search }
 
   -- what stays of it
   pub searched-stays : StaysReach task reach searched
   searched-stays = record {
     of = of;
     source = refl;
-    counted = counted;
     want = refl;
-    limit = kept.limit;
+    limit = refl;
     stage = refl;
-    grows = omega (arith, way.counted, counted, kept-grow (view reach.search).settled (view search).settled kept.kept);
-    within = omega (arith, counted, kept.within, kept.limit);
+    grows = omega arith;
+    within = way.within;
   }
 
   -- one label more is settled
@@ -90,56 +57,41 @@ module _ (task : Task) (lawful : IsTask task) (unused : (link : ℕ) → task.us
       record {
         of = of;
         from = way.from;
-        counted = counted;
+        within = way.within;
         before = (view reach.search).settled;
         last = t.0;
+        counted = way.counted;
         kept = kept.kept;
         grown = longer;
         there = t.1;
         closed = closed count t.0 t.0.cost (sym longer) t.1 (record { low = 0; is = refl; sum = omega arith });
-        found = subst
-            (λ (n : ℕ). IsFoundAfter task
-            (record { ride = task.leg.ride; source = task.leg.start; want = reach.found.want; limit = n }) reach.found
-            (view reach.search).settled) (sym kept.limit) way.found;
+        found = way.found;
       }
 
   -- the search is at its end
   pub searched-ends :
-      (end : Outcome ℕ) → EndsSearch (endless (rules_of task)) (view search) end →
+      (end : Outcome ℕ) (turn : ReachTurn) → EndsBy end turn → EndsSearch (endless (rules_of task)) (view search) end →
       length (view search).settled < length (view reach.search).settled + 1 →
-      StepsTo task (quest_of task reach) searched (ended_by end)
-  searched-ends (search_.Found label) ends few =
+      (turn ≡ Done) × AreCosts (quest_of task reach) (cost_in searched)
+  searched-ends (search_.Found label) turn by ends few =
       let goal : IsTrue false = ends.least.goal in
       let never : ⊥ = cc in
       absurd never
-  searched-ends search_.NoWay ends few =
-      no-way-known task lawful unused (view reach.search).limit (view reach.search).settled (view search).settled kept.kept
-      (omega (arith, few)) ends.closed reach.found reach.found.want way.found
-  searched-ends search_.Budget ends few =
-      let P : ℕ → Type 0 = λ (n : ℕ). (walks : List (List ℕ)) × IsSpentOn
-      (record { ride = task.leg.ride; source = task.leg.start; want = reach.found.want; limit = n }) walks in
-      let found = subst
-      (λ (n : ℕ). IsFoundAfter task
-      (record { ride = task.leg.ride; source = task.leg.start; want = reach.found.want; limit = n }) reach.found
-      (view reach.search).settled) (sym kept.limit) way.found in
-      let sub = λ (place : ℕ) (one : Reached Carry) (at : slice_get (view search).settled place ≡ Some one).
-      (let within = slice_get_within (view search).settled place one at in
-      place-before (view reach.search).settled (view search).settled kept.kept place one (omega (arith, within, few)) at) in
-      subst P kept.limit (
-        spent_walks task lawful unused (view search) ends,
-        spent-known task lawful unused (view search) ends reach.found reach.found.want
-            (fewer-found task _ reach.found (view reach.search).settled (view search).settled sub found),
-      )
+  searched-ends search_.NoWay turn by ends few = (
+    by,
+    no-way-known task lawful unused reach.limit (view reach.search).settled (view search).settled kept.kept
+        (omega (arith, few)) ends.closed reach.found reach.found.want way.found,
+  )
+  searched-ends search_.Budget turn by ends few = absurd by
 
-  -- the labels that were settled by it
-  pub ends-counts :
-      (end : Outcome ℕ) → EndsSearch (endless (rules_of task)) (view search) end →
+  -- so the reach is at its end
+  pub ended-steps :
+      (end : Outcome ℕ) (turn : ReachTurn) → EndsBy end turn → EndsSearch (endless (rules_of task)) (view search) end →
       length (view search).settled < length (view reach.search).settled + 1 →
-      CountsReach 1 (quest_of task reach).limit reach.settled settled (ended_by end)
-  ends-counts (search_.Found label) ends few = omega (arith, few, counted, way.counted)
-  ends-counts search_.NoWay ends few = omega (arith, few, counted, way.counted)
-  ends-counts search_.Budget ends few =
-      (omega (arith, few, counted, way.counted), counted ∙ ends.reached ∙ kept.limit)
+      StepsTo task (quest_of task reach) searched turn
+  ended-steps end turn by ends few =
+      let it = searched-ends end turn by ends few in
+      subst (λ (t : ReachTurn). StepsTo task (quest_of task reach) searched t) (sym it.0) it.1
 
 -- ---- A label is noted
 
@@ -162,36 +114,88 @@ pub last-within :
 last-within task reach more =
     (carried-is task.leg more.last.state (more.closed.ordered.each (length more.before) more.last more.there).valid).0
 
--- what a label that is noted comes to
+-- the labels before the last one, and with it
+pub one-grown :
+    (task : Task) (reach : Reach) (more : IsOneMore task reach) →
+    IsGrown more.before (view reach.search).settled more.last
+one-grown task reach more = grown-by more.before (view reach.search).settled more.last more.kept more.grown more.there
+
+-- what a label that is noted and counted comes to
 pub noted-steps :
     (task : Task) → IsTask task → ((link : ℕ) → task.used link ≡ false) → (reach : Reach) (more : IsOneMore task reach)
-    (found : Found) → found.want ≡ reach.found.want → (node cost : ℕ) → node ≡ arrival task more.last →
+    (found : Found) → found.want ≡ reach.found.want → (settled : ℕ) → settled ≡ reach.settled + 1 →
+    settled ≤ reach.limit → (node cost : ℕ) → node ≡ arrival task more.last →
     cost ≡ more.last.cost → (told done : Bool) → told ≡ done → NotesBy reach.found.want node cost reach.found found told →
-    StepsTo task (quest_of task reach) (record reach { found = found }) (turn_of done)
-noted-steps task lawful unused reach more found want node cost at paid told done is notes =
-    let settled = (view reach.search).settled in
-    let grown = grown-by more.before settled more.last more.kept more.grown more.there in
+    StepsTo task (quest_of task reach) (record reach { found = found; settled = settled }) (turn_of done)
+noted-steps task lawful unused reach more found want settled one within node cost at paid told done is notes =
     let its : NotesBy reach.found.want (arrival task more.last) more.last.cost reach.found found done =
     subst (λ (d : Bool). NotesBy reach.found.want (arrival task more.last) more.last.cost reach.found found d) is
     (subst (λ (c : ℕ). NotesBy reach.found.want (arrival task more.last) c reach.found found told) paid
     (subst (λ (n : ℕ). NotesBy reach.found.want n cost reach.found found told) at notes)) in
     known-steps done
-    (note-known task lawful unused (view reach.search).limit more.before settled more.last grown more.closed reach.found
-    found reach.found.want done more.found its)
+    (note-known task lawful unused reach.limit more.before (view reach.search).settled more.last
+    (one-grown task reach more) more.closed reach.found found reach.found.want done more.found its)
   where
     known-steps :
         (done : Bool) → IsKnown task (quest_of task reach) found (view reach.search).settled done →
-        StepsTo task (quest_of task reach) (record reach { found = found }) (turn_of done)
+        StepsTo task (quest_of task reach) (record reach { found = found; settled = settled }) (turn_of done)
     known-steps true known = known
     known-steps false known = record {
       of = more.of;
       from = more.from;
-      counted = more.counted;
+      counted = omega (arith, one, more.counted, more.grown);
+      within = within;
       found = subst
           (λ (w : Want). IsFoundAfter task
-          (record { ride = task.leg.ride; source = task.leg.start; want = w; limit = (view reach.search).limit }) found
+          (record { ride = task.leg.ride; source = task.leg.start; want = w; limit = reach.limit }) found
           (view reach.search).settled) (sym want) known;
     }
+
+-- what one label more than the limit comes to
+pub passed-steps :
+    (task : Task) → IsTask task → ((link : ℕ) → task.used link ≡ false) → (reach : Reach) (more : IsOneMore task reach) →
+    reach.settled ≡ reach.limit → (cost : ℕ) → cost ≡ more.last.cost → (turn : ReachTurn) →
+    PassesBy reach.found.want cost turn → StepsTo task (quest_of task reach) reach turn
+passed-steps task lawful unused reach more full cost paid turn passes =
+    steps reach.found.want turn refl
+    (subst (λ (c : ℕ). PassesBy reach.found.want c turn) paid passes)
+  where
+    -- the evidence of a spent limit
+    spent : PassesBy reach.found.want more.last.cost Budget →
+        (walks : List (List ℕ)) × IsSpentOn (quest_of task reach) walks
+    spent by =
+        let settled = (view reach.search).settled in
+        let count : length settled ≡ reach.limit + 1 = omega (arith, full, more.counted, more.grown) in (
+          spent_walks task lawful unused reach.limit settled count more.closed.ordered,
+          spent-known task lawful unused reach.limit settled count more.closed.ordered more.before more.last
+              (one-grown task reach more) more.grown more.closed reach.found reach.found.want by more.found,
+        )
+
+    steps :
+        (want : Want) (turn : ReachTurn) → reach.found.want ≡ want → PassesBy reach.found.want more.last.cost turn →
+        StepsTo task (quest_of task reach) reach turn
+    steps (Nodes nodes) turn is by =
+        let spends : turn ≡ Budget = subst (λ (w : Want). PassesBy w more.last.cost turn) is by in
+        subst (λ (t : ReachTurn). StepsTo task (quest_of task reach) reach t) (sym spends)
+        (spent (subst (λ (t : ReachTurn). PassesBy reach.found.want more.last.cost t) spends by))
+    steps (Within most) More is by = absurd (subst (λ (w : Want). PassesBy w more.last.cost More) is by)
+    steps (Within most) Done is by =
+        let far : most < more.last.cost = subst (λ (w : Want). PassesBy w more.last.cost Done) is by in
+        note-known task lawful unused reach.limit more.before (view reach.search).settled more.last
+        (one-grown task reach more) more.closed reach.found reach.found reach.found.want true more.found
+        (subst (λ (w : Want). NotesBy w (arrival task more.last) more.last.cost reach.found reach.found true) (sym is)
+        (beyond far (record { costs = λ node. refl; waiting = λ node. refl })))
+    steps (Within most) Budget is by = spent by
+
+-- what is counted where one label more than the limit is looked at
+pub passed-counts :
+    (want : Want) (cost limit settled : ℕ) (turn : ReachTurn) → PassesBy want cost turn → settled ≡ limit →
+    CountsReach 1 limit settled settled turn
+passed-counts (Nodes nodes) cost limit settled turn by full =
+    subst (λ (t : ReachTurn). CountsReach 1 limit settled settled t) (sym by) (omega arith, full)
+passed-counts (Within most) cost limit settled More by full = absurd by
+passed-counts (Within most) cost limit settled Done by full = omega arith
+passed-counts (Within most) cost limit settled Budget by full = (omega arith, full)
 
 -- what stays of a reach when its search took a turn and then its label was noted
 pub noted-stays :
@@ -200,18 +204,9 @@ pub noted-stays :
 noted-stays task before reach after stays noted = record {
   of = subst (IsSearchOf (endless (rules_of task))) (sym noted.search) stays.of;
   source = noted.source ∙ stays.source;
-  counted = noted.settled ∙ stays.counted ∙ ap (λ (s : Search Carry). length (view s).settled) (sym noted.search);
   want = noted.want ∙ stays.want;
-  limit = ap (λ (s : Search Carry). (view s).limit) noted.search ∙ stays.limit;
+  limit = noted.limit ∙ stays.limit;
   stage = noted.stage ∙ stays.stage;
-  grows = omega (arith, noted.settled, stays.grows);
-  within = omega (arith, noted.settled, stays.within);
+  grows = omega (arith, noted.grows, stays.grows);
+  within = omega (arith, noted.within, stays.limit);
 }
-
--- the labels that were settled where one was noted
-pub noted-counts :
-    (limit before after : ℕ) (turn : ReachTurn) → IsGoing turn → after ≡ before + 1 →
-    CountsReach 1 limit before after turn
-noted-counts limit before after More going one = one
-noted-counts limit before after Done going one = omega (arith, one)
-noted-counts limit before after Budget going one = absurd going

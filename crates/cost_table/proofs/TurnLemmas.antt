@@ -1,10 +1,7 @@
 -- A turn as a whole: it begins, goes on, and leaves a reach on what was asked.
 use Rattle.std.proofs.Common.{◌≡◌, ℕ, ◌≤◌, Bool, true, false, length, refl, sym, ap, ◌∙◌, subst, arith}
-use Rattle.cost_model.specs.declared.parts.Carry.{Carry}
 use Rattle.space_search.specs.Searches.{IsSearchOf}
 use Rattle.space_search.specs.View.{view}
-use Rattle.space_search.proofs.CallerLemmas.{settled-within}
-use Rattle.space_search.specs.declared.search.Search.{Search}
 use Rattle.bike_space.specs.Lawful.{IsTask}
 use Rattle.bike_space.specs.Tasks.{Task, rules_of}
 use Rattle.cost_table.specs.Costs.{AreCosts, IsSpentOn, Quest}
@@ -21,23 +18,16 @@ use Rattle.cost_table.specs.declared.want.Want.{Want}
 use Rattle.cost_table.proofs.BeginLemmas.{begun-known}
 use Rattle.cost_table.proofs.NoteLemmas.{IsKnown}
 
--- no more labels are settled than the limit allows
-pub within-limit :
-    (task : Task) (reach : Reach) → IsSearchOf (endless (rules_of task)) reach.search →
-    reach.settled ≡ length (view reach.search).settled → reach.settled ≤ (view reach.search).limit
-within-limit task reach of counted = omega (arith, counted, settled-within (endless (rules_of task)) reach.search of)
-
 -- before its first label everything stays
 pub stays-itself : (task : Task) (reach : Reach) → IsUnderWay task reach → StaysReach task reach reach
 stays-itself task reach way = record {
   of = way.of;
   source = refl;
-  counted = way.counted;
   want = refl;
   limit = refl;
   stage = refl;
   grows = omega arith;
-  within = within-limit task reach way.of way.counted;
+  within = way.within;
 }
 
 -- what is asked by other parts
@@ -47,9 +37,9 @@ asked_by task want limit = record { ride = task.leg.ride; source = task.leg.star
 -- the same is asked where these parts stay
 pub same-quest :
     (task : Task) (before after : Reach) → after.found.want ≡ before.found.want →
-    (view after.search).limit ≡ (view before.search).limit → quest_of task after ≡ quest_of task before
+    after.limit ≡ before.limit → quest_of task after ≡ quest_of task before
 same-quest task before after want limit =
-    ap (λ (w : Want). asked_by task w (view after.search).limit) want
+    ap (λ (w : Want). asked_by task w after.limit) want
     ∙ ap (λ (n : ℕ). asked_by task before.found.want n) limit
 
 -- the reach while a turn is made
@@ -64,7 +54,7 @@ module _ (task : Task) (reach after : Reach) (from : reach.source ≡ task.leg.s
     on = record {
       of = stays.of;
       from = stays.source ∙ from;
-      counted = stays.counted;
+      within = omega (arith, stays.within, stays.limit);
       stands = subst (λ (s : Stage). IsStage task after s) (sym stays.stage) tt;
     };
     same = λ other. same-quest other reach after stays.want stays.limit;
@@ -75,9 +65,9 @@ module _ (task : Task) (reach after : Reach) (from : reach.source ≡ task.leg.s
   -- how far a reach is after what its parts came to
   after-stage :
       (quota : ℕ) (turn : ReachTurn) → StepsTo task (quest_of task reach) after turn →
-      CountsReach quota (view reach.search).limit reach.settled after.settled turn →
+      CountsReach quota reach.limit reach.settled after.settled turn →
       IsStage task (record after { stage = stage_after turn }) (stage_after turn)
-  after-stage quota More steps counts = steps.found
+  after-stage quota More steps counts = (steps.counted, steps.found)
   after-stage quota Done steps counts =
       subst (λ (q : Quest). AreCosts q (cost_in after)) (sym (same-quest task reach after stays.want stays.limit)) steps
   after-stage quota Budget steps counts = (
@@ -91,13 +81,13 @@ module _ (task : Task) (reach after : Reach) (from : reach.source ≡ task.leg.s
   -- what a turn leaves
   pub turned :
       (quota : ℕ) (turn : ReachTurn) → StepsTo task (quest_of task reach) after turn →
-      CountsReach quota (view reach.search).limit reach.settled after.settled turn →
+      CountsReach quota reach.limit reach.settled after.settled turn →
       TurnsReach task reach (record after { stage = stage_after turn })
   turned quota turn steps counts = record {
     on = record {
       of = stays.of;
       from = stays.source ∙ from;
-      counted = stays.counted;
+      within = omega (arith, stays.within, stays.limit);
       stands = after-stage quota turn steps counts;
     };
     same = λ other. same-quest other reach after stays.want stays.limit;
@@ -128,8 +118,14 @@ module _ (task : Task) (lawful : IsTask task) (unused : (link : ℕ) → task.us
       let by_want : BeginsBy reach.found.want task.leg.start found done =
       subst (λ (d : Bool). BeginsBy reach.found.want task.leg.start found d) is
       (subst (λ (s : ℕ). BeginsBy reach.found.want s found told) on.from begins.by_want) in
-      begun-known task lawful unused (view reach.search).limit reach.found found stands.0 puts (view reach.search).settled
+      begun-known task lawful unused reach.limit reach.found found stands.0 puts (view reach.search).settled
       stands.1 reach.found.want done by_want
+
+  -- no label is counted
+  begun-counted : reach.settled ≡ length (view reach.search).settled
+  begun-counted =
+      let stands = subst (IsStage task reach) fresh on.stands in
+      stands.2 ∙ sym (ap length stands.1)
 
   -- where that is all, it is done
   pub begun-done :
@@ -142,12 +138,12 @@ module _ (task : Task) (lawful : IsTask task) (unused : (link : ℕ) → task.us
         on = record {
           of = on.of;
           from = on.from;
-          counted = on.counted;
+          within = on.within;
           stands = subst (λ (q : Quest). AreCosts q (cost_at found)) (sym same) (begun-on told true is begins);
         };
         same = λ other. same-quest other reach next want refl;
         grows = omega arith;
-        within = within-limit task reach on.of on.counted;
+        within = on.within;
       }
 
   -- else it is under way
@@ -159,7 +155,8 @@ module _ (task : Task) (lawful : IsTask task) (unused : (link : ℕ) → task.us
       record {
         of = on.of;
         from = on.from;
-        counted = on.counted;
+        counted = begun-counted;
+        within = on.within;
         found = subst (λ (q : Quest). IsFoundAfter task q found (view reach.search).settled)
             (sym (same-quest task reach next want refl)) (begun-on told false is begins);
       }
@@ -169,18 +166,17 @@ pub begun-failed :
     (task : Task) (reach : Reach) → IsReachOn task reach → (found : Found) → found.want ≡ reach.found.want →
     TurnsReach task reach (record reach { found = found; stage = stage.Failed })
 begun-failed task reach on found want = record {
-  on = record { of = on.of; from = on.from; counted = on.counted; stands = tt };
+  on = record { of = on.of; from = on.from; within = on.within; stands = tt };
   same = λ other. same-quest other reach (record reach { found = found; stage = stage.Failed }) want refl;
   grows = omega arith;
-  within = within-limit task reach on.of on.counted;
+  within = on.within;
 }
 
 -- what a turn leaves that goes on after what was begun
 pub turned-through :
-    (task : Task) (reach next after : Reach) → next.found.want ≡ reach.found.want → next.search ≡ reach.search →
+    (task : Task) (reach next after : Reach) → next.found.want ≡ reach.found.want → next.limit ≡ reach.limit →
     next.settled ≡ reach.settled → TurnsReach task next after → TurnsReach task reach after
-turned-through task reach next after want search settled turns =
-    let limit = ap (λ (s : Search Carry). (view s).limit) search in
+turned-through task reach next after want limit settled turns =
     record {
       on = turns.on;
       same = λ other. turns.same other ∙ same-quest other reach next want limit;

@@ -90,9 +90,9 @@ pub record IsMissed (quest : Quest) (nodes : List ℕ) (walks : List (List ℕ))
   pub named : Contains nodes node
   pub below : CostNoMore (leg_to quest node) walks
 
--- each of these walks but the last costs at most so much
+-- each of these walks costs at most so much
 abbrev pub AreWithin : (leg : Leg) (most : ℕ) (walks : List (List ℕ)) → Type 0
-AreWithin leg most walks = (k : ℕ) → k + 1 < length walks → leg_cost leg (nth_walk walks k) ≤ most
+AreWithin leg most walks = (k : ℕ) → k < length walks → leg_cost leg (nth_walk walks k) ≤ most
 
 -- the walks fall short of what is asked: of one of the nodes that are named; or of the cost
 abbrev pub FallsShort : (quest : Quest) (walks : List (List ℕ)) → Want → Type 0

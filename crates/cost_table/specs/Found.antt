@@ -5,6 +5,8 @@ use Rattle.std.specs.List.{list_any}
 use Rattle.indexmap.specs.IndexMap.{get}
 use Rattle.cost_table.specs.Waiting.{NoneWaits, WaitsNoLonger, waits_among}
 use Rattle.cost_table.specs.declared.found.Found.{Found}
+use Rattle.cost_table.specs.declared.turn.ReachTurn.{ReachTurn}
+use Rattle.cost_table.specs.declared.turn.ReachTurn.TheVariants.{More, Done, Budget}
 use Rattle.cost_table.specs.declared.want.Want.{Want}
 use Rattle.cost_table.specs.declared.want.Want.TheVariants.{Nodes, Within}
 
@@ -67,3 +69,15 @@ pub data NotesWithin (most node cost : ℕ) (before after : Found) : Bool → Ty
 abbrev pub NotesBy : Want → (node cost : ℕ) (before after : Found) → Bool → Type 0
 NotesBy (Nodes nodes) node cost before after done = NotesNamed node cost before after done
 NotesBy (Within most) node cost before after done = NotesWithin most node cost before after done
+
+-- what a label comes to that would be one more than the limit, where all within a cost are asked for: it is beyond
+-- the cost, and all is found; or the limit is spent
+abbrev pub PassesWithin : (most cost : ℕ) → ReachTurn → Type 0
+PassesWithin most cost More = ⊥
+PassesWithin most cost Done = most < cost
+PassesWithin most cost Budget = cost ≤ most
+
+-- what it comes to by what is asked: where nodes are named, the limit is spent
+abbrev pub PassesBy : Want → (cost : ℕ) → ReachTurn → Type 0
+PassesBy (Nodes nodes) cost turn = turn ≡ Budget
+PassesBy (Within most) cost turn = PassesWithin most cost turn

@@ -28,7 +28,7 @@ quest_of task reach = record {
   ride = task.leg.ride;
   source = task.leg.start;
   want = reach.found.want;
-  limit = (view reach.search).limit;
+  limit = reach.limit;
 }
 
 -- how many labels a reach has settled
@@ -88,12 +88,13 @@ pub record IsFoundAfter (task : Task) (quest : Quest) (found : Found) (settled :
 
 -- what holds of a reach by how far it is
 abbrev pub IsStage : (task : Task) (reach : Reach) → Stage → Type 0
-IsStage task reach stage.New = IsNew reach.found × ((view reach.search).settled ≡ [])
+IsStage task reach stage.New = IsNew reach.found × ((view reach.search).settled ≡ []) × (reach.settled ≡ 0)
 IsStage task reach stage.Running =
+    (reach.settled ≡ length (view reach.search).settled) ×
     IsFoundAfter task (quest_of task reach) reach.found (view reach.search).settled
 IsStage task reach stage.Done = AreCosts (quest_of task reach) (cost_in reach)
 IsStage task reach stage.Spent =
-    (reach.settled ≡ (view reach.search).limit) ×
+    (reach.settled ≡ reach.limit) ×
     ((walks : List (List ℕ)) × IsSpentOn (quest_of task reach) walks)
 IsStage task reach stage.Failed = Unit {0}
 
@@ -101,7 +102,7 @@ IsStage task reach stage.Failed = Unit {0}
 pub record IsReachOn (task : Task) (reach : Reach) : Type 0 where
   pub of : IsSearchOf (endless (rules_of task)) reach.search
   pub from : reach.source ≡ task.leg.start
-  pub counted : reach.settled ≡ length (view reach.search).settled
+  pub within : reach.settled ≤ reach.limit
   pub stands : IsStage task reach reach.stage
 
 -- ---- What a turn answers
@@ -134,25 +135,25 @@ pub record TurnsReach (task : Task) (before after : Reach) : Type 0 where
   pub on : IsReachOn task after
   pub same : (other : Task) → quest_of other after ≡ quest_of other before
   pub grows : before.settled ≤ after.settled
-  pub within : after.settled ≤ (view before.search).limit
+  pub within : after.settled ≤ before.limit
 
 -- it is under way: what is found is what its settled labels come to
 pub record IsUnderWay (task : Task) (reach : Reach) : Type 0 where
   pub of : IsSearchOf (endless (rules_of task)) reach.search
   pub from : reach.source ≡ task.leg.start
   pub counted : reach.settled ≡ length (view reach.search).settled
+  pub within : reach.settled ≤ reach.limit
   pub found : IsFoundAfter task (quest_of task reach) reach.found (view reach.search).settled
 
 -- what stays of a reach, and is so of it after a part of a turn, also after want of memory
 pub record StaysReach (task : Task) (before after : Reach) : Type 0 where
   pub of : IsSearchOf (endless (rules_of task)) after.search
   pub source : after.source ≡ before.source
-  pub counted : after.settled ≡ length (view after.search).settled
   pub want : after.found.want ≡ before.found.want
-  pub limit : (view after.search).limit ≡ (view before.search).limit
+  pub limit : after.limit ≡ before.limit
   pub stage : after.stage ≡ before.stage
   pub grows : before.settled ≤ after.settled
-  pub within : after.settled ≤ (view before.search).limit
+  pub within : after.settled ≤ before.limit
 
 -- what a part of a turn answers
 abbrev pub StepsTo : (task : Task) (quest : Quest) (after : Reach) → ReachTurn → Type 0
@@ -160,13 +161,14 @@ StepsTo task quest after More = IsUnderWay task after
 StepsTo task quest after Done = AreCosts quest (cost_in after)
 StepsTo task quest after Budget = (walks : List (List ℕ)) × IsSpentOn quest walks
 
--- one label more is settled than what is found speaks of: the last one
+-- one label more is settled than what is found speaks of, and than are counted: the last one
 pub record IsOneMore (task : Task) (reach : Reach) : Type 0 where
   pub of : IsSearchOf (endless (rules_of task)) reach.search
   pub from : reach.source ≡ task.leg.start
-  pub counted : reach.settled ≡ length (view reach.search).settled
+  pub within : reach.settled ≤ reach.limit
   pub before : List (Reached Carry)
   pub last : Reached Carry
+  pub counted : reach.settled ≡ length before
   pub kept : KeepsPlaces before (view reach.search).settled
   pub grown : length (view reach.search).settled ≡ length before + 1
   pub there : slice_get (view reach.search).settled (length before) ≡ Some last
@@ -179,22 +181,18 @@ stage_after More = stage.Running
 stage_after Done = stage.Done
 stage_after Budget = stage.Spent
 
--- how a reach ends by the end of its search
-abbrev pub ended_by : Outcome ℕ → ReachTurn
-ended_by (search.Found label) = Done
-ended_by search.NoWay = Done
-ended_by search.Budget = Budget
+-- how a reach ends by the end of its search: all is found, but not where the search can hold no more labels
+abbrev pub EndsBy : Outcome ℕ → ReachTurn → Type 0
+EndsBy (search.Found label) turn = turn ≡ Done
+EndsBy search.NoWay turn = turn ≡ Done
+EndsBy search.Budget turn = ⊥
 
--- a label is noted: nothing else changes
+-- a label is noted, and counted where the limit allows it: nothing else changes
 pub record IsNoted (before after : Reach) : Type 0 where
   pub search : after.search ≡ before.search
   pub source : after.source ≡ before.source
-  pub settled : after.settled ≡ before.settled
+  pub limit : after.limit ≡ before.limit
   pub want : after.found.want ≡ before.found.want
   pub stage : after.stage ≡ before.stage
-
--- the limit isn't said to be spent
-abbrev pub IsGoing : ReachTurn → Type 0
-IsGoing More = Unit {0}
-IsGoing Done = Unit {0}
-IsGoing Budget = ⊥
+  pub grows : before.settled ≤ after.settled
+  pub within : after.settled ≤ before.limit

@@ -4,9 +4,10 @@ ghost use Rattle.std.specs.List.{Contains, IsDistinct};
 ghost use Rattle.std.specs.Option.{IsSome};
 ghost use Rattle.std.specs.Prelude.{ℕ, ◌≡◌, ◌↔◌, IfOk, OnOk, false, nat_eq};
 ghost use Rattle.indexmap.specs.IndexMap.{get};
-ghost use Rattle.cost_table.specs.Found.{AreAwaited, Begins, IsNew, NotesBy, PutsDown, cost_at};
+ghost use Rattle.cost_table.specs.Found.{AreAwaited, Begins, IsNew, NotesBy, PassesBy, PutsDown, cost_at};
 ghost use Rattle.cost_table.specs.Waiting.{waits_among};
 
+use crate::turn::ReachTurn;
 use crate::waiting::Waiting;
 use crate::want::Want;
 use indexmap::IndexMap;
@@ -80,6 +81,23 @@ impl Found {
                 }
                 put_down(&mut self.costs, node, cost)?;
                 Ok(false)
+            }
+        }
+    }
+
+    /// What a label at a cost comes to that would be one more than the limit: it spends the limit,
+    /// but where it is beyond the cost that is asked for all is found without it.
+    pub(crate) fn past(&self, cost: u128) -> ReachTurn
+        ensures passes { PassesBy self.now.want cost result }
+    {
+        match &self.want {
+            Want::Nodes(_) => ReachTurn::Budget,
+            Want::Within(most) => {
+                if *most < cost {
+                    ReachTurn::Done
+                } else {
+                    ReachTurn::Budget
+                }
             }
         }
     }

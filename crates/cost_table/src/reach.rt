@@ -2,7 +2,7 @@
 
 ghost use Rattle.std.specs.List.{Contains, IsDistinct};
 ghost use Rattle.std.specs.Option.{IsSome};
-ghost use Rattle.std.specs.Prelude.{ℕ, ◌≡◌, ◌↔◌, ◌≤◌, ◌<◌, ◌^◌, IfOk, OnErr, Ok, Err, alloc_error, false, nat_eq};
+ghost use Rattle.std.specs.Prelude.{ℕ, ◌≡◌, ◌+◌, ◌-◌, ◌↔◌, ◌≤◌, ◌<◌, ◌^◌, IfOk, OnErr, Ok, Err, alloc_error, false, nat_eq};
 ghost use Rattle.bike_space.specs.Kept.{task_of};
 ghost use Rattle.bike_space.specs.Tasks.{Task};
 ghost use Rattle.cost_table.specs.Costs.{IsAsked, TellsCost, leg_to};
@@ -39,6 +39,8 @@ pub struct Reach {
     pub(crate) found: Found,
     /// The node that is left.
     pub(crate) source: u32,
+    /// How many labels may be settled.
+    pub(crate) limit: u64,
     /// How many labels are settled.
     pub(crate) settled: u32,
     pub(crate) stage: Stage,
@@ -50,6 +52,7 @@ impl Drop for Reach {
             search: _,
             found: _,
             source: _,
+            limit: _,
             settled: _,
             stage: _,
         } = self;
@@ -72,9 +75,10 @@ impl Reach {
         ensures none { settled_of result ≡ 0 }
     {
         Reach {
-            search: Search::new(alloc, limit),
+            search: Search::new(alloc, with_one_more(limit)),
             found: Found::new(alloc, want),
             source,
+            limit,
             settled: 0,
             stage: Stage::New,
         }
@@ -150,4 +154,14 @@ impl Reach {
             Stage::Failed => Err(AllocError),
         }
     }
+}
+
+/// The limit of a search that looks at one label more than is settled: it tells whether that one is
+/// within what is asked for. A search can't hold more than `u32::MAX` labels.
+fn with_one_more(limit: u64) -> u64
+    requires small { limit < 2 ^ 32 }
+    ensures small { result < 2 ^ 32 }
+    ensures value { limit < 2 ^ 32 - 1 → result ≡ limit + 1 }
+{
+    if limit < 4294967295 { limit + 1 } else { limit }
 }

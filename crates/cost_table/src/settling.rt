@@ -1,8 +1,9 @@
 //! The labels that a turn of a reach settles.
 
 ghost use Rattle.std.specs.Prelude.{ℕ, ◌≡◌, IfOk, OnErr, false};
+ghost use Rattle.space_search.specs.declared.outcome.Outcome.TheVariants as outcome;
 ghost use Rattle.bike_space.specs.Kept.{task_of};
-ghost use Rattle.cost_table.specs.Reaches.{AnswersReach, CountsReach, IsFailed, IsFresh, IsGoing, IsNoted, IsOneMore, IsReachOn, IsUnderWay, StaysReach, StepsTo, TurnsReach, ended_by, quest_of, settled_of, stage_after};
+ghost use Rattle.cost_table.specs.Reaches.{AnswersReach, CountsReach, EndsBy, IsFailed, IsFresh, IsNoted, IsOneMore, IsReachOn, IsUnderWay, StaysReach, StepsTo, TurnsReach, quest_of, settled_of, stage_after};
 
 use crate::endless::Endless;
 use crate::reach::{Reach, Stage};
@@ -119,14 +120,14 @@ impl Reach {
             (settled_of self.old) (settled_of self.new)) }
     {
         let turn = self.search.turn(&Endless::new(space), 1);
-        self.settled = self.search.labels();
         match turn? {
             Turn::More(_) => self.note(space, map),
-            Turn::Done(end) => Ok(ended(end)),
+            Turn::Done(end) => ended(end),
         }
     }
 
-    /// Notes what it costs to come where the last settled label arrives.
+    /// Notes what it costs to come where the last settled label arrives, and counts the label. One
+    /// more than the limit is neither noted nor counted: it is looked at alone.
     fn note<G: TerrainOf>(
         &mut self,
         _space: &BikeSpace<G>,
@@ -138,14 +139,20 @@ impl Reach {
             (task_of (G.terrain _space.now.terrain) _space.now.kept).used link ≡ false }
         requires map { map.now ≡ (G.terrain _space.now.terrain).map }
         ensures stays { IsNoted self.old self.new }
-        ensures going { IfOk result IsGoing }
+        ensures counts { IfOk result (CountsReach 1 (quest_of
+            (task_of (G.terrain _space.now.terrain) _space.now.kept) self.old).limit
+            (settled_of self.old) (settled_of self.new)) }
         ensures steps { IfOk result (StepsTo
             (task_of (G.terrain _space.now.terrain) _space.now.kept)
             (quest_of (task_of (G.terrain _space.now.terrain) _space.now.kept) self.old) self.new) }
     {
-        let label = self.settled - 1;
-        let node = map.link(self.search.state_of(label).link).to;
+        let label = self.settled;
         let cost = self.search.cost_of(label);
+        if label as u64 == self.limit {
+            return Ok(self.found.past(cost));
+        }
+        self.settled += 1;
+        let node = map.link(self.search.state_of(label).link).to;
         if self.found.note(node, cost)? {
             Ok(ReachTurn::Done)
         } else {
@@ -154,13 +161,15 @@ impl Reach {
     }
 }
 
-/// The end of a reach by that of its search, which finds no goal.
-fn ended(end: Outcome<u32>) -> ReachTurn
-    ensures value { result ≡ ended_by end }
+/// The end of a reach by that of its search, which finds no goal. It is want of memory where the
+/// search can hold no more labels.
+fn ended(end: Outcome<u32>) -> Result<ReachTurn, AllocError>
+    ensures value { IfOk result (EndsBy end) }
+    ensures full { OnErr result (end ≡ outcome.Budget) }
 {
     match end {
-        Outcome::Budget => ReachTurn::Budget,
-        _ => ReachTurn::Done,
+        Outcome::Budget => Err(AllocError),
+        _ => Ok(ReachTurn::Done),
     }
 }
 

@@ -73,6 +73,7 @@ request waypoints circles profile overrides = record {
   labels = 10000000;
   overrides = overrides;
   runs = false;
+  cost = 0;
 }
 
 -- such a request between the corners

@@ -36,6 +36,7 @@ corners_asked plan = record {
   labels = 10000000;
   overrides = [];
   runs = false;
+  cost = 0;
 }
 
 -- the tag table, the tile of the seed and the profile that hills are crossed by

@@ -133,6 +133,7 @@ fn corners(alloc: Global, grid: &Grid) -> Result<Request, AllocError>
         labels: LABELS,
         overrides: Overrides::new(alloc),
         runs: false,
+        cost: 0,
     })
 }
 

@@ -131,8 +131,8 @@ module _ (world : WorldValue) (ready : Ready) (request : Request) where
       (links_of ready.bound).count ≡ length world.map.links → IsWithin (asked request) →
       AreMoved world ready (asked request) cut nodes → length nodes ≡ length (asked request).waypoints →
       plan.ready.value ≡ ready → plan.cut.items ≡ cut → plan.nodes ≡ nodes → plan.limit ≡ request.labels →
-      plan.alternative ≡ request.alternative → plan.runs ≡ request.runs → IsPlanBy world ready (asked request) plan
-  planned-by plan cut nodes counted within are all is_ready is_cut is_nodes is_limit is_alternative is_runs =
+      plan.alternative ≡ request.alternative → plan.runs ≡ request.runs → plan.cost ≡ request.cost → IsPlanBy world ready (asked request) plan
+  planned-by plan cut nodes counted within are all is_ready is_cut is_nodes is_limit is_alternative is_runs is_cost =
       let places = (asked request).waypoints in
       let moved : AreNodes (open_map_for world ready (asked request)) places plan.nodes =
       subst (AreNodes (open_map_for world ready (asked request)) places) (sym is_nodes)
@@ -153,6 +153,7 @@ module _ (world : WorldValue) (ready : Ready) (request : Request) where
           alternative = is_alternative;
           limit = is_limit;
           runs = is_runs;
+          cost = is_cost;
         };
       }
 

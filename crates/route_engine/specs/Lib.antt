@@ -7,6 +7,8 @@ pub mod Jobs
 pub mod Labels
 pub mod Marked
 pub mod Nearby
+pub mod NearbyAnswers
+pub mod NearbyJobs
 pub mod Pendings
 pub mod Placings
 pub mod Planned

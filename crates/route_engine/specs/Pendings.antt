@@ -6,6 +6,8 @@ use Rattle.route_engine.specs.CertificateJobs.{IsCertificateOn, certificate_plan
 use Rattle.route_engine.specs.Certificates.{IsCertificateFor, IsCertificateRefusal, certificate_reply, most_for_certificate}
 use Rattle.route_engine.specs.Jobs.{IsJobOn, plan_in}
 use Rattle.route_engine.specs.Labels.{most_labels}
+use Rattle.route_engine.specs.NearbyAnswers.{IsNearbyFor, RefusesNearby, most_for_nearby, nearby_reply}
+use Rattle.route_engine.specs.NearbyJobs.{IsNearbyOn, nearby_plan, work_of_nearby}
 use Rattle.route_engine.specs.Plans.{IsRefusal, IsTrackFor}
 use Rattle.route_engine.specs.Replies.{reply_of}
 use Rattle.route_engine.specs.Searches.{work_of_job}
@@ -14,7 +16,7 @@ use Rattle.route_engine.specs.TableJobs.{IsTableOn, table_plan, work_of_table}
 use Rattle.route_engine.specs.Tables.{IsTable, IsTableRefusal}
 use Rattle.route_engine.specs.declared.job.Job.{Job}
 use Rattle.route_engine.specs.declared.pendings.Pending.{Pending}
-use Rattle.route_engine.specs.declared.pendings.Pending.TheVariants.{Certificate, Track, Table}
+use Rattle.route_engine.specs.declared.pendings.Pending.TheVariants.{Certificate, Track, Table, Within}
 use Rattle.route_engine.specs.declared.table.TableJob.{TableJob}
 use Rattle.route_ready.specs.Worlds.{WorldValue}
 use Rattle.route_ready.specs.declared.error.RouteError.{RouteError}
@@ -24,6 +26,7 @@ abbrev pub IsPendingOver : WorldValue → Pending → Type 0
 IsPendingOver world (Track t) = IsTurnedOver (IsJobOn world) (plan_in world) world t
 IsPendingOver world (Table t) = IsTurnedOver (IsTableOn world) (table_plan world) world t
 IsPendingOver world (Certificate t) = IsTurnedOver (IsCertificateOn world) (certificate_plan world) world t
+IsPendingOver world (Within t) = IsTurnedOver (IsNearbyOn world) (nearby_plan world) world t
 
 -- it may end so
 abbrev pub EndsAs : WorldValue → Pending → Result (Vec ℕ Global) RouteError → Type 0
@@ -31,6 +34,7 @@ EndsAs world (Track t) end = TurnsAs IsTrackFor IsRefusal reply_of (plan_in worl
 EndsAs world (Table t) end = TurnsAs IsTable IsTableRefusal table_text (table_plan world) world t end
 EndsAs world (Certificate t) end =
     TurnsAs IsCertificateFor IsCertificateRefusal certificate_reply (certificate_plan world) world t end
+EndsAs world (Within t) end = TurnsAs IsNearbyFor RefusesNearby nearby_reply (nearby_plan world) world t end
 
 -- how many turns of a budget are left
 abbrev pub turns_of : WorldValue → (budget : ℕ) → Pending → ℕ
@@ -40,3 +44,4 @@ turns_of world budget (Table t) =
     turned_left (λ (job : TableJob). work_of_table (table_plan world job) job.stage) most_for_costs world budget t
 turns_of world budget (Certificate t) =
     turned_left (work_of_certificate world) most_for_certificate world budget t
+turns_of world budget (Within t) = turned_left (work_of_nearby world) most_for_nearby world budget t

@@ -22,6 +22,8 @@ pub enum Aim {
     Table,
     /// The certificate of its track, by the least sums of what still has to be paid.
     Certificate,
+    /// What lies within its cost of its waypoints.
+    Within,
 }
 
 /// The most that is counted for what is asked of a request over a world: links that are judged,
@@ -64,7 +66,7 @@ fn searching_for(aim: Aim, request: &Request) -> u64
             let walks = (waypoints - 1) * (request.alternative as u64 + 1);
             walks * (labels + FIRST_LABELS + BEGINNING as u64)
         }
-        Aim::Table => waypoints * labels,
+        Aim::Table | Aim::Within => waypoints * labels,
         Aim::Certificate => (waypoints - 1) * (BEGINNING as u64 + labels),
     }
 }

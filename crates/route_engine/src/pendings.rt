@@ -18,6 +18,7 @@ use crate::certificate::CertificateJob;
 use crate::job::Job;
 use crate::placing::Placing;
 use crate::table::TableJob;
+use crate::within::WithinJob;
 use item_list::Turn;
 use route_http::Request;
 use route_ready::{Ready, RouteError, World};
@@ -31,6 +32,7 @@ pub enum Pending {
     Track(Chain<Placing, Asking<Job>, Rc<Request>>),
     Table(Chain<Placing, Asking<TableJob>, Rc<Request>>),
     Certificate(Chain<Placing, Asking<CertificateJob>, Rc<Request>>),
+    Within(Chain<Placing, Asking<WithinJob>, Rc<Request>>),
 }
 
 impl Pending {
@@ -68,6 +70,10 @@ impl Pending {
                 Ok(task) => Ok(Pending::Certificate(task)),
                 Err(error) => Err(error),
             },
+            Aim::Within => match turned::<WithinJob>(alloc, world, ready, request) {
+                Ok(task) => Ok(Pending::Within(task)),
+                Err(error) => Err(error),
+            },
         }
     }
 }
@@ -100,6 +106,10 @@ impl Task for Pending {
             },
             Pending::Certificate(task) => match task.take_turn(alloc, dataset, budget) {
                 Turn::More(next) => Turn::More(Pending::Certificate(next)),
+                Turn::Done(end) => Turn::Done(end),
+            },
+            Pending::Within(task) => match task.take_turn(alloc, dataset, budget) {
+                Turn::More(next) => Turn::More(Pending::Within(next)),
                 Turn::Done(end) => Turn::Done(end),
             },
         }

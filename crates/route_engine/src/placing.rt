@@ -159,6 +159,7 @@ fn plan_with(ready: Rc<Ready>, request: &Request, cut: Vec<bool>, nodes: Vec<u32
     ensures limit { result.limit ≡ request.now.labels }
     ensures alternative { result.alternative ≡ request.now.alternative }
     ensures runs { result.runs ≡ request.now.runs }
+    ensures cost { result.cost ≡ request.now.cost }
 {
     JobPlan {
         limit: request.labels,
@@ -166,6 +167,7 @@ fn plan_with(ready: Rc<Ready>, request: &Request, cut: Vec<bool>, nodes: Vec<u32
         cut,
         alternative: request.alternative,
         runs: request.runs,
+        cost: request.cost,
         ready,
     }
 }

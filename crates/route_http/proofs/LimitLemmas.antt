@@ -1,5 +1,5 @@
 -- A request that was read is within the limits of its keys.
-use Rattle.std.proofs.Common.{◌≡◌, ℕ, suc, ◌+◌, ◌≤◌, Bool, true, false, ◌&&◌, nat_lt, nat_le, List, [], ◌∷◌, ◌++◌, length, Option, Some, None, Result, Ok, Err, refl, ap, sym, arith, length-append, subst}
+use Rattle.std.proofs.Common.{◌≡◌, ℕ, suc, ◌+◌, ◌≤◌, Bool, true, false, ◌&&◌, ◌||◌, not, nat_lt, nat_le, List, [], ◌∷◌, ◌++◌, length, Option, Some, None, Result, Ok, Err, refl, ap, sym, arith, length-append, subst}
 use Rattle.std.proofs.lemmas.Bool.Decides.{nat_tests}
 use Rattle.std.specs.Prelude.{if◌then◌else◌, is_some, unwrap_or}
 use Rattle.geo_int.specs.Place.{Place}
@@ -9,12 +9,14 @@ use Rattle.route_http.specs.Asked.{Asked}
 use Rattle.route_http.specs.List.{one_more, items_of, parts_of}
 use Rattle.route_http.specs.Key.{key_of, variable_of}
 use Rattle.route_http.specs.Parts.{Parts, no_parts, once, override_more, take_keyed, take_named, take_pair, take_pairs}
-use Rattle.route_http.specs.Request.{finish, pairs_of, request_of, whole}
+use Rattle.route_http.specs.Request.{finish, pairs_of, request_by, request_of, whole, with_cost, with_form}
 use Rattle.route_http.specs.Value.{formed, some_leg, waypoints_of, place_of_text, digit_of, labels_of, is_count, within_labels}
 use Rattle.route_http.specs.declared.error.RequestError.{RequestError}
 use Rattle.route_http.specs.declared.error.RequestError.TheVariants as error
+use Rattle.route_http.specs.declared.form.Form.{Form}
+use Rattle.route_http.specs.declared.form.Form.TheVariants.{GeoJson}
 use Rattle.route_http.specs.declared.key.Key.{Key}
-use Rattle.route_http.specs.declared.key.Key.TheVariants.{Lonlats, Nogos, Profile, Alternativeidx, Format, Labels, Override, Runs}
+use Rattle.route_http.specs.declared.key.Key.TheVariants.{Lonlats, Nogos, Profile, Alternativeidx, Format, Labels, Override, Runs, Cost}
 
 -- ---- What goes on
 
@@ -186,11 +188,16 @@ keyed-limited Runs name value p q are is =
     let new : Parts = record p { runs = Some w.value } in
     let same : new ≡ q = let rest = w.rest in cc in
     subst AreLimited same (record { waypoints = are.waypoints; alternative = are.alternative; labels = are.labels })
+keyed-limited Cost name value p q are is =
+    let w = went (once Cost p.cost _) _ q is in
+    let new : Parts = record p { cost = Some w.value } in
+    let same : new ≡ q = let rest = w.rest in cc in
+    subst AreLimited same (record { waypoints = are.waypoints; alternative = are.alternative; labels = are.labels })
 
 -- so is what a pair of any name adds
 pair-limited : (place : ℕ) (pair : List ℕ × List ℕ) (p q : Parts) → AreLimited p → take_pair place pair p ≡ Ok q → AreLimited q
 unfolding take_pair
-pair-limited place pair p q are is = go (key_of pair.0) is
+pair-limited place pair p q are is = go (key_of p.costed pair.0) is
   where
     go : (key : Option Key) → take_named key place pair.0 pair.1 p ≡ Ok q → AreLimited q
     go None e = cc
@@ -203,8 +210,8 @@ pairs-limited place (pair ∷ pairs) p q are is =
     let w = went (take_pair place pair p) (take_pairs (suc place) pairs) q is in
     pairs-limited (suc place) pairs w.value q (pair-limited place pair p w.value are w.given) w.rest
 
-none-limited : AreLimited no_parts
-none-limited = record { waypoints = λ l e. cc; alternative = λ n e. cc; labels = λ n e. cc }
+none-limited : (costed : Bool) → AreLimited (no_parts costed)
+none-limited costed = record { waypoints = λ l e. cc; alternative = λ n e. cc; labels = λ n e. cc }
 
 -- ---- Requests
 
@@ -236,18 +243,29 @@ finish-limited p asked are is = go p.waypoints refl is
           labels = or-fits 4000000000 10000000 p.labels (omega arith) are.labels;
         }
 
+    named : (profile : Bool) → (if profile then with_cost p else Err (error.Missing Profile)) ≡ Ok asked → whole p ≡ asked
+    named true e =
+        (holds-ok (not p.costed || is_some p.cost) (whole p) asked (error.Missing Cost) e).same
+    named false e = cc
+
     go : (waypoints : Option (List Place)) → p.waypoints ≡ waypoints →
-        (if is_some waypoints then (if is_some p.profile then Ok (whole p) else Err (error.Missing Profile)) else Err
+        (if is_some waypoints then (if is_some p.profile then with_cost p else Err (error.Missing Profile)) else Err
         (error.Missing Lonlats)) ≡ Ok asked →
         IsLimited asked
     go None there e = cc
     go (Some w) there e =
-        let held = holds-ok (is_some p.profile) (whole p) asked (error.Missing Profile) e in
-        subst IsLimited held.same (made w there)
+        subst IsLimited (named (is_some p.profile) e) (made w there)
 
 -- a request that was read is within its limits
+pub read-limited : (costed : Bool) (form : Form) (query : List ℕ) (asked : Asked) → request_by costed form query ≡ Ok asked →
+    IsLimited asked
+unfolding request_by
+read-limited costed form query asked is =
+    let w = went (take_pairs 0 (pairs_of query) (no_parts costed)) (λ p. finish (with_form form p)) asked is in
+    let are = pairs-limited 0 (pairs_of query) (no_parts costed) w.value (none-limited costed) w.given in
+    finish-limited (with_form form w.value) asked
+    (record { waypoints = are.waypoints; alternative = are.alternative; labels = are.labels }) w.rest
+
+-- so it is of one without a cost
 pub request-limited : (query : List ℕ) (asked : Asked) → request_of query ≡ Ok asked → IsLimited asked
-unfolding request_of
-request-limited query asked is =
-    let w = went (take_pairs 0 (pairs_of query) no_parts) finish asked is in
-    finish-limited w.value asked (pairs-limited 0 (pairs_of query) no_parts w.value none-limited w.given) w.rest
+request-limited query asked is = read-limited false GeoJson query asked is

@@ -4,8 +4,8 @@ use Rattle.geo_int.specs.Place.{Place}
 use Rattle.route_http.specs.declared.form.Form.{Form}
 
 -- a request: its waypoints, the circles that it keeps out of, each with its radius in millimetres, the name
--- of its profile, which alternative, the form of the reply, the most labels, the overrides, and whether runs
--- are searched
+-- of its profile, which alternative, the form of the reply, the most labels, the overrides, whether runs are
+-- searched, and the cost within which nodes are asked for, in millionths (0 where none are)
 pub record Asked : Type 0 where
   pub waypoints : List Place
   pub circles : List (Place × ℕ)
@@ -15,3 +15,4 @@ pub record Asked : Type 0 where
   pub labels : ℕ
   pub overrides : List (List ℕ × ℤ)
   pub runs : Bool
+  pub cost : ℕ

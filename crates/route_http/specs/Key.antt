@@ -5,9 +5,10 @@ use Rattle.profile_text.specs.Kind.{is_name, word_of, op_of}
 use Rattle.route_http.specs.declared.key.Key.{Key}
 use Rattle.route_http.specs.declared.key.Key.TheVariants as key
 
--- the key of a name, if there is one; each name that begins with `profile:` is an override's
-unfoldable pub key_of : List ℕ → Option Key
-key_of name =
+-- the key of a name, if there is one, where a cost may come or not; each name that begins with `profile:` is an
+-- override's
+unfoldable pub key_of : Bool → List ℕ → Option Key
+key_of costed name =
     if bytes_eq name (codes "lonlats") then Some key.Lonlats
     else (if bytes_eq name (codes "nogos") then Some key.Nogos
     else (if bytes_eq name (codes "profile") then Some key.Profile
@@ -15,7 +16,8 @@ key_of name =
     else (if bytes_eq name (codes "format") then Some key.Format
     else (if bytes_eq name (codes "labels") then Some key.Labels
     else (if bytes_eq name (codes "runs") then Some key.Runs
-    else (if starts_with nat_eq name (codes "profile:") then Some key.Override else None)))))))
+    else (if costed && bytes_eq name (codes "cost") then Some key.Cost
+    else (if starts_with nat_eq name (codes "profile:") then Some key.Override else None))))))))
 
 -- the variable that an override's key names
 abbrev pub variable_of : List ℕ → List ℕ

@@ -4,7 +4,7 @@ use Rattle.std.specs.Fmt.{decimal}
 use Rattle.route_http.specs.declared.error.RequestError.{RequestError}
 use Rattle.route_http.specs.declared.error.RequestError.TheVariants as error
 use Rattle.route_http.specs.declared.key.Key.{Key}
-use Rattle.route_http.specs.declared.key.Key.TheVariants.{Lonlats, Nogos, Profile, Alternativeidx, Format, Labels, Override, Runs}
+use Rattle.route_http.specs.declared.key.Key.TheVariants.{Lonlats, Nogos, Profile, Alternativeidx, Format, Labels, Override, Runs, Cost}
 
 -- a key as it is written
 abbrev pub key_name : Key → List ℕ
@@ -16,6 +16,7 @@ key_name Format = codes "format"
 key_name Labels = codes "labels"
 key_name Override = codes "profile:"
 key_name Runs = codes "runs"
+key_name Cost = codes "cost"
 
 -- the line, without an end of line
 abbrev pub request_line : RequestError → List ℕ

@@ -8,12 +8,12 @@ use Rattle.route_http.specs.declared.error.RequestError.{RequestError}
 use Rattle.route_http.specs.declared.error.RequestError.TheVariants as error
 use Rattle.route_http.specs.declared.form.Form.{Form}
 use Rattle.route_http.specs.declared.key.Key.{Key}
-use Rattle.route_http.specs.declared.key.Key.TheVariants.{Lonlats, Nogos, Profile, Alternativeidx, Format, Labels, Override, Runs}
+use Rattle.route_http.specs.declared.key.Key.TheVariants.{Lonlats, Nogos, Profile, Alternativeidx, Format, Labels, Override, Runs, Cost}
 use Rattle.route_http.specs.Key.{key_of, variable_of, is_variable}
 use Rattle.route_http.specs.List.{one_more}
-use Rattle.route_http.specs.Value.{formed, waypoints_of, circles_of, profile_of, digit_of, form_of, labels_of, runs_of, override_of}
+use Rattle.route_http.specs.Value.{formed, waypoints_of, circles_of, profile_of, digit_of, form_of, labels_of, runs_of, cost_of, override_of}
 
--- the values of the keys that came, and the overrides that came
+-- the values of the keys that came, and the overrides that came; and whether a cost may come
 pub record Parts : Type 0 where
   pub waypoints : Option (List Place)
   pub circles : Option (List (Place × ℕ))
@@ -23,10 +23,12 @@ pub record Parts : Type 0 where
   pub labels : Option ℕ
   pub overrides : List (List ℕ × ℤ)
   pub runs : Option Bool
+  pub costed : Bool
+  pub cost : Option ℕ
 
 -- no pair came
-abbrev pub no_parts : Parts
-no_parts = record {
+abbrev pub no_parts : Bool → Parts
+no_parts costed = record {
   waypoints = None;
   circles = None;
   profile = None;
@@ -35,6 +37,8 @@ no_parts = record {
   labels = None;
   overrides = [];
   runs = None;
+  costed = costed;
+  cost = None;
 }
 
 -- the value of a key that hasn't come before
@@ -70,6 +74,8 @@ take_keyed Override name value p =
     and_then (override_more (variable_of name) value p.overrides) (λ x. Ok (record p { overrides = x }))
 take_keyed Runs name value p =
     and_then (once Runs p.runs (formed Runs (runs_of value))) (λ x. Ok (record p { runs = Some x }))
+take_keyed Cost name value p =
+    and_then (once Cost p.cost (formed Cost (cost_of value))) (λ x. Ok (record p { cost = Some x }))
 
 -- what a pair adds whose name is this key, if it is one
 abbrev pub take_named : (key : Option Key) (place : ℕ) (name value : List ℕ) (parts : Parts)
@@ -79,7 +85,7 @@ take_named (Some key) place name value p = take_keyed key name value p
 
 -- what the pair at a place adds
 unfoldable pub take_pair : ℕ → List ℕ × List ℕ → Parts → Result Parts RequestError
-take_pair place pair p = take_named (key_of pair.0) place pair.0 pair.1 p
+take_pair place pair p = take_named (key_of p.costed pair.0) place pair.0 pair.1 p
 
 -- what the pairs from a place on add, one after the other: the first at fault counts
 abbrev pub take_pairs : ℕ → List (List ℕ × List ℕ) → Parts → Result Parts RequestError

@@ -1,5 +1,5 @@
 -- The request of a query, read as form data by the URL Standard. The keys are this project's own rule.
-use Rattle.std.specs.Prelude.{ℕ, false, List, [], map, if◌then◌else◌, is_some, unwrap_or, Result, Ok, Err}
+use Rattle.std.specs.Prelude.{ℕ, Bool, true, false, not, ◌||◌, List, [], map, if◌then◌else◌, is_some, unwrap_or, Some, Result, Ok, Err}
 use Rattle.std.specs.Str.Lossy.{utf8_lossy}
 use Rattle.form_urlencoded.specs.Form.{raw_pairs, decode}
 use Rattle.item_list.specs.Answer.{and_then}
@@ -7,8 +7,9 @@ use Rattle.route_http.specs.Asked.{Asked}
 use Rattle.route_http.specs.Parts.{Parts, no_parts, take_pairs}
 use Rattle.route_http.specs.declared.error.RequestError.{RequestError}
 use Rattle.route_http.specs.declared.error.RequestError.TheVariants as error
-use Rattle.route_http.specs.declared.form.Form.TheVariants.{GeoJson}
-use Rattle.route_http.specs.declared.key.Key.TheVariants.{Lonlats, Profile}
+use Rattle.route_http.specs.declared.form.Form.{Form}
+use Rattle.route_http.specs.declared.form.Form.TheVariants.{Csv, GeoJson}
+use Rattle.route_http.specs.declared.key.Key.TheVariants.{Cost, Lonlats, Profile}
 
 -- the text that an encoded name or value stands for
 abbrev pub decoded : List ℕ → List ℕ
@@ -33,15 +34,38 @@ whole p = record {
   labels = unwrap_or p.labels 10000000;
   overrides = p.overrides;
   runs = unwrap_or p.runs false;
+  cost = unwrap_or p.cost 0;
 }
 
--- the request of all pairs: the waypoints and then the profile have to be there
+-- the request of pairs in which a cost is there, where one is asked for
+abbrev pub with_cost : Parts → Result Asked RequestError
+with_cost p = if not p.costed || is_some p.cost then Ok (whole p) else Err (error.Missing Cost)
+
+-- the request of all pairs: the waypoints, then the profile and then a cost that is asked for have to be there
 unfoldable pub finish : Parts → Result Asked RequestError
 finish p =
     if is_some p.waypoints
-    then (if is_some p.profile then Ok (whole p) else Err (error.Missing Profile))
+    then (if is_some p.profile then with_cost p else Err (error.Missing Profile))
     else Err (error.Missing Lonlats)
 
--- the request of a query, or its first refusal
-unfoldable pub request_of : List ℕ → Result Asked RequestError
-request_of query = and_then (take_pairs 0 (pairs_of query) no_parts) finish
+-- pairs with this form, where none came
+abbrev pub with_form : Form → Parts → Parts
+with_form form p = record p { form = Some (unwrap_or p.form form) }
+
+-- the request of a query, in which a cost is asked for or may not come, in this form where none is asked for; or its
+-- first refusal
+unfoldable pub request_by : Bool → Form → List ℕ → Result Asked RequestError
+request_by costed form query =
+    and_then (take_pairs 0 (pairs_of query) (no_parts costed)) (λ p. finish (with_form form p))
+
+-- the request of a query without a cost, or its first refusal
+abbrev pub request_of : List ℕ → Result Asked RequestError
+request_of query = request_by false GeoJson query
+
+-- the same, as lines where no form is asked for
+abbrev pub lined_of : List ℕ → Result Asked RequestError
+lined_of query = request_by false Csv query
+
+-- the request of a query that asks for what lies within a cost, or its first refusal
+abbrev pub costed_of : List ℕ → Result Asked RequestError
+costed_of query = request_by true GeoJson query

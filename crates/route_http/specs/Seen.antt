@@ -32,6 +32,7 @@ asked r = record {
   labels = r.labels;
   overrides = r.overrides;
   runs = r.runs;
+  cost = r.cost;
 }
 
 -- what a draft holds of the pairs so far
@@ -45,4 +46,6 @@ parts_seen d = record {
   labels = d.labels;
   overrides = d.overrides;
   runs = d.runs;
+  costed = d.costed;
+  cost = d.cost;
 }

@@ -1,5 +1,6 @@
 -- The values of a query's keys. This project's own rule.
-use Rattle.std.specs.Prelude.{ℕ, ◌+◌, ◌-◌, ◌/◌, ◌==◌, Bool, ◌&&◌, nat_lt, nat_le, ℤ, pos, unsigned_abs, List, [], ◌∷◌, length, if◌then◌else◌, Option, Some, None, option_map, Result, Ok, Err, codes, bytes_eq}
+use Rattle.std.specs.Prelude.{ℕ, ◌+◌, ◌-◌, ◌/◌, ◌==◌, Bool, ◌&&◌, nat_lt, nat_le, ℤ, pos, unsigned_abs, cond, List, [], ◌∷◌, length, if◌then◌else◌, Option, Some, None, option_map, Result, Ok, Err, codes, bytes_eq}
+use Rattle.std.specs.Int.{is_negative}
 use Rattle.std.specs.List.{before_first, after_first}
 use Rattle.std.specs.Str.{all_ascii_digits}
 use Rattle.item_list.specs.Answer.{and_then}
@@ -120,6 +121,15 @@ within_labels n = if nat_le 1 n && nat_le n 4000000000 then Some n else None
 -- the most labels
 unfoldable pub labels_of : List ℕ → Option ℕ
 labels_of value = if is_count value then within_labels (digits_after 0 value) else None
+
+-- a number that was read and isn't negative, in millionths
+abbrev pub unsigned_of : Result ℤ NumError → Option ℕ
+unsigned_of (Err e) = None
+unsigned_of (Ok n) = cond (is_negative n) None (Some (unsigned_abs n))
+
+-- a cost: a number as a profile's literal spells it, which isn't negative
+abbrev pub cost_of : List ℕ → Option ℕ
+cost_of value = unsigned_of (literal_of value)
 
 -- an override: the variable with its number, where that is a literal within range
 abbrev pub override_of : List ℕ → Result ℤ NumError → Option (List ℕ × ℤ)

@@ -24,6 +24,8 @@ pub struct Request {
     pub overrides: Overrides,
     /// Whether the search steps from junction to junction.
     pub runs: bool,
+    /// The cost within which nodes are asked for, in millionths; 0 where none are.
+    pub cost: u64,
 }
 
 impl Drop for Request {
@@ -37,6 +39,7 @@ impl Drop for Request {
             labels: _,
             overrides: _,
             runs: _,
+            cost: _,
         } = self;
     }
 }

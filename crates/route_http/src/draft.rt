@@ -10,7 +10,7 @@ use crate::error::RequestError;
 use crate::form::Form;
 use crate::key::Key;
 use crate::spots::waypoints_of;
-use crate::value::{digit_of, form_of, labels_of, runs_of};
+use crate::value::{cost_of, digit_of, form_of, labels_of, runs_of};
 use crate::variable::{is_variable, variable_of};
 use context_check::Overrides;
 use fixed_num::Num;
@@ -30,15 +30,18 @@ pub(crate) struct Draft {
     pub(crate) labels: Option<u64>,
     pub(crate) overrides: Overrides,
     pub(crate) runs: Option<bool>,
+    /// Whether a cost may come.
+    pub(crate) costed: bool,
+    pub(crate) cost: Option<u64>,
 }
 
 impl Draft {
     ghost use Rattle.route_http.specs.Parts.{no_parts, take_pair, take_keyed};
     ghost use Rattle.route_http.specs.Seen.{parts_seen};
 
-    /// No pair came.
-    pub(crate) fn new(alloc: Global) -> Draft
-        ensures value { parts_seen result ≡ no_parts }
+    /// No pair came; a cost may come or not.
+    pub(crate) fn new(alloc: Global, costed: bool) -> Draft
+        ensures value { parts_seen result ≡ no_parts costed }
     {
         Draft {
             waypoints: None,
@@ -49,6 +52,8 @@ impl Draft {
             labels: None,
             overrides: Overrides::new(alloc),
             runs: None,
+            costed,
+            cost: None,
         }
     }
 
@@ -64,7 +69,7 @@ impl Draft {
         ensures exact { let taken = take_pair place (name.now, value.now) (parts_seen self.old) in
             Answers (λ _. parts_seen self.new) taken NoMemory result }
     {
-        match Key::of(name) {
+        match Key::of(self.costed, name) {
             None => Err(RequestError::UnknownKey { place }),
             Some(key) => self.take_keyed(alloc, key, name, value),
         }
@@ -90,6 +95,7 @@ impl Draft {
             Key::Labels => self.take_labels(name, value),
             Key::Override => self.take_override(alloc, name, value),
             Key::Runs => self.take_runs(name, value),
+            Key::Cost => self.take_cost(name, value),
         }
     }
 
@@ -225,6 +231,24 @@ impl Draft {
             None => Err(RequestError::BadValue { key: Key::Runs }),
             Some(runs) => {
                 self.runs = Some(runs);
+                Ok(())
+            }
+        }
+    }
+
+    /// Takes the cost within which nodes are asked for.
+    #[tactic(auto, unfolding(crate::specs::Parts::take_keyed))]
+    fn take_cost(&mut self, _name: &[u8], value: &[u8]) -> Result<(), RequestError>
+        ensures exact { let taken = take_keyed key.Cost _name.now value.now (parts_seen self.old) in
+            Answers (λ _. parts_seen self.new) taken NoMemory result }
+    {
+        if self.cost.is_some() {
+            return Err(RequestError::Repeated { key: Key::Cost });
+        }
+        match cost_of(value) {
+            None => Err(RequestError::BadValue { key: Key::Cost }),
+            Some(cost) => {
+                self.cost = Some(cost);
                 Ok(())
             }
         }

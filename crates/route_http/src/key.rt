@@ -15,13 +15,15 @@ pub enum Key {
     /// Each key that begins with `profile:`.
     Override,
     Runs,
+    /// The cost within which nodes are asked for.
+    Cost,
 }
 
 impl Key {
-    /// The key of a name, if there is one.
+    /// The key of a name, if there is one, where a cost may come or not.
     #[tactic(auto, unfolding(crate::specs::Key::key_of))]
-    pub(crate) fn of(name: &[u8]) -> Option<Key>
-        ensures exact { result ≡ key_of name.now }
+    pub(crate) fn of(costed: bool, name: &[u8]) -> Option<Key>
+        ensures exact { result ≡ key_of costed name.now }
     {
         if name == b"lonlats".as_slice() {
             Some(Key::Lonlats)
@@ -37,6 +39,8 @@ impl Key {
             Some(Key::Labels)
         } else if name == b"runs".as_slice() {
             Some(Key::Runs)
+        } else if costed && name == b"cost".as_slice() {
+            Some(Key::Cost)
         } else if name.starts_with(b"profile:") {
             Some(Key::Override)
         } else {
@@ -57,6 +61,7 @@ impl Key {
             Key::Labels => "labels",
             Key::Override => "profile:",
             Key::Runs => "runs",
+            Key::Cost => "cost",
         }
     }
 }

@@ -31,6 +31,6 @@ pub use frames::frame;
 pub use heads::{Head, Method};
 pub use key::Key;
 pub use kind::Kind;
-pub use query::request;
+pub use query::{costed_request, lined_request, request};
 pub use reading::{head, head_from};
 pub use span::Span;

@@ -2,7 +2,7 @@
 ghost use Rattle.std.specs.Prelude.{◌≡◌};
 ghost use Rattle.item_list.specs.Answer.{Answers};
 ghost use Rattle.route_http.specs.Parts.{take_pairs};
-ghost use Rattle.route_http.specs.Request.{pairs_of, finish, whole, request_of};
+ghost use Rattle.route_http.specs.Request.{costed_of, finish, lined_of, pairs_of, request_by, request_of, whole, with_cost, with_form};
 ghost use Rattle.route_http.specs.Seen.{asked, parts_seen};
 ghost use Rattle.route_http.specs.declared.error.RequestError.TheVariants.{NoMemory};
 
@@ -14,14 +14,50 @@ use crate::key::Key;
 use item_list::Items;
 use std::alloc::Global;
 
-/// The request of a query, which is read as form data, or its first refusal.
-#[tactic(auto, unfolding(crate::specs::Request::request_of))]
+/// The request of a query, which is read as form data, or its first refusal. A cost may not come.
 pub fn request(alloc: Global, query: &[u8]) -> Result<Request, RequestError>
     ensures exact { Answers asked (request_of query.now) NoMemory result }
 {
-    let mut draft = Draft::new(alloc);
+    request_by(alloc, false, Form::GeoJson, query)
+}
+
+/// The same, as lines where no form is asked for.
+pub fn lined_request(alloc: Global, query: &[u8]) -> Result<Request, RequestError>
+    ensures exact { Answers asked (lined_of query.now) NoMemory result }
+{
+    request_by(alloc, false, Form::Csv, query)
+}
+
+/// The request of a query that asks for what lies within a cost, or its first refusal.
+pub fn costed_request(alloc: Global, query: &[u8]) -> Result<Request, RequestError>
+    ensures exact { Answers asked (costed_of query.now) NoMemory result }
+{
+    request_by(alloc, true, Form::GeoJson, query)
+}
+
+/// The request of a query in which a cost is asked for, or may not come; in this form where none is
+/// asked for.
+#[tactic(auto, unfolding(crate::specs::Request::request_by))]
+fn request_by(
+    alloc: Global,
+    costed: bool,
+    form: Form,
+    query: &[u8],
+) -> Result<Request, RequestError>
+    ensures exact { Answers asked (request_by costed form query.now) NoMemory result }
+{
+    let mut draft = Draft::new(alloc, costed);
     take_all(alloc, &mut draft, query)?;
-    finish(alloc, draft)
+    finish(alloc, with_form(form, draft))
+}
+
+/// Pairs with this form, where none came.
+fn with_form(form: Form, draft: Draft) -> Draft
+    ensures value { parts_seen result ≡ with_form form (parts_seen draft) }
+{
+    let mut draft = draft;
+    draft.form = Some(draft.form.unwrap_or(form));
+    draft
 }
 
 /// Takes all pairs of a query.
@@ -49,6 +85,16 @@ fn finish(alloc: Global, draft: Draft) -> Result<Request, RequestError>
     if draft.profile.is_none() {
         return Err(RequestError::Missing { key: Key::Profile });
     }
+    with_cost(alloc, draft)
+}
+
+/// The request of pairs in which a cost is there, where one is asked for.
+fn with_cost(alloc: Global, draft: Draft) -> Result<Request, RequestError>
+    ensures exact { Answers asked (with_cost (parts_seen draft)) NoMemory result }
+{
+    if draft.costed && draft.cost.is_none() {
+        return Err(RequestError::Missing { key: Key::Cost });
+    }
     Ok(whole(alloc, draft))
 }
 
@@ -65,5 +111,6 @@ fn whole(alloc: Global, draft: Draft) -> Request
         labels: draft.labels.unwrap_or(10_000_000),
         overrides: draft.overrides,
         runs: draft.runs.unwrap_or(false),
+        cost: draft.cost.unwrap_or(0),
     }
 }

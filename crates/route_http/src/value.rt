@@ -1,6 +1,6 @@
 //! The values of the keys that are no lists.
 ghost use Rattle.std.specs.Prelude.{◌≡◌, ◌≤◌, ◌<◌, ◌^◌, length, IsTrue, IfSome, Ok};
-ghost use Rattle.route_http.specs.Value.{digit_of, runs_of, form_of, labels_of, is_count, radius_of, millimetres_of};
+ghost use Rattle.route_http.specs.Value.{cost_of, unsigned_of, digit_of, runs_of, form_of, labels_of, is_count, radius_of, millimetres_of};
 ghost use Rattle.fixed_num.specs.Decimal.{digits_after};
 ghost use Rattle.std.specs.Str.{all_ascii_digits};
 
@@ -99,6 +99,27 @@ fn number_of(digits: &[u8]) -> u64
         number = 10 * number + u64::from(*byte - b'0');
     }
     number
+}
+
+/// A cost in millionths: a number as a profile's literal spells it, which isn't negative.
+pub(crate) fn cost_of(value: &[u8]) -> Option<u64>
+    ensures exact { result ≡ cost_of value.now }
+{
+    match Num::read(value) {
+        Ok(number) => unsigned_of(number.millionths()),
+        Err(_) => None,
+    }
+}
+
+/// A number that isn't negative.
+fn unsigned_of(number: i64) -> Option<u64>
+    ensures exact { result ≡ unsigned_of (Ok number) }
+{
+    if number < 0 {
+        None
+    } else {
+        Some(number.unsigned_abs())
+    }
 }
 
 /// The radius in millimetres of a text in metres.

@@ -25,7 +25,7 @@ use Rattle.route_certificate.specs.declared.verdict.Verdict.TheVariants.{Yes, No
 use Rattle.route_engine.specs.Replies.{question_of}
 use Rattle.route_engine.specs.Settings.{Question}
 use Rattle.route_http.specs.Asked.{Asked}
-use Rattle.route_http.specs.Request.{request_of}
+use Rattle.route_http.specs.Request.{lined_of, request_of}
 use Rattle.route_ready.specs.Worlds.{WorldValue}
 use Rattle.route_ready.specs.declared.error.RouteError.{RouteError}
 use Rattle.route_run.proofs.CauseLemmas.{Cause, IsInner, each-cause, file-cause, last-cause, leaves-cause, map-cause, settles-cause, then-cause}
@@ -42,7 +42,7 @@ use Rattle.run_answers.specs.Make.{made_by}
 use Rattle.run_answers.specs.Refused.{IsRefusal}
 use Rattle.run_answers.specs.Route.{IsReplied, any_in, route_files}
 use Rattle.run_answers.specs.Table.{IsTabled}
-use Rattle.run_answers.specs.Within.{IsNearbyTold}
+use Rattle.run_answers.specs.Within.{IsNearbyTold, costed, near_in}
 use Rattle.run_files.specs.Certificate.{IsCertificateIn, TakesCertificate}
 use Rattle.run_files.specs.Chain.{seen_as}
 use Rattle.run_files.specs.Checked.{TakesChecked, checked_by, checked_in}
@@ -66,6 +66,12 @@ module _ (Faulty : ℕ → Type 0)
         answer_map (λ (a : A). a) told r ≡ Err status → IsInner Faulty status
     mapped-inner told (Ok a) inner status is = cc
     mapped-inner told (Err e) inner status is = let same : told e ≡ status = cc in subst (IsInner Faulty) same (inner e)
+
+    -- whatever a value is seen as
+    seen-inner : {A B E : Type 0} (view : A → B) (told : E → Status) (r : Result A E) → ((e : E) → IsInner Faulty (told e)) →
+        (status : Status) → answer_map view told r ≡ Err status → IsInner Faulty status
+    seen-inner view told (Ok a) inner status is = cc
+    seen-inner view told (Err e) inner status is = let same : told e ≡ status = cc in subst (IsInner Faulty) same (inner e)
 
     -- so is that of the check
     checked-inner : (word : ℕ) (table : TagTable) (sections : Sections) (status : Status) → checked_in word table sections ≡ Err status →
@@ -102,6 +108,10 @@ module _ (Faulty : ℕ → Type 0)
     -- a query that is none
     any-inner : (query : Named) (status : Status) → any_in query ≡ Err status → IsInner Faulty status
     any-inner query status is = mapped-inner Query (request_of query.name) (λ e. tt) status is
+
+    -- so it is with one that asks for what lies within a cost
+    near-inner : (cost : ℕ) (query : Named) (status : Status) → near_in cost query ≡ Err status → IsInner Faulty status
+    near-inner cost query status is = seen-inner (costed cost) Query (lined_of query.name) (λ e. tt) status is
 
     -- a query that asks for no first track, where its word may be told at fault
     first-inner : (query : Named) → Faulty query.word → (status : Status) → first_in query ≡ Err status → IsInner Faulty status
@@ -279,7 +289,7 @@ module _ (Faulty : ℕ → Type 0)
     command-cause (Form.TheVariants.Table command) may old new r is =
         query-cause any_in IsTabled command (any-inner command.query) (λ question status is_told. refusal-inner _ _ status is_told) old new r is
     command-cause (Form.TheVariants.Within command) may old new r is =
-        query-cause any_in (IsNearbyTold command.cost) command.route (any-inner command.route.query) (λ question status is_told. refusal-inner _ _ status is_told) old new r is
+        query-cause (near_in command.cost) IsNearbyTold command.route (near-inner command.cost command.route.query) (λ question status is_told. refusal-inner _ _ status is_told) old new r is
     command-cause (Form.TheVariants.Hills command) may old new r is =
         leaves-cause Faulty (IsHillsAnswer command) (refusal-inner _ _) old new r is
     command-cause (Form.TheVariants.Serve command) may old new r is = absurd is

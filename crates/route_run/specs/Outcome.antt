@@ -14,7 +14,7 @@ use Rattle.run_answers.specs.Hills.{IsHillsAnswer}
 use Rattle.run_answers.specs.Make.{made_by}
 use Rattle.run_answers.specs.Route.{IsReplied, any_in, route_files}
 use Rattle.run_answers.specs.Table.{IsTabled}
-use Rattle.run_answers.specs.Within.{IsNearbyTold}
+use Rattle.run_answers.specs.Within.{IsNearbyTold, near_in}
 use Rattle.route_run.specs.Serving.{IsServeOutcome}
 use Rattle.route_run.specs.Ends.{Ends}
 use Rattle.route_run.specs.Offer.{serve_files}
@@ -46,7 +46,7 @@ IsCommandAnswer (Form.TheVariants.Certify command) old new answer =
 IsCommandAnswer (Form.TheVariants.Check command) old new answer = IsCheckedAnswer command old new answer
 IsCommandAnswer (Form.TheVariants.Table command) old new answer = AnswersQuery any_in IsTabled command old new answer
 IsCommandAnswer (Form.TheVariants.Within command) old new answer =
-    AnswersQuery any_in (IsNearbyTold command.cost) command.route old new answer
+    AnswersQuery (near_in command.cost) IsNearbyTold command.route old new answer
 IsCommandAnswer (Form.TheVariants.Hills command) old new answer =
     Leaves (IsHillsAnswer command) old new answer
 IsCommandAnswer (Form.TheVariants.Serve command) old new answer = ⊥

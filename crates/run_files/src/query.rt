@@ -4,10 +4,10 @@ ghost use Rattle.std.specs.Prelude.{IfOk};
 ghost use Rattle.item_list.specs.Answer.{Answers};
 ghost use Rattle.route_engine.specs.Jobs.{IsWithin};
 ghost use Rattle.route_http.specs.Seen.{asked};
-ghost use Rattle.run_files.specs.Query.{query_in};
+ghost use Rattle.run_files.specs.Query.{lined_in, query_in};
 
 use crate::status::Status;
-use route_http::{Request, RequestError, request};
+use route_http::{Request, RequestError, lined_request, request};
 use std::alloc::Global;
 
 /// The request of a query.
@@ -19,5 +19,17 @@ pub fn query_in(alloc: Global, text: &[u8]) -> Result<Request, Status>
         Ok(request) => Ok(request),
         Err(RequestError::NoMemory) => Err(Status::NoMemory),
         Err(error) => Err(Status::Query { error }),
+    }
+}
+
+/// The same, as lines where no form is asked for.
+pub fn lined_in(alloc: Global, text: &[u8]) -> Result<Request, Status>
+    ensures exact { Answers asked (lined_in text.now) Status.NoMemory result }
+    ensures within { IfOk result (λ r. IsWithin (asked r)) }
+{
+    match lined_request(alloc, text) {
+        Ok(request) => Ok(request),
+        Err(RequestError::NoMemory) => Err(Status::NoMemory),
+        Err(other) => Err(Status::Query { error: other }),
     }
 }

@@ -1,8 +1,8 @@
 -- The frames that answer a query.
-use Rattle.std.proofs.Common.{◌≡◌, ◌≢◌, ◌⊎◌, inl, inr, ℕ, List, None, Result, Ok, Err, refl, sym, ap, ◌∙◌, subst, arith, Vec}
+use Rattle.std.proofs.Common.{◌≡◌, ◌≢◌, ◌⊎◌, inl, inr, ℕ, Bool, IfOk, List, None, Result, Ok, Err, refl, sym, ap, ◌∙◌, subst, arith, Vec}
 use Rattle.std.proofs.lemmas.Bool.Decides.{nat_tests}
 use Rattle.std.specs.declared.alloc.Global.{Global}
-use Rattle.item_list.specs.Answer.{and_then}
+use Rattle.item_list.specs.Answer.{Answers, and_then}
 use Rattle.lookup_table.specs.Tag.{name_place}
 use Rattle.profile_text.specs.Tree.{Sections}
 use Rattle.route_engine.specs.Aims.{IsRefusalTo, IsReplyTo, TellsTo}
@@ -14,8 +14,12 @@ use Rattle.route_engine.specs.Replies.{question_of}
 use Rattle.route_ready.specs.Entries.{names_of}
 use Rattle.route_http.specs.Asked.{Asked}
 use Rattle.route_http.specs.Frames.{frame_of}
+use Rattle.route_http.proofs.CallerLemmas.{read-limited}
 use Rattle.route_http.specs.Lines.{request_line}
-use Rattle.route_http.specs.Request.{request_of}
+use Rattle.route_http.specs.Request.{request_by}
+use Rattle.route_http.specs.Seen.{asked}
+use Rattle.route_http.specs.declared.asked.Request.{Request}
+use Rattle.route_http.specs.declared.form.Form.{Form}
 use Rattle.route_http.specs.declared.error.RequestError.{RequestError}
 use Rattle.route_http.specs.declared.error.RequestError.TheVariants as request
 use Rattle.route_http.specs.declared.kind.Kind.{Kind}
@@ -27,10 +31,10 @@ use Rattle.session_answers.specs.Aims.{kind_for}
 use Rattle.session_answers.specs.Frames.{line_frame, refusal_frame}
 use Rattle.session_answers.specs.Jobs.{IsJobOf}
 use Rattle.session_answers.specs.Rows.{Asks, IsEarlyFrame, IsQueryFrame, early, malformed, refused, route_frame, told, unknown}
-use Rattle.session_answers.specs.Sites.{Site, asked_for, limited, request_at}
+use Rattle.session_answers.specs.Sites.{Site, asked_for, limited, request_at, spelt_for}
 use Rattle.session_answers.specs.Stored.{Stored}
 use Rattle.route_engine.specs.declared.aim.Aim.{Aim}
-use Rattle.route_engine.specs.declared.aim.Aim.TheVariants.{Certificate, Track, Table}
+use Rattle.route_engine.specs.declared.aim.Aim.TheVariants.{Certificate, Track, Table, Within}
 use Rattle.session_answers.specs.declared.kept.KeptProfiles.{KeptProfiles}
 use Rattle.session_answers.specs.declared.search.Search.{Search}
 use Rattle.session_answers.specs.declared.refusal.Refusal.TheVariants.{UnknownProfile}
@@ -41,13 +45,13 @@ reason e no_memory (inl is) differ = absurd (differ is)
 reason e no_memory (inr p) differ = p
 
 -- a request that a query spells is answered with no more labels than a site allows, where it may be asked so
-pub spelt-at : (site : Site) (aim : Aim) (query : List ℕ) (asked at : Asked) → request_of query ≡ Ok asked →
+pub spelt-at : (site : Site) (aim : Aim) (query : List ℕ) (asked at : Asked) → spelt_for aim query ≡ Ok asked →
     at ≡ limited site.labels asked → request_at site aim query ≡ asked_for aim at
 spelt-at site aim query asked at spelt is =
     ap (λ r. and_then r (λ (a : Asked). asked_for aim (limited site.labels a))) spelt ∙ ap (asked_for aim) (sym is)
 
 -- one that it doesn't spell isn't
-pub failed-at : (site : Site) (aim : Aim) (query : List ℕ) (e : RequestError) → request_of query ≡ Err e → request_at site aim query ≡ Err e
+pub failed-at : (site : Site) (aim : Aim) (query : List ℕ) (e : RequestError) → spelt_for aim query ≡ Err e → request_at site aim query ≡ Err e
 failed-at site aim query e failed = ap (λ r. and_then r (λ (a : Asked). asked_for aim (limited site.labels a))) failed
 
 -- it is within the limits of a request
@@ -55,6 +59,14 @@ pub limited-within : (labels : ℕ) (asked at : Asked) → at ≡ limited labels
 limited-within labels asked at is within =
     subst IsWithin (sym is)
     (record { some = within.some; few = within.few; alternative = within.alternative; labels = grind (arith, nat_tests, within.labels) })
+
+-- so is one that was read
+pub read-within : (costed : Bool) (form : Form) (query : List ℕ) (result : Result Request RequestError) →
+    Answers asked (request_by costed form query) request.NoMemory result → IfOk result (λ r. IsWithin (asked r))
+read-within costed form query (Ok read) is =
+    let limits = read-limited costed form query (asked read) is in
+    record { some = limits.some; few = limits.few; alternative = limits.alternative; labels = omega (arith, limits.labels) }
+read-within costed form query (Err e) is = _
 
 module _ (site : Site) (stored : List Stored) (aim : Aim) (query : List ℕ) where
   -- a query that is no request
@@ -104,12 +116,14 @@ module _ (site : Site) (stored : List Stored) (kept : KeptProfiles) (aim : Aim) 
   refuses Track question e is = is
   refuses Table question e is = is
   refuses Certificate question e is = is
+  refuses Within question e is = is
 
   -- and a reply
   replies : (a : Aim) (question : Question) (bytes : List ℕ) → TellsTo a question (Ok bytes) → IsReplyTo a question bytes
   replies Track question bytes is = is
   replies Table question bytes is = is
   replies Certificate question bytes is = is
+  replies Within question bytes is = is
 
   -- the frame that tells what it ends with answers the query
   pub query-told : (sections : Sections) → sections ≡ job.sections → (end : Result (Vec ℕ Global) RouteError) (frame : List ℕ) →

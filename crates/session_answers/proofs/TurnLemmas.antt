@@ -7,7 +7,7 @@ use Rattle.route_engine.specs.Answers.{early}
 use Rattle.route_engine.specs.Refusals.{RefusesEarly, profile}
 use Rattle.route_engine.specs.Settings.{Question}
 use Rattle.route_engine.specs.declared.aim.Aim.{Aim}
-use Rattle.route_engine.specs.declared.aim.Aim.TheVariants.{Certificate, Track, Table}
+use Rattle.route_engine.specs.declared.aim.Aim.TheVariants.{Certificate, Track, Table, Within}
 use Rattle.route_http.specs.Asked.{Asked}
 use Rattle.route_ready.specs.Readiness.{ready_of}
 use Rattle.route_ready.specs.Worlds.{WorldValue, binding_in}
@@ -106,6 +106,8 @@ early-ends Table question e (inl is) = inl is
 early-ends Table question e (inr is) = inr (early is)
 early-ends Certificate question e (inl is) = inl is
 early-ends Certificate question e (inr is) = inr (early is)
+early-ends Within question e (inl is) = inl is
+early-ends Within question e (inr is) = inr (early is)
 
 -- that of a profile is one
 pub profile-ends : (aim : Aim) (question : Question) (e : RouteError) → (e ≡ NoMemory) ⊎ (ready_of question.binding ≡ Err e) →

@@ -9,9 +9,9 @@ use Rattle.route_http.specs.declared.heads.Head.TheVariants as heads
 use Rattle.route_http.specs.declared.heads.Method.{Method}
 use Rattle.route_http.specs.declared.heads.Method.TheVariants.{Get, Post, Other}
 use Rattle.route_http.specs.declared.span.Span.{Span}
-use Rattle.session_answers.specs.Verdicts.{IsSpanIn, IsVerdict, IsVerdictIn, certificate_path, by_path, is_whole, most_body, of_body, of_query, of_upload, part, profile_path, route_path, table_path, verdict_by}
+use Rattle.session_answers.specs.Verdicts.{IsSpanIn, IsVerdict, IsVerdictIn, certificate_path, by_path, is_whole, most_body, of_body, of_query, of_upload, part, profile_path, route_path, table_path, verdict_by, within_path}
 use Rattle.route_engine.specs.declared.aim.Aim.{Aim}
-use Rattle.route_engine.specs.declared.aim.Aim.TheVariants.{Certificate, Track, Table}
+use Rattle.route_engine.specs.declared.aim.Aim.TheVariants.{Certificate, Track, Table, Within}
 use Rattle.session_answers.specs.declared.refusal.Refusal.TheVariants.{UnknownPath}
 use Rattle.session_answers.specs.declared.verdict.Verdict.{Verdict}
 use Rattle.session_answers.specs.declared.verdict.Verdict.TheVariants.{Refused}
@@ -36,7 +36,8 @@ path-so P path long method query body bytes asks uploads unknown =
     if-so P (bytes_eq path route_path) _ _ (asks Track)
     (if-so P (bytes_eq path table_path) _ _ (asks Table)
     (if-so P (bytes_eq path certificate_path) _ _ (asks Certificate)
-    (if-so P (bytes_eq path profile_path) _ _ uploads unknown)))
+    (if-so P (bytes_eq path within_path) _ _ (asks Within)
+    (if-so P (bytes_eq path profile_path) _ _ uploads unknown))))
 
 -- ---- Where it stands
 

@@ -2,9 +2,9 @@
 use Rattle.std.specs.Prelude.{ℕ, nat_lt, ◌==◌, Bool, true, List, Result, Ok, Err, if◌then◌else◌}
 use Rattle.item_list.specs.Answer.{and_then}
 use Rattle.route_engine.specs.declared.aim.Aim.{Aim}
-use Rattle.route_engine.specs.declared.aim.Aim.TheVariants.{Certificate, Table, Track}
+use Rattle.route_engine.specs.declared.aim.Aim.TheVariants.{Certificate, Table, Track, Within}
 use Rattle.route_http.specs.Asked.{Asked}
-use Rattle.route_http.specs.Request.{request_of}
+use Rattle.route_http.specs.Request.{costed_of, request_of}
 use Rattle.route_http.specs.declared.error.RequestError.{RequestError}
 use Rattle.route_http.specs.declared.error.RequestError.TheVariants.{BadValue}
 use Rattle.route_http.specs.declared.key.Key.TheVariants.{Alternativeidx}
@@ -28,11 +28,19 @@ abbrev pub is_taken : Aim → ℕ → Bool
 is_taken Track alternative = true
 is_taken Table alternative = true
 is_taken Certificate alternative = alternative == 0
+is_taken Within alternative = true
 
 -- a request that asks for this, or that it has another alternative than may be asked of
 abbrev pub asked_for : Aim → Asked → Result Asked RequestError
 asked_for aim asked = if is_taken aim asked.alternative then Ok asked else Err (BadValue Alternativeidx)
 
--- the request that a query spells which asks for this, as a site answers it
+-- the request that a query spells which asks for this: with a cost where that is asked for, and else without
+abbrev pub spelt_for : Aim → List ℕ → Result Asked RequestError
+spelt_for Track query = request_of query
+spelt_for Table query = request_of query
+spelt_for Certificate query = request_of query
+spelt_for Within query = costed_of query
+
+-- the same as a site answers it
 abbrev pub request_at : Site → Aim → List ℕ → Result Asked RequestError
-request_at site aim query = and_then (request_of query) (λ asked. asked_for aim (limited site.labels asked))
+request_at site aim query = and_then (spelt_for aim query) (λ asked. asked_for aim (limited site.labels asked))

@@ -7,7 +7,7 @@ use Rattle.route_http.specs.declared.heads.Method.{Method}
 use Rattle.route_http.specs.declared.heads.Method.TheVariants.{Get, Post, Other}
 use Rattle.route_http.specs.declared.span.Span.{Span}
 use Rattle.route_engine.specs.declared.aim.Aim.{Aim}
-use Rattle.route_engine.specs.declared.aim.Aim.TheVariants.{Certificate, Track, Table}
+use Rattle.route_engine.specs.declared.aim.Aim.TheVariants.{Certificate, Track, Table, Within}
 use Rattle.session_answers.specs.declared.refusal.Refusal.TheVariants.{HeadTooLong, BadRequest, UnknownPath, MethodNotAllowed, BodyTooLong}
 use Rattle.session_answers.specs.declared.verdict.Verdict.{Verdict}
 use Rattle.session_answers.specs.declared.verdict.Verdict.TheVariants.{Undecided, NoByte, Refused, Upload, Query}
@@ -29,7 +29,8 @@ pub record IsSpanIn (bytes : List ℕ) (span : Span) : Type 0 where
 abbrev pub most_body : ℕ
 most_body = 262144
 
--- the paths that are served: of routes, of tables of costs, of certificates, and of profiles
+-- the paths that are served: of routes, of tables of costs, of certificates, of what lies within a cost, and of
+-- profiles
 abbrev pub route_path : List ℕ
 route_path = codes "/brouter"
 
@@ -38,6 +39,9 @@ table_path = codes "/brouter/table"
 
 abbrev pub certificate_path : List ℕ
 certificate_path = codes "/brouter/certificate"
+
+abbrev pub within_path : List ℕ
+within_path = codes "/brouter/within"
 
 abbrev pub profile_path : List ℕ
 profile_path = codes "/brouter/profile"
@@ -74,7 +78,8 @@ by_path path long method query body bytes =
     if bytes_eq path route_path then of_query Track method query body
     else (if bytes_eq path table_path then of_query Table method query body
     else (if bytes_eq path certificate_path then of_query Certificate method query body
-    else (if bytes_eq path profile_path then of_upload long method body bytes else Refused UnknownPath)))
+    else (if bytes_eq path within_path then of_query Within method query body
+    else (if bytes_eq path profile_path then of_upload long method body bytes else Refused UnknownPath))))
 
 -- what bytes come to behind which the head may still go on
 abbrev pub unfinished : Bool → List ℕ → Verdict

@@ -14,7 +14,7 @@ ghost use Rattle.session_answers.specs.Frames.{line_frame};
 ghost use Rattle.session_answers.specs.Jobs.{AreKept, Begins};
 ghost use Rattle.session_answers.specs.Kept.{StayAwaited};
 ghost use Rattle.session_answers.specs.Profiles.{stored_of};
-ghost use Rattle.session_answers.specs.Sites.{is_taken, limited, request_at, site_of};
+ghost use Rattle.session_answers.specs.Sites.{is_taken, limited, request_at, site_of, spelt_for};
 
 use crate::frames::{line_frame, refusal_frame};
 use crate::kept::KeptProfiles;
@@ -23,7 +23,7 @@ use crate::refusal::Refusal;
 use crate::routes::route_frame;
 use crate::search::{Search, search_for};
 use route_engine::Aim;
-use route_http::{Key, Request, RequestError, request};
+use route_http::{Key, Request, RequestError, costed_request, request};
 use route_ready::World;
 use std::alloc::{AllocError, Global};
 
@@ -71,7 +71,7 @@ fn request_for(alloc: Global, labels: u64, aim: Aim, query: &[u8]) -> Result<Req
         Answers asked (request_at (site_of world labels) aim query.now) NoMemory result }
     ensures within { IfOk result (λ request. IsWithin (asked request)) }
 {
-    let request = limited(request(alloc, query)?, labels);
+    let request = limited(spelt_for(alloc, aim, query)?, labels);
     if is_taken(aim, request.alternative) {
         Ok(request)
     } else {
@@ -81,13 +81,24 @@ fn request_for(alloc: Global, labels: u64, aim: Aim, query: &[u8]) -> Result<Req
     }
 }
 
+/// The request that a query spells which asks for this.
+fn spelt_for(alloc: Global, aim: Aim, query: &[u8]) -> Result<Request, RequestError>
+    ensures exact { Answers asked (spelt_for aim query.now) NoMemory result }
+    ensures within { IfOk result (λ request. IsWithin (asked request)) }
+{
+    match aim {
+        Aim::Within => costed_request(alloc, query),
+        Aim::Track | Aim::Table | Aim::Certificate => request(alloc, query),
+    }
+}
+
 /// Whether what is asked for may be asked of an alternative.
 fn is_taken(aim: Aim, alternative: u8) -> bool
     ensures exact { result ≡ is_taken aim alternative }
 {
     match aim {
         Aim::Certificate => alternative == 0,
-        Aim::Track | Aim::Table => true,
+        Aim::Track | Aim::Table | Aim::Within => true,
     }
 }
 

@@ -240,13 +240,13 @@ fn stage_for(
     }
 }
 
-/// The kind of a reply: that of a track goes by its form, those of a table and of a certificate are
-/// one.
+/// The kind of a reply: that of a track and of what lies within a cost goes by its form, those of a
+/// table and of a certificate are one.
 fn kind_for(aim: Aim, form: Form) -> Kind
     ensures exact { result ≡ kind_for aim form }
 {
     match aim {
-        Aim::Track => match form {
+        Aim::Track | Aim::Within => match form {
             Form::GeoJson => Kind::Json,
             Form::Csv => Kind::Csv,
         },

@@ -104,6 +104,8 @@ fn by_path(
         of_query(Aim::Table, method, query, body)
     } else if path == b"/brouter/certificate".as_slice() {
         of_query(Aim::Certificate, method, query, body)
+    } else if path == b"/brouter/within".as_slice() {
+        of_query(Aim::Within, method, query, body)
     } else if path == b"/brouter/profile".as_slice() {
         of_upload(long, method, body, bytes)
     } else {

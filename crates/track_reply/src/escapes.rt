@@ -7,7 +7,7 @@ use std::alloc::AllocError;
 
 /// Appends a text as it stands within quotes.
 #[tactic(auto, unfolding(crate::specs::Escapes::escaped))]
-pub(crate) fn append_escaped(out: &mut Vec<u8>, text: &[u8]) -> Result<(), AllocError>
+pub fn append_escaped(out: &mut Vec<u8>, text: &[u8]) -> Result<(), AllocError>
     ensures exact { OnOk result (out.new.items ≡ out.old.items ++ escaped text.now) }
 {
     'bytes: for place in 0..text.len() {

@@ -16,6 +16,8 @@ mod sums;
 mod tags;
 
 pub use collection::geojson;
+pub use escapes::append_escaped;
 pub use lines::csv;
 pub use numbers::{append_comma, append_sum};
+pub use positions::append_position;
 pub use shown::Shown;

@@ -79,7 +79,7 @@ fn append_next(out: &mut Vec<u8>, tiles: &Tiles, at: Spot) -> Result<(), AllocEr
 
 /// Appends the position of a place.
 #[tactic(auto, unfolding(crate::specs::GeoJson::position_text))]
-fn append_position(out: &mut Vec<u8>, tiles: &Tiles, at: Spot) -> Result<(), AllocError>
+pub fn append_position(out: &mut Vec<u8>, tiles: &Tiles, at: Spot) -> Result<(), AllocError>
     ensures exact { OnOk result (out.new.items ≡
         out.old.items ++ position_text (height_of tiles.now) (place_of at)) }
 {

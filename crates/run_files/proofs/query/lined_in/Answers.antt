@@ -1,0 +1,10 @@
+use Rattle.std.proofs.Common.{false, arith}
+use Rattle.route_http.proofs.CallerLemmas.{read-limited}
+use Rattle.route_http.specs.Seen.{asked}
+use Rattle.route_http.specs.declared.form.Form.TheVariants.{Csv}
+use Rattle.run_files.proofs.query.lined_in.Goals as goal
+
+pub returns-in-Ok-clause-within : goal.returns-in-Ok-clause-within
+returns-in-Ok-clause-within c =
+    let limited = read-limited false Csv c.args.text.now (asked c.in-Ok.request) c.in-Ok.ensures.exact in
+    record { some = limited.some; few = limited.few; alternative = limited.alternative; labels = omega (arith, limited.labels) }

@@ -1,0 +1,12 @@
+use Rattle.std.proofs.Common.{true, false, IfOk, arith}
+use Rattle.route_engine.specs.Jobs.{IsWithin}
+use Rattle.route_http.specs.Seen.{asked}
+use Rattle.session_answers.proofs.QueryLemmas.{read-within}
+use Rattle.route_http.specs.declared.form.Form.TheVariants.{GeoJson}
+use Rattle.session_answers.proofs.beginning.spelt_for.Goals as goal
+
+pub returns-in-Within-clause-within : goal.returns-in-Within-clause-within
+returns-in-Within-clause-within c = read-within true GeoJson c.args.query.now c.costed_request.result c.costed_request.ensures.exact
+
+pub returns-in_default-clause-within : goal.returns-in_default-clause-within
+returns-in_default-clause-within c = read-within false GeoJson c.args.query.now c.request.result c.request.ensures.exact
