@@ -1,5 +1,5 @@
 -- Texts that are told of words at fault.
-use Rattle.std.proofs.Common.{◌≡◌, ℕ, List, ◌++◌, take, Option, Some, None, Result, Ok, Err, option_map, slice_get, OnOk, ap, ◌∙◌, append_assoc, sym}
+use Rattle.std.proofs.Common.{◌≡◌, ℕ, List, ◌++◌, take, Some, None, Result, Ok, Err, option_map, slice_get, OnOk, ap, ◌∙◌, append_assoc, sym}
 use Rattle.std.proofs.lemmas.List.{take-map}
 use Rattle.std.proofs.lemmas.Option.{slice_get-map}
 use Rattle.std.specs.String.{string_bytes}

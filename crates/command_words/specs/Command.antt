@@ -4,7 +4,7 @@ use Rattle.std.specs.Prelude.{ℕ, ◌+◌, ◌==◌, Bool, cond, ◌&&◌, nat_
 use Rattle.std.specs.Str.{bytes_eq}
 use Rattle.command_words.specs.Given.{Given, Named}
 use Rattle.command_words.specs.Reader.{entries_of, entries_with, entry_with}
-use Rattle.command_words.specs.Rows.{command_name, commands, keys_of, most_labels, most_turns}
+use Rattle.command_words.specs.Rows.{command_name, commands, default_number, keys_of}
 use Rattle.command_words.specs.Value.{number_in, place_in, product_in}
 use Rattle.command_words.specs.declared.rows.CommandName.{CommandName}
 use Rattle.command_words.specs.declared.rows.CommandName.TheVariants.{Grid, Make, Code, Route, Certify, Check, Table, Within, Hills, Serve}
@@ -135,7 +135,7 @@ within_by after route None = Err after
 -- missing; `route` where the name is that of no other such command
 abbrev pub ride_by : ℕ → CommandName → RouteCommand → List Given → Result Command ℕ
 ride_by after Certify route entries =
-    Ok (Form.TheVariants.Certify (record { route = route; bound = number_or (entry_with Bound entries) 0 == 1 }))
+    Ok (Form.TheVariants.Certify (record { route = route; bound = number_or (entry_with Bound entries) (default_number Bound) == 1 }))
 ride_by after Check route entries = check_by after route (entry_with Certificate entries)
 ride_by after Table route entries = Ok (Form.TheVariants.Table route)
 ride_by after Within route entries = within_by after route (entry_with Cost entries)
@@ -167,9 +167,9 @@ serve_with after (Some lookups) (Some roads) profiles tiles listen turns hangup 
       profiles = profiles;
       tiles = tiles;
       listen = option_map file_in listen;
-      turns = number_or turns most_turns;
-      hangup = number_or hangup 0 == 1;
-      labels = number_or labels most_labels;
+      turns = number_or turns (default_number Turns);
+      hangup = number_or hangup (default_number Hangup) == 1;
+      labels = number_or labels (default_number Labels);
     }))
 serve_with after lookups roads profiles tiles listen turns hangup labels = Err after
 

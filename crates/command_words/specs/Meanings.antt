@@ -1,7 +1,7 @@
 -- What the keys of the commands mean. This project's own rule.
 use Rattle.std.specs.Prelude.{ℕ, List, None, codes, decimal}
 use Rattle.command_words.specs.Command.{address_of}
-use Rattle.command_words.specs.Rows.{most_labels, most_turns}
+use Rattle.command_words.specs.Rows.{default_number}
 use Rattle.command_words.specs.declared.rows.Key.{Key}
 use Rattle.command_words.specs.declared.rows.Key.TheVariants.{Seed, Width, Height, From, To, What, Lookups, Profile, Map, Query, Tile, Listen, Turns, Hangup, Labels, Certificate, Cost, Bound}
 
@@ -29,8 +29,8 @@ meaning_of Bound = codes "1 where labels rank with a lower bound of what is stil
 -- what stands for a key that isn't given
 unfoldable pub default_text : Key → List ℕ
 default_text Listen = address_of None
-default_text Turns = decimal most_turns
-default_text Labels = decimal most_labels
-default_text Hangup = decimal 0
-default_text Bound = decimal 0
+default_text Turns = decimal (default_number Turns)
+default_text Labels = decimal (default_number Labels)
+default_text Hangup = decimal (default_number Hangup)
+default_text Bound = decimal (default_number Bound)
 default_text key = codes "none"

@@ -1,6 +1,6 @@
 -- Why a word behind a command is at fault. This project's own rule.
 use Rattle.std.specs.List.{find}
-use Rattle.std.specs.Prelude.{ℕ, ◌==◌, Bool, cond, ◌&&◌, ◌||◌, nat_lt, Option, Some, None, Result, Ok, Err, List, [], ◌∷◌, ◌++◌, length, codes, decimal}
+use Rattle.std.specs.Prelude.{ℕ, ◌==◌, Bool, cond, ◌&&◌, ◌||◌, nat_lt, Option, Some, None, Ok, Err, List, [], ◌++◌, length, codes, decimal}
 use Rattle.command_words.specs.Given.{Given}
 use Rattle.command_words.specs.Help.{form_text}
 use Rattle.command_words.specs.Reader.{count_of, entries_after, entry_of, has_profile_of, key_of, most_of, row_for, same_key}

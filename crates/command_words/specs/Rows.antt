@@ -59,6 +59,12 @@ most_turns = 2 ^ 63
 abbrev pub most_labels : ℕ
 most_labels = 4000000000
 
+-- the number that stands for a key that isn't given
+abbrev pub default_number : Key → ℕ
+default_number Turns = most_turns
+default_number Labels = most_labels
+default_number key = 0
+
 -- the keys of a command that answers a query over files
 abbrev pub ride_keys : List KeyRow
 ride_keys =

@@ -2,7 +2,9 @@
 
 ghost use Rattle.std.specs.Prelude.{◌≡◌, option_map};
 ghost use Rattle.command_words.specs.Command.{complete, file_in, files_in, files_with, grid_by, lies_in, number_or, ride_by, ride_in, ride_over, sizes_in};
+ghost use Rattle.command_words.specs.Reader.{entry_with};
 ghost use Rattle.command_words.specs.Refusals.{now_of};
+ghost use Rattle.command_words.specs.Rows.{default_number};
 ghost use Rattle.command_words.specs.declared.rows.CommandName.{CommandName};
 ghost use Rattle.command_words.specs.declared.rows.Key.{Key};
 
@@ -12,7 +14,7 @@ use crate::command::{
 };
 use crate::entry::{Entry, FileWord};
 use crate::reader::entry_with;
-use crate::rows::{CommandName, Key, MOST_LABELS, MOST_TURNS};
+use crate::rows::{CommandName, Key};
 use crate::value::Place;
 use item_list::Items;
 
@@ -240,7 +242,7 @@ fn ride_by<'a>(
     match command {
         CommandName::Certify => Ok(Command::Certify(CertifyCommand {
             route,
-            bound: number_or(entry_with(entries, Key::Bound), 0) == 1,
+            bound: number_for(entries, Key::Bound) == 1,
         })),
         CommandName::Check => match entry_with(entries, Key::Certificate) {
             Some(certificate) => Ok(Command::Check(CheckCommand {
@@ -284,9 +286,9 @@ fn complete_serve<'a>(
             profiles,
             tiles,
             listen: file_of(entry_with(entries, Key::Listen)),
-            turns: number_or(entry_with(entries, Key::Turns), MOST_TURNS),
-            hangup: number_or(entry_with(entries, Key::Hangup), 0) == 1,
-            labels: number_or(entry_with(entries, Key::Labels), MOST_LABELS),
+            turns: number_for(entries, Key::Turns),
+            hangup: number_for(entries, Key::Hangup) == 1,
+            labels: number_for(entries, Key::Labels),
         })),
         _ => Err(after),
     }
@@ -300,6 +302,13 @@ fn file_of<'a>(entry: Option<&Entry<'a>>) -> Option<FileWord<'a>>
         Some(entry) => Some(entry.file()),
         None => None,
     }
+}
+
+/// The number of the entry of a key, or what stands for it where the entry is missing.
+fn number_for(entries: &[Entry], key: Key) -> u64
+    ensures exact { result ≡ number_or (entry_with key entries.now) (default_number key) }
+{
+    number_or(entry_with(entries, key), key.default_number())
 }
 
 /// The number of an entry, or this one where the entry is missing.

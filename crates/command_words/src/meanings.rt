@@ -4,7 +4,7 @@ ghost use Rattle.std.specs.Prelude.{◌≡◌, ◌++◌, OnOk};
 ghost use Rattle.command_words.specs.Meanings.{default_text, meaning_of};
 
 use crate::command::ADDRESS;
-use crate::rows::{Key, MOST_LABELS, MOST_TURNS};
+use crate::rows::Key;
 use item_list::{append_bytes, append_number};
 use std::alloc::AllocError;
 
@@ -44,9 +44,9 @@ pub fn append_default(text: &mut Vec<u8>, key: Key) -> Result<(), AllocError>
 {
     match key {
         Key::Listen => append_bytes(text, ADDRESS.as_bytes()),
-        Key::Turns => append_number(text, MOST_TURNS),
-        Key::Labels => append_number(text, MOST_LABELS),
-        Key::Hangup | Key::Bound => append_number(text, 0),
+        Key::Turns | Key::Labels | Key::Hangup | Key::Bound => {
+            append_number(text, key.default_number())
+        }
         _ => append_bytes(text, b"none"),
     }
 }

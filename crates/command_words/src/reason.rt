@@ -124,9 +124,7 @@ fn first_missing(keys: &[KeyRow], entries: &[Entry]) -> Option<KeyRow>
 fn missing_pair(keys: &[KeyRow], entries: &[Entry]) -> Option<KeyRow>
     ensures exact { result ≡ missing_pair keys.now entries.now }
 {
-    keys.iter()
-        .copied()
-        .find(|row| is_paired(row.key) && count_of(entries, row.key) == 0)
+    keys.iter().copied().find(|row| is_paired(row.key) && count_of(entries, row.key) == 0)
 }
 
 /// Whether a key is that of a tag table or of a profile, of which neither comes alone.

@@ -1,7 +1,7 @@
 //! The commands as rows: their names, and what a key with the form of its value is.
 
 ghost use Rattle.std.specs.Prelude.{◌≡◌};
-ghost use Rattle.command_words.specs.Rows.{about_of, command_name, key_name, keys_of};
+ghost use Rattle.command_words.specs.Rows.{about_of, command_name, default_number, key_name, keys_of};
 
 use crate::keys::{
     CERTIFY_KEYS, CHECK_KEYS, CODE_KEYS, GRID_KEYS, HILLS_KEYS, MAKE_KEYS, ROUTE_KEYS, SERVE_KEYS,
@@ -129,6 +129,17 @@ impl Key {
             Key::Certificate => "certificate",
             Key::Cost => "cost",
             Key::Bound => "bound",
+        }
+    }
+
+    /// The number that stands for it where it isn't given.
+    pub fn default_number(self) -> u64
+        ensures exact { result ≡ default_number self }
+    {
+        match self {
+            Key::Turns => MOST_TURNS,
+            Key::Labels => MOST_LABELS,
+            _ => 0,
         }
     }
 }

@@ -48,7 +48,10 @@ fn append_byte(text: &mut Vec<u8>, byte: u8) -> Result<(), AllocError>
     if is_plain(byte) {
         append_bytes(text, &[byte])
     } else {
-        append_bytes(text, &[b'\\', b'x', hex_digit(byte / 16), hex_digit(byte % 16)])
+        append_bytes(
+            text,
+            &[b'\\', b'x', hex_digit(byte / 16), hex_digit(byte % 16)],
+        )
     }
 }
 

@@ -61,13 +61,7 @@ fn reply<F: Files, O: Sink, H: Hub>(
 
 /// Tells a status of these words, if they could be read: the lines on `err`, if it isn't success, and
 /// the exit status.
-fn tell<E: Sink>(
-    alloc: Global,
-    words: &[String],
-    is_read: bool,
-    status: Status,
-    err: &mut E,
-) -> u8
+fn tell<E: Sink>(alloc: Global, words: &[String], is_read: bool, status: Status, err: &mut E) -> u8
     ensures exact { IsTelling (told_by is_read (texts_of words.now)) status (E.seen err.old)
         (E.seen err.new) result }
 {

@@ -1,4 +1,3 @@
-use Rattle.std.proofs.Common.{codes}
 use Rattle.command_words.specs.Help.{items_text}
 use Rattle.command_words.specs.Rows.{commands}
 use Rattle.command_words.proofs.UsageLemmas.{three-are}

@@ -1,6 +1,5 @@
 use Rattle.std.proofs.Common.{◌≡◌, ◌++◌, List, ℕ, OnOk, length, refl, subst, sym}
 use Rattle.std.proofs.lemmas.Option.{slice_get_past, slice_get_read}
-use Rattle.command_words.specs.Usage.{fault_line}
 use Rattle.command_words.proofs.UsageLemmas.{fault-none, fault-some}
 use Rattle.command_words.proofs.usage.append_fault.Goals as goal
 
