@@ -1,8 +1,9 @@
 -- This project's own rule: what the answers of the system's sockets mean, and how long to wait for one.
-use Rattle.std.specs.Prelude.{◌≡◌, ◌≢◌, ◌==◌, ◌<◌, ◌⊎◌, ◌&&◌, not, ℕ, Bool, true, false, Result, Ok, Err, None, if◌then◌else◌}
+use Rattle.std.specs.Prelude.{◌≡◌, ◌≢◌, ◌==◌, ◌<◌, ◌⊎◌, ◌&&◌, not, ◌||◌, ℕ, ℤ, pos, Bool, true, false, Result, Ok, Err, Option, Some, None, if◌then◌else◌}
+use Rattle.std.specs.Ordering.{int_eq}
 use Rattle.std.specs.declared.io.Error.{Error}
 use Rattle.std.specs.declared.io.ErrorKind.TheVariants.{WouldBlock, Interrupted}
-use Rattle.std.specs.IoError.{error_kind}
+use Rattle.std.specs.IoError.{error_kind, raw_os_error}
 use Rattle.edge_io.specs.Hub.{HubSeen}
 use Rattle.edge_io.specs.declared.event.Event.{Event}
 use Rattle.edge_io.specs.declared.event.Event.TheVariants.{Opened, Bytes, Ended, Lost, Quiet, Over}
@@ -10,21 +11,34 @@ use Rattle.edge_io.specs.declared.failed.Failed.{Failed}
 use Rattle.edge_io.specs.declared.replies.Arrival as Arrived
 use Rattle.edge_io.specs.declared.replies.Reading as Read
 
--- a connection was taken in, none waits exactly where the system says so, and any other error is of one
--- connection alone
+-- an error says that no descriptor is left: to the process, or to the system
+abbrev pub wants_by : Option ℤ → Bool
+wants_by None = false
+wants_by (Some code) = int_eq code (pos 24) || int_eq code (pos 23)
+
+abbrev pub wants_descriptors : Error → Bool
+wants_descriptors error = wants_by (raw_os_error error)
+
+-- a connection was taken in; none waits, or none can be taken in for want of descriptors, exactly where the system
+-- says so; and any other error is of one connection alone
 abbrev pub TellsArrival : {A : Type 0} → Result A Error → Arrived.Arrival A → Type 0
 TellsArrival (Ok stream) (Arrived.TheVariants.Came came) = came ≡ stream
 TellsArrival (Ok stream) Arrived.TheVariants.NoneNow = ⊥
 TellsArrival (Ok stream) Arrived.TheVariants.Again = ⊥
+TellsArrival (Ok stream) Arrived.TheVariants.Full = ⊥
 TellsArrival (Err error) (Arrived.TheVariants.Came came) = ⊥
 TellsArrival (Err error) Arrived.TheVariants.NoneNow = error_kind error ≡ WouldBlock
-TellsArrival (Err error) Arrived.TheVariants.Again = error_kind error ≢ WouldBlock
+TellsArrival (Err error) Arrived.TheVariants.Again =
+    (error_kind error ≢ WouldBlock) × (wants_descriptors error ≡ false)
+TellsArrival (Err error) Arrived.TheVariants.Full =
+    (error_kind error ≢ WouldBlock) × (wants_descriptors error ≡ true)
 
--- another peer may wait behind one that came, or that couldn't be taken in
+-- another peer may be taken in at once behind one that came, or that couldn't be taken in
 abbrev pub may_wait : {A : Type 0} → Arrived.Arrival A → Bool
 may_wait (Arrived.TheVariants.Came came) = true
 may_wait Arrived.TheVariants.NoneNow = false
 may_wait Arrived.TheVariants.Again = true
+may_wait Arrived.TheVariants.Full = false
 
 -- the error says that the call would have to wait, or was broken off
 abbrev pub IsPassing : Error → Type 0

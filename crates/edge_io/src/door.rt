@@ -23,6 +23,8 @@ pub(crate) struct Door {
     pub(crate) poll: Poll,
     pub(crate) events: Events,
     pub(crate) in_line: bool,
+    /// How often in a row no connection could be taken in for want of descriptors.
+    pub(crate) vain: u32,
 }
 
 impl Drop for Door {
@@ -32,6 +34,7 @@ impl Drop for Door {
             poll: _,
             events: _,
             in_line: _,
+            vain: _,
         } = self;
     }
 }
@@ -54,6 +57,7 @@ impl Door {
             poll,
             events,
             in_line: false,
+            vain: 0,
         })
     }
 
@@ -74,8 +78,15 @@ impl Door {
     }
 
     /// Takes in a connection.
-    pub(crate) fn accept(&self) -> Arrival<(TcpStream, SocketAddr)> {
-        arrived(self.listener.accept())
+    pub(crate) fn accept(&mut self) -> Arrival<(TcpStream, SocketAddr)>
+        ensures in_line { self.new.in_line ≡ self.old.in_line }
+    {
+        let arrival = arrived(self.listener.accept());
+        self.vain = match &arrival {
+            Arrival::Full => self.vain.saturating_add(1),
+            _ => 0,
+        };
+        arrival
     }
 
     /// Has a connection reported when it may be read or written.

@@ -82,7 +82,7 @@ impl<S> Leaving<S> {
     }
 
     /// Lets the one go that was closed first.
-    fn drop_first(&mut self, turns: &mut Turns)
+    pub(crate) fn drop_first(&mut self, turns: &mut Turns)
     where
         S: Drop,
         ensures fewer { btree_map_len self.new.held ≤ btree_map_len self.old.held - 1 }

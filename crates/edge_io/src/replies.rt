@@ -3,7 +3,7 @@
 ghost use Rattle.std.specs.Prelude.{◌≡◌};
 ghost use Rattle.std.specs.Duration.{as_nanos};
 ghost use Rattle.std.specs.Net.Grammar.{Parses, IsSocketText};
-ghost use Rattle.edge_io.specs.Sockets.{TellsArrival, TellsReading, TellsSending, TellsWaiting, may_wait, nap_of};
+ghost use Rattle.edge_io.specs.Sockets.{TellsArrival, TellsReading, TellsSending, TellsWaiting, may_wait, nap_of, wants_descriptors};
 
 use crate::failed::Failed;
 use std::io;
@@ -20,6 +20,8 @@ pub enum Arrival<T> {
     NoneNow,
     /// One was aborted, or couldn't be taken in; another may wait.
     Again,
+    /// None can be taken in now, since no descriptor is left.
+    Full,
 }
 
 /// What came of reading from a connection.
@@ -47,6 +49,12 @@ pub fn address_of(text: &str) -> Result<SocketAddr, Failed>
     }
 }
 
+/// The process has as many descriptors as it may have (EMFILE).
+const PROCESS_FULL: i32 = 24;
+
+/// The system has as many descriptors as it can have (ENFILE).
+const SYSTEM_FULL: i32 = 23;
+
 /// What the system's answer to an accept means. An error of one connection is none of the listener.
 pub fn arrived<T>(answer: io::Result<T>) -> Arrival<T>
     ensures exact { TellsArrival answer result }
@@ -54,17 +62,28 @@ pub fn arrived<T>(answer: io::Result<T>) -> Arrival<T>
     match answer {
         Ok(stream) => Arrival::Came(stream),
         Err(error) if error.kind() == ErrorKind::WouldBlock => Arrival::NoneNow,
+        Err(error) if wants_descriptors(&error) => Arrival::Full,
         Err(_) => Arrival::Again,
     }
 }
 
-/// Whether another peer may wait behind what came of taking one in.
+/// Whether an error says that no descriptor is left.
+fn wants_descriptors(error: &io::Error) -> bool
+    ensures exact { result ≡ wants_descriptors error.now }
+{
+    match error.raw_os_error() {
+        Some(code) => code == PROCESS_FULL || code == SYSTEM_FULL,
+        None => false,
+    }
+}
+
+/// Whether another peer may be taken in at once behind what came of taking one in.
 pub fn may_wait<T>(arrival: &Arrival<T>) -> bool
     ensures exact { result ≡ may_wait arrival.now }
 {
     match arrival {
         Arrival::Came(_) | Arrival::Again => true,
-        Arrival::NoneNow => false,
+        Arrival::NoneNow | Arrival::Full => false,
     }
 }
 

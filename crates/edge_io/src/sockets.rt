@@ -27,6 +27,9 @@ use std::time::{Clock, Duration};
 /// more, and the listening socket.
 const SPARE: usize = MOST_LEAVING + 2;
 
+/// How often in a row no connection may be taken in for want of descriptors while none is held.
+const MOST_VAIN: u32 = 100;
+
 /// The listening socket, the connections that are held by their numbers, and those that are left.
 pub struct Sockets {
     alloc: Global,
@@ -137,14 +140,22 @@ impl Sockets {
         }
     }
 
-    /// Waits for so long, and puts in line who is ready.
+    /// Waits for so long, and puts in line who is ready. A door at which no connection could be
+    /// taken in for want of descriptors tries again after each wait; where that was in vain so often
+    /// and no connection is held that could end, it fails.
     fn look(&mut self, time: Duration) -> Result<(), Failed>
         ensures same { self.new.hangup ≡ self.old.hangup }
     {
         let Some(door) = &mut self.door else {
             return Err(Failed);
         };
+        if door.vain >= MOST_VAIN && self.peers.held.is_empty() {
+            return Err(Failed);
+        }
         door.wait(time)?;
+        if door.vain > 0 {
+            door.in_line = door.in_line || self.peers.turns.join(DOOR);
+        }
         'events: for event in door.events.iter() {
             let Token(id) = event.token();
             wake(
@@ -174,7 +185,8 @@ impl Sockets {
         self.peers.hear(id, buf, self.hangup)
     }
 
-    /// Takes in a connection that waits at the door, which stays in line while more may wait.
+    /// Takes in a connection that waits at the door, which stays in line while more may wait. Where
+    /// no descriptor is left, the connection that was left first makes room.
     fn admit(&mut self) -> Option<Event>
         ensures own { IfSome result (λ e. e ≡ events.Opened self.new.peers.last) }
         ensures same { self.new.hangup ≡ self.old.hangup }
@@ -186,6 +198,10 @@ impl Sockets {
         door.in_line = may_wait(&arrival) && self.peers.turns.join(DOOR);
         match arrival {
             Arrival::Came((stream, _)) => self.welcome(stream),
+            Arrival::Full => {
+                self.leaving.drop_first(&mut self.peers.turns);
+                None
+            }
             Arrival::NoneNow | Arrival::Again => None,
         }
     }

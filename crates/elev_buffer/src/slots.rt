@@ -57,7 +57,7 @@ pub(crate) fn asks_equal(modes: &Modes) -> bool
 }
 
 /// Whether a buffer must be equal in this mode.
-fn is_equal(mode: Mode) -> bool
+pub(crate) fn is_equal(mode: Mode) -> bool
     ensures exact { result ≡ is_equal mode }
 {
     match mode {

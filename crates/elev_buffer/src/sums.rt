@@ -1,17 +1,18 @@
 //! Three numbers of a label by which covering goes.
 
-ghost use Rattle.std.specs.Prelude.{◌≡◌, ◌<◌, ◌^◌, pos};
+ghost use Rattle.std.specs.Prelude.{◌≡◌, ◌<◌, ◌^◌, ℤ, pos};
 ghost use Rattle.elev_buffer.specs.Covers.{CoversLabel, IsBuffer, IsPair, Label, label, terms};
-ghost use Rattle.elev_buffer.specs.Sums.{IsNoMoreInSums, both_by, sum_by, sums_of};
+ghost use Rattle.elev_buffer.specs.Sums.{IsNoMoreInSums, both_by, down_by, shared_both, sum_by, sums_of};
 
 use crate::labels::{Mode, Modes, Pair};
 use crate::newer::{price, rate};
-use crate::slots::{asks_equal, shared_part};
+use crate::slots::{asks_equal, is_equal, shared_part};
 
 /// Three numbers of a label by which covering goes: its cost with the price of its descent, of its
 /// climb, and of both. Where money can't make up for a buffer, that buffer itself stands in place
-/// of its sum, and it adds nothing to the third. Where a buffer must be equal, the third goes down
-/// by what must be equal instead, so that none of two labels has less where they differ in that.
+/// of its sum, and it adds nothing to the third. Where a buffer must be equal, all that must be is
+/// one number, which stands in place of the first such sum, and negative in place of the third: so
+/// of two labels that differ in it each has a greater number.
 #[derive(Clone, Copy)]
 pub struct Sums {
     pub down: i128,
@@ -32,10 +33,33 @@ pub fn sums_of(a: &Pair, ca: u128, kd: i64, ku: i64, modes: &Modes) -> Sums
         IsNoMoreInSums (sums_of (terms modes.now kd ku) other) result }
 {
     Sums {
-        down: sum_by(modes.down, kd, ca, a.down),
+        down: down_by(a, ca, kd, modes),
         up: sum_by(modes.up, ku, ca, a.up),
         both: both_by(a, ca, kd, ku, modes),
     }
+}
+
+/// The cost with the price of the first buffer, or that buffer; where it must be equal, all that
+/// must be equal.
+fn down_by(a: &Pair, ca: u128, kd: i64, modes: &Modes) -> i128
+    requires first { IsPair a.now }
+    requires first_cost { ca < 2 ^ 126 }
+    requires down_rate { IsBuffer kd }
+    ensures exact { (ku : ℤ) → result ≡ down_by (terms modes.now kd ku) (label a.now (pos ca)) }
+{
+    if is_equal(modes.down) {
+        return shared_both(a, modes) as i128;
+    }
+    sum_by(modes.down, kd, ca, a.down)
+}
+
+/// What must be equal of both buffers, as one number.
+fn shared_both(a: &Pair, modes: &Modes) -> u128
+    requires first { IsPair a.now }
+    ensures exact { result ≡ shared_both modes.now a.now }
+    ensures within { result < 2 ^ 101 }
+{
+    shared_part(modes.down, a.down) as u128 * (1 << 50) + shared_part(modes.up, a.up) as u128
 }
 
 /// The cost with the prices of both buffers; where one must be equal, what must be equal, negative.
@@ -47,7 +71,7 @@ fn both_by(a: &Pair, ca: u128, kd: i64, ku: i64, modes: &Modes) -> i128
     ensures exact { result ≡ both_by (terms modes.now kd ku) (label a.now (pos ca)) }
 {
     if asks_equal(modes) {
-        return -((shared_part(modes.down, a.down) + shared_part(modes.up, a.up)) as i128);
+        return -(shared_both(a, modes) as i128);
     }
     let down = price(rate(modes.down, kd), a.down);
     let up = price(rate(modes.up, ku), a.up);

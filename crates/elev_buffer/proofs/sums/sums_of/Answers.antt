@@ -12,11 +12,11 @@ pub returns : goal.returns
 returns c =
     let by = terms c.args.modes.now c.args.kd c.args.ku in
     let a = label c.args.a.now (pos c.args.ca) in
-    let down : SFits w128 c.sum_by.result = record { sfits = c.sum_by.type_inv } in
-    let up : SFits w128 c.sum_by-2.result = record { sfits = c.sum_by-2.type_inv } in
+    let down : SFits w128 c.down_by.result = record { sfits = c.down_by.type_inv } in
+    let up : SFits w128 c.sum_by.result = record { sfits = c.sum_by.type_inv } in
     let both : SFits w128 c.both_by.result = record { sfits = c.both_by.type_inv } in
-    let d = simp (to_z-of_z, c.ranges.kd, buffer-fits _ c.requires.first.down) at c.sum_by.ensures.exact in
-    let u = simp (to_z-of_z, c.ranges.ku, buffer-fits _ c.requires.first.up) at c.sum_by-2.ensures.exact in
+    let d = simp (to_z-of_z, c.ranges.kd) at (c.down_by.ensures.exact c.args.ku) in
+    let u = simp (to_z-of_z, c.ranges.ku, buffer-fits _ c.requires.first.up) at c.sum_by.ensures.exact in
     let s = simp (to_z-of_z, c.ranges.kd, c.ranges.ku) at c.both_by.ensures.exact in
     let made = sums-computed by a _ _ _ (record {
       down_is = to_z-of_z w128 _ down ∙ d;
@@ -33,19 +33,10 @@ pub both_by-requires-clause-first_cost : goal.both_by-requires-clause-first_cost
 both_by-requires-clause-first_cost c = c.requires.first_cost
 
 pub sum_by-requires-clause-buffer : goal.sum_by-requires-clause-buffer
-sum_by-requires-clause-buffer c = buffer-back _ c.requires.first.down
+sum_by-requires-clause-buffer c = buffer-back _ c.requires.first.up
 
 pub sum_by-requires-clause-rate : goal.sum_by-requires-clause-rate
-sum_by-requires-clause-rate c = buffer-back _ c.requires.down_rate
+sum_by-requires-clause-rate c = buffer-back _ c.requires.up_rate
 
 pub sum_by-requires-clause-cost : goal.sum_by-requires-clause-cost
 sum_by-requires-clause-cost c = c.requires.first_cost
-
-pub sum_by-requires-2-clause-buffer : goal.sum_by-requires-2-clause-buffer
-sum_by-requires-2-clause-buffer c = buffer-back _ c.requires.first.up
-
-pub sum_by-requires-2-clause-rate : goal.sum_by-requires-2-clause-rate
-sum_by-requires-2-clause-rate c = buffer-back _ c.requires.up_rate
-
-pub sum_by-requires-2-clause-cost : goal.sum_by-requires-2-clause-cost
-sum_by-requires-2-clause-cost c = c.requires.first_cost
