@@ -88,7 +88,7 @@ fn spelt_for(alloc: Global, aim: Aim, query: &[u8]) -> Result<Request, RequestEr
 {
     match aim {
         Aim::Within => costed_request(alloc, query),
-        Aim::Track | Aim::Table | Aim::Certificate => request(alloc, query),
+        _ => request(alloc, query),
     }
 }
 
