@@ -2,7 +2,7 @@
 
 import { by, made } from './dom.js';
 
-export const MOST_COLOURS = 8;
+export const MOST_COLOURS = 5;
 // How far the colour of a waypoint goes towards that of the text, for each step of the cost.
 const STRONGER = [0.6, 0.3, 0];
 

@@ -35,6 +35,8 @@ def try_contrast(page, name):
     page.run('document.querySelectorAll("details").forEach((each) => { each.open = true; }); document.querySelector("button.claim").click();')
     page.by('ask-table').click()
     page.until(lambda: page.all('#costs td'))
+    page.by('ask-within').click()
+    page.until(lambda: page.all('#within-key td'))
     found = page.run(CONTRAST)
     weak = [each for each in found['texts'] if each[2] < 4.5]
     told(f'{len(found["texts"])} texts have enough contrast in {name}', len(found['texts']) > 60 and not weak, weak)

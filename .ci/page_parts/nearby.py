@@ -1,0 +1,355 @@
+"""Tries of what lies within a cost: what is shown is what the server answers, for one waypoint and for several side by side; answers that
+are broken, a server that dies, a search that is called off, and a hundred thousand nodes."""
+import json
+import time
+import urllib.parse
+
+from selenium.webdriver.common.action_chains import ActionChains
+from selenium.webdriver.common.keys import Keys
+from selenium.webdriver.support.ui import Select
+
+from page_parts.front import answer
+from page_parts.hostile import Hostile, Servers
+from page_parts.large import settle, try_step, watch
+from page_parts.telling import told
+from page_parts.town import BRIDGES, RIDE
+
+ONE = 'lonlats=8.5156,49.1114&profile=trekking'
+ASKED = "return performance.getEntriesByType('resource').filter((each) => each.name.includes('/brouter/within')).length"
+# The colour of the map's canvas of nodes at a place of the window; null where it has none.
+COLOUR = """const [x, y] = arguments;
+for (const canvas of document.querySelectorAll('.within canvas')) {
+  const box = canvas.getBoundingClientRect();
+  if (x < box.left || y < box.top || x >= box.right || y >= box.bottom) continue;
+  const scale = canvas.width / box.width;
+  const [red, green, blue, full] = canvas.getContext('2d').getImageData((x - box.left) * scale, (y - box.top) * scale, 1, 1).data;
+  return full === 255 ? `rgb(${red}, ${green}, ${blue})` : null;
+}
+return null;"""
+
+
+def lists(query):
+    """What the server answers: for each waypoint its nodes with what they cost and where they lie."""
+    features = json.loads(answer(f'/brouter/within?{urllib.parse.quote(query, safe="=&|,.:")}'))['features']
+    return [{node: (cost, place) for node, cost, place in zip(each['properties']['nodes'], each['properties']['costs'],
+                                                              each['geometry']['coordinates'])} for each in features]
+
+
+def owners(found):
+    """For each node the waypoint from which it costs least, the first of equals."""
+    return {node: min((float(each[node][0]), number) for number, each in enumerate(found) if node in each)[1]
+            for node in set().union(*found)}
+
+
+def rows(found):
+    """The rows of the key by waypoint."""
+    of = owners(found)
+    result = []
+    for number, each in enumerate(found):
+        others = set().union(*(other for place, other in enumerate(found) if place != number))
+        result.append([str(number + 1), str(len(each)), str(len(set(each) - others)), str(len(set(each) & others)),
+                       str(sum(1 for owner in of.values() if owner == number))])
+    return result
+
+
+def key(page):
+    return page.run("return [...document.querySelectorAll('#within-key tbody tr')].map((row) => [...row.children].map((cell) => cell.textContent))")
+
+
+def shows(page, query):
+    """Whether the page comes to show what the server answers."""
+    wanted = rows(lists(query))
+    return page.until(lambda: key(page) == wanted)
+
+
+def set_cost(page, cost):
+    page.run("const field = document.getElementById('within-cost'); field.value = arguments[0]; field.dispatchEvent(new Event('change'));", cost)
+
+
+def spot(page, place):
+    return page.spot_of(*place[:2])
+
+
+def colours_of(page, row):
+    return page.run("return [...document.querySelectorAll('#within-key tbody tr')[arguments[0]].querySelectorAll('.shade')]"
+                    '.map((each) => getComputedStyle(each).backgroundColor)', row)
+
+
+def try_two(page):
+    """Two waypoints side by side have the nodes that the server answers, each in the colour of the one from which it costs least."""
+    page.open(RIDE)
+    page.shows('799.132265')
+    page.by('ask-within').click()
+    query = RIDE + '&cost=1000'
+    found = lists(query)
+    told('two waypoints have the server\'s nodes, alone and in common', shows(page, query), (key(page), rows(found)))
+    told('their number is told, and the address has the cost', page.told('within-told').startswith(f'{len(owners(found))} nodes within')
+         and page.address().endswith('&cost=1000'), (page.told('within-told'), page.address()))
+    settle(page)
+    shades = [colours_of(page, row) for row in (0, 1)]
+    wrong = []
+    for node, owner in owners(found).items():
+        cost, place = found[owner][node]
+        colour = page.run(COLOUR, *spot(page, place))
+        if colour is not None and colour != shades[owner][0 if float(cost) <= 333 else 1 if float(cost) <= 667 else 2]:
+            wrong.append((node, owner, cost, colour))
+    told('each node has its colour', not wrong and len({*shades[0], *shades[1]}) == 6, (wrong[:3], shades))
+    page.run('document.getElementById("within-title").scrollIntoView()')
+    page.picture('16-within')
+    return found
+
+
+def try_pointing(page, found):
+    """Pointing at a node tells what it costs from each waypoint, by the mouse and by the keyboard."""
+    node = next(each for each in found[1] if each in found[0] and page.run(COLOUR, *spot(page, found[1][each][1])))
+    x, y = spot(page, found[0][node][1])
+    box = page.by('map').rect
+    ActionChains(page.driver).move_to_element_with_offset(page.by('map'), round(x - box['width'] / 2), round(y - box['height'] / 2)).perform()
+    wanted = [f'from {number + 1}: {each[node][0]}' for number, each in enumerate(found)]
+    told('pointing at a node tells its costs', page.until(lambda: [each.text for each in page.all('.cost-note div div')] == wanted)
+         and page.told('within-spot') == f'Node {node}: {"; ".join(wanted)}.', page.told('within-spot'))
+    ActionChains(page.driver).move_to_element(page.by('told')).perform()
+    told('and pointing elsewhere none', page.until(lambda: not page.all('.cost-note')) and 'Point at' in page.told('within-spot'))
+    alone = next(each for each in found[0] if each not in found[1])
+    page.run("document.getElementById('map').rideMap.map.setView([arguments[1], arguments[0]], 17, { animate: false })", *found[0][alone][1][:2])
+    page.run("document.getElementById('profile').focus()")
+    ActionChains(page.driver).key_down(Keys.SHIFT).send_keys(Keys.TAB).key_up(Keys.SHIFT).perform()
+    page.run("document.activeElement.blur(); document.getElementById('map').focus({ focusVisible: true })")
+    page.run("document.getElementById('map').rideMap.map.panBy([1, 0], { animate: false })")
+    told('the keyboard\'s cross tells them too', page.tells(f'Node {alone}: from 1: {found[0][alone][0]}; from 2: not within 1000.', 'within-spot'),
+         page.told('within-spot'))
+
+
+def try_changes(page):
+    """A change of the cost, of a waypoint, of circles and of the profile asks anew, one of the alternative doesn't."""
+    page.open(RIDE + '&cost=1000')
+    told('a shared address shows it', shows(page, RIDE + '&cost=1000'))
+    bounds = page.run('const box = document.getElementById("map").rideMap.map.getBounds(); return [box.getWest(), box.getSouth(), box.getEast(),'
+                      ' box.getNorth()]')
+    places = [place for each in lists(RIDE + '&cost=1000') for _, place in each.values()]
+    told('and all of it is in view', all(bounds[0] < lon < bounds[2] and bounds[1] < lat < bounds[3] for lon, lat, *_ in places), bounds)
+    set_cost(page, '250.5')
+    told('another cost is asked for', shows(page, RIDE + '&cost=250.5') and page.address().endswith('&cost=250.5'), key(page))
+    page.driver.back()
+    told('and the browser\'s button goes back', shows(page, RIDE + '&cost=1000'), key(page))
+    count = page.run(ASKED)
+    Select(page.by('alternative')).select_by_visible_text('1')
+    page.shows('819.891400')
+    told('an alternative asks for nothing new', page.run(ASKED) == count and len(key(page)) == 2, page.run(ASKED))
+    Select(page.by('alternative')).select_by_visible_text('0')
+    page.run('document.getElementById("turn-round").click()')
+    turned = 'lonlats=8.5198,49.115|8.5156,49.1114&profile=trekking&cost=1000'
+    told('other waypoints are asked for', shows(page, turned), key(page))
+    Select(page.by('profile')).select_by_visible_text('road')
+    told('another profile too', shows(page, turned.replace('trekking', 'road')), key(page))
+    page.open(RIDE + '&nogos=8.5177,49.1132,60&cost=1000')
+    told('and circles', shows(page, RIDE + '&nogos=8.5177,49.1132,60&cost=1000'), key(page))
+    page.by('hide-within').click()
+    told('what is hidden leaves map, panel and address', page.until(lambda: 'cost=' not in page.address() and not key(page)
+         and not page.all('.within canvas')), page.address())
+
+
+def try_one(page):
+    """One waypoint is shaded by steps of the cost; of waypoints at one place the first has all."""
+    page.open(ONE + '&cost=1000')
+    found = lists(RIDE + '&cost=1000')[0]
+    counts = [sum(1 for cost, _ in found.values() if 200 * step < float(cost) <= 200 * (step + 1) or (step, float(cost)) == (0, 0))
+              for step in range(5)]
+    wanted = [[f'up to {200 * (step + 1)}', str(count)] for step, count in enumerate(counts)]
+    told('one waypoint has the server\'s nodes by steps', page.until(lambda: key(page) == wanted), (key(page), wanted))
+    page.run('document.getElementById("within-title").scrollIntoView()')
+    page.picture('17-within-one')
+    page.open('lonlats=8.5156,49.1114|8.5156,49.1114|8.5198,49.115&profile=trekking&cost=0')
+    told('of waypoints at one place the first has all, at no cost too', page.until(lambda: key(page) == [
+        ['1', '1', '0', '1', '1'], ['2', '1', '0', '1', '0'], ['3', '1', '1', '0', '1']]), key(page))
+    page.open(BRIDGES + '&cost=2000')
+    told('three waypoints stand side by side', shows(page, BRIDGES + '&cost=2000'), key(page))
+
+
+def try_refused(page):
+    """A refusal is told in a sentence at its place, and the next click works."""
+    page.open('lonlats=8.9,49.9&profile=trekking&cost=1000')
+    told('a waypoint far from roads is told', page.tells('Waypoint 1: no node of a road', 'within-told') and page.is_bad('within-told'),
+         page.told('within-told'))
+    page.open(RIDE)
+    page.shows('799.132265')
+    for cost in ('-1', '', '1e12'):
+        page.run("document.getElementById('within-cost').value = arguments[0]; document.getElementById('ask-within').click()", cost)
+        told(f'a cost of {cost!r} is told', page.tells('A cost is a number from 0', 'within-told') and 'cost=' not in page.address(),
+             page.told('within-told'))
+    page.run("document.getElementById('within-cost').value = '300'; document.getElementById('ask-within').click()")
+    told('and the next click works', shows(page, RIDE + '&cost=300'), page.told('within-told'))
+    page.by('clear').click()
+    told('without a waypoint one is asked for', page.tells('Set a waypoint', 'within-told') and not key(page), page.told('within-told'))
+
+
+def feature(nodes, costs, places):
+    return {'type': 'Feature', 'properties': {'creator': 'x', 'name': 'x', 'cost': '1000.000000', 'nodes': nodes, 'costs': costs},
+            'geometry': {'type': 'MultiPoint', 'coordinates': places}}
+
+
+def bodies(good):
+    """Answers that are none, by what is wrong with them, with the words that tell it."""
+    fine = feature([1, 2], ['0.000000', '5.000000'], [[8.51, 49.11], [8.52, 49.11]])
+    def with_one(**changed):
+        parts = {'nodes': [1, 2], 'costs': ['0.000000', '5.000000'], 'places': [[8.51, 49.11], [8.52, 49.11]], **changed}
+        return json.dumps({'features': [fine, feature(**parts)]}).encode()
+    none = 'holds no list of nodes'
+    return {
+        'a page': (b'<!doctype html><p>Hello', 'A web page came'), 'nothing': (b'', 'isn\'t JSON'), 'null': (b'null', none),
+        'half of one': (good[:len(good) // 2], 'isn\'t whole'), 'without features': (b'{"features":7}', none),
+        'one feature of two': (json.dumps({'features': [fine]}).encode(), none), 'features of null': (b'{"features":[null,null]}', none),
+        'with fewer costs than nodes': (with_one(costs=['0.000000']), none), 'with fewer places': (with_one(places=[[8.51, 49.11]]), none),
+        'with costs that are words': (with_one(costs=['0.000000', 'much']), none), 'with costs as numbers': (with_one(costs=[0, 5]), none),
+        'with ids as texts': (with_one(nodes=['1', '2']), none), 'with ids that fall': (with_one(nodes=[2, 1]), none),
+        'with a place off the earth': (with_one(places=[[8.51, 49.11], [8.52, 490]]), none),
+    }
+
+
+class HostileWithin(Hostile):
+    """Answers rides well, and what lies within a cost by the body that is set."""
+    body, length, kind, isSilent = b'', None, 'application/json', False
+
+    def do_GET(self):
+        if not self.path.startswith('/brouter/within'):
+            self.fine()
+        elif HostileWithin.isSilent:
+            self.silent()
+        else:
+            self.say(200, HostileWithin.kind, HostileWithin.body, HostileWithin.length)
+
+
+def press(page):
+    page.run('document.getElementById("ask-within").click()')
+
+
+def try_broken(page, good):
+    """Each broken answer is told, and a whole one after it is shown."""
+    wanted = rows([{node: (cost, None) for node, cost in zip(each['properties']['nodes'], each['properties']['costs'])}
+                   for each in json.loads(good)['features']])
+    cases = {**bodies(good), 'cut': (good[:300], 'broke off')}
+    for name, (body, words) in cases.items():
+        HostileWithin.body, HostileWithin.length = body, len(good) if name == 'cut' else None
+        HostileWithin.kind = 'text/html' if name == 'a page' else 'application/json'
+        press(page)
+        is_told = page.tells(words, 'within-told') and page.is_bad('within-told') and not key(page)
+        found = page.told('within-told')
+        HostileWithin.body, HostileWithin.length, HostileWithin.kind = good, None, 'application/json'
+        press(page)
+        told(f'an answer that is {name} is told, and the next one shown', is_told and page.until(lambda: key(page) == wanted), found)
+
+
+def try_silent(page, good):
+    """A search that goes on is told, called off, and ended by the next one."""
+    HostileWithin.body, HostileWithin.isSilent = good, True
+    press(page)
+    told('what is waited for is told, with the seconds', page.tells('Searching within a cost of 1000 from 2 waypoints by trekking: 2 s', 'within-told'),
+         page.told('within-told'))
+    page.by('call-off-within').click()
+    told('it is called off', page.tells('Called off', 'within-told') and not page.by('call-off-within').is_displayed(), page.told('within-told'))
+    press(page)
+    page.tells('Searching', 'within-told')
+    HostileWithin.isSilent = False
+    press(page)
+    told('a new question ends the old one', page.until(lambda: len(key(page)) == 2), page.told('within-told'))
+
+
+def many(count):
+    """An answer of two waypoints with so many nodes each, of which half are in common."""
+    wide = int(count ** 0.5)
+    def of(first):
+        numbers = range(first, first + count)
+        return feature(list(numbers), [f'{number % 1000}.{number % 7:06}' for number in numbers],
+                       [[8.4 + number % wide * 0.0007, 49.0 + number // wide * 0.0004] for number in numbers])
+    return json.dumps({'features': [of(0), of(count // 2)]}).encode()
+
+
+def try_many(page):
+    """A hundred thousand nodes leave the page at hand."""
+    HostileWithin.body = many(66667)
+    watch(page)
+    before = page.threads()
+    page.open(RIDE + '&cost=1000')
+    told('100,000 nodes are told', page.tells('100000 nodes', 'within-told') and [each[1:4] for each in key(page)] == 2 * [['66667', '33333', '33334']],
+         (page.told('within-told'), key(page)))
+    settle(page)
+    first = page.run('return window.longest') * page.share(before)
+    told(f'reading and drawing them: the longest task takes {first:.0f} ms', first < 300, first)
+    longest = max(try_step(page, step) for step in ('zoomOut()', 'zoomOut()', 'zoomOut()', 'panBy([300, 200])', 'zoomIn()', 'zoomIn()',
+                                                    'panBy([-300, 100])', 'zoomIn()', 'zoomIn()'))
+    told(f'zooming and moving over them: the longest task takes {longest:.0f} ms', longest < 100, longest)
+    drawing = page.run("""const map = document.getElementById('map').rideMap; const { nearby, layer } = map.within;
+        map.map.fitBounds(map.within.corners(), { animate: false }); const begun = performance.now();
+        for (let turn = 0; turn < 50; turn++) nearby.nearest(nearby.grid.xs[turn * 1000], nearby.grid.ys[turn * 1000], 1e-6);
+        return (performance.now() - begun) / 50;""")
+    told(f'pointing at one takes {drawing:.2f} ms', drawing < 5, drawing)
+    settle(page)
+    page.picture('18-within-many')
+
+
+def try_finger(page):
+    """On a phone a tap on a node tells its costs and sets no waypoint, and one elsewhere sets it."""
+    page.driver.execute_cdp_cmd('Emulation.setDeviceMetricsOverride', {'width': 390, 'height': 844, 'deviceScaleFactor': 2, 'mobile': True})
+    page.driver.execute_cdp_cmd('Emulation.setTouchEmulationEnabled', {'enabled': True})
+    page.open(RIDE + '&cost=1000')
+    page.until(lambda: len(key(page)) == 2)
+    time.sleep(1)
+    found = lists(RIDE + '&cost=1000')
+    node = max(found[0], key=lambda each: found[0][each][1][0])
+    page.run("document.getElementById('map').rideMap.map.setView([arguments[1], arguments[0]], 17, { animate: false })", *found[0][node][1][:2])
+    settle(page)
+    x, y = spot(page, found[0][node][1])
+    page.touch((x + 5, y + 5))
+    time.sleep(0.6)
+    told('a tap on a node tells its costs, and sets no waypoint', page.tells(f'Node {node}: from 1: {found[0][node][0]}', 'within-spot')
+         and len(page.all('.cost-note')) == 1 and page.address().split('&')[0].count('|') == 1, (page.told('within-spot'), page.address()))
+    small = page.run("""return [...document.querySelectorAll('#ask-within, #hide-within, #within-cost')].map((each) => each.getBoundingClientRect())
+        .filter(({ width, height }) => width < 44 || height < 44).length""")
+    told('its buttons and its field are 44 pixels high', small == 0 and page.run('return document.documentElement.scrollWidth <= innerWidth'), small)
+    page.run('document.getElementById("within-title").scrollIntoView()')
+    page.picture('19-within-phone')
+    page.touch((x + 70, y + 60))
+    told('a tap elsewhere sets one', page.until(lambda: page.address().split('&')[0].count('|') == 2), page.address())
+    page.driver.execute_cdp_cmd('Emulation.clearDeviceMetricsOverride', {})
+    page.driver.execute_cdp_cmd('Emulation.setTouchEmulationEnabled', {'enabled': False})
+
+
+def restart_front(front):
+    """The front begins anew to count what a client asks."""
+    front.nginx.terminate()
+    front.nginx.wait()
+    front.start_nginx()
+
+
+def try_hostile(page, front):
+    """Against servers that fail, and one that dies."""
+    good = answer(f'/brouter/within?{RIDE}&cost=1000').encode()
+    Hostile.good = answer(f'/brouter?{RIDE}').encode()
+    front.stop_processes()
+    restart_front(front)
+    with Servers(HostileWithin):
+        HostileWithin.body = good
+        page.open(RIDE + '&cost=1000')
+        page.until(lambda: len(key(page)) == 2)
+        try_broken(page, good)
+        restart_front(front)
+        try_silent(page, good)
+        try_many(page)
+    page.open(RIDE + '&cost=1000')
+    told('no server behind the front is told', page.tells('no route server answers it', 'within-told') and page.is_bad('within-told'),
+         page.told('within-told'))
+    front.start_processes()
+    press(page)
+    told('and when one is there again, the next click is answered', shows(page, RIDE + '&cost=1000'), page.told('within-told'))
+
+
+def tries(page, front):
+    front.settings()
+    restart_front(front)
+    found = try_two(page)
+    try_pointing(page, found)
+    try_changes(page)
+    try_one(page)
+    try_refused(page)
+    try_hostile(page, front)
+    try_finger(page)
