@@ -165,7 +165,7 @@ function makeParts(settings, base) {
   within = new Within((ride, signal, waitsFor) => rides.nearby(ride, signal, waitsFor), (cost) => change({ cost }), {
     draw(nearby, colours, linesOf) {
       map.within.draw(nearby, colours, linesOf);
-      map.fitFirst(map.within.corners());
+      map.fitFirst(nearby.corners);
     },
     clear: () => map.within.clear(),
   });

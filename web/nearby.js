@@ -6,6 +6,10 @@ import { squareOf } from './roads.js';
 const STEPS_OF_ONE = 5;
 const STEPS_OF_SEVERAL = 3;
 
+const pause = () => new Promise((done) => {
+  setTimeout(done);
+});
+
 // Costs are texts with six decimals and no needless zeros, so of two the longer one is the larger.
 const isLess = (one, other) => (one.length === other.length ? one < other : one.length < other.length);
 
@@ -28,17 +32,32 @@ function placeOfId(ids, id) {
 export class Nearby {
   // For each waypoint a list of `nodes`, ascending, with their `costs` and `places`; and the cost that was asked for.
   constructor(lists, cost) {
-    Object.assign(this, { lists, cost, ids: [], least: [], owners: [], counts: [], places: [] });
-    const numbers = new Map();
-    lists.forEach((list, owner) => list.nodes.forEach((id, at) => {
-      const number = numbers.get(id);
+    Object.assign(this, { lists, cost, ids: [], least: [], owners: [], counts: [], places: [], numbers: new Map() });
+  }
+
+  // Reads the lists, with a pause after each step, in which the page comes to other things.
+  static async of(lists, cost) {
+    const nearby = new Nearby(lists, cost);
+    for (let owner = 0; owner < lists.length; owner++) {
+      await pause();
+      nearby.take(lists[owner], owner);
+    }
+    await pause();
+    nearby.shade();
+    await pause();
+    nearby.place();
+    await pause();
+    return nearby;
+  }
+
+  take({ nodes, costs, places }, owner) {
+    nodes.forEach((id, at) => {
+      const number = this.numbers.get(id);
       if (number === undefined) {
-        numbers.set(id, this.ids.length);
-        this.add(id, list.costs[at], list.places[at], owner);
-      } else this.join(number, list.costs[at], owner);
-    }));
-    this.shade();
-    this.place();
+        this.numbers.set(id, this.ids.length);
+        this.add(id, costs[at], places[at], owner);
+      } else this.join(number, costs[at], owner);
+    });
   }
 
   add(id, cost, place, owner) {
@@ -69,8 +88,11 @@ export class Nearby {
 
   place() {
     const [xs, ys] = [new Float64Array(this.ids.length), new Float64Array(this.ids.length)];
+    this.corners = [[90, 180], [-90, -180]];
+    const [low, high] = this.corners;
     this.places.forEach(([lon, lat], number) => {
       [xs[number], ys[number]] = squareOf(lon, lat);
+      [low[0], low[1], high[0], high[1]] = [Math.min(low[0], lat), Math.min(low[1], lon), Math.max(high[0], lat), Math.max(high[1], lon)];
     });
     this.grid = new PointGrid(xs, ys);
   }

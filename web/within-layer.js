@@ -1,6 +1,7 @@
 // Draws nodes on the map's tiles as points, each in the colour of its waypoint and its cost.
 
 const MANY = 3000;
+const CELL = 2;
 const radiusOf = (zoom) => (zoom >= 16 ? 6 : zoom >= 14 ? 4 : zoom >= 12 ? 2.5 : 1.5);
 
 // Points, as pairs of numbers, in one colour: discs, or squares where they are many.
@@ -27,13 +28,29 @@ function pointsOf({ grid }, colours, coords, size, margin) {
   return { points, count: found.length };
 }
 
+// Of many points one in each cell of some pixels, of the first shade there.
+function thinned(points, size, margin) {
+  const across = Math.ceil((size + 2 * margin) / CELL) + 1;
+  const taken = new Uint8Array(across * across);
+  return points.map((each) => {
+    const kept = [];
+    for (let at = 0; at < each.length; at += 2) {
+      const cell = Math.floor((each[at + 1] + margin) / CELL) * across + Math.floor((each[at] + margin) / CELL);
+      if (!taken[cell]) kept.push(each[at], each[at + 1]);
+      taken[cell] = 1;
+    }
+    return kept;
+  });
+}
+
 // Draws the far nodes first. A disc has an edge, which parts it from the roads.
 function drawNodes(canvas, nearby, colours, coords, size) {
   const radius = radiusOf(coords.z);
-  const { points, count } = pointsOf(nearby, colours, coords, size, radius + 1);
+  const { points: all, count } = pointsOf(nearby, colours, coords, size, radius + 1);
   if (!count) return;
-  const context = canvas.getContext('2d');
   const isMany = count > MANY || radius < 2;
+  const points = isMany ? thinned(all, size, radius + 1) : all;
+  const context = canvas.getContext('2d');
   context.scale(canvas.width / size, canvas.width / size);
   for (let shade = points.length - 1; shade >= 0; shade--) {
     if (!isMany) drawPoints(context, points[shade], colours.edge, radius + 1, false);

@@ -16,7 +16,7 @@ export class WithinMap {
   constructor(map) {
     Object.assign(this, { map, nearby: null, layer: null, pointed: -1, told: null });
     Object.assign(map.createPane(PANE).style, { zIndex: 320, pointerEvents: 'none' });
-    this.note = L.tooltip({ className: 'cost-note', direction: 'top', offset: [0, -8] });
+    this.note = L.tooltip({ className: 'cost-note', direction: 'top', offset: [0, -8], permanent: true });
     const container = map.getContainer();
     container.addEventListener('pointermove', (event) => {
       if (!isTouch(event) && isOnMap(event)) this.soon(map.mouseEventToContainerPoint(event));
@@ -80,14 +80,5 @@ export class WithinMap {
     }
     const [lon, lat] = this.nearby.places[number];
     this.note.setContent(made('div', '', ...lines.map((line) => made('div', '', line)))).setLatLng([lat, lon]).addTo(this.map);
-  }
-
-  // The corners of all that is shown.
-  corners() {
-    const lats = this.nearby.places.map(([, lat]) => lat);
-    const lons = this.nearby.places.map(([lon]) => lon);
-    const ends = (list) => [list.reduce((a, b) => Math.min(a, b)), list.reduce((a, b) => Math.max(a, b))];
-    const [[south, north], [west, east]] = [ends(lats), ends(lons)];
-    return [[south, west], [north, east]];
   }
 }

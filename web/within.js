@@ -78,7 +78,7 @@ export class Within {
     }
     this.question = questionOf(ride);
     const { value, refused } = await this.asking.ask(async (signal, waitsFor) => (
-      new Nearby(await this.listsOf(ride, signal, waitsFor), ride.cost)));
+      Nearby.of(await this.listsOf(ride, signal, waitsFor), ride.cost)));
     if (refused) {
       this.question = '';
       tell('within-told', wordsOfSearches(refused.line).text, true);

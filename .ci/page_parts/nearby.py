@@ -1,7 +1,5 @@
-"""Tries of what lies within a cost: what is shown is what the server answers, for one waypoint and for several side by side; answers that
-are broken, a server that dies, a search that is called off, and a hundred thousand nodes."""
+"""Tries of what lies within a cost: what is shown is what the server answers, for one waypoint and for several side by side."""
 import json
-import time
 import urllib.parse
 
 from selenium.webdriver.common.action_chains import ActionChains
@@ -9,8 +7,7 @@ from selenium.webdriver.common.keys import Keys
 from selenium.webdriver.support.ui import Select
 
 from page_parts.front import answer
-from page_parts.hostile import Hostile, Servers
-from page_parts.large import settle, try_step, watch
+from page_parts.large import settle
 from page_parts.telling import told
 from page_parts.town import BRIDGES, RIDE
 
@@ -22,7 +19,9 @@ for (const canvas of document.querySelectorAll('.within canvas')) {
   const box = canvas.getBoundingClientRect();
   if (x < box.left || y < box.top || x >= box.right || y >= box.bottom) continue;
   const scale = canvas.width / box.width;
-  const [red, green, blue, full] = canvas.getContext('2d').getImageData((x - box.left) * scale, (y - box.top) * scale, 1, 1).data;
+  const copy = Object.assign(document.createElement('canvas'), { width: 1, height: 1 }).getContext('2d', { willReadFrequently: true });
+  copy.drawImage(canvas, -Math.floor((x - box.left) * scale), -Math.floor((y - box.top) * scale));
+  const [red, green, blue, full] = copy.getImageData(0, 0, 1, 1).data;
   return full === 255 ? `rgb(${red}, ${green}, ${blue})` : null;
 }
 return null;"""
@@ -183,173 +182,9 @@ def try_refused(page):
     told('without a waypoint one is asked for', page.tells('Set a waypoint', 'within-told') and not key(page), page.told('within-told'))
 
 
-def feature(nodes, costs, places):
-    return {'type': 'Feature', 'properties': {'creator': 'x', 'name': 'x', 'cost': '1000.000000', 'nodes': nodes, 'costs': costs},
-            'geometry': {'type': 'MultiPoint', 'coordinates': places}}
-
-
-def bodies(good):
-    """Answers that are none, by what is wrong with them, with the words that tell it."""
-    fine = feature([1, 2], ['0.000000', '5.000000'], [[8.51, 49.11], [8.52, 49.11]])
-    def with_one(**changed):
-        parts = {'nodes': [1, 2], 'costs': ['0.000000', '5.000000'], 'places': [[8.51, 49.11], [8.52, 49.11]], **changed}
-        return json.dumps({'features': [fine, feature(**parts)]}).encode()
-    none = 'holds no list of nodes'
-    return {
-        'a page': (b'<!doctype html><p>Hello', 'A web page came'), 'nothing': (b'', 'isn\'t JSON'), 'null': (b'null', none),
-        'half of one': (good[:len(good) // 2], 'isn\'t whole'), 'without features': (b'{"features":7}', none),
-        'one feature of two': (json.dumps({'features': [fine]}).encode(), none), 'features of null': (b'{"features":[null,null]}', none),
-        'with fewer costs than nodes': (with_one(costs=['0.000000']), none), 'with fewer places': (with_one(places=[[8.51, 49.11]]), none),
-        'with costs that are words': (with_one(costs=['0.000000', 'much']), none), 'with costs as numbers': (with_one(costs=[0, 5]), none),
-        'with ids as texts': (with_one(nodes=['1', '2']), none), 'with ids that fall': (with_one(nodes=[2, 1]), none),
-        'with a place off the earth': (with_one(places=[[8.51, 49.11], [8.52, 490]]), none),
-    }
-
-
-class HostileWithin(Hostile):
-    """Answers rides well, and what lies within a cost by the body that is set."""
-    body, length, kind, isSilent = b'', None, 'application/json', False
-
-    def do_GET(self):
-        if not self.path.startswith('/brouter/within'):
-            self.fine()
-        elif HostileWithin.isSilent:
-            self.silent()
-        else:
-            self.say(200, HostileWithin.kind, HostileWithin.body, HostileWithin.length)
-
-
-def press(page):
-    page.run('document.getElementById("ask-within").click()')
-
-
-def try_broken(page, good):
-    """Each broken answer is told, and a whole one after it is shown."""
-    wanted = rows([{node: (cost, None) for node, cost in zip(each['properties']['nodes'], each['properties']['costs'])}
-                   for each in json.loads(good)['features']])
-    cases = {**bodies(good), 'cut': (good[:300], 'broke off')}
-    for name, (body, words) in cases.items():
-        HostileWithin.body, HostileWithin.length = body, len(good) if name == 'cut' else None
-        HostileWithin.kind = 'text/html' if name == 'a page' else 'application/json'
-        press(page)
-        is_told = page.tells(words, 'within-told') and page.is_bad('within-told') and not key(page)
-        found = page.told('within-told')
-        HostileWithin.body, HostileWithin.length, HostileWithin.kind = good, None, 'application/json'
-        press(page)
-        told(f'an answer that is {name} is told, and the next one shown', is_told and page.until(lambda: key(page) == wanted), found)
-
-
-def try_silent(page, good):
-    """A search that goes on is told, called off, and ended by the next one."""
-    HostileWithin.body, HostileWithin.isSilent = good, True
-    press(page)
-    told('what is waited for is told, with the seconds', page.tells('Searching within a cost of 1000 from 2 waypoints by trekking: 2 s', 'within-told'),
-         page.told('within-told'))
-    page.by('call-off-within').click()
-    told('it is called off', page.tells('Called off', 'within-told') and not page.by('call-off-within').is_displayed(), page.told('within-told'))
-    press(page)
-    page.tells('Searching', 'within-told')
-    HostileWithin.isSilent = False
-    press(page)
-    told('a new question ends the old one', page.until(lambda: len(key(page)) == 2), page.told('within-told'))
-
-
-def many(count):
-    """An answer of two waypoints with so many nodes each, of which half are in common."""
-    wide = int(count ** 0.5)
-    def of(first):
-        numbers = range(first, first + count)
-        return feature(list(numbers), [f'{number % 1000}.{number % 7:06}' for number in numbers],
-                       [[8.4 + number % wide * 0.0007, 49.0 + number // wide * 0.0004] for number in numbers])
-    return json.dumps({'features': [of(0), of(count // 2)]}).encode()
-
-
-def try_many(page):
-    """A hundred thousand nodes leave the page at hand."""
-    HostileWithin.body = many(66667)
-    watch(page)
-    before = page.threads()
-    page.open(RIDE + '&cost=1000')
-    told('100,000 nodes are told', page.tells('100000 nodes', 'within-told') and [each[1:4] for each in key(page)] == 2 * [['66667', '33333', '33334']],
-         (page.told('within-told'), key(page)))
-    settle(page)
-    first = page.run('return window.longest') * page.share(before)
-    told(f'reading and drawing them: the longest task takes {first:.0f} ms', first < 300, first)
-    longest = max(try_step(page, step) for step in ('zoomOut()', 'zoomOut()', 'zoomOut()', 'panBy([300, 200])', 'zoomIn()', 'zoomIn()',
-                                                    'panBy([-300, 100])', 'zoomIn()', 'zoomIn()'))
-    told(f'zooming and moving over them: the longest task takes {longest:.0f} ms', longest < 100, longest)
-    drawing = page.run("""const map = document.getElementById('map').rideMap; const { nearby, layer } = map.within;
-        map.map.fitBounds(map.within.corners(), { animate: false }); const begun = performance.now();
-        for (let turn = 0; turn < 50; turn++) nearby.nearest(nearby.grid.xs[turn * 1000], nearby.grid.ys[turn * 1000], 1e-6);
-        return (performance.now() - begun) / 50;""")
-    told(f'pointing at one takes {drawing:.2f} ms', drawing < 5, drawing)
-    settle(page)
-    page.picture('18-within-many')
-
-
-def try_finger(page):
-    """On a phone a tap on a node tells its costs and sets no waypoint, and one elsewhere sets it."""
-    page.driver.execute_cdp_cmd('Emulation.setDeviceMetricsOverride', {'width': 390, 'height': 844, 'deviceScaleFactor': 2, 'mobile': True})
-    page.driver.execute_cdp_cmd('Emulation.setTouchEmulationEnabled', {'enabled': True})
-    page.open(RIDE + '&cost=1000')
-    page.until(lambda: len(key(page)) == 2)
-    time.sleep(1)
-    found = lists(RIDE + '&cost=1000')
-    node = max(found[0], key=lambda each: found[0][each][1][0])
-    page.run("document.getElementById('map').rideMap.map.setView([arguments[1], arguments[0]], 17, { animate: false })", *found[0][node][1][:2])
-    settle(page)
-    x, y = spot(page, found[0][node][1])
-    page.touch((x + 5, y + 5))
-    time.sleep(0.6)
-    told('a tap on a node tells its costs, and sets no waypoint', page.tells(f'Node {node}: from 1: {found[0][node][0]}', 'within-spot')
-         and len(page.all('.cost-note')) == 1 and page.address().split('&')[0].count('|') == 1, (page.told('within-spot'), page.address()))
-    small = page.run("""return [...document.querySelectorAll('#ask-within, #hide-within, #within-cost')].map((each) => each.getBoundingClientRect())
-        .filter(({ width, height }) => width < 44 || height < 44).length""")
-    told('its buttons and its field are 44 pixels high', small == 0 and page.run('return document.documentElement.scrollWidth <= innerWidth'), small)
-    page.run('document.getElementById("within-title").scrollIntoView()')
-    page.picture('19-within-phone')
-    page.touch((x + 70, y + 60))
-    told('a tap elsewhere sets one', page.until(lambda: page.address().split('&')[0].count('|') == 2), page.address())
-    page.driver.execute_cdp_cmd('Emulation.clearDeviceMetricsOverride', {})
-    page.driver.execute_cdp_cmd('Emulation.setTouchEmulationEnabled', {'enabled': False})
-
-
-def restart_front(front):
-    """The front begins anew to count what a client asks."""
-    front.nginx.terminate()
-    front.nginx.wait()
-    front.start_nginx()
-
-
-def try_hostile(page, front):
-    """Against servers that fail, and one that dies."""
-    good = answer(f'/brouter/within?{RIDE}&cost=1000').encode()
-    Hostile.good = answer(f'/brouter?{RIDE}').encode()
-    front.stop_processes()
-    restart_front(front)
-    with Servers(HostileWithin):
-        HostileWithin.body = good
-        page.open(RIDE + '&cost=1000')
-        page.until(lambda: len(key(page)) == 2)
-        try_broken(page, good)
-        restart_front(front)
-        try_silent(page, good)
-        try_many(page)
-    page.open(RIDE + '&cost=1000')
-    told('no server behind the front is told', page.tells('no route server answers it', 'within-told') and page.is_bad('within-told'),
-         page.told('within-told'))
-    front.start_processes()
-    press(page)
-    told('and when one is there again, the next click is answered', shows(page, RIDE + '&cost=1000'), page.told('within-told'))
-
-
-def tries(page, front):
-    front.settings()
-    restart_front(front)
+def try_town(page):
     found = try_two(page)
     try_pointing(page, found)
     try_changes(page)
     try_one(page)
     try_refused(page)
-    try_hostile(page, front)
-    try_finger(page)
