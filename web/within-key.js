@@ -4,7 +4,7 @@ import { by, made } from './dom.js';
 
 export const MOST_COLOURS = 5;
 // How far the colour of a waypoint goes towards that of the text, for each step of the cost.
-const STRONGER = [0.6, 0.3, 0];
+const SHADES = [0.55, 0.25, 0];
 
 const partsOf = (hex) => [1, 3, 5].map((at) => Number.parseInt(hex.slice(at, at + 2), 16));
 
@@ -22,8 +22,8 @@ export function coloursFor(nearby) {
     return { edge, shades: nearby.bounds.map((_, step) => named(`--cost-${step + 1}`)), shadeOf: (number) => nearby.steps[number] };
   }
   const shades = nearby.lists.flatMap((_, owner) => (
-    STRONGER.map((share) => mixed(named(`--place-${owner % MOST_COLOURS + 1}`), named('--ink'), share))));
-  return { edge, shades, shadeOf: (number) => nearby.owners[number] * STRONGER.length + nearby.steps[number] };
+    SHADES.map((share) => mixed(named(`--place-${owner % MOST_COLOURS + 1}`), named('--ink'), share))));
+  return { edge, shades, shadeOf: (number) => nearby.owners[number] * SHADES.length + nearby.steps[number] };
 }
 
 function swatch(colours) {
@@ -46,7 +46,7 @@ function rowsBySteps(nearby, { shades }) {
 }
 
 function rowsByWaypoint(nearby, { shades }) {
-  const steps = STRONGER.length;
+  const steps = SHADES.length;
   const rows = nearby.countsByWaypoint().map(({ all, alone, common, cheapest }, owner) => (
     rowOf(shades.slice(owner * steps, (owner + 1) * steps), String(owner + 1), all, alone, common, cheapest)));
   return [headOf('waypoint', 'nodes', 'alone', 'in common', 'cheapest from it'), made('tbody', '', ...rows)];

@@ -103,7 +103,7 @@ export class Within {
     const { lists, bounds } = this.nearby;
     if (lists.length === 1) return '';
     const again = lists.length > MOST_COLOURS ? ` From waypoint ${MOST_COLOURS + 1} on the colours come again.` : '';
-    return `A node has the colour of the waypoint from which it costs least. The stronger the colour, the lower the cost: up to ${bounds.join(', ')}.${again}`;
+    return `A node has the colour of the waypoint from which it costs least, in a shade for its cost: up to ${bounds.join(', ')}.${again}`;
   }
 
   // The lines that tell what a node costs from each waypoint.
