@@ -46,6 +46,7 @@ export class Nearby {
     nearby.shade();
     await pause();
     nearby.place();
+    nearby.numbers = null;
     await pause();
     return nearby;
   }

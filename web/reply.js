@@ -54,6 +54,7 @@ export function nearbyOf(text, count) {
   const isNearby = (feature) => {
     const { properties, geometry } = feature ?? {};
     const nodes = properties?.nodes;
+    if (Array.isArray(nodes) && nodes.some((id) => Number.isInteger(id) && !Number.isSafeInteger(id))) throw new Refused('ids too large');
     return Array.isArray(nodes) && isAscending(nodes) && isListOf(properties.costs, nodes.length, isCost)
       && isListOf(geometry?.coordinates, nodes.length, isPlace);
   };

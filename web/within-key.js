@@ -38,7 +38,8 @@ function swatch(colours) {
 }
 
 const headOf = (...names) => made('thead', '', made('tr', '', ...names.map((name) => made('th', '', name))));
-const rowOf = (colours, name, ...cells) => made('tr', '', made('th', '', swatch(colours), name), ...cells.map((cell) => made('td', '', String(cell))));
+const rowOf = (colours, name, ...cells) => made('tr', '', made('th', '', swatch(colours), name),
+  ...cells.map((cell) => made('td', '', String(cell))));
 
 function rowsBySteps(nearby, { shades }) {
   const counts = nearby.countsByStep();

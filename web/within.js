@@ -94,7 +94,8 @@ export class Within {
     const count = nearby.lists.length;
     this.map.draw(nearby, colours, (number) => this.linesOf(number));
     drawKey(nearby, colours);
-    tell('within-told', `${counted(nearby.ids.length, 'node')} within a cost of ${nearby.cost} from ${count > 1 ? `${count} waypoints` : 'waypoint 1'}.`);
+    const from = count > 1 ? `${count} waypoints` : 'waypoint 1';
+    tell('within-told', `${counted(nearby.ids.length, 'node')} within a cost of ${nearby.cost} from ${from}.`);
     tell('within-shades', this.shadesWords());
     tell('within-spot', POINT);
   }

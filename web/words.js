@@ -43,6 +43,7 @@ const ROWS = [
   [/^answer broken$/, () => ({ text: 'The answer isn\'t whole, or isn\'t JSON. Ask again.' })],
   [/^answer is a page$/, () => ({ text: 'A web page came where an answer should be: another program listens at this address.' })],
   [/^answer is no (.+)$/, (_, [what]) => ({ text: `The answer holds no ${what}: another program listens at this address.` })],
+  [/^ids too large$/, () => ({ text: 'The map has node ids beyond 9007199254740991, which a browser can\'t tell apart.' })],
   [/^front 413$/, () => ({ text: 'The text is too long for the server.' })],
   [/^(front 429|too many requests)$/, () => ({ text: 'Too many requests in a short time. Ask again in a minute.' })],
   [/^(front 50[234]|no process answers)$/, () => ({ text: 'The web server is there, but no route server answers it. Ask again in a moment.' })],
@@ -68,5 +69,6 @@ export function wordsOf(line) {
 // The same where a search goes from each waypoint to many nodes: the number of a leg is that of the waypoint.
 export function wordsOfSearches(line) {
   const [, waypoint] = /^label budget spent: leg (\d+)/.exec(line) ?? [];
-  return waypoint === undefined ? wordsOf(line) : { waypoints: [Number(waypoint)], text: `The search from waypoint ${Number(waypoint) + 1} stopped at its limit.` };
+  if (waypoint === undefined) return wordsOf(line);
+  return { waypoints: [Number(waypoint)], text: `The search from waypoint ${Number(waypoint) + 1} stopped at its limit.` };
 }

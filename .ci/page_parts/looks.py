@@ -3,7 +3,7 @@ import time
 
 from page_parts.front import FRONT, reply
 from page_parts.large import settle
-from page_parts.nearby import key, lists, spot
+from page_parts.nearby import colours_of, key, lists, spot
 from page_parts.telling import told
 from page_parts.town import HILL, RIDE, grip_spot
 
@@ -111,6 +111,16 @@ def try_tap(page):
     told('a tap elsewhere sets one', page.until(lambda: page.address().split('&')[0].count('|') == 2), page.address())
 
 
+def try_scheme(page):
+    """What lies within a cost changes its colours with the scheme, at once."""
+    page.open(RIDE + '&cost=1000')
+    page.until(lambda: len(key(page)) == 2)
+    before = colours_of(page, 0)
+    scheme(page, 'light')
+    told('the colours of nodes go with light and dark', page.until(lambda: colours_of(page, 0) != before) and len(key(page)) == 2, before)
+    scheme(page, 'dark')
+
+
 def tries(page, _):
     try_contrast(page, 'light')
     try_contrast(page, 'dark')
@@ -118,6 +128,7 @@ def tries(page, _):
     page.picture('13-dark')
     page.run('document.getElementById("within-title").scrollIntoView()')
     page.picture('20-within-dark')
+    try_scheme(page)
     try_phone(page)
     try_finger(page)
     try_tap(page)

@@ -132,12 +132,16 @@ def try_changes(page):
     page.driver.back()
     told('and the browser\'s button goes back', shows(page, RIDE + '&cost=1000'), key(page))
     count = page.run(ASKED)
+    page.by('within-cost').clear()
+    page.by('within-cost').send_keys('400', Keys.ENTER)
+    told('Enter in its field asks, once', shows(page, RIDE + '&cost=400') and page.run(ASKED) <= count + 1, (page.run(ASKED), count))
+    count = page.run(ASKED)
     Select(page.by('alternative')).select_by_visible_text('1')
     page.shows('819.891400')
     told('an alternative asks for nothing new', page.run(ASKED) == count and len(key(page)) == 2, page.run(ASKED))
     Select(page.by('alternative')).select_by_visible_text('0')
     page.run('document.getElementById("turn-round").click()')
-    turned = 'lonlats=8.5198,49.115|8.5156,49.1114&profile=trekking&cost=1000'
+    turned = 'lonlats=8.5198,49.115|8.5156,49.1114&profile=trekking&cost=400'
     told('other waypoints are asked for', shows(page, turned), key(page))
     Select(page.by('profile')).select_by_visible_text('road')
     told('another profile too', shows(page, turned.replace('trekking', 'road')), key(page))

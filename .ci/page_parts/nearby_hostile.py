@@ -4,7 +4,7 @@ import json
 
 from page_parts import nearby
 from page_parts.front import answer
-from page_parts.hostile import Hostile, Servers
+from page_parts.hostile import Hostile, NASTY, Servers
 from page_parts.large import settle, try_step, watch
 from page_parts.nearby import key, rows, shows
 from page_parts.telling import told
@@ -29,34 +29,47 @@ def bodies(good):
         'one feature of two': (json.dumps({'features': [fine]}).encode(), none), 'features of null': (b'{"features":[null,null]}', none),
         'with fewer costs than nodes': (with_one(costs=['0.000000']), none), 'with fewer places': (with_one(places=[[8.51, 49.11]]), none),
         'with costs that are words': (with_one(costs=['0.000000', 'much']), none), 'with costs as numbers': (with_one(costs=[0, 5]), none),
-        'with ids as texts': (with_one(nodes=['1', '2']), none), 'with ids that fall': (with_one(nodes=[2, 1]), none),
+        'with ids too large': (with_one(nodes=[1, 2 ** 53]), 'can\'t tell apart'), 'with ids as texts': (with_one(nodes=['1', '2']), none), 'with ids that fall': (with_one(nodes=[2, 1]), none),
         'with a place off the earth': (with_one(places=[[8.51, 49.11], [8.52, 490]]), none),
     }
 
 
 class HostileWithin(Hostile):
     """Answers rides well, and what lies within a cost by the body that is set."""
-    body, length, kind, isSilent = b'', None, 'application/json', False
+    body, length, kind, status, isSilent = b'', None, 'application/json', 200, False
 
     def do_GET(self):
         if not self.path.startswith('/brouter/within'):
             self.fine()
         elif HostileWithin.isSilent:
             self.silent()
+        elif HostileWithin.body is None:
+            self.closing()
+        elif HostileWithin.status != 200:
+            self.say(HostileWithin.status, 'text/plain', HostileWithin.body)
         else:
             self.say(200, HostileWithin.kind, HostileWithin.body, HostileWithin.length)
+
+
+def restart_front(front):
+    """The front begins anew to count what a client asks."""
+    front.nginx.terminate()
+    front.nginx.wait()
+    front.start_nginx()
 
 
 def press(page):
     page.run('document.getElementById("ask-within").click()')
 
 
-def try_broken(page, good):
+def try_broken(page, front, good):
     """Each broken answer is told, and a whole one after it is shown."""
     wanted = rows([{node: (cost, None) for node, cost in zip(each['properties']['nodes'], each['properties']['costs'])}
                    for each in json.loads(good)['features']])
-    cases = {**bodies(good), 'cut': (good[:300], 'broke off')}
-    for name, (body, words) in cases.items():
+    cases = {**bodies(good), 'cut': (good[:300], 'broke off'), 'none': (None, 'no route server answers it')}
+    for number, (name, (body, words)) in enumerate(cases.items()):
+        if number % 12 == 0:
+            restart_front(front)
         HostileWithin.body, HostileWithin.length = body, len(good) if name == 'cut' else None
         HostileWithin.kind = 'text/html' if name == 'a page' else 'application/json'
         press(page)
@@ -65,6 +78,21 @@ def try_broken(page, good):
         HostileWithin.body, HostileWithin.length, HostileWithin.kind = good, None, 'application/json'
         press(page)
         told(f'an answer that is {name} is told, and the next one shown', is_told and page.until(lambda: key(page) == wanted), found)
+
+
+LINES = [(422, 'label budget spent: leg 1, alternative 0', 'The search from waypoint 2 stopped at its limit.'), (404, 'path unknown', 'doesn\'t offer this'),
+         (404, 'profile unknown', 'knows no profile of that name'), (503, 'sessions full', 'The server is busy'), (422, f'odd {NASTY}', f'odd {NASTY}.')]
+
+
+def try_lines(page, good):
+    """Refusals are told in words, and markup in them stays text."""
+    for status, line, words in LINES:
+        HostileWithin.status, HostileWithin.body = status, f'{line}\n'.encode()
+        press(page)
+        told(f'{line!r} is told', page.tells(words, 'within-told') and not page.all('#panel img'), page.told('within-told'))
+    HostileWithin.status, HostileWithin.body = 200, good
+    press(page)
+    told('and after them the next answer is shown', page.until(lambda: len(key(page)) == 2), page.told('within-told'))
 
 
 def try_silent(page, good):
@@ -116,13 +144,6 @@ def try_many(page):
     page.picture('18-within-many')
 
 
-def restart_front(front):
-    """The front begins anew to count what a client asks."""
-    front.nginx.terminate()
-    front.nginx.wait()
-    front.start_nginx()
-
-
 def try_hostile(page, front):
     """Against servers that fail, and one that dies."""
     good = answer(f'/brouter/within?{RIDE}&cost=1000').encode()
@@ -133,8 +154,9 @@ def try_hostile(page, front):
         HostileWithin.body = good
         page.open(RIDE + '&cost=1000')
         page.until(lambda: len(key(page)) == 2)
-        try_broken(page, good)
+        try_broken(page, front, good)
         restart_front(front)
+        try_lines(page, good)
         try_silent(page, good)
         try_many(page)
     page.open(RIDE + '&cost=1000')
