@@ -2,7 +2,7 @@
 
 const MANY = 3000;
 const CELL = 2;
-const radiusOf = (zoom) => (zoom >= 16 ? 6 : zoom >= 14 ? 4 : zoom >= 12 ? 2.5 : 1.5);
+const radiusOf = (zoom) => (zoom >= 16 ? 6 : zoom >= 15 ? 4.5 : zoom >= 14 ? 3 : zoom >= 12 ? 2 : 1.5);
 
 // Points, as pairs of numbers, in one colour: discs, or squares where they are many.
 function drawPoints(context, points, colour, radius, isMany) {

@@ -107,17 +107,19 @@ def try_within(page):
     """What lies within a cost of two places on this map is drawn without holding the page still."""
     page.run('window.longest = 0')
     before = page.threads()
-    page.run("document.getElementById('within-cost').value = '1000000'; document.getElementById('ask-within').click()")
+    page.run("document.getElementById('within-cost').value = '60000'; document.getElementById('ask-within').click()")
     query = LONG.split('&', 1)[0]
-    wanted = [len(each['properties']['nodes']) for each in json.loads(answer(f'/brouter/within?{query}&profile=trekking&cost=1000000'))['features']]
+    wanted = [len(each['properties']['nodes']) for each in json.loads(answer(f'/brouter/within?{query}&profile=trekking&cost=60000'))['features']]
     told(f'{max(wanted)} nodes within a cost are the server\'s', page.until(lambda: page.run(
         "return [...document.querySelectorAll('#within-key td:nth-child(2)')].map((each) => Number(each.textContent))") == wanted), wanted)
     settle(page)
     longest = page.run('return window.longest') * page.share(before)
     told(f'reading and drawing them: the longest task takes {longest:.0f} ms', longest < 100, longest)
-    longest = max(try_step(page, step) for step in ('zoomOut()', 'zoomOut()', 'panBy([200, 100])', 'zoomIn()', 'zoomIn()'))
-    told(f'zooming and moving over them: the longest task takes {longest:.0f} ms', longest < 100, longest)
+    page.run("const { map, within } = document.getElementById('map').rideMap; map.fitBounds(within.nearby.corners, { animate: false })")
+    settle(page)
     page.picture('21-within-large')
+    longest = max(try_step(page, step) for step in ('zoomOut()', 'zoomOut()', 'panBy([200, 100])', 'zoomIn()', 'zoomIn()', 'zoomIn()', 'zoomIn()'))
+    told(f'zooming and moving over them: the longest task takes {longest:.0f} ms', longest < 100, longest)
     page.by('hide-within').click()
 
 

@@ -84,6 +84,7 @@ def try_two(page):
     told('two waypoints have the server\'s nodes, alone and in common', shows(page, query), (key(page), rows(found)))
     told('their number is told, and the address has the cost', page.told('within-told').startswith(f'{len(owners(found))} nodes within')
          and page.address().endswith('&cost=1000'), (page.told('within-told'), page.address()))
+    page.run("const { map, within } = document.getElementById('map').rideMap; map.fitBounds(within.nearby.corners, { animate: false })")
     settle(page)
     shades = [colours_of(page, row) for row in (0, 1)]
     wrong = []
@@ -94,7 +95,6 @@ def try_two(page):
             wrong.append((node, owner, cost, colour))
     told('each node has its colour', not wrong and len({*shades[0], *shades[1]}) == 6, (wrong[:3], shades))
     page.run('document.getElementById("within-title").scrollIntoView()')
-    page.picture('16-within')
     return found
 
 
@@ -107,7 +107,8 @@ def try_pointing(page, found):
     wanted = [f'from {number + 1}: {each[node][0]}' for number, each in enumerate(found)]
     told('pointing at a node tells its costs', page.until(lambda: [each.text for each in page.all('.cost-note div div')] == wanted)
          and page.told('within-spot') == f'Node {node}: {"; ".join(wanted)}.', page.told('within-spot'))
-    ActionChains(page.driver).move_to_element(page.by('told')).perform()
+    page.picture('16-within')
+    ActionChains(page.driver).move_to_element(page.by('within-told')).perform()
     told('and pointing elsewhere none', page.until(lambda: not page.all('.cost-note')) and 'Point at' in page.told('within-spot'))
     alone = next(each for each in found[0] if each not in found[1])
     page.run("document.getElementById('map').rideMap.map.setView([arguments[1], arguments[0]], 17, { animate: false })", *found[0][alone][1][:2])
