@@ -12,7 +12,6 @@ const isTouch = (event) => (event.pointerType ? event.pointerType !== 'mouse' : 
 const isOnMap = ({ target }) => !target.closest('.leaflet-control, .leaflet-marker-icon');
 
 export class WithinMap {
-  // `linesOf` has the lines for a node of a number, and is told of null where the rider points at none.
   constructor(map) {
     Object.assign(this, { map, nearby: null, layer: null, pointed: -1, told: null });
     Object.assign(map.createPane(PANE).style, { zIndex: 320, pointerEvents: 'none' });
@@ -38,6 +37,7 @@ export class WithinMap {
     return Boolean(event) && this.told === event;
   }
 
+  // `linesOf` gives the lines that tell of a node by its number, and is told -1 where the rider points at none.
   draw(nearby, colours, linesOf) {
     this.clear();
     Object.assign(this, { nearby, linesOf });

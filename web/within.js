@@ -15,7 +15,7 @@ const questionOf = (ride) => (ride.cost && ride.waypoints.length
 const counted = (count, name) => `${count} ${name}${count === 1 ? '' : 's'}`;
 
 export class Within {
-  // `listsOf` asks for the nodes within a ride's cost, `setCost` changes that, and `map` draws what is found, or null.
+  // `listsOf` asks for the nodes within a ride's cost, `setCost` changes that cost, and `map` draws what is found and clears it.
   constructor(listsOf, setCost, map) {
     Object.assign(this, { listsOf, setCost, map, ride: null, question: '', nearby: null });
     this.asking = new Asking((words, seconds) => this.wait(words, seconds));
@@ -28,7 +28,7 @@ export class Within {
     });
     by('call-off-within').addEventListener('click', () => {
       this.forget();
-      tell('within-told', 'Called off. Show it asks again.');
+      tell('within-told', 'Called off. \u201cShow it\u201d asks again.');
     });
     window.matchMedia('(prefers-color-scheme: dark)').addEventListener('change', () => this.nearby && this.show());
   }

@@ -9,7 +9,7 @@ from selenium.webdriver.support.ui import Select
 from page_parts.front import answer
 from page_parts.large import settle
 from page_parts.telling import told
-from page_parts.town import BRIDGES, RIDE
+from page_parts.town import RIDE
 
 ONE = 'lonlats=8.5156,49.1114&profile=trekking'
 ASKED = "return performance.getEntriesByType('resource').filter((each) => each.name.includes('/brouter/within')).length"
@@ -166,8 +166,13 @@ def try_one(page):
     page.open('lonlats=8.5156,49.1114|8.5156,49.1114|8.5198,49.115&profile=trekking&cost=0')
     told('of waypoints at one place the first has all, at no cost too', page.until(lambda: key(page) == [
         ['1', '1', '0', '1', '1'], ['2', '1', '0', '1', '0'], ['3', '1', '1', '0', '1']]), key(page))
-    page.open(BRIDGES + '&cost=2000')
-    told('three waypoints stand side by side', shows(page, BRIDGES + '&cost=2000'), key(page))
+    query = 'lonlats=' + '|'.join(f'{8.5056 + 0.001 * number:.4f},49.1114' for number in range(10)) + '&profile=trekking&cost=3000'
+    page.open(query)
+    told('ten waypoints stand side by side, and their colours come again', shows(page, query) and 'From waypoint 6 on' in page.told('within-shades')
+         and colours_of(page, 0) == colours_of(page, 5) != colours_of(page, 1), page.told('within-shades'))
+    lines = page.run("""const { map, within } = document.getElementById('map').rideMap; const [lon, lat] = within.nearby.places[0];
+        within.point(map.latLngToContainerPoint([lat, lon]), 12); return [...document.querySelectorAll('.cost-note div div')].map((each) => each.textContent);""")
+    told('of many waypoints the cheapest is told first', len(lines) <= 8 and lines[0].startswith('from ') and lines[-1].startswith('and from '), lines)
 
 
 def try_refused(page):

@@ -110,6 +110,15 @@ def try_silent(page, good):
     told('a new question ends the old one', page.until(lambda: len(key(page)) == 2), page.told('within-told'))
 
 
+def try_ended(page):
+    """A job that goes on after its question was ended gives nothing."""
+    found = page.driver.execute_async_script("""const done = arguments[0]; import('/asking.js').then(async ({ Asking }) => {
+        const asking = new Asking(() => {}); let give;
+        const first = asking.ask(() => new Promise((given) => { give = given; })); const second = asking.ask(async () => 2);
+        give(1); done([await first, await second]); }).catch((error) => done(String(error)));""")
+    told('a question that was ended gives nothing', found == [{'ended': True}, {'value': 2}], found)
+
+
 def many(count):
     """An answer of two waypoints with so many nodes each, of which half are in common."""
     wide = int(count ** 0.5)
@@ -158,6 +167,7 @@ def try_hostile(page, front):
         restart_front(front)
         try_lines(page, good)
         try_silent(page, good)
+        try_ended(page)
         try_many(page)
     page.open(RIDE + '&cost=1000')
     told('no server behind the front is told', page.tells('no route server answers it', 'within-told') and page.is_bad('within-told'),
