@@ -42,8 +42,7 @@ def owners(found):
 
 def rows(found):
     """The rows of the key by waypoint."""
-    of = owners(found)
-    result = []
+    of, result = owners(found), []
     for number, each in enumerate(found):
         others = set().union(*(other for place, other in enumerate(found) if place != number))
         result.append([str(number + 1), str(len(each)), str(len(set(each) - others)), str(len(set(each) & others)),
@@ -87,13 +86,14 @@ def try_two(page):
     page.run("const { map, within } = document.getElementById('map').rideMap; map.fitBounds(within.nearby.corners, { animate: false })")
     settle(page)
     shades = [colours_of(page, row) for row in (0, 1)]
-    wrong = []
+    wrong, seen = [], 0
     for node, owner in owners(found).items():
         cost, place = found[owner][node]
         colour = page.run(COLOUR, *spot(page, place))
+        seen += colour is not None
         if colour is not None and colour != shades[owner][0 if float(cost) <= 333 else 1 if float(cost) <= 667 else 2]:
             wrong.append((node, owner, cost, colour))
-    told('each node has its colour', not wrong and len({*shades[0], *shades[1]}) == 6, (wrong[:3], shades))
+    told('each node has its colour', not wrong and seen > 50 and len({*shades[0], *shades[1]}) == 6, (wrong[:3], seen, shades))
     page.run('document.getElementById("within-title").scrollIntoView()')
     return found
 
