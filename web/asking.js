@@ -23,7 +23,8 @@ export class Asking {
       tick();
     };
     try {
-      return { value: await job(control.signal, waitsFor) };
+      const value = await job(control.signal, waitsFor);
+      return control.signal.aborted ? { ended: true } : { value };
     } catch (error) {
       if (control.signal.aborted) return { ended: true };
       if (error instanceof Refused) return { refused: error };

@@ -17,10 +17,11 @@ export function commandOf(ride, start, name) {
   return `${start} profile=${name}.brf \\\n  'query=${textOf(queryOf(ride, ride.profile, name))}'`;
 }
 
-// The command that writes a certificate of a ride's best track, and the one that checks it.
+// The command that writes a certificate of a ride's best track, and those that check it: the program's, and that of the checker beside it.
 export function certificateOf(ride, start, name) {
-  const line = (command) => commandOf({ ...ride, alternative: 0 }, start.replace(/ route(?= |$)/, ` ${command}`), name);
-  return `${line('certify')} > ride.certificate\n${line('check')} \\\n  certificate=ride.certificate`;
+  const line = (form, command) => commandOf({ ...ride, alternative: 0 }, start.replace(form, command), name);
+  const checks = [line(/ route(?= |$)/, ' check'), line(/^.*? route(?= |$)/, 'tools/check_certificate')];
+  return [`${line(/ route(?= |$)/, ' certify')} > ride.certificate`, ...checks.map((check) => `${check} \\\n  certificate=ride.certificate`)].join('\n');
 }
 
 export function save(name, type, text) {

@@ -15,10 +15,11 @@ import { Server } from './server.js';
 import { readSettings, serverOf } from './settings.js';
 import { Sheet } from './sheet.js';
 import { CostTable } from './table.js';
+import { Within } from './within.js';
 import { wordsOf } from './words.js';
 
 const state = { ride: null, tracks: [], faults: [] };
-let [profiles, rides, map, answer, table, rules, asking, greys, first] = [];
+let [profiles, rides, map, answer, table, within, rules, asking, greys, first] = [];
 
 function say(text, isBad = false) {
   by('told').textContent = text;
@@ -93,7 +94,7 @@ async function askRide() {
   if (besideRefused) told.push(`${profiles.titleOf(ride.beside)}: ${wordsOf(besideRefused.line).text}`);
   say(told.join('; '), Boolean(besideRefused));
   show(tracks);
-  map.fitFirst(tracks.flatMap(({ reply }) => pointsOf(reply.geometry.coordinates)));
+  if (!ride.cost) map.fitFirst(tracks.flatMap(({ reply }) => pointsOf(reply.geometry.coordinates)));
   const { value: earlier } = await greys.ask((signal) => rides.earlier(ride, tracks[0].reply, signal));
   if (earlier?.length) map.drawEarlier(earlier);
 }
@@ -104,6 +105,7 @@ function refresh() {
   [ride.profile, ride.beside].forEach((profile) => profiles.meet(profile));
   drawChoices(ride, profiles);
   table.clear();
+  within.draw(ride);
   greys.end();
   rules.draw(ride);
   map.drawMarks(ride, []);
@@ -128,7 +130,7 @@ function readAddress() {
   const address = location.hash.slice(1);
   state.ride = address ? rideOf(address, first) : emptyRide(first);
   tell('link-told', namesUpload(address) ? 'The link names a profile that only its writer\'s server knew, so another one is taken.' : '', true);
-  map.fitUnseen(state.ride.waypoints.map(pointOf));
+  map.fitUnseen(state.ride.waypoints.map(pointOf), state.ride.waypoints.length > 1 || state.ride.cost !== '');
   refresh();
 }
 
@@ -160,6 +162,13 @@ function makeParts(settings, base) {
   greys = new Asking(() => {});
   table = new CostTable((ride, signal, waitsFor) => rides.costs(ride, signal, waitsFor),
     (order) => change({ waypoints: [...order, order[0]].map((place) => state.ride.waypoints[place]) }));
+  within = new Within((ride, signal, waitsFor) => rides.nearby(ride, signal, waitsFor), (cost) => change({ cost }), {
+    draw(nearby, colours, linesOf) {
+      map.within.draw(nearby, colours, linesOf);
+      map.fitFirst(nearby.corners);
+    },
+    clear: () => map.within.clear(),
+  });
   rules = new Rules(profiles, {
     setValues: (values) => change({ values }),
     rideBy: (profile) => change({ beside: state.ride.profile === profile ? state.ride.beside : state.ride.profile, profile, values: {} }),

@@ -6,6 +6,7 @@ import { placeOf } from './places.js';
 import { makeRoadLayer } from './road-layer.js';
 import { OPENSTREETMAP } from './settings.js';
 import { Tracks } from './tracks.js';
+import { WithinMap } from './within-map.js';
 
 const CLICK = 250;
 
@@ -22,13 +23,15 @@ export class RideMap {
     this.map.getContainer().rideMap = this;
     this.marks = new Marks(this.map, changes);
     this.tracks = new Tracks(this.map, changes);
+    this.within = new WithinMap(this.map);
     this.hasView = false;
     this.listen();
   }
 
-  // A click sets a waypoint, unless it becomes a double click, which zooms.
+  // A click sets a waypoint, unless it becomes a double click, which zooms, or is a tap that tells what a node costs.
   listen() {
-    this.map.on('click', ({ latlng }) => {
+    this.map.on('click', ({ latlng, originalEvent }) => {
+      if (this.within.hasTold(originalEvent)) return;
       const isSecond = Boolean(this.clicked);
       clearTimeout(this.clicked);
       this.clicked = isSecond ? null : setTimeout(() => {
@@ -87,17 +90,17 @@ export class RideMap {
     this.keepClear();
   }
 
-  // Brings waypoints of an address into view, unless one of them is; their track follows when it is there.
-  fitUnseen(points) {
+  // Brings waypoints of an address into view, unless one of them is; what else of it is shown follows when it is there.
+  fitUnseen(points, awaitsMore) {
     if (!points.length || (this.hasView && points.some((point) => this.map.getBounds().contains(point)))) return;
     this.hasView = false;
     this.fit(points);
-    this.awaitsTrack = points.length > 1;
+    this.awaitsMore = awaitsMore;
   }
 
   fitFirst(points) {
-    if (!this.awaitsTrack) return;
-    this.hasView = this.awaitsTrack = false;
+    if (!this.awaitsMore) return;
+    this.hasView = this.awaitsMore = false;
     this.fit(points);
   }
 

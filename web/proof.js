@@ -15,7 +15,7 @@ export function proofWords({ alternative }, rank) {
   return [least,
     'That is proved of the program route_serve, for all maps, profiles and requests, and a machine has checked the proof.',
     'You need not trust that this server runs it: save the certificate of the best ride, or write it by these lines, and check it without '
-      + 'any search.'].join(' ');
+      + 'any search, by the program or by a small one in Python that shares nothing with it.'].join(' ');
 }
 
 export const proofCommands = (ride, start, file) => certificateOf(ride, start, file);

@@ -44,13 +44,30 @@ export function trackOf(text) {
   return track;
 }
 
+const isCost = (cost) => typeof cost === 'string' && /^\d+\.\d{6}$/.test(cost);
+const isPlace = (place) => isNumbers(place) && Math.abs(place[0]) <= 180 && Math.abs(place[1]) <= 90;
+const isListOf = (list, count, isItem) => Array.isArray(list) && list.length === count && list.every(isItem);
+const isAscending = (ids) => ids.every((id, at) => Number.isInteger(id) && (at === 0 || ids[at - 1] < id));
+
+// For each of so many waypoints its nodes: their ids, ascending, what each costs, and where it lies.
+export function nearbyOf(text, count) {
+  const isNearby = (feature) => {
+    const { properties, geometry } = feature ?? {};
+    const nodes = properties?.nodes;
+    if (Array.isArray(nodes) && nodes.some((id) => Number.isInteger(id) && !Number.isSafeInteger(id))) throw new Refused('ids too large');
+    return Array.isArray(nodes) && isAscending(nodes) && isListOf(properties.costs, nodes.length, isCost)
+      && isListOf(geometry?.coordinates, nodes.length, isPlace);
+  };
+  const features = parsed(text)?.features;
+  if (!isListOf(features, count, isNearby)) throw new Refused('answer is no list of nodes');
+  return features.map(({ properties, geometry }) => ({ nodes: properties.nodes, costs: properties.costs, places: geometry.coordinates }));
+}
+
 // The costs of a table of so many waypoints: texts of numbers, and null where no ride leads.
 export function costsOf(text, count) {
   const costs = parsed(text)?.costs;
-  const isCost = (cost) => cost === null || (typeof cost === 'string' && /^\d+\.\d{6}$/.test(cost));
-  const isTable = Array.isArray(costs) && costs.length === count
-    && costs.every((row) => Array.isArray(row) && row.length === count && row.every(isCost));
-  if (!isTable) throw new Refused('answer is no table');
+  const isRow = (row) => isListOf(row, count, (cost) => cost === null || isCost(cost));
+  if (!isListOf(costs, count, isRow)) throw new Refused('answer is no table');
   return costs;
 }
 

@@ -2,17 +2,24 @@
 
 export const MOST_WAYPOINTS = 100;
 export const MOST_CIRCLES = 64;
+export const MOST_COST = 1000000000;
 export const WRITTEN = '~';
 
 // A profile is named by its name at the server, or, behind a tilde, by its packed text.
 export const isWritten = (profile) => profile.startsWith(WRITTEN);
 
 export function emptyRide(profile) {
-  return { waypoints: [], circles: [], profile, beside: '', alternative: 0, values: {} };
+  return { waypoints: [], circles: [], profile, beside: '', alternative: 0, values: {}, cost: '' };
 }
 
-const degrees = (number) => number.toFixed(6).replace(/\.?0+$/, '');
-const place = ({ lon, lat }) => `${degrees(lon)},${degrees(lat)}`;
+const decimals = (number) => number.toFixed(6).replace(/\.?0+$/, '');
+const place = ({ lon, lat }) => `${decimals(lon)},${decimals(lat)}`;
+// The text of a cost with at most six decimals; nothing where it is none.
+export function costOf(text) {
+  const cost = Number(text);
+  return text.trim() && cost >= 0 && cost <= MOST_COST ? decimals(cost) : '';
+}
+
 const circle = (each) => `${place(each)},${Math.round(each.radius)}`;
 
 // The pair that tells where a ride begins; none where it has no waypoint.
@@ -39,6 +46,7 @@ export function textOf(pairs) {
 export function addressOf(ride) {
   const pairs = queryOf(ride, ride.profile);
   if (ride.beside) pairs.push(['beside', ride.beside]);
+  if (ride.cost) pairs.push(['cost', ride.cost]);
   return textOf(pairs);
 }
 
@@ -57,6 +65,7 @@ export function rideOf(address, profile) {
       ride.circles = placesOf(value).filter((each) => each[2] >= 0).slice(0, MOST_CIRCLES)
         .map(([lon, lat, radius]) => ({ lon, lat, radius }));
     } else if (key === 'alternativeidx') ride.alternative = Math.min(3, Math.max(0, Number.parseInt(value, 10) || 0));
+    else if (key === 'cost') ride.cost = costOf(value);
     else if (key.startsWith('profile:')) ride.values[key.slice('profile:'.length)] = value;
     else if ((key === 'profile' || key === 'beside') && !/^custom_/.test(value)) ride[key] = value;
   }

@@ -1,4 +1,4 @@
-// Asks for what a ride needs: its tracks, the alternatives before it, and its table of costs.
+// Asks for what a ride needs: its tracks, the alternatives before it, its table of costs, and what lies within a cost.
 
 import { Refused } from './reply.js';
 import { queryOf } from './ride.js';
@@ -72,5 +72,16 @@ export class Rides {
     waitsFor(`Searching from ${ride.waypoints.length} waypoints by ${this.profiles.titleOf(ride.profile)}`);
     return this.profiles.asked(ride.profile, ride, signal,
       (words) => this.server.table(pairsOf(plain, ride.profile, words), ride.waypoints.length, signal));
+  }
+
+  // The nodes within the ride's cost of each of its waypoints. The server wants two, so a lone one is asked for twice.
+  async nearby(ride, signal, waitsFor) {
+    const { waypoints } = ride;
+    const asked = { ...ride, alternative: 0, waypoints: waypoints.length > 1 ? waypoints : [waypoints[0], waypoints[0]] };
+    const from = waypoints.length > 1 ? `${waypoints.length} waypoints` : 'waypoint 1';
+    waitsFor(`Searching within a cost of ${ride.cost} from ${from} by ${this.profiles.titleOf(ride.profile)}`);
+    const lists = await this.profiles.asked(ride.profile, ride, signal, (words) => (
+      this.server.within([...pairsOf(asked, ride.profile, words), ['cost', ride.cost]], asked.waypoints.length, signal)));
+    return lists.slice(0, waypoints.length);
   }
 }

@@ -1,6 +1,6 @@
 // The server's paths: each is asked by a function, and whatever goes wrong is a refusal with a line.
 
-import { certificateOf, costsOf, Refused, trackOf, uploadOf } from './reply.js';
+import { certificateOf, costsOf, nearbyOf, Refused, trackOf, uploadOf } from './reply.js';
 import { placeOf, textOf } from './ride.js';
 
 export class Server {
@@ -34,6 +34,11 @@ export class Server {
 
   async table(pairs, count, signal) {
     return costsOf(await this.fetched(`/brouter/table?${textOf(pairs)}`, signal), count);
+  }
+
+  // For each of so many waypoints the nodes within a cost.
+  async within(pairs, count, signal) {
+    return nearbyOf(await this.fetched(`/brouter/within?${textOf(pairs)}`, signal), count);
   }
 
   // The text of the certificate of a ride's best track.

@@ -3,15 +3,9 @@
 import { Asking } from './asking.js';
 import { by, made, tell } from './dom.js';
 import { cheapestRound, MOST_PLACES } from './round.js';
-import { wordsOf } from './words.js';
+import { wordsOfSearches } from './words.js';
 
 const roundWords = (order) => [...order, order[0]].map((place) => place + 1).join(' \u2192 ');
-
-// The words for a refusal; of a table the number of a leg is that of a waypoint.
-function wordsOfTable(line) {
-  const [, waypoint] = /^label budget spent: leg (\d+)/.exec(line) ?? [];
-  return waypoint === undefined ? wordsOf(line).text : `The search from waypoint ${Number(waypoint) + 1} stopped at its limit.`;
-}
 
 export class CostTable {
   // `costsOf` asks for the costs of a ride; `rideRound` is told the order of the waypoints of a round.
@@ -46,7 +40,7 @@ export class CostTable {
       return;
     }
     const { value, refused } = await this.asking.ask((signal, waitsFor) => this.costsOf(ride, signal, waitsFor));
-    if (refused) tell('table-told', wordsOfTable(refused.line), true);
+    if (refused) tell('table-told', wordsOfSearches(refused.line).text, true);
     else if (value) this.draw(value);
   }
 

@@ -30,6 +30,7 @@ const ROWS = [
   [/^query: too many in lonlats$/, () => ({ text: 'A ride has at most 100 waypoints.' })],
   [/^query: too many in nogos$/, () => ({ text: 'A ride has at most 64 circles.' })],
   [/^query: bad value of nogos$/, () => ({ text: 'A circle has a radius of at most 100 kilometres.' })],
+  [/^query: (bad value of|missing) cost$/, () => ({ text: 'A cost is a number from 0 to 1000000000.' })],
   [/^query: bad value of (.*)$/, (_, [name]) => ({ text: `The server doesn't take this value of ${name}.` })],
   [/^sessions full$/, () => ({ text: 'The server is busy. Ask again in a moment.' })],
   [/^uploads full$/, () => ({ text: 'The server holds as many profiles as it can. Its operator has to start it anew.' })],
@@ -41,7 +42,8 @@ const ROWS = [
   [/^answer broke off$/, () => ({ text: 'The answer broke off. Ask again.' })],
   [/^answer broken$/, () => ({ text: 'The answer isn\'t whole, or isn\'t JSON. Ask again.' })],
   [/^answer is a page$/, () => ({ text: 'A web page came where an answer should be: another program listens at this address.' })],
-  [/^answer is no (\w+)$/, (_, [what]) => ({ text: `The answer holds no ${what}: another program listens at this address.` })],
+  [/^answer is no (.+)$/, (_, [what]) => ({ text: `The answer holds no ${what}: another program listens at this address.` })],
+  [/^ids too large$/, () => ({ text: 'The map has node ids beyond 9007199254740991, which a browser can\'t tell apart.' })],
   [/^front 413$/, () => ({ text: 'The text is too long for the server.' })],
   [/^(front 429|too many requests)$/, () => ({ text: 'Too many requests in a short time. Ask again in a minute.' })],
   [/^(front 50[234]|no process answers)$/, () => ({ text: 'The web server is there, but no route server answers it. Ask again in a moment.' })],
@@ -62,4 +64,11 @@ export function wordsOf(line) {
     }
   }
   return { waypoints: [], text: line ? `The server refused it: ${line}.` : 'The server refused it.' };
+}
+
+// The same where a search goes from each waypoint to many nodes: the number of a leg is that of the waypoint.
+export function wordsOfSearches(line) {
+  const [, waypoint] = /^label budget spent: leg (\d+)/.exec(line) ?? [];
+  if (waypoint === undefined) return wordsOf(line);
+  return { waypoints: [Number(waypoint)], text: `The search from waypoint ${Number(waypoint) + 1} stopped at its limit.` };
 }

@@ -88,8 +88,11 @@ class Hostile(http.server.BaseHTTPRequestHandler):
 class Servers:
     """Two hostile servers at the ports of the processes."""
 
+    def __init__(self, handler=Hostile):
+        self.handler, self.held = handler, []
+
     def __enter__(self):
-        self.held = [http.server.ThreadingHTTPServer(('127.0.0.1', port), Hostile) for port in PORTS]
+        self.held = [http.server.ThreadingHTTPServer(('127.0.0.1', port), self.handler) for port in PORTS]
         for each in self.held:
             each.daemon_threads = True
             each.block_on_close = False

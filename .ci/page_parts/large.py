@@ -1,13 +1,14 @@
 """Tries of the page on a made map of a hundred thousand links, whose roads come from tiles: how soon a ride is shown, how long the page
 holds still while it is zoomed and moved, and how much it keeps. Times are reckoned without those in which the page waited for a processor,
 since other programs may keep all of them busy."""
+import json
 import os
 import shutil
 import subprocess
 import sys
 import time
 
-from page_parts.front import FRONT, TOP, program, reply
+from page_parts.front import FRONT, TOP, answer, program, reply
 from page_parts.telling import told
 
 LONG = 'lonlats=0.0501,0.0502|0.1503,0.1404&profile=trekking'
@@ -102,6 +103,26 @@ def try_long(page):
     told('and add up to its length', abs(sum(lengths) - float(wanted['properties']['track-length'])) <= left, (sum(lengths), left))
 
 
+def try_within(page):
+    """What lies within a cost of two places on this map is drawn without holding the page still."""
+    page.run('window.longest = 0')
+    before = page.threads()
+    page.run("document.getElementById('within-cost').value = '60000'; document.getElementById('ask-within').click()")
+    query = LONG.split('&', 1)[0]
+    wanted = [len(each['properties']['nodes']) for each in json.loads(answer(f'/brouter/within?{query}&profile=trekking&cost=60000'))['features']]
+    told(f'{max(wanted)} nodes within a cost are the server\'s', page.until(lambda: page.run(
+        "return [...document.querySelectorAll('#within-key td:nth-child(2)')].map((each) => Number(each.textContent))") == wanted), wanted)
+    settle(page)
+    longest = page.run('return window.longest') * page.share(before)
+    told(f'reading and drawing them: the longest task takes {longest:.0f} ms', longest < 100, longest)
+    page.run("const { map, within } = document.getElementById('map').rideMap; map.fitBounds(within.nearby.corners, { animate: false })")
+    settle(page)
+    page.picture('21-within-large')
+    longest = max(try_step(page, step) for step in ('zoomOut()', 'zoomOut()', 'panBy([200, 100])', 'zoomIn()', 'zoomIn()', 'zoomIn()', 'zoomIn()'))
+    told(f'zooming and moving over them: the longest task takes {longest:.0f} ms', longest < 100, longest)
+    page.by('hide-within').click()
+
+
 def try_far(page):
     """From so far out that no tile is drawn, a box shows where the map is."""
     page.run('document.getElementById("map").rideMap.map.setZoom(6, { animate: false })')
@@ -139,6 +160,7 @@ def tries(page, front):
     try_first(page)
     try_moves(page)
     try_long(page)
+    try_within(page)
     try_far(page)
     try_missing(page, front)
     try_text(page, front)

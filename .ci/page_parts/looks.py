@@ -2,6 +2,8 @@
 import time
 
 from page_parts.front import FRONT, reply
+from page_parts.large import settle
+from page_parts.nearby import colours_of, key, lists, spot
 from page_parts.telling import told
 from page_parts.town import HILL, RIDE, grip_spot
 
@@ -22,6 +24,11 @@ return { texts: texts.map((each) => [each.className || each.id || each.tagName, 
   tracks: ['--track', '--beside', '--bad'].map((name) => [name, ratio(named(name), named('--ground'))]),
   names: ratio(named('--ink'), named('--ground')), controls: ratio(named('--control'), named('--back')) };"""
 
+# What is pressed and is too small for a finger.
+SMALL = """return [...document.querySelectorAll('button, select, summary, input[type=number], .leaflet-bar a')]
+  .filter((each) => each.getClientRects().length).map((each) => [each.textContent.slice(0, 20) || each.id, each.getBoundingClientRect()])
+  .filter(([, { width, height }]) => height < 44 || width < 44).map(([name, { width, height }]) => [name, width, height]);"""
+
 
 def scheme(page, name):
     page.driver.execute_cdp_cmd('Emulation.setEmulatedMedia', {'features': [{'name': 'prefers-color-scheme', 'value': name}]})
@@ -35,6 +42,8 @@ def try_contrast(page, name):
     page.run('document.querySelectorAll("details").forEach((each) => { each.open = true; }); document.querySelector("button.claim").click();')
     page.by('ask-table').click()
     page.until(lambda: page.all('#costs td'))
+    page.by('ask-within').click()
+    page.until(lambda: page.all('#within-key td'))
     found = page.run(CONTRAST)
     weak = [each for each in found['texts'] if each[2] < 4.5]
     told(f'{len(found["texts"])} texts have enough contrast in {name}', len(found['texts']) > 60 and not weak, weak)
@@ -49,9 +58,7 @@ def try_phone(page):
     page.open(RIDE)
     page.shows('799.132265')
     told('nothing stands beyond a narrow screen', page.run('return document.documentElement.scrollWidth <= window.innerWidth'))
-    small = page.run("""return [...document.querySelectorAll('button, select, summary, input[type=number], .leaflet-bar a')]
-        .filter((each) => each.getClientRects().length).map((each) => [each.textContent.slice(0, 20) || each.id, each.getBoundingClientRect()])
-        .filter(([, { width, height }]) => height < 44 || width < 44).map(([name, { width, height }]) => [name, width, height]);""")
+    small = page.run(SMALL)
     told('buttons are 44 pixels high and wide', small == [], small)
     page.picture('12-phone')
     tall = page.run('return document.getElementById("panel").clientHeight')
@@ -81,13 +88,50 @@ def try_finger(page):
     told('a tap sets a waypoint', page.until(lambda: page.address().split('&')[0].count('|') == count + 1), page.address())
 
 
+def try_tap(page):
+    """On a phone a tap on a node tells its costs and sets no waypoint, and one elsewhere sets it."""
+    page.open(RIDE + '&cost=1000')
+    page.until(lambda: len(key(page)) == 2)
+    time.sleep(1)
+    found = lists(RIDE + '&cost=1000')
+    node = max(found[0], key=lambda each: found[0][each][1][0])
+    page.run("document.getElementById('map').rideMap.map.setView([arguments[1], arguments[0]], 17, { animate: false })", *found[0][node][1][:2])
+    settle(page)
+    x, y = spot(page, found[0][node][1])
+    page.touch((x + 5, y + 5))
+    time.sleep(0.6)
+    told('a tap on a node tells its costs, and sets no waypoint', page.tells(f'Node {node}: from 1: {found[0][node][0]}', 'within-spot')
+         and len(page.all('.cost-note')) == 1 and page.address().split('&')[0].count('|') == 1, (page.told('within-spot'), page.address()))
+    small = page.run(SMALL)
+    told('its buttons and its field are 44 pixels high, and nothing stands beyond the screen',
+         small == [] and page.run('return document.documentElement.scrollWidth <= window.innerWidth'), small)
+    page.run('document.getElementById("within-title").scrollIntoView()')
+    page.picture('19-within-phone')
+    page.touch((x + 70, y + 60))
+    told('a tap elsewhere sets one', page.until(lambda: page.address().split('&')[0].count('|') == 2), page.address())
+
+
+def try_scheme(page):
+    """What lies within a cost changes its colours with the scheme, at once."""
+    page.open(RIDE + '&cost=1000')
+    page.until(lambda: len(key(page)) == 2)
+    before = colours_of(page, 0)
+    scheme(page, 'light')
+    told('the colours of nodes go with light and dark', page.until(lambda: colours_of(page, 0) != before) and len(key(page)) == 2, before)
+    scheme(page, 'dark')
+
+
 def tries(page, _):
     try_contrast(page, 'light')
     try_contrast(page, 'dark')
     page.run('document.getElementById("panel").scrollTop = 0')
     page.picture('13-dark')
+    page.run('document.getElementById("within-title").scrollIntoView()')
+    page.picture('20-within-dark')
+    try_scheme(page)
     try_phone(page)
     try_finger(page)
+    try_tap(page)
     scheme(page, 'light')
     page.driver.execute_cdp_cmd('Emulation.clearDeviceMetricsOverride', {})
     page.driver.execute_cdp_cmd('Emulation.setTouchEmulationEnabled', {'enabled': False})

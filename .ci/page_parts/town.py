@@ -1,12 +1,13 @@
 """Tries of the page on the town: what is shown is what the server answers, and what a rider does changes it as he means."""
 import math
 import os
+import subprocess
 
 from selenium.webdriver.common.action_chains import ActionChains
 from selenium.webdriver.common.keys import Keys
 from selenium.webdriver.support.ui import Select
 
-from page_parts.front import reply
+from page_parts.front import TOP, program, reply
 from page_parts.telling import told
 
 RIDE = 'lonlats=8.5156,49.1114|8.5198,49.115&profile=trekking'
@@ -237,7 +238,7 @@ def try_proof(page):
     told('the proof is told in three sentences', words.count('. ') == 2 and words.endswith('.') and 'No permitted ride' in words, words)
     lines = page.by('certificate').get_attribute('value').splitlines()
     told('with the commands that certify and check', lines[0].startswith('route_serve certify ') and lines[2].startswith('route_serve check ')
-         and lines[-1].strip() == 'certificate=ride.certificate', lines)
+         and lines[5].startswith('tools/check_certificate ') and lines[-1].strip() == 'certificate=ride.certificate', lines)
     page.picture('08-proved')
 
 
@@ -259,6 +260,10 @@ def try_taking(page, room):
     with open(path, encoding='utf-8') as file:
         lines = file.read().splitlines()
     told('a certificate of the best ride', lines[:3] == ['certificate 2', 'leg 274/0/f 274/1/f 274/2/f', 'cost 799132265'] and lines[-1] == 'end', lines[:3])
+    checks = '\n'.join(page.by('certificate').get_attribute('value').splitlines()[2:])
+    checks = checks.replace('route_serve', program(), 1).replace('tools/', f'{TOP}/tools/').replace('=ride.certificate', f'={path}')
+    found = subprocess.run(['sh', '-c', checks], cwd=f'{room}/files', stdout=subprocess.PIPE, check=False).stdout.decode()
+    told('to which both checks say yes', found == 2 * 'yes\ncost 799.132265\n', found)
     told('the same on the command line', "query=lonlats=8.5156,49.1114|8.5198,49.115&profile=trekking'" in page.by('command').get_attribute('value'))
 
 
