@@ -1,4 +1,4 @@
-"""Tries of the page on a made map of a hundred thousand links, whose roads come from tiles: how soon a ride is shown, how long the page
+"""Tries of the page on a made map of a hundred thousand links (SIDE=580 makes a million), whose roads come from tiles: how soon a ride is shown, how long the page
 holds still while it is zoomed and moved, and how much it keeps. Times are reckoned without those in which the page waited for a processor,
 since other programs may keep all of them busy."""
 import json
@@ -13,7 +13,7 @@ from page_parts.telling import told
 
 LONG = 'lonlats=0.0501,0.0502|0.1503,0.1404&profile=trekking'
 SHORT = 'lonlats=0.0901,0.0902|0.0943,0.0954&profile=trekking'
-SIDE = '185'
+SIDE = os.environ.get('SIDE', '185')
 
 # Counts the longest while in which the page didn't come to draw, and the longest task.
 WATCH = """window.longest = 0; new PerformanceObserver((list) => { for (const each of list.getEntries()) {
