@@ -1,5 +1,6 @@
 // The rules of the ride: the variables of its profile as fields, and an editor for profiles of one's own.
 
+import { adviceOn } from './advice.js';
 import { Asking } from './asking.js';
 import { by, keepingFocus, tell } from './dom.js';
 import { Editor } from './editor.js';
@@ -46,6 +47,14 @@ export class Rules {
     }
   }
 
+  // Marks the line that a refusal names, with what can be done about it where its text shows that.
+  markRefused(refusal) {
+    const { line, text } = wordsOf(refusal);
+    const [, kind] = /^profile line \d+: (.+)$/.exec(refusal) ?? [];
+    const advice = kind ? adviceOn(this.editor.text.value, line, kind) : '';
+    this.editor.mark(line ?? 0, advice ? `Line ${line}, ${advice}` : text);
+  }
+
   async read() {
     this.editor.set(await this.textOf(this.ride.profile, 'text-told'));
   }
@@ -60,8 +69,7 @@ export class Rules {
     if (ended) return;
     if (refused) {
       this.profiles.forget(profile);
-      const { line, text } = wordsOf(refused.line);
-      this.editor.mark(line ?? 0, text);
+      this.markRefused(refused.line);
       return;
     }
     this.editor.mark(0, `Taken: it is ${this.profiles.titleOf(profile)}, and the page's address holds it.`);

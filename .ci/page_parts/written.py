@@ -19,6 +19,19 @@ assign costfactor multiply weight switch greater mood 1 2 1
 """
 
 
+# What is told of a line at fault: the token, and what its author can do.
+ADVICE = [
+    ('an operand too many', 'add 1 2 3', 4, '3: The assignment before it is whole: take this out, or look which operator is missing there.'),
+    ('an open bracket', '( add 1 2\nassign y 1', 5, 'assign: The bracket before it isn\'t closed: write ) before this.'),
+    ('a choice without its end', 'if true then 1 2', 4, '2: else is missing before this: a choice is if A then B else C, or switch A B C.'),
+    ('a number', '1.2.3', 4, '1.2.3: A number is written as digits with at most one point between them, from -1000000000 to 1000000000.'),
+    ('a misspelled operator', 'multipli x 2', 4,
+     'x: The assignment before it is whole: take this out, or look which operator is missing there. Did you mean multiply?'),
+    ('an unknown name', 'add costfacto x', 4, 'costfacto: no assignment before it, in its section or the global one, gives this name.'),
+    ('an unknown value', 'switch highway=residentail 1 2', 4,
+     'highway=residentail: the server\'s tag table has no such value. Look at its spelling, or take it out.')]
+
+
 def write(page, text):
     page.run('document.getElementById("writing").open = true; const text = document.getElementById("text"); text.value = arguments[0];'
              'text.dispatchEvent(new Event("input")); document.getElementById("send").click();', text)
@@ -36,6 +49,9 @@ def try_fault(page):
     write(page, '---context:global\nassign x 1\n---context:way\nassign costfactor if\n')
     told('a broken profile marks its line', page.until(lambda: [each.text for each in page.all('#lines .at-fault')] == ['4']),
          page.told('text-told'))
+    for name, text, line, words in ADVICE:
+        write(page, f'---context:global\nassign x 1\n---context:way\nassign costfactor {text}\n')
+        told(f'and says what is wrong with {name}', page.until(lambda: page.told('text-told') == f'Line {line}, {words}'), page.told('text-told'))
     write(page, 'assign x 1\n---context:way\nassign costfactor 1\n')
     told('and so does one without a section', page.until(lambda: [each.text for each in page.all('#lines .at-fault')] == ['1']),
          page.told('text-told'))
