@@ -1,4 +1,4 @@
--- A space of a leg that was just opened is lawful, and so is one that was widened.
+-- A space of a leg that was just opened is lawful.
 use Rattle.std.proofs.Common.{◌≡◌, ◌<◌, length, arith}
 use Rattle.cost_model.specs.Facts.{AreLinks}
 use Rattle.cost_model.specs.Prices.{IsPrices}
@@ -12,7 +12,7 @@ use Rattle.bike_space.specs.declared.rested.Rested.{Rested}
 use Rattle.bike_space.proofs.LawLemmas.{keeps-laws}
 
 -- what a space is opened with
-pub record IsOpening (terrain : Terrain) (kept : Rested) : Type 0 where
+pub record OpenedWith (terrain : Terrain) (kept : Rested) : Type 0 where
   pub is_map : IsMap terrain.map
   pub sound : AreLinks terrain.links
   pub is_prices : IsPrices terrain.prices
@@ -24,7 +24,7 @@ pub record IsOpening (terrain : Terrain) (kept : Rested) : Type 0 where
   pub small : AreBelow kept.low.sums
 
 -- the search is lawful
-task-lawful : (terrain : Terrain) (kept : Rested) → IsOpening terrain kept → IsTask (task_of terrain kept)
+task-lawful : (terrain : Terrain) (kept : Rested) → OpenedWith terrain kept → IsTask (task_of terrain kept)
 task-lawful terrain kept is = record {
   roads = is.is_map.roads;
   facts = λ link within. is.sound link (omega (arith, within, is.counted));
@@ -36,7 +36,7 @@ task-lawful terrain kept is = record {
 }
 
 -- it may be put to rest and woken
-pub opened-wakes : (terrain : Terrain) (kept : Rested) → IsOpening terrain kept → Wakes terrain kept
+pub opened-wakes : (terrain : Terrain) (kept : Rested) → OpenedWith terrain kept → Wakes terrain kept
 opened-wakes terrain kept is =
     let lawful = task-lawful terrain kept is in
     record {
@@ -45,33 +45,3 @@ opened-wakes terrain kept is =
       keeps = keeps-laws (task_of terrain kept) lawful;
     }
 
--- what is kept, with this to be paid
-abbrev pub with_low : Rested → NodeSums → Rested
-with_low kept low = record {
-  low = low;
-  cut = kept.cut;
-  used = kept.used;
-  start = kept.start;
-  target = kept.target;
-  turns = kept.turns;
-}
-
--- where it may be woken it may be so with other sums, if they are the least ones
-pub widened-wakes : (terrain : Terrain) (kept : Rested) → Wakes terrain kept → (low : NodeSums) →
-    AreLeastSumsUpTo (roads_of terrain.map) (priced_by terrain kept.cut.items kept.used.items).price kept.target low →
-    AreBelow low.sums → Wakes terrain (with_low kept low)
-widened-wakes terrain kept was low sums small =
-    let lawful : IsTask (task_of terrain (with_low kept low)) = record {
-      roads = was.lawful.roads;
-      facts = was.lawful.facts;
-      prices = was.lawful.prices;
-      start_in = was.lawful.start_in;
-      target_in = was.lawful.target_in;
-      low = λ node within. ∣ sums.least node within ∣₁;
-      low_small = λ node least within at. omega (arith, small node least at);
-    } in
-    record {
-      sums = sums.counted;
-      lawful = lawful;
-      keeps = keeps-laws (task_of terrain (with_low kept low)) lawful;
-    }

@@ -112,6 +112,11 @@ pub record Relaxes (roads : Roads) (prices : Prices) (target far : ℕ) (old new
       IsDone roads prices far new other
   pub falls : work new ≤ work old
 
+-- the finding goes on: every open link is relaxed, or its end waits with its sum
+pub record IsOpen (roads : Roads) (prices : Prices) (target far : ℕ) (state : State) : Type 0 where
+  pub is_state : IsState roads prices target far state
+  pub done : AreDone roads prices far state
+
 -- the end of the finding: nothing waits, so every open link is relaxed, and a map has few nodes
 pub record IsFinal (roads : Roads) (prices : Prices) (target far : ℕ) (state : State) : Type 0 where
   pub is_state : IsState roads prices target far state

@@ -1,70 +1,38 @@
--- A search on a leg begins, and what a turn comes to by its last step.
-use Rattle.std.proofs.Common.{◌≡◌, ◌≢◌, ℕ, ◌+◌, ◌<◌, ◌≤◌, ◌^◌, Bool, true, false, ◌&&◌, List, None, length, refl, ap, arith, sym, ◌∙◌, subst}
+-- What a step of a search on a leg comes to, and what it counts.
+use Rattle.std.proofs.Common.{◌≡◌, ◌≢◌, ℕ, ◌+◌, ◌-◌, ◌<◌, ◌≤◌, ◌^◌, Bool, true, false, ◌&&◌, List, None, length, refl, ap, arith, sym, ◌∙◌, subst}
 use Rattle.bike_space.specs.Kept.{Wakes, task_of}
-use Rattle.bike_space.specs.Marks.{is_marked}
+use Rattle.bike_space.specs.Openings.{IsOpened, IsOpening, OpensOn, left_of, leg_of, near_of, used_of}
 use Rattle.bike_space.specs.Tasks.{Task}
 use Rattle.bike_space.specs.declared.finding.Walk.{Walk}
+use Rattle.bike_space.specs.declared.opening.Opening.{Opening as Opened}
 use Rattle.bike_space.specs.declared.rested.Rested.{Rested}
 use Rattle.cost_model.specs.Rides.{Terrain, Leg}
 use Rattle.cost_model.specs.declared.parts.Carry.{Carry}
 use Rattle.item_list.specs.Turns.{Says, Settles}
+use Rattle.least_sums.specs.Findings.{most_found}
 use Rattle.item_list.specs.declared.turn.Turn.{Turn}
 use Rattle.item_list.specs.declared.turn.Turn.TheVariants.{More, Done}
+use Rattle.space_search.proofs.CallerLemmas.{settled-within}
 use Rattle.space_search.specs.Searches.{IsSearchOf}
 use Rattle.space_search.specs.View.{view}
 use Rattle.space_search.specs.declared.outcome.Outcome.{Outcome}
 use Rattle.space_search.specs.declared.outcome.Outcome.TheVariants.{Found, NoWay, Budget}
 use Rattle.space_search.specs.declared.search.Search.{Search}
-use Rattle.leg_search.specs.Quests.{AnswersLegTurn, AnswersQuest, CountsLegTurn, GoesOnAs, IsFoundFor, IsSearchOn, IsSpentFor, Quest, quest_in, quest_of, searched, settled_of}
-use Rattle.leg_search.specs.Steps.{AnswersEnd, AnswersStep, CountsStep, Step, is_spent, spends, told_by, told_of}
+use Rattle.leg_search.specs.Quests.{AnswersLegTurn, AnswersQuest, GoesOnAs, IsFoundFor, IsSearchOn, IsSpentFor, Quest, counted_anew, counted_of, most_counted, most_labels, quest_at, quest_in, quest_of, searched}
+use Rattle.leg_search.specs.Steps.{AnswersEnd, AnswersStep, CountsLegStep, CountsStep, Step, StepsOn, counting, is_spent, spends, stages_left, told_by, told_of}
 use Rattle.leg_search.specs.declared.search.Aim.{Aim}
 use Rattle.leg_search.specs.declared.search.LegSearch.{LegSearch}
+use Rattle.leg_search.specs.declared.search.Stage.TheVariants.{Opening, Settling}
 use Rattle.leg_search.specs.declared.search.TheConstants.{FIRST_LABELS}
 use Rattle.leg_search.specs.declared.turn.LegTurn.{LegTurn}
 
 -- a quest is that of the leg, the used segments, the limit and the way of going
-quest-same : (a b : Task) (limit : ℕ) (runs : Bool) → a.leg ≡ b.leg → a.used ≡ b.used → quest_in a limit runs ≡ quest_in b limit runs
-quest-same a b limit runs leg used =
+quest-same :
+    (leg other : Leg) (used also : ℕ → Bool) (limit : ℕ) (runs : Bool) → leg ≡ other → used ≡ also →
+    let Q : Leg → (ℕ → Bool) → Quest = λ l u. record { leg = l; used = u; limit = limit; runs = runs } in Q leg used ≡ Q other also
+quest-same leg other used also limit runs legs useds =
     let Q : Leg → (ℕ → Bool) → Quest = λ l u. record { leg = l; used = u; limit = limit; runs = runs } in
-    ap (λ l. Q l a.used) leg ∙ ap (λ u. Q b.leg u) used
-
--- ---- The beginning
-
--- a search that hasn't begun anew
-abbrev pub aim_first : ℕ → Bool → Aim
-aim_first limit runs = record { limit = limit; runs = runs; first = true; spent = 0 }
-
-module _ (terrain : Terrain) (kept rested : Rested) (is : rested ≡ kept) (search : Search Carry) (limit : ℕ) (runs : Bool) where
-  -- a new search over a space that was put to rest is one on its leg
-  pub begins-on :
-      Wakes terrain kept → kept.start ≢ kept.target → IsSearchOf (searched runs (task_of terrain kept)) search →
-      (view search).limit ≤ FIRST_LABELS → (view search).limit ≤ limit → limit < 2 ^ 32 →
-      IsSearchOn terrain (record { search = search; kept = rested; aim = aim_first limit runs })
-  begins-on wakes differ of few within small =
-      subst (λ k. IsSearchOn terrain (record { search = search; kept = k; aim = aim_first limit runs })) (sym is)
-      (record {
-        wakes = wakes;
-        differ = differ;
-        of = of;
-        few = λ first. few;
-        alone = λ first. refl;
-        limit = λ later. cc;
-        whole = λ later. cc;
-        spent = omega arith;
-        within = within;
-        small = small;
-      })
-
-  -- it has the quest that was asked for
-  pub begins-as :
-      (leg : Leg) (marks : List Bool) → (task_of terrain kept).leg ≡ leg → (task_of terrain kept).used ≡ is_marked marks →
-      quest_of terrain (record { search = search; kept = rested; aim = aim_first limit runs })
-      ≡ record { leg = leg; used = is_marked marks; limit = limit; runs = runs }
-  begins-as leg marks leg_is used_is =
-      let Q : Leg → (ℕ → Bool) → Quest = λ l u. record { leg = l; used = u; limit = limit; runs = runs } in
-      ap (λ k. quest_of terrain (record { search = search; kept = k; aim = aim_first limit runs })) is
-      ∙ ap (λ l. Q l (task_of terrain kept).used) leg_is
-      ∙ ap (λ u. Q leg u) used_is
+    ap (λ l. Q l used) legs ∙ ap (λ u. Q other u) useds
 
 -- ---- What a turn answers
 
@@ -84,63 +52,265 @@ end-answers task own limit runs Budget whole is =
     let all = whole refl in
     subst (λ n. (walks : List (List ℕ)) × IsSpentFor (quest_in task n runs) walks) all.0 (is all.1)
 
--- what a turn comes to by its last step
+-- what labels that were settled come to
 step-answers :
-    (terrain : Terrain) (next : LegSearch) → IsSearchOn terrain next → (own : ℕ) (turn : Turn (Unit {0}) (Outcome Walk)) →
-    (is_spent turn ≡ true → (own ≡ next.aim.limit) × ((task_of terrain next.kept).radius ≡ None)) →
-    Says (λ _. Unit {0}) (AnswersEnd (task_of terrain next.kept) own next.aim.runs) turn →
-    Says (GoesOnAs terrain (quest_of terrain next)) (AnswersQuest (quest_of terrain next)) (told_by next turn)
-step-answers terrain next on own (More more) whole is = record { on = on; same = refl }
-step-answers terrain next on own (Done end) whole is =
-    end-answers (task_of terrain next.kept) own next.aim.limit next.aim.runs end whole is
+    (terrain : Terrain) (next : LegSearch) → IsSearchOn terrain next → (task : Task) → quest_of terrain next
+    ≡ quest_in task next.aim.limit next.aim.runs → (own : ℕ) (turn : Turn (Unit {0}) (Outcome Walk)) →
+    (is_spent turn ≡ true → (own ≡ next.aim.limit) × (task.radius ≡ None)) →
+    Says (λ _. Unit {0}) (AnswersEnd task own next.aim.runs) turn →
+    Says (GoesOnAs terrain (quest_in task next.aim.limit next.aim.runs)) (AnswersQuest (quest_in task next.aim.limit next.aim.runs))
+    (told_by next turn)
+step-answers terrain next on task same own (More more) whole is = record { on = on; same = same }
+step-answers terrain next on task same own (Done end) whole is =
+    end-answers task own next.aim.limit next.aim.runs end whole is
 
--- so it answers the quest that its search began with, over a space that was woken or widened
-pub turn-answers :
-    (terrain now : Terrain) → now ≡ terrain → (old : Rested) (next : LegSearch) → IsSearchOn now next →
-    (task_of now next.kept).leg ≡ (task_of terrain old).leg → (task_of now next.kept).used ≡ (task_of terrain old).used →
-    (own before : ℕ) (step : Step) →
-    (is_spent step.1 ≡ true → (own ≡ next.aim.limit) × ((task_of now next.kept).radius ≡ None)) →
-    AnswersStep (task_of now next.kept) own next.aim.runs step → (turn : LegTurn) → turn ≡ told_of before next step →
-    AnswersLegTurn terrain (quest_in (task_of terrain old) next.aim.limit next.aim.runs) turn
-turn-answers terrain now same old next on leg used own before step whole answers turn is =
-    let told : LegTurn = told_of before next step in
-    let quest = quest_in (task_of terrain old) next.aim.limit next.aim.runs in
-    let by_now : AnswersLegTurn now (quest_of now next) told = step-answers now next on own step.1 whole answers in
-    subst (AnswersLegTurn terrain quest) (sym is)
-    (subst (λ t. AnswersLegTurn t quest told) same
-    (subst (λ q. AnswersLegTurn now q told)
-    (quest-same (task_of now next.kept) (task_of terrain old) next.aim.limit next.aim.runs leg used) by_now))
+-- ---- What is counted
 
--- ---- What a turn settles
+-- the labels of a search are no more than may be settled before it begins anew, or behind that
+labels-most : (first : Bool) (limit own : ℕ) → (first ≡ true → own ≤ FIRST_LABELS) → (first ≡ false → own ≡ limit) →
+    own ≤ most_labels first limit
+labels-most true limit own few all = few refl
+labels-most false limit own few all = omega (arith, all refl)
 
--- a turn settles what its steps settle
-settles-by :
-    (quota first before left settled : ℕ) (next : LegSearch) (turn : Turn (Unit {0}) (Outcome Walk)) → before + left ≡ quota →
-    settled_of next ≡ first + (before + settled) → Settles left settled turn →
-    Settles quota (before + settled) (told_by next turn) ×
-    Says (λ n. settled_of n ≡ first + (before + settled)) (λ _. Unit {0}) (told_by next turn)
-settles-by quota first before left settled next (More more) all counted is = (omega (arith, all, is), counted)
-settles-by quota first before left settled next (Done end) all counted is = (omega (arith, all, is), tt)
+-- a step goes on within its quota, or ends below it
+step-goes :
+    (quota counted : ℕ) (before next : LegSearch) (turn : Turn (Unit {0}) (Outcome Walk)) → 1 ≤ quota →
+    counted_of next ≡ counted_of before + counted →
+    stages_left next.aim.first next.stage ≡ stages_left before.aim.first before.stage → Settles quota counted turn →
+    Says (StepsOn quota counted before) (λ _. counted < quota) (told_by next turn)
+step-goes quota counted before next (More more) some counts same is =
+    record { fits = omega (arith, is); next = counts; nearer = omega (arith, same, is, some) }
+step-goes quota counted before next (Done end) some counts same is = is
 
--- by how many were settled before its last step
-pub turn-counts :
-    (quota first before left limit old new : ℕ) (next : LegSearch) (step : Step) → before + left ≡ quota →
-    next.aim.spent + old ≡ first + before → length (view next.search).settled ≡ new → CountsStep left old new step →
-    next.aim.spent ≤ FIRST_LABELS → new ≤ limit → (turn : LegTurn) → turn ≡ told_of before next step →
-    CountsLegTurn quota first limit turn
-turn-counts quota first before left limit old new next step all spent counted counts few within turn is =
-    let settled : settled_of next ≡ first + (before + step.0) = omega (arith, spent, counted, counts.in_all) in
-    let by = settles-by quota first before left step.0 next step.1 all settled counts.settles in
-    let most : first + (before + step.0) ≤ limit + FIRST_LABELS = omega (arith, spent, counts.in_all, few, within) in
-    subst (CountsLegTurn quota first limit) (sym is) (record { settles = by.0; next = by.1; within = most })
+-- a search in which labels are settled has as many stages left as another of the same aim
+stages-settling : (first : Bool) (kept other : Rested) (a b : Search Carry) →
+    stages_left first (Settling kept a) ≡ stages_left first (Settling other b)
+stages-settling true kept other a b = refl
+stages-settling false kept other a b = refl
 
--- ---- Whether a search begins anew
+stages-opening : (first : Bool) (a b : Opened) → stages_left first (Opening a) ≡ stages_left first (Opening b)
+stages-opening true a b = refl
+stages-opening false a b = refl
+
+-- and fewer than before
+stages-fall : (first : Bool) (opening : Opened) (kept : Rested) (search : Search Carry) →
+    stages_left first (Settling kept search) < stages_left first (Opening opening)
+stages-fall true opening kept search = omega arith
+stages-fall false opening kept search = omega arith
+
+module _ (terrain : Terrain) (kept : Rested) (old search : Search Carry) (aim : Aim) (quota : ℕ) (step : Step)
+    (on : IsSearchOn terrain (record { stage = Settling kept old; aim = aim }))
+    (of : IsSearchOf (searched aim.runs (task_of terrain kept)) search)
+    (limited : (view search).limit ≡ (view old).limit)
+    (counts : CountsStep quota (length (view old).settled) (length (view search).settled) step) where
+  task : Task
+  task = task_of terrain kept
+
+  before : LegSearch
+  before = record { stage = Settling kept old; aim = aim }
+
+  -- the search as it goes on
+  next : LegSearch
+  next = record { stage = Settling kept search; aim = counting aim step.0 }
+
+  settled-few : length (view search).settled ≤ most_labels aim.first aim.limit
+  settled-few =
+      let most = settled-within (searched aim.runs task) search of in
+      let labels = labels-most aim.first aim.limit (view old).limit on.stage.few on.stage.limit in
+      omega (arith, most, limited, labels)
+
+  -- what was counted stays within the most
+  pub settled-counts : aim.counted + step.0 +
+      (most_labels aim.first aim.limit - length (view search).settled) + counted_anew aim.first (length terrain.map.links) aim.limit
+      ≤ most_counted (length terrain.map.links) aim.limit
+  settled-counts =
+      let was = on.counts in
+      let grown = counts.in_all in
+      let few = settled-few in
+      omega (arith, was, grown, few)
+
+  -- so it is still a search on the leg
+  settled-on : IsSearchOn terrain next
+  settled-on = record {
+    stage = record {
+      wakes = on.stage.wakes;
+      differ = on.stage.differ;
+      of = of;
+      few = λ first. omega (arith, limited, on.stage.few first);
+      limit = λ later. limited ∙ on.stage.limit later;
+      whole = on.stage.whole;
+      within = omega (arith, limited, on.stage.within);
+    };
+    counts = settled-counts;
+    links = on.links;
+    small = on.small;
+  }
+
+  -- what the step is told as answers the quest
+  pub settled-answers :
+      (is_spent step.1 ≡ true → aim.first ≡ false) → AnswersStep task (view old).limit aim.runs step →
+      AnswersLegTurn terrain (quest_at terrain aim (Settling kept old)) (told_of next step)
+  settled-answers later answers =
+      step-answers terrain next settled-on task refl (view old).limit step.1
+      (λ spent. (on.stage.limit (later spent), on.stage.whole (later spent))) answers
+
+  -- and counts what was settled
+  pub settled-steps : 1 ≤ quota → CountsLegStep (length terrain.map.links) quota before (told_of next step)
+  settled-steps some = record {
+    goes = step-goes quota step.0 before next step.1 some refl (stages-settling aim.first kept kept search old) counts.settles;
+    within = let most = settled-counts in omega (arith, most);
+  }
+
+-- ---- What still has to be paid is being found
+
+-- the nodes of a leg differ as those of the same leg
+legs-differ : (a b : Leg) → a ≡ b → b.start ≢ b.target → a.start ≢ a.target
+legs-differ a b same differ e = differ (sym (ap (λ (l : Leg). l.start) same) ∙ e ∙ ap (λ (l : Leg). l.target) same)
+
+module _ (terrain : Terrain) (opening : Opened) (aim : Aim)
+    (on : IsSearchOn terrain (record { stage = Opening opening; aim = aim })) where
+  before-open : LegSearch
+  before-open = record { stage = Opening opening; aim = aim }
+
+  module _ (after : Opened) (opens : OpensOn terrain opening after) where
+    next-open : LegSearch
+    next-open = record { stage = Opening after; aim = counting aim 1 }
+
+    -- a step of it goes on with the same quest
+    pub opens-as : GoesOnAs terrain (quest_at terrain aim (Opening opening)) next-open
+    opens-as = record {
+      on = record {
+        stage = record {
+          opens = opens.opens;
+          differ = legs-differ (leg_of terrain after) (leg_of terrain opening) opens.leg on.stage.differ;
+          whole = λ later. opens.all (on.stage.whole later);
+        };
+        counts = let was = on.counts in let fewer = opens.fewer in omega (arith, was, fewer);
+        links = on.links;
+        small = on.small;
+      };
+      same = quest-same (leg_of terrain after) (leg_of terrain opening) (used_of after) (used_of opening) aim.limit aim.runs
+          opens.leg opens.used;
+    }
+
+    -- and counts one
+    pub opens-steps : (quota : ℕ) → 1 ≤ quota →
+        CountsLegStep (length terrain.map.links) quota before-open (record { counted = 1; turn = More next-open })
+    opens-steps quota some = record {
+      goes = record {
+        fits = some;
+        next = refl;
+        nearer = let same = stages-opening aim.first after opening in omega (arith, same);
+      };
+      within = let was = on.counts in omega (arith, was);
+    }
+
+  module _ (kept : Rested) (opened : IsOpened terrain opening kept) (search : Search Carry)
+      (of : IsSearchOf (searched aim.runs (task_of terrain kept)) search) (none : length (view search).settled ≡ 0)
+      (few : aim.first ≡ true → (view search).limit ≤ FIRST_LABELS)
+      (limit : aim.first ≡ false → (view search).limit ≡ aim.limit) (within : (view search).limit ≤ aim.limit) where
+    next-settling : LegSearch
+    next-settling = record { stage = Settling kept search; aim = counting aim 1 }
+
+    -- at its end labels are settled for the same quest
+    pub settles-as : GoesOnAs terrain (quest_at terrain aim (Opening opening)) next-settling
+    settles-as = record {
+      on = record {
+        stage = record {
+          wakes = opened.wakes;
+          differ = legs-differ (task_of terrain kept).leg (leg_of terrain opening) opened.leg on.stage.differ;
+          of = of;
+          few = few;
+          limit = limit;
+          whole = λ later. opened.whole (on.stage.whole later);
+          within = within;
+        };
+        counts = let was = on.counts in omega (arith, was, none);
+        links = on.links;
+        small = on.small;
+      };
+      same = quest-same (task_of terrain kept).leg (leg_of terrain opening) (task_of terrain kept).used (used_of opening) aim.limit
+          aim.runs opened.leg opened.used;
+    }
+
+    pub settles-steps : (quota : ℕ) → 1 ≤ quota →
+        CountsLegStep (length terrain.map.links) quota before-open (record { counted = 1; turn = More next-settling })
+    settles-steps quota some = record {
+      goes = record {
+        fits = some;
+        next = refl;
+        nearer = let less = stages-fall aim.first opening kept search in omega (arith, less);
+      };
+      within = let was = on.counts in omega (arith, was);
+    }
+
+-- ---- A search begins anew
+
+-- the aim of a search that has begun anew behind a step that settled so much
+abbrev pub anew_of : Aim → ℕ → Aim
+anew_of aim settled = record { limit = aim.limit; runs = aim.runs; first = false; counted = aim.counted + settled }
 
 -- a step that spends a limit settles less than its quota
-pub spent-fewer : (quota settled : ℕ) (turn : Turn (Unit {0}) (Outcome Walk)) → Settles quota settled turn → is_spent turn ≡ true →
+spent-fewer : (quota settled : ℕ) (turn : Turn (Unit {0}) (Outcome Walk)) → Settles quota settled turn → is_spent turn ≡ true →
     settled < quota
 spent-fewer quota settled (More more) is spent = cc
 spent-fewer quota settled (Done end) is spent = is
+
+-- what is counted behind a beginning anew, where it is still to come
+anew-first : (first : Bool) (links limit : ℕ) → first ≡ true → counted_anew first links limit ≡ most_found links + limit
+anew-first true links limit is = refl
+anew-first false links limit is = absurd (cc)
+
+stages-first : (first : Bool) (kept : Rested) (search : Search Carry) → first ≡ true → stages_left first (Settling kept search) ≡ 2
+stages-first true kept search is = refl
+stages-first false kept search is = absurd (cc)
+
+module _ (terrain : Terrain) (kept : Rested) (old search : Search Carry) (aim : Aim) (quota : ℕ) (step : Step)
+    (on : IsSearchOn terrain (record { stage = Settling kept old; aim = aim }))
+    (of : IsSearchOf (searched aim.runs (task_of terrain kept)) search)
+    (limited : (view search).limit ≡ (view old).limit)
+    (counts : CountsStep quota (length (view old).settled) (length (view search).settled) step)
+    (first : aim.first ≡ true) (opening : Opened) (opens : IsOpening terrain opening)
+    (leg : leg_of terrain opening ≡ (task_of terrain kept).leg) (used : used_of opening ≡ (task_of terrain kept).used)
+    (near : near_of opening ≡ None) (left : left_of opening ≡ most_found (length terrain.map.links)) where
+  next-anew : LegSearch
+  next-anew = record { stage = Opening opening; aim = anew_of aim step.0 }
+
+  -- it goes on with the same quest
+  pub anew-as : GoesOnAs terrain (quest_at terrain aim (Settling kept old)) next-anew
+  anew-as = record {
+    on = record {
+      stage = record {
+        opens = opens;
+        differ = legs-differ (leg_of terrain opening) (task_of terrain kept).leg leg on.stage.differ;
+        whole = λ later. near;
+      };
+      counts =
+          let was = settled-counts terrain kept old search aim quota step on of limited counts in
+          let behind = anew-first aim.first (length terrain.map.links) aim.limit first in
+          omega (arith, was, behind, left);
+      links = on.links;
+      small = on.small;
+    };
+    same = quest-same (leg_of terrain opening) (task_of terrain kept).leg (used_of opening) (task_of terrain kept).used aim.limit
+        aim.runs leg used;
+  }
+
+  -- and counts what was settled
+  pub anew-steps :
+      is_spent step.1 ≡ true →
+      CountsLegStep (length terrain.map.links) quota (record { stage = Settling kept old; aim = aim })
+      (record { counted = step.0; turn = More next-anew })
+  anew-steps spent = record {
+    goes = record {
+      fits = let fewer = spent-fewer quota step.0 step.1 counts.settles spent in omega (arith, fewer);
+      next = refl;
+      nearer = let two = stages-first aim.first kept old first in omega (arith, two);
+    };
+    within = let most = settled-counts terrain kept old search aim quota step on of limited counts in omega (arith, most);
+  }
+
+-- ---- Whether a search begins anew
 
 -- where a search doesn't begin anew at a spent limit, it has
 pub else-anew : (first spent : Bool) → (first && spent) ≡ false → spent ≡ true → first ≡ false

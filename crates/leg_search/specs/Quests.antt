@@ -1,13 +1,16 @@
 -- What a search on a leg looks for, and what its turns answer, in the words of walks (this project's own
 -- rule).
-use Rattle.std.specs.Prelude.{◌≡◌, ◌≢◌, ℕ, ◌+◌, ◌<◌, ◌≤◌, ◌^◌, Bool, true, false, IsTrue, if◌then◌else◌, List, length, None}
+use Rattle.std.specs.Prelude.{◌≡◌, ◌≢◌, ℕ, ◌+◌, ◌-◌, ◌*◌, ◌<◌, ◌≤◌, ◌^◌, Bool, true, false, IsTrue, if◌then◌else◌, List, length, None}
 use Rattle.bike_space.specs.Answers.{IsFound}
 use Rattle.bike_space.specs.Kept.{Wakes, task_of}
 use Rattle.cost_model.specs.Rides.{Terrain, Leg}
 use Rattle.bike_space.specs.LegWalks.{HasNoWalk}
+use Rattle.bike_space.specs.Openings.{IsOpening, left_of, leg_of, near_of, used_of}
 use Rattle.bike_space.specs.Spent.{IsSpentBounded, nth_walk}
 use Rattle.bike_space.specs.Tasks.{Task, rules_of}
 use Rattle.bike_space.specs.declared.finding.Walk.{Walk}
+use Rattle.bike_space.specs.declared.opening.Opening.{Opening as Opened}
+use Rattle.bike_space.specs.declared.rested.Rested.{Rested}
 use Rattle.cost_model.specs.Prices.{Prices}
 use Rattle.cost_model.specs.declared.parts.Carry.{Carry}
 use Rattle.item_list.specs.Turns.{Says, Settles}
@@ -18,7 +21,12 @@ use Rattle.space_search.specs.Rules.{Rules}
 use Rattle.space_search.specs.Searches.{IsSearchOf}
 use Rattle.space_search.specs.View.{view}
 use Rattle.space_search.specs.declared.outcome.Outcome.{Outcome}
+use Rattle.space_search.specs.declared.search.Search.{Search}
+use Rattle.least_sums.specs.Findings.{most_found}
+use Rattle.leg_search.specs.declared.search.Aim.{Aim}
 use Rattle.leg_search.specs.declared.search.LegSearch.{LegSearch}
+use Rattle.leg_search.specs.declared.search.Stage.{Stage}
+use Rattle.leg_search.specs.declared.search.Stage.TheVariants.{Opening, Settling}
 use Rattle.leg_search.specs.declared.search.TheConstants.{FIRST_LABELS}
 use Rattle.leg_search.specs.declared.turn.LegTurn.{LegTurn}
 
@@ -57,27 +65,79 @@ searched runs task = if runs then run_rules (rules_of task) else rules_of task
 abbrev pub quest_in : (task : Task) (limit : ℕ) (runs : Bool) → Quest
 quest_in task limit runs = record { leg = task.leg; used = task.used; limit = limit; runs = runs }
 
--- what a search on a leg looks for, on a terrain
+-- what a search on a leg looks for on a terrain, by its stage
+abbrev pub quest_at : Terrain → Aim → Stage → Quest
+quest_at terrain aim (Opening opening) = record {
+  leg = leg_of terrain opening;
+  used = used_of opening;
+  limit = aim.limit;
+  runs = aim.runs;
+}
+quest_at terrain aim (Settling kept search) = quest_in (task_of terrain kept) aim.limit aim.runs
+
 abbrev pub quest_of : Terrain → LegSearch → Quest
-quest_of terrain s = quest_in (task_of terrain s.kept) s.aim.limit s.aim.runs
+quest_of terrain s = quest_at terrain s.aim s.stage
 
--- how many labels it has settled, those before it began anew among them
-abbrev pub settled_of : LegSearch → ℕ
-settled_of s = s.aim.spent + length (view s.search).settled
+-- ---- What it counts
 
--- it is a search on a leg over these, whose nodes differ. Before it begins anew it settles few labels, and has
--- settled none besides its own; after that its limit is the quest's, and what still has to be paid was found
--- for all nodes
+-- what it has counted: the labels that it settled, and its steps of finding what still has to be paid
+abbrev pub counted_of : LegSearch → ℕ
+counted_of s = s.aim.counted
+
+-- the most that a search with so many labels counts in all on a map of so many links: what still has to be paid is
+-- found twice at most, and labels are settled twice
+abbrev pub most_counted : (links limit : ℕ) → ℕ
+most_counted links limit = 2 * most_found links + (first_labels + limit)
+
+-- the most labels that are settled before it begins anew, or behind that
+abbrev pub most_labels : Bool → ℕ → ℕ
+most_labels true limit = first_labels
+most_labels false limit = limit
+
+-- what is counted at most behind its beginning anew
+abbrev pub counted_anew : Bool → (links limit : ℕ) → ℕ
+counted_anew true links limit = most_found links + limit
+counted_anew false links limit = 0
+
+-- what is counted at most before it begins anew, or behind that, by its stage
+abbrev pub counted_yet : (labels : ℕ) → Stage → ℕ
+counted_yet labels (Opening opening) = left_of opening + labels
+counted_yet labels (Settling kept search) = labels - length (view search).settled
+
+-- it has counted so little that with what may follow it stays within the most
+abbrev pub CountsWithin : ℕ → LegSearch → Type 0
+CountsWithin links s =
+    s.aim.counted + counted_yet (most_labels s.aim.first s.aim.limit) s.stage + counted_anew s.aim.first links s.aim.limit
+    ≤ most_counted links s.aim.limit
+
+-- ---- What it is
+
+-- what still has to be paid is being found; once the search has begun anew, for all nodes
+pub record IsOpeningOn (terrain : Terrain) (aim : Aim) (opening : Opened) : Type 0 where
+  pub opens : IsOpening terrain opening
+  pub differ : opening.asked.start ≢ opening.asked.target
+  pub whole : aim.first ≡ false → near_of opening ≡ None
+
+-- labels are settled: before it begins anew few; after that as many as the quest says, and what still has to be
+-- paid was found for all nodes
+pub record IsSettling (terrain : Terrain) (aim : Aim) (kept : Rested) (search : Search Carry) : Type 0 where
+  pub wakes : Wakes terrain kept
+  pub differ : kept.start ≢ kept.target
+  pub of : IsSearchOf (searched aim.runs (task_of terrain kept)) search
+  pub few : aim.first ≡ true → (view search).limit ≤ FIRST_LABELS
+  pub limit : aim.first ≡ false → (view search).limit ≡ aim.limit
+  pub whole : aim.first ≡ false → (task_of terrain kept).radius ≡ None
+  pub within : (view search).limit ≤ aim.limit
+
+abbrev pub IsStage : Terrain → Aim → Stage → Type 0
+IsStage terrain aim (Opening opening) = IsOpeningOn terrain aim opening
+IsStage terrain aim (Settling kept search) = IsSettling terrain aim kept search
+
+-- it is a search on a leg over these, whose nodes differ
 pub record IsSearchOn (terrain : Terrain) (s : LegSearch) : Type 0 where
-  pub wakes : Wakes terrain s.kept
-  pub differ : s.kept.start ≢ s.kept.target
-  pub of : IsSearchOf (searched s.aim.runs (task_of terrain s.kept)) s.search
-  pub few : s.aim.first ≡ true → (view s.search).limit ≤ FIRST_LABELS
-  pub alone : s.aim.first ≡ true → s.aim.spent ≡ 0
-  pub limit : s.aim.first ≡ false → (view s.search).limit ≡ s.aim.limit
-  pub whole : s.aim.first ≡ false → (task_of terrain s.kept).radius ≡ None
-  pub spent : s.aim.spent ≤ FIRST_LABELS
-  pub within : (view s.search).limit ≤ s.aim.limit
+  pub stage : IsStage terrain s.aim s.stage
+  pub counts : CountsWithin (length terrain.map.links) s
+  pub links : length terrain.map.links < 2 ^ 32
   pub small : s.aim.limit < 2 ^ 32
 
 -- ---- What a turn answers
@@ -99,9 +159,9 @@ abbrev pub AnswersLegTurn : (terrain : Terrain) (quest : Quest) → LegTurn →
 AnswersLegTurn terrain quest turn =
     Says (GoesOnAs terrain quest) (AnswersQuest quest) turn.turn
 
--- the labels that a turn settled, by how many were settled before it: the whole quota where the search goes
--- on, and else less; in all no more than the limit, and those before the search began anew
-pub record CountsLegTurn (quota before limit : ℕ) (turn : LegTurn) : Type 0 where
-  pub settles : Settles quota turn.settled turn.turn
-  pub next : Says (λ next. settled_of next ≡ before + turn.settled) (λ _. Unit {0}) turn.turn
-  pub within : before + turn.settled ≤ limit + FIRST_LABELS
+-- what a turn counted, by what was counted before it: the whole quota where the search goes on, and else less; in
+-- all no more than a search with so many labels counts on a map of so many links
+pub record CountsLegTurn (links quota before limit : ℕ) (turn : LegTurn) : Type 0 where
+  pub settles : Settles quota turn.counted turn.turn
+  pub next : Says (λ next. counted_of next ≡ before + turn.counted) (λ _. Unit {0}) turn.turn
+  pub within : before + turn.counted ≤ most_counted links limit

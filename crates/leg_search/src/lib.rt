@@ -5,6 +5,7 @@
 mod opening;
 mod raw;
 mod search;
+mod step;
 mod turn;
 
 pub use search::{FIRST_LABELS, LegSearch};

@@ -1,6 +1,6 @@
 //! A search on a leg, at rest between its turns.
 
-use bike_space::Rested;
+use bike_space::{Opening, Rested};
 use cost_model::Carry;
 use space_search::Search;
 
@@ -17,17 +17,28 @@ pub(crate) struct Aim {
     /// Whether it hasn't begun anew: what still has to be paid is found near the target alone, and
     /// few labels are settled.
     pub(crate) first: bool,
-    /// How many labels were settled before it began anew; none while it hasn't.
-    pub(crate) spent: u64,
+    /// What it has counted: a label that was settled counts one, and a step of finding what still
+    /// has to be paid.
+    pub(crate) counted: u64,
+}
+
+/// How far a search on a leg is.
+#[derive(Drop)]
+pub(crate) enum Stage {
+    /// What still has to be paid is being found.
+    Opening(Opening),
+    /// Labels are settled.
+    Settling {
+        /// What the space keeps: its lists, and what still has to be paid.
+        kept: Rested,
+        search: Search<Carry>,
+    },
 }
 
 /// A search on a leg whose nodes differ, before its end. It borrows nothing: each turn is given the
 /// terrain again.
 #[derive(Drop)]
 pub struct LegSearch {
-    pub(crate) search: Search<Carry>,
-    /// What the space keeps: its lists, and what still has to be paid, which is found once, or a
-    /// second time where the search begins anew.
-    pub(crate) kept: Rested,
+    pub(crate) stage: Stage,
     pub(crate) aim: Aim,
 }
