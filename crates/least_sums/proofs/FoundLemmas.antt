@@ -1,10 +1,8 @@
 -- What a finding ends with, in each width.
-use Rattle.std.proofs.Common.{◌≡◌, ℕ, ◌<◌, Option, Some, None, option_map, true, false, refl, lit<, lit≤, arith, subst}
-use Rattle.std.specs.Prelude.{IfSome}
+use Rattle.std.proofs.Common.{◌≡◌, ℕ, Option, None, option_map, subst}
 use Rattle.overpass_graph.specs.Roads.{Roads}
 use Rattle.least_sums.specs.Prices.{Prices}
-use Rattle.least_sums.specs.States.{IsEnded, IsEndedAt, IsFinal, State, state_of}
-use Rattle.least_sums.specs.declared.amount.TheConstants.{NARROW_FAR}
+use Rattle.least_sums.specs.States.{IsEnded, IsFinal, State}
 
 -- where nothing ended it, all sums are found
 pub ended-whole :

@@ -13,6 +13,7 @@ mod low;
 mod making;
 mod order;
 mod proving;
+mod proving_steps;
 mod rows;
 mod runs;
 mod settled;

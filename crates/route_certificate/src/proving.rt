@@ -1,45 +1,52 @@
 //! The search for the walk of a leg with what shows it least, in turns.
 
-ghost use Rattle.std.specs.Prelude.{◌≡◌, ◌<◌, ◌≤◌, ◌+◌, ◌^◌, ℕ, IfOk, Some, length};
+ghost use Rattle.std.specs.Prelude.{◌≡◌, ◌<◌, ◌≤◌, ◌+◌, ◌^◌, ℕ, IfOk, length};
 ghost use Rattle.certificate_text.specs.declared.certificate.LowerBound.{LowerBound as TheLowerBound};
 ghost use Rattle.cost_model.specs.Rides.{Leg};
 ghost use Rattle.route_certificate.specs.Asks.{IsAsk, leg_in};
-ghost use Rattle.route_certificate.specs.Certified.{IsProof};
-ghost use Rattle.route_certificate.specs.Provings.{IsProvingFor, IsSearchedFor, TurnsProving, settled_of, settled_in};
-ghost use Rattle.certificate_text.specs.Texts.{IsLeg, leg_of};
-ghost use Rattle.overpass_graph.specs.Maps.{MapValue};
+ghost use Rattle.route_certificate.specs.Provings.{IsProvingFor, IsStageFor, TurnsProving, counted_of, counted_yet, most_proved};
 
 use crate::ask::TrackAsk;
-use crate::finding::told;
-use crate::space::leg_space;
-use bike_space::Rested;
+use crate::space::{costs_alone, rests_opening};
+use bike_space::{Opening, Rested};
 use certificate_text::{LowerBound, Proof};
 use cost_model::{Carry, TerrainOf};
 use item_list::Turn;
 use space_search::{Outcome, Search};
 use std::alloc::{AllocError, Global};
 
+/// How far the search on a leg is.
+#[derive(Drop)]
+pub(crate) enum Stage {
+    /// The leg's nodes are one: nothing is searched.
+    Home,
+    /// What still has to be paid is being found.
+    Opening(Opening),
+    /// Labels are settled.
+    Settling {
+        /// What the space keeps.
+        kept: Rested,
+        search: Search<Carry>,
+    },
+}
+
 /// The search for a least walk of a leg with what shows it least, at rest between its turns. It
 /// borrows nothing: each turn is given the terrain again.
 #[derive(Drop)]
 pub struct Proving {
-    /// None where the leg's nodes are one.
-    pub(crate) searched: Option<Searched>,
-}
-
-/// The search on a leg whose nodes differ.
-#[derive(Drop)]
-pub(crate) struct Searched {
-    /// What its space keeps.
-    pub(crate) kept: Rested,
-    pub(crate) search: Search<Carry>,
+    pub(crate) stage: Stage,
+    /// The most labels that are settled.
+    pub(crate) limit: u64,
+    /// What it has counted: a label that was settled counts one, and a step of finding what still
+    /// has to be paid.
+    pub(crate) counted: u64,
 }
 
 /// A turn of such a search.
 #[derive(Drop)]
 pub struct ProvingTurn {
-    /// How many labels it settled.
-    pub settled: u32,
+    /// What it counted.
+    pub counted: u64,
     /// Its answer: the search goes on, or it is at its end with a least walk and what shows it
     /// least, without a walk, or with a spent limit.
     pub turn: Turn<Proving, Outcome<Proof>>,
@@ -47,7 +54,7 @@ pub struct ProvingTurn {
 
 impl Proving {
     /// The search on the leg at a place of what is asked, by a lower bound, which settles at most
-    /// `limit` labels. What still has to be paid by that bound is found here.
+    /// `limit` labels. What still has to be paid by that bound is found by its first turns.
     pub fn new<G: TerrainOf>(
         alloc: Global,
         terrain: G,
@@ -61,23 +68,19 @@ impl Proving {
         requires small { limit < 2 ^ 32 }
         ensures on { IfOk result (IsProvingFor (G.terrain terrain) bound
             (leg_in (G.terrain terrain) ask.now place) limit) }
-        ensures fresh { IfOk result (λ proving. settled_of proving ≡ 0) }
+        ensures fresh { IfOk result (λ proving. counted_of proving ≡ 0) }
     {
-        if ask.nodes[place] == ask.nodes[place + 1] {
-            return Ok(Proving { searched: None });
-        }
-        let space = leg_space(alloc, terrain, ask, place, bound)?;
-        let searched = Searched {
-            kept: space.rest(),
-            search: Search::new(alloc, limit),
-        };
+        let _links = terrain.map().links();
+        let stage = first_stage(alloc, terrain, ask, place, bound, limit)?;
         Ok(Proving {
-            searched: Some(searched),
+            stage,
+            limit,
+            counted: 0,
         })
     }
 
-    /// Settles at most `quota` labels, over the terrain that the search began over. After want of
-    /// memory nothing is left of the search.
+    /// Counts at most `quota`, over the terrain that the search began over. After want of memory
+    /// nothing is left of the search.
     pub fn turn<G: TerrainOf>(
         self,
         alloc: Global,
@@ -90,65 +93,62 @@ impl Proving {
         ensures turns { (bound : TheLowerBound) (leg : Leg) (limit : ℕ) →
             IsProvingFor (G.terrain terrain) bound leg limit self →
             IfOk result (TurnsProving (G.terrain terrain) bound leg limit quota
-            (settled_of self)) }
+            (counted_of self)) }
     {
-        let Proving { searched } = self;
-        match searched {
-            Some(searched) => searched.turn(alloc, terrain, quota),
-            None => Ok(ProvingTurn {
-                settled: 0,
-                turn: Turn::Done(Outcome::Found(home_proof(alloc))),
-            }),
-        }
-    }
-}
-
-impl Searched {
-    /// The same of a search on a leg whose nodes differ.
-    fn turn<G: TerrainOf>(
-        self,
-        alloc: Global,
-        terrain: G,
-        quota: u32,
-    ) -> Result<ProvingTurn, AllocError>
-        requires on { (bound : TheLowerBound) × (leg : Leg) × (limit : ℕ) ×
-            IsSearchedFor (G.terrain terrain) bound leg limit self }
-        requires some { 1 ≤ quota }
-        ensures turns { (bound : TheLowerBound) (leg : Leg) (limit : ℕ) →
-            IsSearchedFor (G.terrain terrain) bound leg limit self →
-            IfOk result (TurnsProving (G.terrain terrain) bound leg limit quota
-            (settled_in (Some self))) }
-    {
-        let Searched { kept, search } = self;
-        let mut search = search;
-        let before = search.labels();
-        let space = kept.wake(terrain);
-        let turn = search.turn(&space, quota)?;
-        let settled = search.labels() - before;
-        match turn {
-            Turn::More(_) => {
-                let kept = space.rest();
-                let searched = Some(Searched { kept, search });
-                let turn = Turn::More(Proving { searched });
-                Ok(ProvingTurn { settled, turn })
-            }
-            Turn::Done(end) => {
-                let turn = Turn::Done(told(alloc, &space, &search, end)?);
-                Ok(ProvingTurn { settled, turn })
+        let mut proving = self;
+        let mut left = quota;
+        'steps: loop {
+            let ProvingTurn { counted, turn } = proving.step(alloc, terrain, left)?;
+            left -= counted as u32;
+            let counted = (quota - left) as u64;
+            match turn {
+                Turn::Done(end) => {
+                    let turn = Turn::Done(end);
+                    return Ok(ProvingTurn { counted, turn });
+                }
+                Turn::More(next) => {
+                    if left == 0 {
+                        let turn = Turn::More(next);
+                        return Ok(ProvingTurn { counted, turn });
+                    }
+                    proving = next;
+                }
             }
         }
     }
 }
 
-/// What shows the walk of a leg least whose nodes are one: a walk without links, and no labels.
-fn home_proof(alloc: Global) -> Proof
-    ensures least { (bound : TheLowerBound) (leg : Leg) → leg.start ≡ leg.target →
-        IsProof bound leg result }
-    ensures fits { (map : MapValue) → IsLeg map (leg_of result) }
+/// What a search on the leg at a place begins with.
+fn first_stage<G: TerrainOf>(
+    alloc: Global,
+    terrain: G,
+    ask: &TrackAsk,
+    place: usize,
+    bound: LowerBound,
+    limit: u64,
+) -> Result<Stage, AllocError>
+    requires asked { IsAsk (G.terrain terrain) ask.now }
+    requires within { place + 1 < length ask.now.nodes.now }
+    requires small { limit < 2 ^ 32 }
+    ensures on { IfOk result (IsStageFor (G.terrain terrain) bound
+        (leg_in (G.terrain terrain) ask.now place) limit) }
+    ensures few { IfOk result (λ stage. counted_yet limit stage ≤
+        most_proved (length (G.terrain terrain).map.links) limit) }
 {
-    Proof {
-        entries: Vec::new(alloc),
-        cost: 0,
-        walk: Vec::new(alloc),
+    if ask.nodes[place] == ask.nodes[place + 1] {
+        return Ok(Stage::Home);
+    }
+    match bound {
+        LowerBound::Least => {
+            let opening = rests_opening(alloc, &terrain, ask, place)?;
+            Ok(Stage::Opening(opening))
+        }
+        LowerBound::Zero => {
+            let space = costs_alone(alloc, terrain, ask, place)?;
+            Ok(Stage::Settling {
+                kept: space.rest(),
+                search: Search::new(alloc, limit),
+            })
+        }
     }
 }

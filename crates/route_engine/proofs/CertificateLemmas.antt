@@ -16,11 +16,11 @@ use Rattle.item_list.specs.declared.turn.Turn.TheVariants.{More, Done}
 use Rattle.route_certificate.proofs.CallerLemmas.{legs-more}
 use Rattle.route_certificate.specs.Asks.{IsAsk, leg_in, setting_in}
 use Rattle.route_certificate.specs.Certified.{IsProof}
-use Rattle.route_certificate.specs.Provings.{settled_of}
+use Rattle.route_certificate.specs.Provings.{counted_of, most_proved}
 use Rattle.route_certificate.specs.declared.ask.TrackAsk.{TrackAsk}
 use Rattle.route_certificate.specs.declared.proving.Proving.{Proving}
-use Rattle.route_engine.specs.CertificateJobs.{EndsLeg, IsCertificateOn, certificate_plan, counted_on, legs_left, work_of_certificate}
-use Rattle.route_engine.specs.Certificates.{AreProofs, IsCertificateFor, IsCertificateRefusal, most_for_leg}
+use Rattle.route_engine.specs.CertificateJobs.{EndsLeg, IsCertificateOn, certificate_plan, counted_on, leg_most, legs_left, work_of_certificate}
+use Rattle.route_engine.specs.Certificates.{AreProofs, IsCertificateFor, IsCertificateRefusal}
 use Rattle.route_engine.specs.Jobs.{IsPlanOn, plan_of}
 use Rattle.route_engine.specs.Labels.{beginning}
 use Rattle.route_engine.specs.Plans.{LegsHaveWalks, Plan, leg_count, nth_leg}
@@ -116,23 +116,23 @@ module _ (world : WorldValue) (alloc : Global) (plan : JobPlan) (legs : Vec Proo
   before = record { alloc = alloc; plan = plan; legs = legs; next = Some proving }
 
   -- behind the end of the search on its leg it goes on, or is at its end
-  pub leg-ended : (quota settled : ℕ) (turn : Turn CertificateJob (Result Certificate RouteError)) →
-      length legs.items < leg_count (plan_of world plan) → settled < quota → settled_of proving + settled ≤ plan.limit →
+  pub leg-ended : (quota counted : ℕ) (turn : Turn CertificateJob (Result Certificate RouteError)) →
+      length legs.items < leg_count (plan_of world plan) → counted < quota → counted_of proving + counted ≤ most_proved (length world.map.links) plan.limit →
       EndsLeg world plan (length legs.items) turn →
-      Says (StepsSearchOn (IsCertificateOn world) (certificate_plan world) (work_of_certificate world) (legs_left world) quota settled
+      Says (StepsSearchOn (IsCertificateOn world) (certificate_plan world) (work_of_certificate world) (legs_left world) quota counted
       before) (EndsSearch IsCertificateFor IsCertificateRefusal (plan_of world plan)) turn
-  leg-ended quota settled (Done end) there fits within is = is
-  leg-ended quota settled (More job) there fits within is =
+  leg-ended quota counted (Done end) there fits within is = is
+  leg-ended quota counted (More job) there fits within is =
       let count : leg_count (plan_of world job.plan) ≡ leg_count (plan_of world plan) =
       ap (λ (p : JobPlan). leg_count (plan_of world p)) is.same in
       let fewer : legs_left world before ≡ suc (legs_left world job) = omega (arith, count, is.counted, there) in
-      let limit : most_for_leg job.plan.limit ≡ most_for_leg plan.limit =
-      ap (λ (p : JobPlan). most_for_leg p.limit) is.same in
+      let most : leg_most (plan_of world job.plan) ≡ leg_most (plan_of world plan) =
+      ap (λ (p : JobPlan). leg_most (plan_of world p)) is.same in
       let free : counted_on job.next ≡ 0 = ap counted_on is.none in
-      let less = leg-less (legs_left world before) (legs_left world job) (most_for_leg plan.limit)
-      (beginning + settled_of proving) settled fewer (omega (arith, within)) in
-      let same : legs_left world job * most_for_leg job.plan.limit ≡ legs_left world job * most_for_leg plan.limit =
-      ap (λ n. legs_left world job * n) limit in
+      let less = leg-less (legs_left world before) (legs_left world job) (leg_most (plan_of world plan))
+      (beginning + counted_of proving) counted fewer (omega (arith, within)) in
+      let same : legs_left world job * leg_most (plan_of world job.plan) ≡ legs_left world job * leg_most (plan_of world plan) =
+      ap (λ n. legs_left world job * n) most in
       record {
         on = is.on;
         same = ap (plan_of world) is.same;

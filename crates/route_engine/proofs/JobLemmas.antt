@@ -2,7 +2,7 @@
 use Rattle.std.proofs.Common.{◌≡◌, inl, inr, ℕ, suc, ◌+◌, ◌-◌, ◌<◌, ◌≤◌, Option, ap, arith}
 use Rattle.leg_search.specs.declared.search.LegSearch.{LegSearch}
 use Rattle.route_engine.specs.Plans.{Plan}
-use Rattle.route_engine.specs.Progress.{Advances, GoesOnAt, IsStage, allowed, beginning_at, counted_in, found_count, searches_left, settled_in, walk_count}
+use Rattle.route_engine.specs.Progress.{Advances, GoesOnAt, IsStage, allowed, beginning_at, counted_in, found_count, searches_left, spent_in, walk_count}
 use Rattle.route_engine.specs.declared.advance.Advanced.{Advanced}
 use Rattle.route_engine.specs.declared.stage.Stage.{Stage}
 use Rattle.route_engine.specs.declared.stage.Stage.TheVariants.{Searching, Found, Refused}
@@ -25,7 +25,7 @@ same-left plan walked search (Refused e) n goes = absurd goes
 
 module _ (plan : Plan) (walked : Walked) (search : Option LegSearch) (quota total : ℕ) (advanced : Advanced)
     (is : IsStage plan (Searching walked search)) (within : total ≤ allowed plan (Searching walked search))
-    (on : Advances plan walked (settled_in search) quota advanced) where
+    (on : Advances plan walked (spent_in search) quota advanced) where
   -- no more is counted than is allowed
   pub counted-allowed : total + counted_in advanced ≤ allowed plan advanced.stage
   counted-allowed = elim on.steps as (λ _. total + counted_in advanced ≤ allowed plan advanced.stage) [

@@ -35,13 +35,13 @@ TellsTo Certificate question result =
     TellsOn IsCertificateFor IsCertificateRefusal certificate_reply question result
 TellsTo Within question result = TellsNearby question result
 
--- the most labels that are counted for what is asked, once its waypoints have their nodes
-abbrev pub searching_for : Aim → Asked → ℕ
-searching_for Track asked = most_labels asked
-searching_for Table asked = most_for_costs asked
-searching_for Certificate asked = most_for_certificate asked
-searching_for Within asked = most_for_nearby asked
+-- the most that is counted for what is asked on a map with so many links, once its waypoints have their nodes
+abbrev pub searching_for : (links : ℕ) → Aim → Asked → ℕ
+searching_for links Track asked = most_labels links asked
+searching_for links Table asked = most_for_costs asked
+searching_for links Certificate asked = most_for_certificate links asked
+searching_for links Within asked = most_for_nearby asked
 
 -- the most that is counted for what is asked on a map with so many links
 abbrev pub most_for : (links : ℕ) → Aim → Asked → ℕ
-most_for links aim asked = placing_for links asked + searching_for aim asked
+most_for links aim asked = placing_for links asked + searching_for links aim asked

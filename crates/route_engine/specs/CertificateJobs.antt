@@ -5,12 +5,13 @@ use Rattle.certificate_text.specs.declared.certificate.LowerBound.TheVariants.{L
 use Rattle.certificate_text.specs.declared.certificate.Proof.{Proof}
 use Rattle.item_list.specs.Turns.{Says}
 use Rattle.item_list.specs.declared.turn.Turn.{Turn}
-use Rattle.route_certificate.specs.Provings.{IsProvingFor, settled_of}
+use Rattle.route_certificate.specs.Provings.{IsProvingFor, counted_of, most_proved}
 use Rattle.route_certificate.specs.declared.proving.Proving.{Proving}
 use Rattle.route_engine.specs.Certificates.{AreProofs, IsCertificateFor, IsCertificateRefusal, most_for_leg}
 use Rattle.route_engine.specs.Jobs.{IsPlanOn, plan_of}
 use Rattle.route_engine.specs.Labels.{beginning}
 use Rattle.route_engine.specs.Plans.{Plan, leg_count, nth_leg}
+use Rattle.route_engine.specs.Progress.{links_in}
 use Rattle.route_engine.specs.Searches.{EndsSearch, StepsSearch}
 use Rattle.route_engine.specs.declared.certificate.CertificateJob.{CertificateJob}
 use Rattle.route_engine.specs.declared.plan.JobPlan.{JobPlan}
@@ -22,11 +23,15 @@ use Rattle.tasks.specs.declared.steps.Stepped.{Stepped}
 abbrev pub certificate_plan : WorldValue → CertificateJob → Plan
 certificate_plan world job = plan_of world job.plan
 
+-- the most that is counted for one of its legs
+abbrev pub leg_most : Plan → ℕ
+leg_most plan = most_for_leg (links_in plan) plan.limit
+
 -- this is the search on the leg behind those that are shown
 pub record IsNextLeg (plan : Plan) (legs : List Proof) (proving : Proving) : Type 0 where
   pub there : length legs < leg_count plan
   pub on : IsProvingFor plan.setting.terrain Least (nth_leg plan (length legs)) plan.limit proving
-  pub within : settled_of proving ≤ plan.limit
+  pub within : counted_of proving ≤ most_proved (links_in plan) plan.limit
 
 -- how far a job is on the leg behind those that are shown: its search, or not begun
 abbrev pub IsNext : (plan : Plan) (legs : List Proof) → Option Proving → Type 0
@@ -47,13 +52,13 @@ legs_left world job = leg_count (certificate_plan world job) - length job.legs.i
 
 -- what was counted on the next leg
 abbrev pub counted_on : Option Proving → ℕ
-counted_on (Some proving) = beginning + settled_of proving
+counted_on (Some proving) = beginning + counted_of proving
 counted_on None = 0
 
 -- how much may still be counted
 abbrev pub work_of_certificate : WorldValue → CertificateJob → ℕ
 work_of_certificate world job =
-    legs_left world job * most_for_leg (certificate_plan world job).limit - counted_on job.next
+    legs_left world job * leg_most (certificate_plan world job) - counted_on job.next
 
 -- ---- Its steps
 

@@ -7,6 +7,7 @@ use Rattle.certificate_text.specs.declared.certificate.Certificate.{Certificate}
 use Rattle.certificate_text.specs.declared.certificate.LowerBound.TheVariants.{Least}
 use Rattle.certificate_text.specs.declared.certificate.Proof.{Proof}
 use Rattle.route_certificate.specs.Certified.{HasSpent, IsProof}
+use Rattle.route_certificate.specs.Provings.{most_proved}
 use Rattle.route_engine.specs.Labels.{beginning}
 use Rattle.route_engine.specs.Plans.{HasNoTrack, LegsHaveWalks, Plan, leg_count, nth_leg}
 use Rattle.route_engine.specs.Replies.{IsReplyOf}
@@ -56,10 +57,10 @@ IsCertificateReply = IsReplyOf IsCertificateFor IsCertificateRefusal certificate
 
 -- ---- How much is counted
 
--- the most that is counted for a leg: the beginning of its search, and the labels that are settled
-abbrev pub most_for_leg : (limit : ℕ) → ℕ
-most_for_leg limit = beginning + limit
+-- the most that is counted for a leg on a map of so many links: the beginning of its search, and by that
+abbrev pub most_for_leg : (links limit : ℕ) → ℕ
+most_for_leg links limit = beginning + most_proved links limit
 
 -- and for the certificate of a request
-abbrev pub most_for_certificate : Asked → ℕ
-most_for_certificate asked = (length asked.waypoints - 1) * most_for_leg asked.labels
+abbrev pub most_for_certificate : (links : ℕ) → Asked → ℕ
+most_for_certificate links asked = (length asked.waypoints - 1) * most_for_leg links asked.labels

@@ -1,5 +1,5 @@
 -- A request of any kind that is answered in turns. This project's own rule.
-use Rattle.std.specs.Prelude.{ℕ, Result, Vec}
+use Rattle.std.specs.Prelude.{ℕ, Result, Vec, length}
 use Rattle.std.specs.declared.alloc.Global.{Global}
 use Rattle.route_engine.specs.Askings.{IsTurnedOver, TurnsAs, turned_left}
 use Rattle.route_engine.specs.CertificateJobs.{IsCertificateOn, certificate_plan, work_of_certificate}
@@ -39,9 +39,9 @@ EndsAs world (Within t) end = TurnsAs IsNearbyFor RefusesNearby nearby_reply (ne
 -- how many turns of a budget are left
 abbrev pub turns_of : WorldValue → (budget : ℕ) → Pending → ℕ
 turns_of world budget (Track t) =
-    turned_left (λ (job : Job). work_of_job (plan_in world job) job.stage) most_labels world budget t
+    turned_left (λ (job : Job). work_of_job (plan_in world job) job.stage) (most_labels (length world.map.links)) world budget t
 turns_of world budget (Table t) =
     turned_left (λ (job : TableJob). work_of_table (table_plan world job) job.stage) most_for_costs world budget t
 turns_of world budget (Certificate t) =
-    turned_left (work_of_certificate world) most_for_certificate world budget t
+    turned_left (work_of_certificate world) (most_for_certificate (length world.map.links)) world budget t
 turns_of world budget (Within t) = turned_left (work_of_nearby world) most_for_nearby world budget t

@@ -1,6 +1,7 @@
 //! What a request is asked for.
 
-ghost use Rattle.std.specs.Prelude.{◌≡◌, ◌<◌, ◌^◌, length};
+ghost use Rattle.std.specs.Prelude.{◌≡◌, ◌<◌, ◌≤◌, ◌^◌, length};
+ghost use Rattle.least_sums.specs.Findings.{most_found};
 ghost use Rattle.route_engine.specs.Aims.{most_for, searching_for};
 ghost use Rattle.route_engine.specs.Jobs.{IsWithin};
 ghost use Rattle.route_engine.specs.Placings.{placing_for};
@@ -27,14 +28,14 @@ pub enum Aim {
 }
 
 /// The most that is counted for what is asked of a request over a world: links that are judged,
-/// waypoints that are moved, and labels that are settled.
+/// waypoints that are moved, labels that are settled, and steps of finding what still has to be paid.
 pub fn most_for(world: &World, aim: Aim, request: &Request) -> u64
     requires within { IsWithin (asked request.now) }
     ensures exact { result ≡
         most_for (length (world_of world.now).map.links) aim (asked request.now) }
     ensures small { result < 2 ^ 43 }
 {
-    placing_for(world, request) + searching_for(aim, request)
+    placing_for(world, request) + searching_for(world, aim, request)
 }
 
 /// The most that is counted until the waypoints of a request have their nodes.
@@ -52,11 +53,12 @@ fn placing_for(world: &World, request: &Request) -> u64
     links + request.waypoints.len() as u64 * MOVING as u64
 }
 
-/// The most labels that are counted for what is asked of a request, once its waypoints have their
-/// nodes.
-fn searching_for(aim: Aim, request: &Request) -> u64
+/// The most that is counted for what is asked of a request over a world, once its waypoints have
+/// their nodes.
+fn searching_for(world: &World, aim: Aim, request: &Request) -> u64
     requires within { IsWithin (asked request.now) }
-    ensures exact { result ≡ searching_for aim (asked request.now) }
+    ensures exact { result ≡
+        searching_for (length (world_of world.now).map.links) aim (asked request.now) }
     ensures small { result < 2 ^ 42 }
 {
     let waypoints = request.waypoints.len() as u64;
@@ -64,9 +66,17 @@ fn searching_for(aim: Aim, request: &Request) -> u64
     match aim {
         Aim::Track => {
             let walks = (waypoints - 1) * (request.alternative as u64 + 1);
-            walks * (labels + FIRST_LABELS + BEGINNING as u64)
+            walks * (2 * most_found(world) + FIRST_LABELS + labels + BEGINNING as u64)
         }
         Aim::Table | Aim::Within => waypoints * labels,
-        Aim::Certificate => (waypoints - 1) * (BEGINNING as u64 + labels),
+        Aim::Certificate => (waypoints - 1) * (BEGINNING as u64 + most_found(world) + labels),
     }
+}
+
+/// The most steps in which what still has to be paid on a leg is found.
+fn most_found(world: &World) -> u64
+    ensures exact { result ≡ most_found (length (world_of world.now).map.links) }
+    ensures small { result ≤ 536870912 }
+{
+    world.map().links() as u64 / 8 + 1
 }

@@ -23,7 +23,7 @@ use space_search::Outcome;
 use std::alloc::Global;
 use tasks::Stepped;
 
-/// The job goes on by a turn of the search on its next leg, which settles at most `quota` labels.
+/// The job goes on by a turn of the search on its next leg, which counts at most `quota`.
 pub(crate) fn gone_on(
     alloc: Global,
     world: &World,
@@ -41,9 +41,9 @@ pub(crate) fn gone_on(
 {
     let turned = proving.turn(alloc, terrain(world, &plan), quota);
     match turned {
-        Ok(ProvingTurn { settled, turn }) => match turn {
+        Ok(ProvingTurn { counted, turn }) => match turn {
             Turn::More(next) => Stepped {
-                spent: settled,
+                spent: counted as u32,
                 turn: Turn::More(CertificateJob {
                     alloc,
                     plan,
@@ -52,7 +52,7 @@ pub(crate) fn gone_on(
                 }),
             },
             Turn::Done(end) => Stepped {
-                spent: settled,
+                spent: counted as u32,
                 turn: ended(alloc, world, plan, legs, end),
             },
         },
@@ -102,8 +102,7 @@ fn ended(
 }
 
 /// The job goes on by the beginning of the search on its next leg; or it is at its end, where no leg
-/// is left. The beginning counts as labels that are settled, since what still has to be paid is
-/// found in it.
+/// is left. The beginning counts as well.
 pub(crate) fn begun(
     alloc: Global,
     world: &World,

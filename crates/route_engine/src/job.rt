@@ -102,7 +102,7 @@ impl Job {
         match stage {
             Stage::Searching { walked, search } => {
                 let next = advance(alloc, world, &plan, walked, search, budget);
-                let spent = next.settled as u32 + next.beginning;
+                let spent = next.searched as u32 + next.beginning;
                 Stepped {
                     spent,
                     turn: Turn::More(Job {

@@ -2,7 +2,7 @@ use Rattle.std.proofs.Common.{◌≡◌, ◌+◌, subst, arith}
 use Rattle.item_list.specs.Turns.{Says, Settles}
 use Rattle.route_certificate.specs.Asks.{leg_in}
 use Rattle.route_certificate.specs.Certified.{IsShown, IsWritable}
-use Rattle.route_certificate.specs.Provings.{IsProvingFor, settled_of}
+use Rattle.route_certificate.specs.Provings.{IsProvingFor, counted_of}
 use Rattle.route_certificate.specs.declared.finding.TheConstants.{QUOTA}
 use Rattle.route_certificate.proofs.finding.certify_leg.Goals as goal
 
@@ -10,10 +10,10 @@ pub turns-smaller : goal.turns-smaller
 turns-smaller g c =
     let leg = leg_in (g.G.TerrainOf.terrain c.args.terrain) c.args.ask.now c.args.place in
     let turned = c.in_ok-turn.ensures.turns c.args.bound leg c.args.limit c.turns.invariant in
-    let settled = c.in_ok-turn.field-0.settled in
+    let counted = c.in_ok-turn.field-0.counted in
     let is = c.in-More.is in
-    let whole = subst (Settles QUOTA settled) is turned.settles in
-    let next = subst (Says (λ p. settled_of p ≡ settled_of c.turns.proving + settled) (λ _. Unit {0})) is turned.next in
+    let whole = subst (Settles QUOTA counted) is turned.settles in
+    let next = subst (Says (λ p. counted_of p ≡ counted_of c.turns.proving + counted) (λ _. Unit {0})) is turned.next in
     omega (arith, whole, next, turned.within)
 
 pub turns-preserved : goal.turns-preserved

@@ -1,6 +1,6 @@
-use Rattle.std.proofs.Common.{◌-◌}
+use Rattle.std.proofs.Common.{◌-◌, length}
 use Rattle.route_certificate.specs.Asks.{leg_in}
-use Rattle.route_certificate.specs.Provings.{IsProvingFor, settled_of}
+use Rattle.route_certificate.specs.Provings.{IsProvingFor, counted_of, most_proved}
 use Rattle.route_certificate.proofs.finding.certify_leg.Given as goal
 
 abbrev pub invariant-turns : goal.invariant-turns
@@ -9,4 +9,4 @@ invariant-turns g l =
     l.proving
 
 abbrev pub decreases-turns : goal.decreases-turns
-decreases-turns g l = l.limit - settled_of l.proving
+decreases-turns g l = most_proved (length (g.G.TerrainOf.terrain l.terrain).map.links) l.limit - counted_of l.proving

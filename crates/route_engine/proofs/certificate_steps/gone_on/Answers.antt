@@ -3,9 +3,8 @@ use Rattle.certificate_text.specs.declared.certificate.LowerBound.TheVariants.{L
 use Rattle.cost_model.specs.Rides.{Terrain}
 use Rattle.item_list.specs.Turns.{Says, Settles}
 use Rattle.route_certificate.specs.Certified.{IsShown, IsWritable}
-use Rattle.route_certificate.specs.Provings.{IsProvingFor, TurnsProving, settled_of}
-use Rattle.route_engine.specs.CertificateJobs.{legs_left}
-use Rattle.route_engine.specs.Certificates.{most_for_leg}
+use Rattle.route_certificate.specs.Provings.{IsProvingFor, TurnsProving, counted_of}
+use Rattle.route_engine.specs.CertificateJobs.{leg_most, legs_left}
 use Rattle.route_engine.specs.Jobs.{plan_of}
 use Rattle.route_engine.specs.Labels.{beginning}
 use Rattle.route_engine.specs.Plans.{nth_leg}
@@ -42,7 +41,7 @@ ended-requires-clause-fits c =
     let on = subst (λ (t : Terrain). IsProvingFor t Least leg plan.limit c.args.proving) (sym c.terrain.ensures.exact)
     c.requires.next.on in
     let turned = subst
-    (λ (t : Terrain). TurnsProving t Least leg plan.limit c.args.quota (settled_of c.args.proving) c.in-Ok.field-0)
+    (λ (t : Terrain). TurnsProving t Least leg plan.limit c.args.quota (counted_of c.args.proving) c.in-Ok.field-0)
     c.terrain.ensures.exact (c.in-Ok.ensures.turns Least leg plan.limit on) in
     subst (Says (λ _. Unit {0}) (IsWritable plan.setting.terrain.map)) c.in-Done.is turned.fits
 
@@ -54,13 +53,13 @@ returns-in-More c =
     let on = subst (λ (t : Terrain). IsProvingFor t Least leg plan.limit c.args.proving) (sym c.terrain.ensures.exact)
     c.requires.next.on in
     let turned = subst
-    (λ (t : Terrain). TurnsProving t Least leg plan.limit c.args.quota (settled_of c.args.proving) c.in-Ok.field-0)
+    (λ (t : Terrain). TurnsProving t Least leg plan.limit c.args.quota (counted_of c.args.proving) c.in-Ok.field-0)
     c.terrain.ensures.exact (c.in-Ok.ensures.turns Least leg plan.limit on) in
-    let settled = c.in-Ok.field-0.settled in
-    let whole = subst (Settles c.args.quota settled) c.in-More.is turned.settles in
-    let next = subst (Says (λ p. settled_of p ≡ settled_of c.args.proving + settled) (λ _. Unit {0})) c.in-More.is turned.next in
+    let counted = c.in-Ok.field-0.counted in
+    let whole = subst (Settles c.args.quota counted) c.in-More.is turned.settles in
+    let next = subst (Says (λ p. counted_of p ≡ counted_of c.args.proving + counted) (λ _. Unit {0})) c.in-More.is turned.next in
     let left = legs_left world (before world c.args.alloc c.args.plan c.args.legs c.args.proving) in
-    let less = leg-counted left (most_for_leg plan.limit) (beginning + settled_of c.args.proving) settled
+    let less = leg-counted left (leg_most plan) (beginning + counted_of c.args.proving) counted
     (omega (arith, c.requires.next.there)) (omega (arith, turned.within)) in
     record {
       steps = record {
@@ -91,14 +90,14 @@ returns-in-Done c =
     let on = subst (λ (t : Terrain). IsProvingFor t Least leg plan.limit c.args.proving) (sym c.terrain.ensures.exact)
     c.requires.next.on in
     let turned = subst
-    (λ (t : Terrain). TurnsProving t Least leg plan.limit c.args.quota (settled_of c.args.proving) c.in-Ok.field-0)
+    (λ (t : Terrain). TurnsProving t Least leg plan.limit c.args.quota (counted_of c.args.proving) c.in-Ok.field-0)
     c.terrain.ensures.exact (c.in-Ok.ensures.turns Least leg plan.limit on) in
-    let settled = c.in-Ok.field-0.settled in
-    let fewer = subst (Settles c.args.quota settled) c.in-Done.is turned.settles in
+    let counted = c.in-Ok.field-0.counted in
+    let fewer = subst (Settles c.args.quota counted) c.in-Done.is turned.settles in
     record {
       steps = record {
         fits = omega (arith, fewer);
-        turn = leg-ended world c.args.alloc c.args.plan c.args.legs c.args.proving c.args.quota settled c.ended.result
+        turn = leg-ended world c.args.alloc c.args.plan c.args.legs c.args.proving c.args.quota counted c.ended.result
             c.requires.next.there fewer turned.within c.ended.ensures.ends;
       };
     }

@@ -1,0 +1,4 @@
+use Rattle.least_sums.proofs.least.least_sums.Goals as goal
+
+pub finish-requires-clause-finds : goal.finish-requires-clause-finds
+finish-requires-clause-finds g c = c.in_ok-new.ensures.finds _
