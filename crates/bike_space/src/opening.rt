@@ -103,7 +103,7 @@ impl Opening {
 impl Asked {
     /// What each link adds to what still has to be paid.
     fn prices<'a, G: TerrainOf>(&'a self, terrain: &'a G) -> RestPrices<'a, G>
-        ensures terrain { result.terrain ≡ terrain }
+        ensures terrain { result.terrain.now ≡ terrain.now }
         ensures cut { result.cut.now ≡ self.now.cut.items }
         ensures used { result.used.now ≡ self.now.used.items }
     {

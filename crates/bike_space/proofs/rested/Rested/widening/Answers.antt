@@ -1,0 +1,17 @@
+use Rattle.std.proofs.Common.{subst}
+use Rattle.overpass_graph.specs.Maps.{MapValue, roads_of}
+use Rattle.least_sums.specs.Findings.{IsFinding}
+use Rattle.bike_space.specs.Remaining.{priced_by}
+use Rattle.bike_space.proofs.rested.Rested.widening.Goals as goal
+
+pub returns-clause-opens : goal.returns-clause-opens
+returns-clause-opens g c =
+    let terrain = g.G.TerrainOf.terrain c.args.terrain.now in
+    let kept = c.args.self in
+    let found = c.in_ok-finding.ensures in
+    let prices = (priced_by terrain kept.cut.items kept.used.items).price in
+    record {
+      start = c.requires.wakes.lawful.start_in;
+      target = found.target;
+      finds = subst (λ (m : MapValue). IsFinding (roads_of m) prices c.in_ok-finding.finding) c.map.ensures.value (found.finds prices);
+    }
