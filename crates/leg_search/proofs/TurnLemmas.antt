@@ -103,14 +103,14 @@ module _ (terrain : Terrain) (kept : Rested) (old search : Search Carry) (aim : 
     (of : IsSearchOf (searched aim.runs (task_of terrain kept)) search)
     (limited : (view search).limit ≡ (view old).limit)
     (counts : CountsStep quota (length (view old).settled) (length (view search).settled) step) where
-  task : Task
+  abbrev pub task : Task
   task = task_of terrain kept
 
-  before : LegSearch
+  abbrev pub before : LegSearch
   before = record { stage = Settling kept old; aim = aim }
 
   -- the search as it goes on
-  next : LegSearch
+  abbrev pub next : LegSearch
   next = record { stage = Settling kept search; aim = counting aim step.0 }
 
   settled-few : length (view search).settled ≤ most_labels aim.first aim.limit
@@ -161,6 +161,17 @@ module _ (terrain : Terrain) (kept : Rested) (old search : Search Carry) (aim : 
     within = let most = settled-counts in omega (arith, most);
   }
 
+-- a number of labels that a search begins with
+pub record IsLimited (aim : Aim) (limit : ℕ) : Type 0 where
+  pub few : aim.first ≡ true → limit ≤ FIRST_LABELS
+  pub all : aim.first ≡ false → limit ≡ aim.limit
+  pub within : limit ≤ aim.limit
+
+-- what is said over the space that was woken is said over the one that rests
+pub woken : (terrain seen : Terrain) (kept other : Rested) → seen ≡ terrain → other ≡ kept → (P : Terrain → Rested → Type 0) →
+    P seen other → P terrain kept
+woken terrain seen kept other its same P p = subst (P terrain) same (subst (λ t. P t other) its p)
+
 -- ---- What still has to be paid is being found
 
 -- the nodes of a leg differ as those of the same leg
@@ -169,11 +180,11 @@ legs-differ a b same differ e = differ (sym (ap (λ (l : Leg). l.start) same) �
 
 module _ (terrain : Terrain) (opening : Opened) (aim : Aim)
     (on : IsSearchOn terrain (record { stage = Opening opening; aim = aim })) where
-  before-open : LegSearch
+  abbrev pub before-open : LegSearch
   before-open = record { stage = Opening opening; aim = aim }
 
   module _ (after : Opened) (opens : OpensOn terrain opening after) where
-    next-open : LegSearch
+    abbrev pub next-open : LegSearch
     next-open = record { stage = Opening after; aim = counting aim 1 }
 
     -- a step of it goes on with the same quest
@@ -209,7 +220,7 @@ module _ (terrain : Terrain) (opening : Opened) (aim : Aim)
       (of : IsSearchOf (searched aim.runs (task_of terrain kept)) search) (none : length (view search).settled ≡ 0)
       (few : aim.first ≡ true → (view search).limit ≤ FIRST_LABELS)
       (limit : aim.first ≡ false → (view search).limit ≡ aim.limit) (within : (view search).limit ≤ aim.limit) where
-    next-settling : LegSearch
+    abbrev pub next-settling : LegSearch
     next-settling = record { stage = Settling kept search; aim = counting aim 1 }
 
     -- at its end labels are settled for the same quest
@@ -273,7 +284,7 @@ module _ (terrain : Terrain) (kept : Rested) (old search : Search Carry) (aim : 
     (first : aim.first ≡ true) (opening : Opened) (opens : IsOpening terrain opening)
     (leg : leg_of terrain opening ≡ (task_of terrain kept).leg) (used : used_of opening ≡ (task_of terrain kept).used)
     (near : near_of opening ≡ None) (left : left_of opening ≡ most_found (length terrain.map.links)) where
-  next-anew : LegSearch
+  abbrev pub next-anew : LegSearch
   next-anew = record { stage = Opening opening; aim = anew_of aim step.0 }
 
   -- it goes on with the same quest

@@ -38,6 +38,8 @@ impl LegSearch {
         }) }
         ensures fresh { IfOk result (λ search. counted_of search ≡ 0) }
     {
+        // What the map promises of itself.
+        let _links = terrain.map().links();
         let opening = Opening::new(alloc, &terrain, ask, Some(Near::Node(ask.start)))?;
         Ok(LegSearch {
             stage: Stage::Opening(opening),

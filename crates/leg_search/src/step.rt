@@ -1,11 +1,9 @@
 //! The steps of a turn of a search on a leg.
 
-ghost use Rattle.std.specs.Prelude.{◌≡◌, ◌≢◌, ◌≤◌, ◌<◌, ◌&&◌, ◌^◌, IfOk, false, length};
-ghost use Rattle.bike_space.specs.Kept.{Wakes, task_of};
-ghost use Rattle.bike_space.specs.Openings.{IsOpening};
-ghost use Rattle.leg_search.specs.Quests.{AnswersLegTurn, IsSearchOn, IsSettling, quest_at, quest_in, quest_of};
+ghost use Rattle.std.specs.Prelude.{◌≡◌, ℕ, ◌+◌, ◌≤◌, ◌<◌, ◌&&◌, ◌^◌, IfOk, length};
+ghost use Rattle.leg_search.specs.Quests.{AnswersLegTurn, IsSearchOn, quest_at, quest_of};
 ghost use Rattle.leg_search.specs.Steps.{CountsLegStep, counting, is_spent, told_of};
-ghost use Rattle.leg_search.specs.declared.search.Stage.TheVariants.{Opening, Settling};
+ghost use Rattle.leg_search.specs.declared.search.Stage.TheVariants as stages;
 
 use crate::raw::step_on;
 use crate::search::{Aim, FIRST_LABELS, LegSearch, Stage};
@@ -49,12 +47,12 @@ fn open_on<G: TerrainOf>(
     aim: Aim,
 ) -> Result<LegTurn, AllocError>
     requires on { IsSearchOn (G.terrain terrain)
-        (record { stage = Opening opening; aim = aim }) }
+        (record { stage = stages.Opening opening; aim = aim }) }
     ensures answers { IfOk result (AnswersLegTurn (G.terrain terrain)
-        (quest_at (G.terrain terrain) aim (Opening opening))) }
+        (quest_at (G.terrain terrain) aim (stages.Opening opening))) }
     ensures counts { (quota : ℕ) → 1 ≤ quota → IfOk result (CountsLegStep
         (length (G.terrain terrain).map.links) quota
-        (record { stage = Opening opening; aim = aim })) }
+        (record { stage = stages.Opening opening; aim = aim })) }
 {
     let limit = if aim.first {
         aim.limit.min(FIRST_LABELS)
@@ -86,33 +84,33 @@ fn settle_on<G: TerrainOf>(
     quota: u32,
 ) -> Result<LegTurn, AllocError>
     requires on { IsSearchOn (G.terrain terrain)
-        (record { stage = Settling kept search; aim = aim }) }
+        (record { stage = stages.Settling kept search; aim = aim }) }
     requires some { 1 ≤ quota }
     ensures answers { IfOk result (AnswersLegTurn (G.terrain terrain)
-        (quest_at (G.terrain terrain) aim (Settling kept search))) }
+        (quest_at (G.terrain terrain) aim (stages.Settling kept search))) }
     ensures counts { IfOk result (CountsLegStep (length (G.terrain terrain).map.links) quota
-        (record { stage = Settling kept search; aim = aim })) }
+        (record { stage = stages.Settling kept search; aim = aim })) }
 {
     let mut search = search;
     let space = kept.wake(terrain);
     let step = step_on(alloc, &space, &mut search, quota, aim.runs)?;
     let kept = space.rest();
     let counted = counting(aim, step.0);
-    if !begins_anew(&aim, &step.1) {
-        return Ok(told(kept, search, counted, step));
+    if begins_anew(&aim, &step.1) {
+        let opening = kept.widening(alloc, &terrain)?;
+        let aim = Aim {
+            limit: aim.limit,
+            runs: aim.runs,
+            first: false,
+            counted: counted.counted,
+        };
+        let stage = Stage::Opening(opening);
+        return Ok(LegTurn {
+            counted: step.0,
+            turn: Turn::More(LegSearch { stage, aim }),
+        });
     }
-    let opening = kept.widening(alloc, &terrain)?;
-    let aim = Aim {
-        limit: aim.limit,
-        runs: aim.runs,
-        first: false,
-        counted: counted.counted,
-    };
-    let stage = Stage::Opening(opening);
-    Ok(LegTurn {
-        counted: step.0,
-        turn: Turn::More(LegSearch { stage, aim }),
-    })
+    Ok(told(kept, search, counted, step))
 }
 
 /// The same with so much counted besides.
@@ -156,7 +154,7 @@ fn told(
     step: (u64, Turn<(), Outcome<Walk>>),
 ) -> LegTurn
     ensures value { result ≡
-        told_of (record { stage = Settling kept search; aim = aim }) step }
+        told_of (record { stage = stages.Settling kept search; aim = aim }) step }
 {
     let (counted, turn) = step;
     match turn {
