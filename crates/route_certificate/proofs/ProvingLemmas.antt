@@ -12,6 +12,8 @@ use Rattle.certificate_text.specs.declared.certificate.LowerBound.TheVariants.{L
 use Rattle.certificate_text.specs.declared.certificate.Proof.{Proof}
 use Rattle.cost_model.specs.Rides.{Leg, Terrain}
 use Rattle.cost_model.specs.declared.parts.Carry.{Carry}
+use Rattle.item_list.specs.Turns.{Says}
+use Rattle.item_list.specs.declared.turn.Turn.{Turn}
 use Rattle.item_list.specs.declared.turn.Turn.TheVariants.{More, Done}
 use Rattle.space_search.proofs.CallerLemmas.{settled-within}
 use Rattle.space_search.specs.Rules.{Rules}
@@ -21,7 +23,7 @@ use Rattle.space_search.specs.declared.outcome.Outcome.{Outcome}
 use Rattle.space_search.specs.declared.search.Search.{Search}
 use Rattle.route_certificate.specs.Certified.{IsShown, IsWritable}
 use Rattle.route_certificate.specs.Legs.{AreRests}
-use Rattle.route_certificate.specs.Provings.{IsProvingFor, IsSettlingFor, StepsProving, most_proved}
+use Rattle.route_certificate.specs.Provings.{IsProvingFor, IsSettlingFor, ProvesOn, StepsProving, most_proved}
 use Rattle.route_certificate.specs.declared.proving.Proving.{Proving}
 use Rattle.route_certificate.specs.declared.proving.Stage.TheVariants.{Opening, Settling}
 use Rattle.route_certificate.proofs.WritableLemmas.{shown-written}
@@ -50,12 +52,19 @@ settling-new terrain bound leg limit kept after search same made differ of limit
       limited = limited;
     })
 
+-- a step counts no more than its quota
+pub steps-few :
+    (quota counted : ℕ) (before : Proving) (turn : Turn Proving (Outcome Proof)) →
+    Says (ProvesOn quota counted before) (λ _. counted < quota) turn → counted ≤ quota
+steps-few quota counted before (More next) goes = goes.fits
+steps-few quota counted before (Done end) fewer = omega (arith, fewer)
+
 -- ---- What still has to be paid is being found
 
 module _ (terrain : Terrain) (bound : LowerBound) (leg : Leg) (limit quota : ℕ) (opening : Opened) (most counted : ℕ)
     (is : IsProvingFor terrain bound leg limit (record { stage = Opening opening; limit = most; counted = counted }))
     (some : 1 ≤ quota) where
-  opening-before : Proving
+  abbrev pub opening-before : Proving
   opening-before = record { stage = Opening opening; limit = most; counted = counted }
 
   -- it goes on
@@ -122,7 +131,7 @@ module _ (terrain : Terrain) (bound : LowerBound) (leg : Leg) (limit quota : ℕ
 module _ (terrain seen : Terrain) (bound : LowerBound) (leg : Leg) (limit quota : ℕ) (kept woken : Rested) (old : Search Carry)
     (most counted : ℕ) (its : seen ≡ terrain) (same : woken ≡ kept)
     (is : IsProvingFor terrain bound leg limit (record { stage = Settling kept old; limit = most; counted = counted })) where
-  settling-before : Proving
+  abbrev pub settling-before : Proving
   settling-before = record { stage = Settling kept old; limit = most; counted = counted }
 
   -- what is said over the space that was woken is said over the one that rests

@@ -7,7 +7,7 @@ ghost use Rattle.cost_model.specs.Rides.{Leg};
 ghost use Rattle.overpass_graph.specs.Maps.{MapValue};
 ghost use Rattle.route_certificate.specs.Certified.{IsProof};
 ghost use Rattle.route_certificate.specs.Provings.{IsProvingFor, StepsProving};
-ghost use Rattle.route_certificate.specs.declared.proving.Stage.TheVariants.{Opening, Settling};
+ghost use Rattle.route_certificate.specs.declared.proving.Stage.TheVariants as stages;
 
 use crate::finding::told;
 use crate::proving::{Proving, ProvingTurn, Stage};
@@ -61,12 +61,12 @@ fn open_on<G: TerrainOf>(
 ) -> Result<ProvingTurn, AllocError>
     requires on { (bound : TheLowerBound) × (leg : Leg) × (most : ℕ) ×
         IsProvingFor (G.terrain terrain) bound leg most
-        (record { stage = Opening opening; limit = limit; counted = counted }) }
+        (record { stage = stages.Opening opening; limit = limit; counted = counted }) }
     ensures steps { (bound : TheLowerBound) (leg : Leg) (most quota : ℕ) → 1 ≤ quota →
         IsProvingFor (G.terrain terrain) bound leg most
-        (record { stage = Opening opening; limit = limit; counted = counted }) →
+        (record { stage = stages.Opening opening; limit = limit; counted = counted }) →
         IfOk result (StepsProving (G.terrain terrain) bound leg most quota
-        (record { stage = Opening opening; limit = limit; counted = counted })) }
+        (record { stage = stages.Opening opening; limit = limit; counted = counted })) }
 {
     let stage = match opening.step(alloc, &terrain)? {
         Turn::More(opening) => Stage::Opening(opening),
@@ -97,13 +97,13 @@ fn settle_on<G: TerrainOf>(
 ) -> Result<ProvingTurn, AllocError>
     requires on { (bound : TheLowerBound) × (leg : Leg) × (most : ℕ) ×
         IsProvingFor (G.terrain terrain) bound leg most
-        (record { stage = Settling kept search; limit = limit; counted = counted }) }
+        (record { stage = stages.Settling kept search; limit = limit; counted = counted }) }
     requires some { 1 ≤ quota }
     ensures steps { (bound : TheLowerBound) (leg : Leg) (most : ℕ) →
         IsProvingFor (G.terrain terrain) bound leg most
-        (record { stage = Settling kept search; limit = limit; counted = counted }) →
+        (record { stage = stages.Settling kept search; limit = limit; counted = counted }) →
         IfOk result (StepsProving (G.terrain terrain) bound leg most quota
-        (record { stage = Settling kept search; limit = limit; counted = counted })) }
+        (record { stage = stages.Settling kept search; limit = limit; counted = counted })) }
 {
     let mut search = search;
     let before = search.labels();
