@@ -3,7 +3,7 @@ use Rattle.std.proofs.Common.{◌≡◌, ◌<◌, length, arith}
 use Rattle.cost_model.specs.Facts.{AreLinks}
 use Rattle.cost_model.specs.Prices.{IsPrices}
 use Rattle.cost_model.specs.Rides.{Terrain}
-use Rattle.least_sums.specs.Sums.{AreBelow, AreLeastSumsUpTo, NodeSums}
+use Rattle.least_sums.specs.Sums.{AreBelow, AreLeastSumsUpTo}
 use Rattle.overpass_graph.specs.Maps.{IsMap, roads_of}
 use Rattle.bike_space.specs.Kept.{Wakes, task_of}
 use Rattle.bike_space.specs.Lawful.{IsTask}
@@ -44,4 +44,3 @@ opened-wakes terrain kept is =
       lawful = lawful;
       keeps = keeps-laws (task_of terrain kept) lawful;
     }
-

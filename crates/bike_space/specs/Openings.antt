@@ -1,5 +1,5 @@
 -- A space of a leg while it is opened: what still has to be paid is found in steps (this project's own rule).
-use Rattle.std.specs.Prelude.{◌≡◌, ℕ, ◌<◌, Bool, length, None, Option}
+use Rattle.std.specs.Prelude.{◌≡◌, ℕ, ◌<◌, Bool, length, Option}
 use Rattle.cost_model.specs.Rides.{Leg, Terrain, leg_between}
 use Rattle.least_sums.specs.Findings.{EndsWhole, IsFinding, steps_left}
 use Rattle.least_sums.specs.declared.near.Near.{Near}

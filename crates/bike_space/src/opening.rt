@@ -37,7 +37,10 @@ pub struct Opening {
 
 impl Drop for Opening {
     fn drop(self) {
-        let Opening { finding: _, asked: _ } = self;
+        let Opening {
+            finding: _,
+            asked: _,
+        } = self;
     }
 }
 

@@ -1,5 +1,5 @@
 -- What the end of a search on a leg says of its quest, over its links and from junction to junction.
-use Rattle.std.proofs.Common.{ℕ, Bool, true, false, IsTrue}
+use Rattle.std.proofs.Common.{ℕ, true, false, IsTrue}
 use Rattle.bike_space.specs.Answers.{AnswersLeg}
 use Rattle.bike_space.specs.Tasks.{Task}
 use Rattle.bike_space.specs.declared.finding.Walk.{Walk}

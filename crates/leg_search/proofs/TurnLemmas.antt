@@ -1,6 +1,6 @@
 -- What a step of a search on a leg comes to, and what it counts.
-use Rattle.std.proofs.Common.{◌≡◌, ◌≢◌, ℕ, ◌+◌, ◌-◌, ◌<◌, ◌≤◌, ◌^◌, Bool, true, false, ◌&&◌, List, None, length, refl, ap, arith, sym, ◌∙◌, subst}
-use Rattle.bike_space.specs.Kept.{Wakes, task_of}
+use Rattle.std.proofs.Common.{◌≡◌, ◌≢◌, ℕ, ◌+◌, ◌-◌, ◌<◌, ◌≤◌, Bool, true, false, ◌&&◌, List, None, length, refl, ap, arith, sym, ◌∙◌, subst}
+use Rattle.bike_space.specs.Kept.{task_of}
 use Rattle.bike_space.specs.Openings.{IsOpened, IsOpening, OpensOn, left_of, leg_of, near_of, used_of}
 use Rattle.bike_space.specs.Tasks.{Task}
 use Rattle.bike_space.specs.declared.finding.Walk.{Walk}
@@ -24,7 +24,6 @@ use Rattle.leg_search.specs.declared.search.Aim.{Aim}
 use Rattle.leg_search.specs.declared.search.LegSearch.{LegSearch}
 use Rattle.leg_search.specs.declared.search.Stage.TheVariants.{Opening, Settling}
 use Rattle.leg_search.specs.declared.search.TheConstants.{FIRST_LABELS}
-use Rattle.leg_search.specs.declared.turn.LegTurn.{LegTurn}
 
 -- a quest is that of the leg, the used segments, the limit and the way of going
 quest-same :

@@ -11,7 +11,6 @@ use Rattle.bike_space.specs.Tasks.{Task, rules_of}
 use Rattle.bike_space.specs.declared.finding.Walk.{Walk}
 use Rattle.bike_space.specs.declared.opening.Opening.{Opening as Opened}
 use Rattle.bike_space.specs.declared.rested.Rested.{Rested}
-use Rattle.cost_model.specs.Prices.{Prices}
 use Rattle.cost_model.specs.declared.parts.Carry.{Carry}
 use Rattle.item_list.specs.Turns.{Says, Settles}
 use Rattle.junction_runs.specs.LegRuns.{IsListOfRuns}

@@ -1,4 +1,3 @@
-use Rattle.std.proofs.Common.{arith}
 use Rattle.overpass_graph.specs.Maps.{roads_of}
 use Rattle.least_sums.specs.States.{state_of}
 use Rattle.least_sums.proofs.BeginLemmas.{begins-lowered}

@@ -1,7 +1,5 @@
-use Rattle.std.proofs.Common.{◌+◌, ◌<◌, ◌≤◌, sym, ◌∙◌, arith}
-use Rattle.overpass_graph.specs.Maps.{roads_of}
-use Rattle.least_sums.specs.States.{state_of, work}
-use Rattle.least_sums.proofs.PopLemmas.{popped-falls, popped-in, popped-last, popped-now, popped-stale, popped-state}
+use Rattle.std.proofs.Common.{◌≤◌, sym, ◌∙◌, arith}
+use Rattle.least_sums.proofs.PopLemmas.{popped-falls, popped-in, popped-now, popped-stale, popped-state}
 use Rattle.least_sums.proofs.NearLemmas.{ended-at}
 use Rattle.least_sums.proofs.taking.take.Goals.{then-sum+in_ok-spread, else-sum}
 use Rattle.least_sums.proofs.taking.take.Goals as goal

@@ -1,6 +1,5 @@
 use Rattle.std.proofs.Common.{◌≢◌, Bool, IfOk, sym, subst}
 use Rattle.std.proofs.lemmas.Result.{IfOk-weaker}
-use Rattle.bike_space.specs.Answers.{AnswersLeg}
 use Rattle.bike_space.specs.Kept.{task_of}
 use Rattle.bike_space.specs.Tasks.{rules_of}
 use Rattle.item_list.specs.Turns.{Says}

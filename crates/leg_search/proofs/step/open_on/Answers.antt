@@ -1,11 +1,9 @@
-use Rattle.std.proofs.Common.{◌≡◌, ◌≤◌, ◌∙◌, length, true, false, ap, arith, subst, sym}
+use Rattle.std.proofs.Common.{◌∙◌, length, ap, arith, subst, sym}
 use Rattle.bike_space.specs.Kept.{task_of}
 use Rattle.bike_space.specs.Openings.{IsOpened, OpensOn}
 use Rattle.item_list.specs.Turns.{Says}
-use Rattle.space_search.specs.View.{view}
 use Rattle.leg_search.specs.Quests.{GoesOnAs, quest_at, searched}
 use Rattle.leg_search.specs.declared.search.Stage.TheVariants.{Opening, Settling}
-use Rattle.leg_search.specs.declared.search.TheConstants.{FIRST_LABELS}
 use Rattle.leg_search.proofs.TurnLemmas.{IsLimited, opens-as, settles-as}
 use Rattle.leg_search.proofs.step.open_on.Goals.{then-aim, else-aim, in-More, in-Done}
 use Rattle.leg_search.proofs.step.open_on.Goals as goal

@@ -1,12 +1,10 @@
 use Rattle.std.proofs.Common.{◌∙◌, length, ap, sym, subst}
 use Rattle.bike_space.specs.Kept.{task_of}
-use Rattle.bike_space.specs.declared.rested.Rested.{Rested}
-use Rattle.cost_model.specs.Rides.{Terrain}
 use Rattle.item_list.specs.declared.turn.Turn.TheVariants.{More}
 use Rattle.space_search.specs.Searches.{IsSearchOf}
 use Rattle.space_search.specs.View.{view}
 use Rattle.leg_search.specs.Quests.{AnswersLegTurn, GoesOnAs, quest_at, searched}
-use Rattle.leg_search.specs.Steps.{AnswersStep, CountsLegStep, counting, is_spent, told_of}
+use Rattle.leg_search.specs.Steps.{AnswersStep, CountsLegStep, is_spent, told_of}
 use Rattle.leg_search.specs.declared.search.Stage.TheVariants.{Opening, Settling}
 use Rattle.leg_search.proofs.TurnLemmas.{anew-as, anew-steps, else-anew, settled-answers, settled-steps, then-first, then-spent, woken}
 use Rattle.leg_search.proofs.step.settle_on.Goals as goal
