@@ -1,8 +1,8 @@
 -- The search for the walk of a leg with what shows it least: how it begins, goes on and ends.
-use Rattle.std.proofs.Common.{◌≡◌, ◌≢◌, ℕ, ◌+◌, ◌-◌, ◌<◌, ◌≤◌, ◌^◌, false, length, refl, sym, ap, subst, ◌∙◌, Ok, Result, arith}
+use Rattle.std.proofs.Common.{◌≡◌, ◌≢◌, ℕ, ◌+◌, ◌-◌, ◌<◌, ◌≤◌, false, length, refl, sym, ap, subst, ◌∙◌, Ok, Result, arith}
 use Rattle.std.specs.declared.alloc.AllocError.{AllocError}
 use Rattle.bike_space.specs.Kept.{Wakes, task_of}
-use Rattle.bike_space.specs.Openings.{IsOpened, OpensOn, leg_of, used_of}
+use Rattle.bike_space.specs.Openings.{IsOpened, OpensOn}
 use Rattle.bike_space.specs.Tasks.{rules_of}
 use Rattle.bike_space.specs.declared.opening.Opening.{Opening as Opened}
 use Rattle.bike_space.specs.declared.rested.Rested.{Rested}

@@ -1,5 +1,4 @@
 use Rattle.std.proofs.Common.{subst, sym}
-use Rattle.bike_space.specs.Kept.{task_of}
 use Rattle.certificate_text.specs.declared.certificate.LowerBound.TheVariants.{Zero}
 use Rattle.route_certificate.specs.Asks.{leg_in}
 use Rattle.route_certificate.specs.Provings.{IsSettlingFor}

@@ -1,5 +1,5 @@
-use Rattle.std.proofs.Common.{◌+◌, ◌≤◌, IfOk, length, subst, sym, arith}
-use Rattle.route_certificate.specs.Provings.{IsProvingFor, IsStageFor, StepsProving, most_proved}
+use Rattle.std.proofs.Common.{IfOk, subst, sym, arith}
+use Rattle.route_certificate.specs.Provings.{IsProvingFor, IsStageFor, StepsProving}
 use Rattle.route_certificate.proofs.proving.Proving.step.Goals as goal
 
 pub returns-in-Home : goal.returns-in-Home

@@ -1,7 +1,7 @@
-use Rattle.std.proofs.Common.{◌≡◌, ◌+◌, ◌≤◌, ◌<◌, length, subst, arith}
+use Rattle.std.proofs.Common.{◌<◌, subst, arith}
 use Rattle.item_list.specs.Turns.{Says}
 use Rattle.route_certificate.specs.Certified.{IsShown, IsWritable}
-use Rattle.route_certificate.specs.Provings.{IsProvingFor, ProvesOn, StepsProving}
+use Rattle.route_certificate.specs.Provings.{IsProvingFor, ProvesOn}
 use Rattle.route_certificate.proofs.ProvingLemmas.{steps-few}
 use Rattle.route_certificate.proofs.proving.Proving.turn.Goals as goal
 
