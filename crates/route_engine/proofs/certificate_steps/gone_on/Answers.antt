@@ -45,6 +45,32 @@ ended-requires-clause-fits c =
     c.terrain.ensures.exact (c.in-Ok.ensures.turns Least leg plan.limit on) in
     subst (Says (λ _. Unit {0}) (IsWritable plan.setting.terrain.map)) c.in-Done.is turned.fits
 
+pub overflow_cast-result : goal.overflow_cast-result
+overflow_cast-result c =
+    let plan = plan_of (world_of c.args.world.now) c.args.plan in
+    let leg = nth_leg plan (length c.args.legs.items) in
+    let on = subst (λ (t : Terrain). IsProvingFor t Least leg plan.limit c.args.proving) (sym c.terrain.ensures.exact)
+    c.requires.next.on in
+    let turned = subst
+    (λ (t : Terrain). TurnsProving t Least leg plan.limit c.args.quota (counted_of c.args.proving) c.in-Ok.field-0)
+    c.terrain.ensures.exact (c.in-Ok.ensures.turns Least leg plan.limit on) in
+    let counted = c.in-Ok.field-0.counted in
+    let whole = subst (Settles c.args.quota counted) c.in-More.is turned.settles in
+    omega (arith, whole, c.ranges.quota.fits)
+
+pub overflow_cast-result-in-Done : goal.overflow_cast-result-in-Done
+overflow_cast-result-in-Done c =
+    let plan = plan_of (world_of c.args.world.now) c.args.plan in
+    let leg = nth_leg plan (length c.args.legs.items) in
+    let on = subst (λ (t : Terrain). IsProvingFor t Least leg plan.limit c.args.proving) (sym c.terrain.ensures.exact)
+    c.requires.next.on in
+    let turned = subst
+    (λ (t : Terrain). TurnsProving t Least leg plan.limit c.args.quota (counted_of c.args.proving) c.in-Ok.field-0)
+    c.terrain.ensures.exact (c.in-Ok.ensures.turns Least leg plan.limit on) in
+    let counted = c.in-Ok.field-0.counted in
+    let fewer = subst (Settles c.args.quota counted) c.in-Done.is turned.settles in
+    omega (arith, fewer, c.ranges.quota.fits)
+
 pub returns-in-More : goal.returns-in-More
 returns-in-More c =
     let world = world_of c.args.world.now in
