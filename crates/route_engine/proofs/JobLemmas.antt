@@ -33,7 +33,7 @@ module _ (plan : Plan) (walked : Walked) (search : Option LegSearch) (quota tota
     | inr ends ↦ omega (
       arith,
       ends.counts,
-      allowed-next plan walked search advanced.stage total advanced.settled (quota - advanced.settled) is.0 within on.within ends.stage,
+      allowed-next plan walked search advanced.stage total advanced.searched (quota - advanced.searched) is.0 within on.within ends.stage,
     )
   ]
 
@@ -41,7 +41,7 @@ module _ (plan : Plan) (walked : Walked) (search : Option LegSearch) (quota tota
   pub counted-within : counted_in advanced ≤ quota
   counted-within = elim on.steps as (λ _. counted_in advanced ≤ quota) [
     | inl goes ↦ omega (arith, goes.whole, goes.none)
-    | inr ends ↦ omega (arith, ends.fewer, ends.counts, beginning-within (quota - advanced.settled) advanced.stage)
+    | inr ends ↦ omega (arith, ends.fewer, ends.counts, beginning-within (quota - advanced.searched) advanced.stage)
   ]
 
   -- each step leaves fewer searches or less of the quota
