@@ -1,0 +1,17 @@
+pub mod WalkLemmas
+pub mod ValleyLemmas
+pub mod SumLemmas
+pub mod ShapeLemmas
+pub mod OverLemmas
+pub mod ChainLemmas
+pub mod DownLemmas
+pub mod CallerLemmas
+pub mod RenameLemmas
+pub mod LoopLemmas
+pub mod LowerLemmas
+pub mod JoinLemmas
+pub mod BaseLemmas
+pub mod MergeLemmas
+pub mod RowLemmas
+pub mod FlatLemmas
+pub mod EliminationLemmas

@@ -1,0 +1,9 @@
+pub mod Walks
+pub mod Hierarchies
+pub mod Limits
+pub mod Shapes
+pub mod Potentials
+pub mod Arcs
+pub mod Customizing
+pub mod Rows
+pub mod Eliminations

@@ -1,0 +1,24 @@
+//! Least sums over a hierarchy of directed links.
+#![tactic(auto)]
+
+mod arcs;
+mod chain;
+mod costs;
+mod customize;
+mod down;
+mod elimination;
+mod limits;
+mod merge;
+mod potentials;
+mod rows;
+mod shape;
+mod whole;
+
+pub use arcs::Arc;
+pub use costs::Costs;
+pub use customize::customized;
+pub use elimination::Elimination;
+pub use potentials::Potentials;
+pub use rows::Rows;
+pub use shape::Shape;
+pub use whole::least_sum;

@@ -1,0 +1,66 @@
+//! All of it in one call.
+
+ghost use Rattle.std.specs.Prelude.{◌*◌, ◌+◌, ◌<◌, ◌≡◌, ℕ, IfOk, length};
+ghost use Rattle.item_list.specs.Pages.{numbers_of};
+ghost use Rattle.link_hierarchy.specs.Arcs.{Covers, arcs_of};
+ghost use Rattle.link_hierarchy.specs.Rows.{AreRows};
+ghost use Rattle.link_hierarchy.specs.Walks.{AreLight, IsLeastSum, IsLeastSumUpTo};
+ghost use Rattle.link_hierarchy.specs.declared.limits.TheConstants.{FAR};
+
+use crate::arcs::Arc;
+use crate::customize::customized;
+use crate::potentials::Potentials;
+use crate::elimination::Elimination;
+use crate::rows::Rows;
+use crate::shape::Shape;
+use std::alloc::{AllocError, Global};
+
+/// The least sum of the prices of arcs from a node to another up to the limit, none where no walk
+/// leads there.
+pub fn least_sum(
+    alloc: Global,
+    nodes: u32,
+    arcs: &[Arc],
+    from: u32,
+    to: u32,
+) -> Result<Option<u64>, AllocError>
+    requires in_range { (a b price : ℕ) → arcs_of arcs.now a b price → (a < nodes) × (b < nodes) }
+    requires ends { (from < nodes) × (to < nodes) }
+    ensures exact { IfOk result (λ sum.
+        IsLeastSumUpTo FAR (arcs_of arcs.now) from to sum) }
+    ensures whole { IfOk result (λ sum. (bound : ℕ) → AreLight nodes bound (arcs_of arcs.now) →
+        nodes * bound < FAR + bound → IsLeastSum (arcs_of arcs.now) from to sum) }
+{
+    let shape = shape_of(alloc, nodes, arcs)?;
+    let costs = customized(alloc, &shape, arcs)?;
+    let mut found = Potentials::new(alloc, &shape, &costs, to)?;
+    found.at(alloc, &shape, &costs, from)
+}
+
+/// What leads where in a hierarchy that has an edge for each arc, and what it has to have besides.
+pub fn shape_of(alloc: Global, nodes: u32, arcs: &[Arc]) -> Result<Shape, AllocError>
+    requires in_range { (a b price : ℕ) → arcs_of arcs.now a b price → (a < nodes) × (b < nodes) }
+    ensures covers { IfOk result (λ shape. Covers shape arcs.now) }
+    ensures nodes { IfOk result (λ shape. shape.nodes ≡ nodes) }
+{
+    let rows = rows_of(alloc, nodes, arcs)?;
+    let mut made = Elimination::new(alloc, rows, arcs)?;
+    'steps: while !made.is_over(arcs) {
+        made.step(alloc, arcs)?;
+    }
+    Ok(made.finish(arcs))
+}
+
+/// The rows of all arcs.
+fn rows_of(alloc: Global, nodes: u32, arcs: &[Arc]) -> Result<Rows, AllocError>
+    requires in_range { (a b price : ℕ) → arcs_of arcs.now a b price → (a < nodes) × (b < nodes) }
+    ensures on { IfOk result (λ rows. AreRows rows.nodes (numbers_of rows.outs.items)
+        (numbers_of rows.ins.items) arcs.now (length arcs.now) 0) }
+    ensures nodes { IfOk result (λ rows. rows.nodes ≡ nodes) }
+{
+    let mut rows = Rows::new(alloc, nodes, arcs)?;
+    'arcs: while rows.taken < arcs.len() {
+        rows.take(alloc, arcs)?;
+    }
+    Ok(rows)
+}
