@@ -7,6 +7,7 @@ mod costs;
 mod customize;
 mod down;
 mod elimination;
+mod joining;
 mod limits;
 mod merge;
 mod potentials;
@@ -16,7 +17,7 @@ mod whole;
 
 pub use arcs::Arc;
 pub use costs::Costs;
-pub use customize::customized;
+pub use customize::{Customization, customized};
 pub use elimination::Elimination;
 pub use potentials::Potentials;
 pub use rows::Rows;

@@ -23,7 +23,7 @@ pub fn least_sum(
     arcs: &[Arc],
     from: u32,
     to: u32,
-) -> Result<Option<u64>, AllocError>
+) -> Result<Option<u32>, AllocError>
     requires in_range { (a b price : ℕ) → arcs_of arcs.now a b price → (a < nodes) × (b < nodes) }
     requires ends { (from < nodes) × (to < nodes) }
     ensures exact { IfOk result (λ sum.
