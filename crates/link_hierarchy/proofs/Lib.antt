@@ -6,8 +6,6 @@ pub mod OverLemmas
 pub mod ChainLemmas
 pub mod DownLemmas
 pub mod CallerLemmas
-pub mod RenameLemmas
-pub mod LoopLemmas
 pub mod LowerLemmas
 pub mod JoinLemmas
 pub mod BaseLemmas

@@ -1,13 +1,8 @@
 -- The nodes that each node is joined to above it, as rows that grow until they are closed (this project's own rule).
 use Rattle.std.specs.Prelude.{◌≡◌, ◌≢◌, ℕ, ◌+◌, ◌<◌, ◌≤◌, ◌⊎◌, List, length, get_or}
 use Rattle.item_list.specs.Pages.{page_at}
+pub use Rattle.link_hierarchy.specs.Walks.{Holds}
 use Rattle.link_hierarchy.specs.declared.arcs.Arc.{Arc}
-
--- a node of a row
-pub record Holds (row : List ℕ) (x : ℕ) : Type 0 where
-  pub place : ℕ
-  pub within : place < length row
-  pub is : get_or row place 0 ≡ x
 
 -- nodes in their order
 abbrev pub AreAscending : List ℕ → Type 0

@@ -1,10 +1,10 @@
 //! All of it in one call.
 
-ghost use Rattle.std.specs.Prelude.{◌*◌, ◌+◌, ◌<◌, ◌≡◌, ℕ, IfOk, length};
+ghost use Rattle.std.specs.Prelude.{◌<◌, ◌≡◌, ℕ, IfOk, length};
 ghost use Rattle.item_list.specs.Pages.{numbers_of};
 ghost use Rattle.link_hierarchy.specs.Arcs.{Covers, arcs_of};
-ghost use Rattle.link_hierarchy.specs.Rows.{AreRows};
-ghost use Rattle.link_hierarchy.specs.Walks.{AreLight, IsLeastSum, IsLeastSumUpTo};
+ghost use Rattle.link_hierarchy.specs.Rows.{AreRows, IsSorted};
+ghost use Rattle.link_hierarchy.specs.Walks.{IsLeastSumUpTo};
 ghost use Rattle.link_hierarchy.specs.declared.limits.TheConstants.{FAR};
 
 use crate::arcs::Arc;
@@ -15,25 +15,24 @@ use crate::rows::Rows;
 use crate::shape::Shape;
 use std::alloc::{AllocError, Global};
 
-/// The least sum of the prices of arcs from a node to another up to the limit, none where no walk
-/// leads there.
+/// The least sum of the prices of arcs from a node to one of several up to the limit, none where no
+/// walk leads to one. These come in ascending order.
 pub fn least_sum(
     alloc: Global,
     nodes: u32,
     arcs: &[Arc],
     from: u32,
-    to: u32,
+    targets: &[u32],
 ) -> Result<Option<u32>, AllocError>
     requires in_range { (a b price : ℕ) → arcs_of arcs.now a b price → (a < nodes) × (b < nodes) }
-    requires ends { (from < nodes) × (to < nodes) }
+    requires from { from < nodes }
+    requires targets { IsSorted nodes targets.now }
     ensures exact { IfOk result (λ sum.
-        IsLeastSumUpTo FAR (arcs_of arcs.now) from to sum) }
-    ensures whole { IfOk result (λ sum. (bound : ℕ) → AreLight nodes bound (arcs_of arcs.now) →
-        nodes * bound < FAR + bound → IsLeastSum (arcs_of arcs.now) from to sum) }
+        IsLeastSumUpTo FAR (arcs_of arcs.now) from targets.now sum) }
 {
     let shape = shape_of(alloc, nodes, arcs)?;
     let costs = customized(alloc, &shape, arcs)?;
-    let mut found = Potentials::new(alloc, &shape, &costs, to)?;
+    let mut found = Potentials::new(alloc, &shape, &costs, targets)?;
     found.at(alloc, &shape, &costs, from)
 }
 
