@@ -8,10 +8,10 @@ use Rattle.item_list.specs.Pages.{numbers_of, page_at}
 use Rattle.link_hierarchy.specs.Arcs.{Covers}
 use Rattle.link_hierarchy.specs.Eliminations.{AreFrom, AreRaised, ArePassed, IsElimination, IsShared, Lays, left_of}
 use Rattle.link_hierarchy.specs.Rows.{AreAscending, AreLists, AreRows, Holds, IsFlat, IsItem, IsRow, Widens, row_at}
-use Rattle.link_hierarchy.specs.Shapes.{IsShape, Shape}
+use Rattle.link_hierarchy.specs.Topologies.{IsTopology, Topology}
 use Rattle.link_hierarchy.specs.declared.arcs.Arc.{Arc}
 use Rattle.link_hierarchy.specs.declared.elimination.Elimination.{Elimination}
-use Rattle.link_hierarchy.proofs.FlatLemmas.{flat-alike, flat-begin, flat-covers, flat-more, flat-shape}
+use Rattle.link_hierarchy.proofs.FlatLemmas.{flat-alike, flat-begin, flat-covers, flat-more, flat-topology}
 use Rattle.link_hierarchy.proofs.RowLemmas.{AreRaisedTo, eliminated, rows-in, rows-out, widens-holds, widens-lists}
 
 -- an ascending row is no longer than its nodes are many
@@ -356,10 +356,10 @@ module _ (arcs : List Arc) (e : Elimination) (is : IsElimination arcs e) (over :
   at-end : AreRows e.node is.outs is.ins arcs (length arcs) e.node
   at-end = subst (λ n. AreRows n is.outs is.ins arcs (length arcs) e.node) (sym over) is.are
 
-  pub ended-shape : e.node < 2 ^ 32 → length e.heads.items < 2 ^ 64 → length e.tails.items < 2 ^ 64 →
-      IsShape (record { nodes = e.node; out_starts = e.out_starts.items; heads = e.heads.items; in_starts = e.in_starts.items; tails = e.tails.items })
-  ended-shape few fits fits_too =
-      flat-shape e.node is.outs is.ins arcs (length arcs) e.out_starts.items e.heads.items e.in_starts.items e.tails.items at-end
+  pub ended-topology : e.node < 2 ^ 32 → length e.heads.items < 2 ^ 64 → length e.tails.items < 2 ^ 64 →
+      IsTopology (record { nodes = e.node; out_starts = e.out_starts.items; heads = e.heads.items; in_starts = e.in_starts.items; tails = e.tails.items })
+  ended-topology few fits fits_too =
+      flat-topology e.node is.outs is.ins arcs (length arcs) e.out_starts.items e.heads.items e.in_starts.items e.tails.items at-end
       is.out_flat is.in_flat few fits fits_too
 
   pub ended-covers :

@@ -4,7 +4,7 @@ use Rattle.std.proofs.lemmas.Bool.{cases_eq, cases_lt}
 use Rattle.std.proofs.lemmas.List.{get_or_append_left, get_or-append-add, get_or_push, length-append, length_push}
 use Rattle.link_hierarchy.specs.Arcs.{Covers, arc_from}
 use Rattle.link_hierarchy.specs.Rows.{AreLists, AreRows, Holds, IsFlat, IsHeld, row_at}
-use Rattle.link_hierarchy.specs.Shapes.{AreJoined, Half, IsHalf, IsLinked, IsPair, IsPlace, IsShape, Shape, head_of}
+use Rattle.link_hierarchy.specs.Topologies.{AreJoined, Half, IsHalf, IsLinked, IsPair, IsPlace, IsTopology, Topology, head_of}
 use Rattle.link_hierarchy.specs.declared.arcs.Arc.{Arc}
 use Rattle.link_hierarchy.proofs.RowLemmas.{holds-in}
 
@@ -152,21 +152,21 @@ flat-alike rows rows2 count starts heads alike is = record {
       is.same v k below (omega (arith, ap length (alike v below), inside)) ∙ ap (λ (r : List ℕ). get_or r k 0) (sym (alike v below));
 }
 
--- two directions make a shape
+-- two directions make a topology
 module _ (nodes : ℕ) (outs ins : List (List ℕ)) (arcs : List Arc) (taken : ℕ) (out_starts heads in_starts tails : List ℕ)
     (are : AreRows nodes outs ins arcs taken nodes) (out_flat : IsFlat outs nodes out_starts heads)
     (in_flat : IsFlat ins nodes in_starts tails) where
-  -- the shape of the rows
-  abbrev pub shape_is : Shape
-  shape_is = record { nodes = nodes; out_starts = out_starts; heads = heads; in_starts = in_starts; tails = tails }
+  -- the topology of the rows
+  abbrev pub topology_is : Topology
+  topology_is = record { nodes = nodes; out_starts = out_starts; heads = heads; in_starts = in_starts; tails = tails }
 
   -- what is held is linked
-  held-linked : (a b : ℕ) → IsHeld outs ins a b → IsLinked shape_is a b
+  held-linked : (a b : ℕ) → IsHeld outs ins a b → IsLinked topology_is a b
   held-linked a b (inl up) = inl (holds-joined nodes outs out_starts heads are.outs_are out_flat a b up)
   held-linked a b (inr down) = inr (holds-joined nodes ins in_starts tails are.ins_are in_flat b a down)
 
-  pub flat-shape : nodes < 2 ^ 32 → length heads < 2 ^ 64 → length tails < 2 ^ 64 → IsShape shape_is
-  flat-shape few fits fits_too = record {
+  pub flat-topology : nodes < 2 ^ 32 → length heads < 2 ^ 64 → length tails < 2 ^ 64 → IsTopology topology_is
+  flat-topology few fits fits_too = record {
     out = flat-half nodes outs out_starts heads are.outs_are out_flat few fits;
     into = flat-half nodes ins in_starts tails are.ins_are in_flat few fits_too;
     closed = λ v tail head first second p q apart.
@@ -179,7 +179,7 @@ module _ (nodes : ℕ) (outs ins : List (List ℕ)) (arcs : List Arc) (taken : �
   }
 
   -- arcs are linked
-  pub flat-covers : length arcs ≤ taken → Covers shape_is arcs
+  pub flat-covers : length arcs ≤ taken → Covers topology_is arcs
   flat-covers all a b price arc apart =
       let from_is : (get_or arcs arc.number (arc_from a b price)).from ≡ a = ap (λ (x : Arc). x.from) arc.is in
       let to_is : (get_or arcs arc.number (arc_from a b price)).to ≡ b = ap (λ (x : Arc). x.to) arc.is in

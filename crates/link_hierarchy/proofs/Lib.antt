@@ -1,7 +1,7 @@
 pub mod WalkLemmas
 pub mod ValleyLemmas
 pub mod SumLemmas
-pub mod ShapeLemmas
+pub mod TopologyLemmas
 pub mod OverLemmas
 pub mod ChainLemmas
 pub mod DownLemmas

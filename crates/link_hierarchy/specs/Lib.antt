@@ -1,7 +1,7 @@
 pub mod Walks
 pub mod Hierarchies
 pub mod Limits
-pub mod Shapes
+pub mod Topologies
 pub mod Potentials
 pub mod Arcs
 pub mod Customizing

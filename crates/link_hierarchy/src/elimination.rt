@@ -9,7 +9,7 @@ ghost use Rattle.link_hierarchy.specs.Rows.{AreLists, AreRows, row_at};
 use crate::arcs::Arc;
 use crate::merge::{BEHIND, first_shared, item};
 use crate::rows::{Rows, raise_one};
-use crate::shape::Shape;
+use crate::topology::Topology;
 use std::alloc::{AllocError, Global};
 
 /// The nodes of a graph are eliminated, the least important one first: each tail above it is joined
@@ -126,7 +126,7 @@ impl Elimination {
     }
 
     /// What leads where, once all nodes are eliminated.
-    pub fn finish(self, _arcs: &[Arc]) -> Shape
+    pub fn finish(self, _arcs: &[Arc]) -> Topology
         requires on { IsElimination _arcs.now self }
         requires over { self.node ≡ self.rows.nodes }
         ensures covers { Covers result _arcs.now }
@@ -144,7 +144,7 @@ impl Elimination {
             heads_done: _,
         } = self;
         let _ = rows;
-        Shape {
+        Topology {
             out_starts,
             heads,
             in_starts,

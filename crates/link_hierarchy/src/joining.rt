@@ -2,30 +2,30 @@
 
 ghost use Rattle.std.specs.Prelude.{◌≡◌, ◌+◌, ◌<◌, ◌≤◌, ℕ};
 ghost use Rattle.link_hierarchy.specs.Customizing.{AreCustomized, IsAhead};
-ghost use Rattle.link_hierarchy.specs.Shapes.{AreJoined, IsPair, IsPlace, head_of, into_of, start_of, up_of};
+ghost use Rattle.link_hierarchy.specs.Topologies.{AreJoined, IsPair, IsPlace, head_of, into_of, start_of, up_of};
 
 use crate::arcs::Arc;
-use crate::costs::Costs;
+use crate::weights::Weights;
 use crate::limits::plus;
-use crate::shape::Shape;
+use crate::topology::Topology;
 
 /// A tail above a node comes to lead to the heads above that are above the tail.
 pub(crate) fn join_tail(
-    shape: &Shape,
-    costs: &mut Costs,
+    topology: &Topology,
+    weights: &mut Weights,
     node: u32,
     first: usize,
     _arcs: &[Arc],
     _head: usize,
 )
-    requires in_range { IsPlace (into_of shape.now) node first }
-    requires customized { AreCustomized shape.now costs.old _arcs.now node first 0 _head 0 }
-    ensures customized { AreCustomized shape.now costs.new _arcs.now node (first + 1) 0 _head 0 }
+    requires in_range { IsPlace (into_of topology.now) node first }
+    requires customized { AreCustomized topology.now weights.old _arcs.now node first 0 _head 0 }
+    ensures customized { AreCustomized topology.now weights.new _arcs.now node (first + 1) 0 _head 0 }
 {
-    let _nodes = shape.nodes();
-    let mut place = shape.out_start(shape.tail(first));
-    'places: for second in shape.out_start(node)..shape.out_end(node) {
-        place = join_up(shape, costs, node, first, second, place, _arcs, _head);
+    let _nodes = topology.nodes();
+    let mut place = topology.out_start(topology.tail(first));
+    'places: for second in topology.out_start(node)..topology.out_end(node) {
+        place = join_up(topology, weights, node, first, second, place, _arcs, _head);
     }
 }
 
@@ -33,8 +33,8 @@ pub(crate) fn join_tail(
 /// where on the next head stands among those of the tail.
 #[inline(always)]
 fn join_up(
-    shape: &Shape,
-    costs: &mut Costs,
+    topology: &Topology,
+    weights: &mut Weights,
     _node: u32,
     first: usize,
     second: usize,
@@ -42,42 +42,42 @@ fn join_up(
     _arcs: &[Arc],
     _head: usize,
 ) -> usize
-    requires first { IsPlace (into_of shape.now) _node first }
-    requires second { IsPlace (up_of shape.now) _node second }
-    requires ahead { IsAhead (up_of shape.now) _node (head_of (into_of shape.now) first) second from }
-    requires customized { AreCustomized shape.now costs.old _arcs.now _node first second _head 0 }
-    ensures customized { AreCustomized shape.now costs.new _arcs.now _node first (second + 1) _head 0 }
-    ensures ahead { IsAhead (up_of shape.now) _node (head_of (into_of shape.now) first) (second + 1)
+    requires first { IsPlace (into_of topology.now) _node first }
+    requires second { IsPlace (up_of topology.now) _node second }
+    requires ahead { IsAhead (up_of topology.now) _node (head_of (into_of topology.now) first) second from }
+    requires customized { AreCustomized topology.now weights.old _arcs.now _node first second _head 0 }
+    ensures customized { AreCustomized topology.now weights.new _arcs.now _node first (second + 1) _head 0 }
+    ensures ahead { IsAhead (up_of topology.now) _node (head_of (into_of topology.now) first) (second + 1)
         result }
 {
-    let _nodes = shape.nodes();
-    let tail = shape.tail(first);
-    let head = shape.head(second);
+    let _nodes = topology.nodes();
+    let tail = topology.tail(first);
+    let head = topology.head(second);
     if head <= tail {
         return from;
     }
-    let place = place_of_head(shape, tail, head, from);
-    costs.lower_out(place, plus(costs.back(first), costs.out(second)));
+    let place = place_of_head(topology, tail, head, from);
+    weights.lower_out(place, plus(weights.back(first), weights.out(second)));
     place
 }
 
 /// The tails above a node that are above a head come to lead to that head.
 pub(crate) fn join_head(
-    shape: &Shape,
-    costs: &mut Costs,
+    topology: &Topology,
+    weights: &mut Weights,
     node: u32,
     second: usize,
     _arcs: &[Arc],
     _tail: usize,
 )
-    requires in_range { IsPlace (up_of shape.now) node second }
-    requires customized { AreCustomized shape.now costs.old _arcs.now node _tail 0 second 0 }
-    ensures customized { AreCustomized shape.now costs.new _arcs.now node _tail 0 (second + 1) 0 }
+    requires in_range { IsPlace (up_of topology.now) node second }
+    requires customized { AreCustomized topology.now weights.old _arcs.now node _tail 0 second 0 }
+    ensures customized { AreCustomized topology.now weights.new _arcs.now node _tail 0 (second + 1) 0 }
 {
-    let _nodes = shape.nodes();
-    let mut place = shape.in_start(shape.head(second));
-    'places: for first in shape.in_start(node)..shape.in_end(node) {
-        place = join_down(shape, costs, node, first, second, place, _arcs, _tail);
+    let _nodes = topology.nodes();
+    let mut place = topology.in_start(topology.head(second));
+    'places: for first in topology.in_start(node)..topology.in_end(node) {
+        place = join_down(topology, weights, node, first, second, place, _arcs, _tail);
     }
 }
 
@@ -85,8 +85,8 @@ pub(crate) fn join_head(
 /// from where on the next tail stands among those of the head.
 #[inline(always)]
 fn join_down(
-    shape: &Shape,
-    costs: &mut Costs,
+    topology: &Topology,
+    weights: &mut Weights,
     _node: u32,
     first: usize,
     second: usize,
@@ -94,52 +94,52 @@ fn join_down(
     _arcs: &[Arc],
     _tail: usize,
 ) -> usize
-    requires first { IsPlace (into_of shape.now) _node first }
-    requires second { IsPlace (up_of shape.now) _node second }
-    requires ahead { IsAhead (into_of shape.now) _node (head_of (up_of shape.now) second) first from }
-    requires customized { AreCustomized shape.now costs.old _arcs.now _node _tail 0 second first }
-    ensures customized { AreCustomized shape.now costs.new _arcs.now _node _tail 0 second (first + 1) }
-    ensures ahead { IsAhead (into_of shape.now) _node (head_of (up_of shape.now) second) (first + 1)
+    requires first { IsPlace (into_of topology.now) _node first }
+    requires second { IsPlace (up_of topology.now) _node second }
+    requires ahead { IsAhead (into_of topology.now) _node (head_of (up_of topology.now) second) first from }
+    requires customized { AreCustomized topology.now weights.old _arcs.now _node _tail 0 second first }
+    ensures customized { AreCustomized topology.now weights.new _arcs.now _node _tail 0 second (first + 1) }
+    ensures ahead { IsAhead (into_of topology.now) _node (head_of (up_of topology.now) second) (first + 1)
         result }
 {
-    let _nodes = shape.nodes();
-    let tail = shape.tail(first);
-    let head = shape.head(second);
+    let _nodes = topology.nodes();
+    let tail = topology.tail(first);
+    let head = topology.head(second);
     if tail <= head {
         return from;
     }
-    let place = place_of_tail(shape, head, tail, from);
-    costs.lower_back(place, plus(costs.back(first), costs.out(second)));
+    let place = place_of_tail(topology, head, tail, from);
+    weights.lower_back(place, plus(weights.back(first), weights.out(second)));
     place
 }
 
 /// The place of a head above a node, from a place on.
-fn place_of_head(shape: &Shape, low: u32, high: u32, from: usize) -> usize
-    requires in_range { low < shape.now.nodes }
-    requires from_start { start_of (up_of shape.now) low ≤ from }
-    requires joined { AreJoined (up_of shape.now) low high }
-    requires ahead { (k : ℕ) → IsPair (up_of shape.now) low high k → from ≤ k }
-    ensures is { IsPair (up_of shape.now) low high result }
+fn place_of_head(topology: &Topology, low: u32, high: u32, from: usize) -> usize
+    requires in_range { low < topology.now.nodes }
+    requires from_start { start_of (up_of topology.now) low ≤ from }
+    requires joined { AreJoined (up_of topology.now) low high }
+    requires ahead { (k : ℕ) → IsPair (up_of topology.now) low high k → from ≤ k }
+    ensures is { IsPair (up_of topology.now) low high result }
 {
-    let _nodes = shape.nodes();
+    let _nodes = topology.nodes();
     let mut place = from;
-    'places: while shape.head(place) != high {
+    'places: while topology.head(place) != high {
         place += 1;
     }
     place
 }
 
 /// The place of a tail above a node, from a place on.
-fn place_of_tail(shape: &Shape, low: u32, high: u32, from: usize) -> usize
-    requires in_range { low < shape.now.nodes }
-    requires from_start { start_of (into_of shape.now) low ≤ from }
-    requires joined { AreJoined (into_of shape.now) low high }
-    requires ahead { (k : ℕ) → IsPair (into_of shape.now) low high k → from ≤ k }
-    ensures is { IsPair (into_of shape.now) low high result }
+fn place_of_tail(topology: &Topology, low: u32, high: u32, from: usize) -> usize
+    requires in_range { low < topology.now.nodes }
+    requires from_start { start_of (into_of topology.now) low ≤ from }
+    requires joined { AreJoined (into_of topology.now) low high }
+    requires ahead { (k : ℕ) → IsPair (into_of topology.now) low high k → from ≤ k }
+    ensures is { IsPair (into_of topology.now) low high result }
 {
-    let _nodes = shape.nodes();
+    let _nodes = topology.nodes();
     let mut place = from;
-    'places: while shape.tail(place) != high {
+    'places: while topology.tail(place) != high {
         place += 1;
     }
     place

@@ -3,7 +3,7 @@
 
 mod arcs;
 mod chain;
-mod costs;
+mod weights;
 mod customize;
 mod down;
 mod elimination;
@@ -12,14 +12,14 @@ mod limits;
 mod merge;
 mod potentials;
 mod rows;
-mod shape;
+mod topology;
 mod whole;
 
 pub use arcs::Arc;
-pub use costs::Costs;
+pub use weights::Weights;
 pub use customize::{Customization, customized};
 pub use elimination::Elimination;
 pub use potentials::Potentials;
 pub use rows::Rows;
-pub use shape::Shape;
+pub use topology::Topology;
 pub use whole::least_sum;

@@ -12,7 +12,7 @@ use crate::customize::customized;
 use crate::potentials::Potentials;
 use crate::elimination::Elimination;
 use crate::rows::Rows;
-use crate::shape::Shape;
+use crate::topology::Topology;
 use std::alloc::{AllocError, Global};
 
 /// The least sum of the prices of arcs from a node to one of several up to the limit, none where no
@@ -30,17 +30,17 @@ pub fn least_sum(
     ensures exact { IfOk result (λ sum.
         IsLeastSumUpTo FAR (arcs_of arcs.now) from targets.now sum) }
 {
-    let shape = shape_of(alloc, nodes, arcs)?;
-    let costs = customized(alloc, &shape, arcs)?;
-    let mut found = Potentials::new(alloc, &shape, &costs, targets)?;
-    found.at(alloc, &shape, &costs, from)
+    let topology = topology_of(alloc, nodes, arcs)?;
+    let weights = customized(alloc, &topology, arcs)?;
+    let mut found = Potentials::new(alloc, &topology, &weights, targets)?;
+    found.at(alloc, &topology, &weights, from)
 }
 
 /// What leads where in a hierarchy that has an edge for each arc, and what it has to have besides.
-pub fn shape_of(alloc: Global, nodes: u32, arcs: &[Arc]) -> Result<Shape, AllocError>
+pub fn topology_of(alloc: Global, nodes: u32, arcs: &[Arc]) -> Result<Topology, AllocError>
     requires in_range { (a b price : ℕ) → arcs_of arcs.now a b price → (a < nodes) × (b < nodes) }
-    ensures covers { IfOk result (λ shape. Covers shape arcs.now) }
-    ensures nodes { IfOk result (λ shape. shape.nodes ≡ nodes) }
+    ensures covers { IfOk result (λ topology. Covers topology arcs.now) }
+    ensures nodes { IfOk result (λ topology. topology.nodes ≡ nodes) }
 {
     let rows = rows_of(alloc, nodes, arcs)?;
     let mut made = Elimination::new(alloc, rows, arcs)?;

@@ -7,10 +7,10 @@ returns-clause-fits c = c.requires.on.fits
 
 pub returns-clause-closed : goal.returns-clause-closed
 returns-clause-closed c =
-    customized-closed c.args.shape.now c.nodes-nodes.ensures.lawful c.args._arcs.now c.args.self.costs c.args.self.node
+    customized-closed c.args.topology.now c.nodes-nodes.ensures.lawful c.args._arcs.now c.args.self.weights c.args.self.node
     (omega (arith, c.requires.over)) c.requires.on.over
 
 pub returns-clause-carries : goal.returns-clause-carries
 returns-clause-carries c =
-    customized-carries c.args.shape.now c.args._arcs.now c.args.self.costs c.args.self.taken c.requires.all c.requires.on.real
+    customized-carries c.args.topology.now c.args._arcs.now c.args.self.weights c.args.self.taken c.requires.all c.requires.on.real
     c.requires.on.based

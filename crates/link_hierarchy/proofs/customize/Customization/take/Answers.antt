@@ -12,9 +12,9 @@ lower_edge-requires-clause-linked c apart =
 
 pub returns-clause-on : goal.returns-clause-on
 returns-clause-on c =
-    arc-taken c.args.shape.now c.args.arcs.now c.args.self.now c.lower_edge.new.costs
+    arc-taken c.args.topology.now c.args.arcs.now c.args.self.now c.lower_edge.new.weights
     (get_or c.args.arcs.now c.args.self.now.taken (arc_from 0 0 0)) c.requires.there
     (get_or_default c.args.arcs.now c.args.self.now.taken _ _ c.requires.there)
-    (subst (λ n. LowersEdge c.args.shape.now c.args.self.now.costs c.lower_edge.new.costs
+    (subst (λ n. LowersEdge c.args.topology.now c.args.self.now.weights c.lower_edge.new.weights
     (get_or c.args.arcs.now c.args.self.now.taken (arc_from 0 0 0)).from
     (get_or c.args.arcs.now c.args.self.now.taken (arc_from 0 0 0)).to n) c.min.ensures c.lower_edge.ensures.lowers) c.requires.on

@@ -1,10 +1,10 @@
 use Rattle.std.proofs.Common.{arith}
-use Rattle.link_hierarchy.proofs.EliminationLemmas.{ended-covers, ended-shape}
+use Rattle.link_hierarchy.proofs.EliminationLemmas.{ended-covers, ended-topology}
 use Rattle.link_hierarchy.proofs.elimination.Elimination.finish.Goals as goal
 
 pub invariant_of-result : goal.invariant_of-result
 invariant_of-result c =
-    ended-shape c.args._arcs.now c.args.self c.requires.on c.requires.over (omega arith) (omega arith) (omega arith)
+    ended-topology c.args._arcs.now c.args.self c.requires.on c.requires.over (omega arith) (omega arith) (omega arith)
 
 pub returns-clause-covers : goal.returns-clause-covers
 returns-clause-covers c = ended-covers c.args._arcs.now c.args.self c.requires.on c.requires.over

@@ -1,7 +1,7 @@
 use Rattle.std.proofs.Common.{◌≡◌, ◌<◌, length, None, subst, sym, arith}
 use Rattle.std.proofs.lemmas.List.{get_or_read}
 use Rattle.link_hierarchy.specs.Potentials.{at}
-use Rattle.link_hierarchy.specs.Shapes.{edges_of}
+use Rattle.link_hierarchy.specs.Topologies.{edges_of}
 use Rattle.link_hierarchy.specs.Walks.{IsLeastSumUpTo, IsLeastUpTo}
 use Rattle.link_hierarchy.specs.declared.limits.TheConstants.{FAR, NONE}
 use Rattle.link_hierarchy.proofs.OverLemmas.{tells-none, tells-some}
@@ -15,9 +15,9 @@ returns-then-sum-le-FAR c =
     get_or_read c.args.self.now.over c.args.node c.get-sum.result inside c.get-sum.ensures.value NONE in
     record {
       exact =
-          subst (λ n. IsLeastUpTo FAR (edges_of FAR c.args._shape.now c.args._costs.now) c.args.node c.args.self.now.targets.items n)
+          subst (λ n. IsLeastUpTo FAR (edges_of FAR c.args._topology.now c.args._weights.now) c.args.node c.args.self.now.targets.items n)
           (sym read)
-          (tells-some FAR (edges_of FAR c.args._shape.now c.args._costs.now) c.args.node c.args.self.now.targets.items
+          (tells-some FAR (edges_of FAR c.args._topology.now c.args._weights.now) c.args.node c.args.self.now.targets.items
           (at c.args.self.now.over c.args.node) (over.least c.args.node c.requires.in_range c.requires.known)
           (omega (arith, read, c.if-sum-le-FAR.true)));
     }
@@ -30,7 +30,7 @@ returns-else-sum-le-FAR c =
     get_or_read c.args.self.now.over c.args.node c.get-sum.result inside c.get-sum.ensures.value NONE in
     record {
       exact =
-          tells-none FAR (edges_of FAR c.args._shape.now c.args._costs.now) c.args.node c.args.self.now.targets.items
+          tells-none FAR (edges_of FAR c.args._topology.now c.args._weights.now) c.args.node c.args.self.now.targets.items
           (at c.args.self.now.over c.args.node) (over.least c.args.node c.requires.in_range c.requires.known)
           (omega (arith, read, c.if-sum-le-FAR.false));
     }

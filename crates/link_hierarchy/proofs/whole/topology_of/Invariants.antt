@@ -1,6 +1,6 @@
 use Rattle.std.proofs.Common.{◌≡◌}
 use Rattle.link_hierarchy.specs.Eliminations.{IsElimination, left_of}
-use Rattle.link_hierarchy.proofs.whole.shape_of.Given as goal
+use Rattle.link_hierarchy.proofs.whole.topology_of.Given as goal
 
 abbrev pub invariant-steps : goal.invariant-steps
 invariant-steps l = record {
