@@ -1,5 +1,5 @@
-//! Runs tables of cases on the public calls of the ground, of the profile language, of prices and
-//! of searches.
+//! Runs tables of cases on the public calls of the ground, of the profile language, of prices, of
+//! searches and of hierarchies.
 #![tactic(auto)]
 
 mod buffers;
@@ -17,6 +17,7 @@ mod outside;
 mod places;
 mod prices;
 mod searches;
+mod sums;
 mod tables;
 mod texts;
 mod toll;
@@ -30,7 +31,7 @@ use std::alloc::{AllocError, Global};
 use std::io;
 
 /// The calls of each part.
-const PARTS: [&[&str]; 16] = [
+const PARTS: [&[&str]; 17] = [
     &numbers::CALLS,
     &places::CALLS,
     &buffers::CALLS,
@@ -47,6 +48,7 @@ const PARTS: [&[&str]; 16] = [
     &codes::CALLS,
     &prices::CALLS,
     &searches::CALLS,
+    &sums::CALLS,
 ];
 
 fn main(rt: HostRuntime) -> io::Result<()> {
@@ -103,6 +105,7 @@ fn answer(alloc: Global, case: &Case, ground: &mut Ground) -> Result<String, All
         13 => codes::answer(alloc, case),
         14 => prices::answer(alloc, case),
         15 => searches::answer(alloc, case),
+        16 => sums::answer(alloc, case),
         _ => String::from_str(alloc, NO_CALL),
     }
 }

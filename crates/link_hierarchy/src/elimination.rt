@@ -108,7 +108,13 @@ impl Elimination {
     }
 
     /// The node is done: its rows are laid behind those of before, and the next one comes.
-    fn pass(&mut self, alloc: Global, _tail: u32, _head: u32, _arcs: &[Arc]) -> Result<(), AllocError>
+    fn pass(
+        &mut self,
+        alloc: Global,
+        _tail: u32,
+        _head: u32,
+        _arcs: &[Arc],
+    ) -> Result<(), AllocError>
         requires more { self.old.node < self.old.rows.nodes }
         requires on { IsElimination _arcs.now self.old }
         requires done { ArePassed _arcs.now self.old _tail _head }
@@ -116,8 +122,20 @@ impl Elimination {
         ensures nodes { self.new.rows.nodes ≡ self.old.rows.nodes }
         ensures fewer { OnOk result (left_of self.new < left_of self.old) }
     {
-        lay(alloc, &mut self.rows.outs, &mut self.out_starts, &mut self.heads, self.node)?;
-        lay(alloc, &mut self.rows.ins, &mut self.in_starts, &mut self.tails, self.node)?;
+        lay(
+            alloc,
+            &mut self.rows.outs,
+            &mut self.out_starts,
+            &mut self.heads,
+            self.node,
+        )?;
+        lay(
+            alloc,
+            &mut self.rows.ins,
+            &mut self.in_starts,
+            &mut self.tails,
+            self.node,
+        )?;
         self.node += 1;
         self.tails_done = 0;
         self.heads_done = 0;
@@ -162,7 +180,10 @@ fn shared_at(outs: &Vec<Vec<u32>>, ins: &Vec<Vec<u32>>, node: u32, nodes: u32) -
         (row_at (numbers_of ins.now.items) node) result }
 {
     if node < nodes {
-        first_shared(outs[node as usize].as_slice(), ins[node as usize].as_slice())
+        first_shared(
+            outs[node as usize].as_slice(),
+            ins[node as usize].as_slice(),
+        )
     } else {
         BEHIND
     }

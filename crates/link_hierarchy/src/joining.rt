@@ -5,9 +5,9 @@ ghost use Rattle.link_hierarchy.specs.Customizing.{AreCustomized, IsAhead};
 ghost use Rattle.link_hierarchy.specs.Topologies.{AreJoined, IsPair, IsPlace, head_of, into_of, start_of, up_of};
 
 use crate::arcs::Arc;
-use crate::weights::Weights;
 use crate::limits::plus;
 use crate::topology::Topology;
+use crate::weights::Weights;
 
 /// A tail above a node comes to lead to the heads above that are above the tail.
 pub(crate) fn join_tail(

@@ -3,7 +3,6 @@
 
 mod arcs;
 mod chain;
-mod weights;
 mod customize;
 mod down;
 mod elimination;
@@ -13,13 +12,14 @@ mod merge;
 mod potentials;
 mod rows;
 mod topology;
+mod weights;
 mod whole;
 
 pub use arcs::Arc;
-pub use weights::Weights;
 pub use customize::{Customization, customized};
 pub use elimination::Elimination;
 pub use potentials::Potentials;
 pub use rows::Rows;
 pub use topology::Topology;
+pub use weights::Weights;
 pub use whole::least_sum;

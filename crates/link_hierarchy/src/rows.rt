@@ -2,7 +2,7 @@
 
 ghost use Rattle.std.specs.Prelude.{◌≡◌, ◌+◌, ◌-◌, ◌<◌, ◌⊎◌, ℕ, IfOk, IsTrue, OnOk, length, get_or};
 ghost use Rattle.item_list.specs.Pages.{numbers_of};
-ghost use Rattle.link_hierarchy.specs.Arcs.{arcs_of};
+ghost use Rattle.link_hierarchy.specs.Arcs.{AreWithin};
 ghost use Rattle.link_hierarchy.specs.Rows.{AreLists, AreRows, Holds, IsHeld, Widens, row_at};
 
 use crate::arcs::Arc;
@@ -49,8 +49,7 @@ impl Rows {
     /// Takes the next arc. Arcs that come in ascending order, by the node that they leave and then
     /// by that which they reach, take their places behind those of before.
     pub fn take(&mut self, alloc: Global, arcs: &[Arc]) -> Result<(), AllocError>
-        requires in_range { (a b price : ℕ) → arcs_of arcs.now a b price →
-            (a < self.old.nodes) × (b < self.old.nodes) }
+        requires in_range { AreWithin self.old.nodes arcs.now }
         requires there { self.old.taken < length arcs.now }
         requires on { AreRows self.old.nodes (numbers_of self.old.outs.items)
             (numbers_of self.old.ins.items) arcs.now self.old.taken 0 }

@@ -2,15 +2,15 @@
 
 ghost use Rattle.std.specs.Prelude.{◌<◌, ◌≡◌, ℕ, IfOk, length};
 ghost use Rattle.item_list.specs.Pages.{numbers_of};
-ghost use Rattle.link_hierarchy.specs.Arcs.{Covers, arcs_of};
+ghost use Rattle.link_hierarchy.specs.Arcs.{AreWithin, Covers, arcs_of};
 ghost use Rattle.link_hierarchy.specs.Rows.{AreRows, IsSorted};
 ghost use Rattle.link_hierarchy.specs.Walks.{IsLeastSumUpTo};
 ghost use Rattle.link_hierarchy.specs.declared.limits.TheConstants.{FAR};
 
 use crate::arcs::Arc;
 use crate::customize::customized;
-use crate::potentials::Potentials;
 use crate::elimination::Elimination;
+use crate::potentials::Potentials;
 use crate::rows::Rows;
 use crate::topology::Topology;
 use std::alloc::{AllocError, Global};
@@ -24,7 +24,7 @@ pub fn least_sum(
     from: u32,
     targets: &[u32],
 ) -> Result<Option<u32>, AllocError>
-    requires in_range { (a b price : ℕ) → arcs_of arcs.now a b price → (a < nodes) × (b < nodes) }
+    requires in_range { AreWithin nodes arcs.now }
     requires from { from < nodes }
     requires targets { IsSorted nodes targets.now }
     ensures exact { IfOk result (λ sum.
@@ -38,7 +38,7 @@ pub fn least_sum(
 
 /// What leads where in a hierarchy that has an edge for each arc, and what it has to have besides.
 pub fn topology_of(alloc: Global, nodes: u32, arcs: &[Arc]) -> Result<Topology, AllocError>
-    requires in_range { (a b price : ℕ) → arcs_of arcs.now a b price → (a < nodes) × (b < nodes) }
+    requires in_range { AreWithin nodes arcs.now }
     ensures covers { IfOk result (λ topology. Covers topology arcs.now) }
     ensures nodes { IfOk result (λ topology. topology.nodes ≡ nodes) }
 {
@@ -52,7 +52,7 @@ pub fn topology_of(alloc: Global, nodes: u32, arcs: &[Arc]) -> Result<Topology, 
 
 /// The rows of all arcs.
 fn rows_of(alloc: Global, nodes: u32, arcs: &[Arc]) -> Result<Rows, AllocError>
-    requires in_range { (a b price : ℕ) → arcs_of arcs.now a b price → (a < nodes) × (b < nodes) }
+    requires in_range { AreWithin nodes arcs.now }
     ensures on { IfOk result (λ rows. AreRows rows.nodes (numbers_of rows.outs.items)
         (numbers_of rows.ins.items) arcs.now (length arcs.now) 0) }
     ensures nodes { IfOk result (λ rows. rows.nodes ≡ nodes) }

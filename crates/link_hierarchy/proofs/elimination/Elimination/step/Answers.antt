@@ -66,4 +66,3 @@ returns-then-head-self-clause-fewer c =
     let item : IsItem (row_at (numbers_of c.args.self.now.rows.outs.items) c.args.self.now.node) c.args.self.now.heads_done c.item-head.result =
     subst (λ (r : List ℕ). IsItem r c.args.self.now.heads_done c.item-head.result) row c.item-head.ensures.value in
     head-fewer c.args._arcs.now c.args.self.now c.requires.on c.requires.more c.item-head.result item c.if-head-lt-BEHIND.true
-
