@@ -4,12 +4,12 @@ use Rattle.std.specs.Fmt.{digits}
 use Rattle.edge_io.specs.Acts.{Act}
 use Rattle.hall.proofs.CountLemmas.{Counts-same}
 use Rattle.hall.proofs.FrameLemmas.{status-200, status-400, status-422, status-refusal, status_in}
-use Rattle.hall_seats.specs.Allowed as rows
-use Rattle.hall_seats.specs.Allowed.{IsRowOf}
+use Rattle.hall.specs.Allowed as rows
+use Rattle.hall.specs.Allowed.{IsRowOf}
 use Rattle.hall.specs.Causes.{HasCause, OpensIn, away, memory, row}
-use Rattle.hall_seats.specs.Held.{HasRoom, IsFull}
-use Rattle.hall_seats.specs.State.{site_in, Service, State}
-use Rattle.hall_seats.specs.Steps.{full_frame}
+use Rattle.hall.specs.Held.{HasRoom, IsFull}
+use Rattle.hall.specs.State.{site_in, Service, State}
+use Rattle.hall.specs.Steps.{full_frame}
 use Rattle.hall.specs.Turns.{Meets}
 use Rattle.profile_text.specs.Lines.{text_line}
 use Rattle.profile_text.specs.Read.{profile_of}

@@ -6,10 +6,10 @@ use Rattle.edge_io.specs.declared.event.Event.{Event}
 use Rattle.edge_io.specs.declared.event.Event.TheVariants.{Opened, Bytes, Ended, Lost, Quiet, Over}
 use Rattle.hall.proofs.GrowthLemmas.{StandsBefore, events_in_order}
 use Rattle.hall.proofs.FrameLemmas.{no_success-early, status-200, status-422, status-refusal, status_in}
-use Rattle.hall_seats.specs.Allowed as rows
-use Rattle.hall_seats.specs.Allowed.{IsRowOf}
+use Rattle.hall.specs.Allowed as rows
+use Rattle.hall.specs.Allowed.{IsRowOf}
 use Rattle.hall.specs.Causes.{HasCause, HearsIn, IsDecidedIn, away, memory, row}
-use Rattle.hall_seats.specs.State.{site_in, Service, State}
+use Rattle.hall.specs.State.{site_in, Service, State}
 use Rattle.hall.specs.Turns.{EventOf, Meets, Turns}
 use Rattle.profile_text.specs.Lines.{text_line}
 use Rattle.profile_text.specs.Read.{profile_of}
