@@ -56,7 +56,7 @@ module _ (meets : Meets) (id : ℕ) (acts more : List Act) where
     ends = EndsSilent-more id was_silent.since more was_silent.ends;
   }
 
-  -- it had no peer
+  -- there was no room for it
   HadNoRoom-more : HadNoRoom meets id acts → HadNoRoom meets id (acts ++ more)
   HadNoRoom-more had = record {
     since = had.since ++ more;

@@ -88,7 +88,7 @@ module _ (desk : Desk) (kept : KeptProfiles) (are : AreKept (world_of desk.world
       (subst (IsSearchIn (site_at desk) (stored_of desk.profiles) kept (received_of made.received) made.ended made.before) (sym reads) tt)
       takes
 
--- a peer is answered by the frame of a refusal, or of want of memory
+-- a session is answered by the frame of a refusal, or of want of memory
 abbrev pub IsRefusedBy : Peer → Peer → Refusal → Type 0
 IsRefusedBy peer made r =
     (frame : Frame) × (made ≡ answered_by peer frame) × ((frame_in frame ≡ refusal_frame r) ⊎ (frame_in frame ≡ memory_frame))

@@ -26,7 +26,11 @@ pub(crate) fn reader_of(room: &Room, id: u64) -> Option<usize>
         Ok(k) => k,
         Err(_) => return None,
     };
-    if is_read(&room.peers[k]) { Some(k) } else { None }
+    if is_read(&room.peers[k]) {
+        Some(k)
+    } else {
+        None
+    }
 }
 
 /// Whether a connection is read.

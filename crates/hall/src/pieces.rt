@@ -5,8 +5,8 @@ ghost use Rattle.hall.specs.Parts.{FitsUnsent, frame_in, phase_in, sent_in};
 ghost use Rattle.hall.specs.Sends.{IsDone, IsPiece, most_piece};
 ghost use Rattle.hall.specs.State.{Answered};
 
-use crate::ready_frames::ReadyFrames;
 use crate::peer::{Frame, Phase};
+use crate::ready_frames::ReadyFrames;
 use session_answers::{Refusal, refusal_frame};
 use std::alloc::{AllocError, Global};
 
