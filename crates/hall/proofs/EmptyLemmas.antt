@@ -1,5 +1,5 @@
 -- A hall without connections.
-use Rattle.std.proofs.Common.{◌≡◌, ◌≤◌, ℕ, Bool, List, [], Some, None, refl, sym, ◌∙◌, ap, subst, arith}
+use Rattle.std.proofs.Common.{◌≡◌, ◌≤◌, ℕ, List, [], Some, None, sym, ◌∙◌, ap, subst, arith}
 use Rattle.std.specs.Vec.{vec_capacity}
 use Rattle.hall.specs.Parts.{AreAscending, AreReadied, IsHeld, IsOneOf, count_of, entries_of, most_peers, state_in}
 use Rattle.hall.specs.Sound.{AreWaiting}

@@ -14,7 +14,7 @@ use Rattle.hall.specs.Sends.{sent_more, ServesEach}
 use Rattle.hall.specs.Sound.{IsSound}
 use Rattle.hall.specs.State.{Connection, Service, State, empty_hall, left_as, put, without}
 use Rattle.hall.specs.Steps as steps
-use Rattle.hall.specs.Steps.{GoesOn, Hears, Loses, Opens, Step, Takes, Works, session, turned_away, whole_in, with_bytes, with_end}
+use Rattle.hall.specs.Steps.{GoesOn, Hears, Loses, Opens, Step, Takes, Works, session, turned_away, with_bytes, with_end}
 use Rattle.hall.specs.Sends.ServesEach.{none as none_served, more as more_served}
 use Rattle.session_answers.specs.Stored.{Stored}
 

@@ -1,5 +1,5 @@
 -- What a room comes to by the turn of the search that waited longest.
-use Rattle.std.proofs.Common.{◌≡◌, ℕ, List, [], ◌∷◌, get_or, Option, Some, None, Result, Ok, Err, IfErr, IsOk, inl, refl, sym, ◌∙◌, ap, subst}
+use Rattle.std.proofs.Common.{◌≡◌, ℕ, List, [], ◌∷◌, get_or, Some, None, Result, Ok, Err, IfErr, IsOk, inl, refl, sym, ◌∙◌, ap, subst}
 use Rattle.std.specs.Prelude.{slice_get}
 use Rattle.hall.proofs.PeerFindLemmas.{at_here}
 use Rattle.hall.proofs.PeerLemmas.{known_gap}

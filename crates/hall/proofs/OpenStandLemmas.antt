@@ -13,7 +13,7 @@ use Rattle.hall.specs.Held.{HasRoom, IsFull}
 use Rattle.hall.specs.Law.{no_room}
 use Rattle.hall.specs.State.{Connection, Service, State, put}
 use Rattle.hall.specs.Steps as steps
-use Rattle.hall.specs.Steps.{Opens, full_frame, session, turned_away}
+use Rattle.hall.specs.Steps.{Opens, session, turned_away}
 use Rattle.hall.specs.Turns.{Meets, shut}
 
 -- what was told of a connection when it opened

@@ -7,9 +7,8 @@ use Rattle.std.proofs.lemmas.Bool.Decides.{nat_tests}
 use Rattle.std.proofs.lemmas.Cmp.{ranked}
 use Rattle.std.proofs.lemmas.Option.{slice_get_read, slice_get_within}
 use Rattle.hall.proofs.PeerLemmas.{known_gap, known_place}
-use Rattle.hall.specs.Parts.{AreAbove, AreAscending, AreBelow, IsAt, IsGapFor, IsReadBy, IsReaderOf, connection_of, entries_of}
+use Rattle.hall.specs.Parts.{AreAbove, AreAscending, AreBelow, IsAt, IsGapFor, IsReadBy, IsReaderOf, connection_of}
 use Rattle.hall.specs.State.{Connection, Reading}
-use Rattle.hall.specs.View.{known_at}
 use Rattle.hall.specs.declared.peer.Peer.{Peer}
 
 above_get : (id : ℕ) (peers : List Peer) (j : ℕ) (d : Peer) → AreAbove id peers → j < length peers → id < (get_or peers j d).id

@@ -11,7 +11,6 @@ use Rattle.hall.specs.Steps as steps
 use Rattle.hall.specs.Steps.{Hears}
 use Rattle.hall.specs.declared.room.Room.{Room}
 use Rattle.hall.specs.declared.peer.Phase.TheVariants as phases
-use Rattle.hall.specs.declared.peer.Phase.{Phase as Kept}
 use Rattle.hall.specs.declared.peer.Peer.{Peer}
 
 -- who stands at a place is read, and its peer didn't end

@@ -3,7 +3,7 @@ use Rattle.std.proofs.Common.{◌≡◌, ◌≢◌, ◌⊎◌, ℕ, Bool, true, 
 use Rattle.hall.proofs.VerdictLemmas.{silent_by}
 use Rattle.hall.specs.Parts.{AreReadied, IsSearchAt, IsSearchIn, Joins, Settles, answered_by, connection_of, frame_in, last, none, phase_in, service_at, site_at, waiting_by}
 use Rattle.hall.specs.State.{Connection, Silent, Waits, waits_as, with_frame}
-use Rattle.hall.specs.Steps.{Takes, memory_frame, uploaded, whole_in}
+use Rattle.hall.specs.Steps.{Takes, memory_frame, whole_in}
 use Rattle.hall.specs.Steps as steps
 use Rattle.hall.specs.declared.desk.Desk.{Desk}
 use Rattle.hall.specs.declared.peer.Frame.{Frame}

@@ -1,11 +1,11 @@
 -- A room stays as it has to be by what calls change of one connection.
-use Rattle.std.proofs.Common.{◌≡◌, ◌≤◌, ◌==◌, ◌+◌, ℕ, Bool, cond, List, ◌++◌, set, take, Option, Some, None, inl, inr, refl, sym, ◌∙◌, ap, subst, arith, length-append}
+use Rattle.std.proofs.Common.{◌≡◌, ◌≤◌, ◌==◌, ◌+◌, ℕ, Bool, cond, List, ◌++◌, set, take, Option, Some, inl, inr, sym, ◌∙◌, ap, subst, arith, length-append}
 use Rattle.std.specs.Bool.{beq}
 use Rattle.std.specs.Prelude.{slice_get}
 use Rattle.std.specs.Vec.{vec_capacity}
 use Rattle.hall.proofs.PeerCountLemmas.{count_now}
 use Rattle.hall.proofs.PeerLemmas.{Swaps, ascending_now, known_now, known_of, known_one, one_at, one_now, swaps_set}
-use Rattle.hall.specs.Held.{count_at, most_sessions}
+use Rattle.hall.specs.Held.{most_sessions}
 use Rattle.hall.specs.Parts.{AreReadied, IsHeld, IsSearchAt, IsSearchIn, IsSearching, Makes, connection_of, count_of, entries_of, most_peers, service_at, service_in, site_at, state_in}
 use Rattle.hall.specs.Sound.{IsSound}
 use Rattle.hall.specs.State.{site_in, Connection, Service, State, changed, waits_as}

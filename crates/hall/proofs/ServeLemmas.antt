@@ -13,7 +13,7 @@ use Rattle.hall.specs.Allowed as rows
 use Rattle.hall.specs.Allowed.{IsRowOf}
 use Rattle.hall.specs.Causes.{memory, row}
 use Rattle.hall.specs.Law.{GetsOwn, own, silent}
-use Rattle.hall.specs.Sends.{Closes, IsDone, IsPiece, Sends, Serves, most_piece, sent_more}
+use Rattle.hall.specs.Sends.{Closes, IsDone, IsPiece, Sends, most_piece, sent_more}
 use Rattle.hall.specs.Sends as sending
 use Rattle.hall.specs.State.{site_in, Answered, Connection, Phase, Reading, Service, Silent, Waits}
 use Rattle.hall.specs.Steps.{AskedBy, GoesOn}

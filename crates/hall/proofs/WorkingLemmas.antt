@@ -2,7 +2,7 @@
 use Rattle.std.proofs.Common.{◌≡◌, ℕ, suc, List, [], ◌∷◌, ◌++◌, length, take, drop, refl, sym, ◌∙◌, ap, subst, arith, append-nil, length-drop}
 use Rattle.hall.specs.Parts.{AreReadied, HasTurn, IsSearchAt, IsSearchOf, Joins, Makes, answered_by, connection_of, frame_in, last, none, entries_of, service_at, service_in, site_at, state_in, waiting_by, waiting_for}
 use Rattle.hall.specs.State.{Connection, Waits, with_frame}
-use Rattle.hall.specs.Steps.{AskedBy, GoesOn, Works, memory_frame}
+use Rattle.hall.specs.Steps.{AskedBy, GoesOn, Works}
 use Rattle.hall.specs.Steps as steps
 use Rattle.hall.specs.View.{known_at}
 use Rattle.hall.specs.declared.desk.Desk.{Desk}

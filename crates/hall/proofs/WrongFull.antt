@@ -27,12 +27,12 @@ use Rattle.route_ready.specs.Lines.{route_line}
 use Rattle.session_answers.specs.Aims.{kind_for}
 use Rattle.session_answers.specs.Frames.{line_frame, refusal_frame, status_of}
 use Rattle.session_answers.specs.Rows as queries
-use Rattle.session_answers.specs.Rows.{Asks, IsEarlyFrame, IsQueryFrame}
+use Rattle.session_answers.specs.Rows.{IsQueryFrame}
 use Rattle.session_answers.specs.Stored.{Stored, Uploaded, by_check, by_text, most_uploads, stored_after, upload_name, upload_reply}
 use Rattle.session_answers.proofs.CallerLemmas.{if-so, path-so}
 use Rattle.session_answers.specs.Verdicts.{by_path, is_whole, most_body, of_query, of_upload, part, verdict_by}
 use Rattle.route_engine.specs.declared.aim.Aim.{Aim}
-use Rattle.session_answers.specs.declared.refusal.Refusal.TheVariants.{BadRequest, BodyTooLong, OutOfMemory, UnknownPath, UnknownProfile, SessionsFull, UploadsFull}
+use Rattle.session_answers.specs.declared.refusal.Refusal.TheVariants.{BadRequest, BodyTooLong, OutOfMemory, UnknownProfile, SessionsFull, UploadsFull}
 use Rattle.session_answers.specs.declared.verdict.Verdict.{Verdict}
 use Rattle.session_answers.specs.declared.verdict.Verdict.TheVariants.{Undecided, NoByte, Refused, Upload, Query}
 

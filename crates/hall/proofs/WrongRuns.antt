@@ -24,7 +24,7 @@ use Rattle.session_answers.proofs.CallerLemmas.{verdict_unique}
 use Rattle.session_answers.specs.Aims.{kind_for}
 use Rattle.session_answers.specs.Frames.{line_frame, refusal_frame, status_of}
 use Rattle.session_answers.specs.Rows as queries
-use Rattle.session_answers.specs.Rows.{Asks, IsEarlyFrame, IsQueryFrame}
+use Rattle.session_answers.specs.Rows.{Asks, IsQueryFrame}
 use Rattle.session_answers.specs.Stored.{Stored, by_check, by_text, find_stored, upload_reply}
 use Rattle.session_answers.specs.Verdicts.{IsVerdict, part}
 use Rattle.route_engine.specs.declared.aim.Aim.{Aim}

@@ -1,5 +1,5 @@
 -- A piece, and the close.
-use Rattle.std.proofs.Common.{None, Option, Some, if◌then◌else◌, subst, sym, ℕ}
+use Rattle.std.proofs.Common.{None, Some, if◌then◌else◌, subst, sym, ℕ}
 use Rattle.edge_io.specs.Hub.{IsLive}
 use Rattle.hall.proofs.ServingLemmas.{sent_live}
 use Rattle.hall.proofs.ServedLemmas.{served_both, served_broken}

@@ -1,4 +1,4 @@
-use Rattle.std.proofs.Common.{List, add-one, arith, subst, sym, take, ℕ, ◌∙◌}
+use Rattle.std.proofs.Common.{List, add-one, arith, subst, sym, take, ℕ}
 use Rattle.std.proofs.lemmas.List.{take_all}
 use Rattle.hall.proofs.SweepLemmas.{none_next, waiter_at}
 use Rattle.hall.specs.Swept.{HasNoWaiter}

@@ -1,4 +1,3 @@
-use Rattle.std.proofs.Common.{refl}
 use Rattle.hall.proofs.EmptyLemmas.{held_empty, state_empty}
 use Rattle.hall.specs.View.{service_of, state_of}
 use Rattle.hall.specs.declared.desk.Desk.{Desk}
