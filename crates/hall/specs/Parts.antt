@@ -1,5 +1,5 @@
 -- What the parts of a hall stand for, for the parts alone (this project's own rule).
-use Rattle.std.specs.Prelude.{◌≡◌, ◌≢◌, ◌⊎◌, ℕ, suc, ◌+◌, ◌<◌, ◌≤◌, Bool, true, false, List, [], ◌∷◌, ◌++◌, length, take, drop, map, slice_get, if◌then◌else◌, Option, Some, None}
+use Rattle.std.specs.Prelude.{◌≡◌, ◌≢◌, ◌⊎◌, ℕ, ◌+◌, ◌<◌, ◌≤◌, Bool, true, false, List, [], ◌∷◌, ◌++◌, length, take, drop, map, slice_get, Option, Some, None}
 use Rattle.std.specs.Vec.{vec_capacity}
 use Rattle.hall.specs.Held.{count_at, most_sessions}
 use Rattle.hall.specs.Sound.{IsSound}
@@ -129,10 +129,6 @@ pub record IsReader (peers : List Peer) (id k : ℕ) : Type 0 where
 abbrev pub IsReaderOf : List Peer → ℕ → Option ℕ → Type 0
 IsReaderOf peers id None = (c : Connection) → known_at (entries_of peers) id ≡ Some c → c.phase ≢ Reading
 IsReaderOf peers id (Some k) = IsReader peers id k
-
--- whether a connection counts
-abbrev pub CountsOne : Peer → Bool → Bool → Type 0
-CountsOne peer away answer = (n : ℕ) → count_at (Some (connection_of peer)) away n ≡ (if answer then suc n else n)
 
 -- how many of these are turned away, or else are sessions
 abbrev pub count_of : List Peer → Bool → ℕ

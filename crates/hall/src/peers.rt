@@ -3,7 +3,7 @@
 ghost use Rattle.std.specs.Prelude.{◌≡◌, ◌<◌, ◌≤◌, IfErr, IfOk, length};
 ghost use Rattle.std.specs.List.{insert};
 ghost use Rattle.std.specs.Vec.{vec_capacity};
-ghost use Rattle.hall.specs.Parts.{AreAscending, CountsOne, IsAt, IsGapFor, IsReadBy, IsReaderOf, count_of};
+ghost use Rattle.hall.specs.Parts.{AreAscending, IsAt, IsGapFor, IsReadBy, IsReaderOf, count_of};
 
 use crate::peer::{Peer, Phase};
 use crate::room::Room;
@@ -49,18 +49,11 @@ pub(crate) fn count(room: &Room, away: bool) -> usize
 {
     let mut n = 0;
     'peers: for k in 0..room.peers.len() {
-        if is_of(&room.peers[k], away) {
+        if room.peers[k].away == away {
             n += 1;
         }
     }
     n
-}
-
-/// Whether a connection is turned away, or else is a session.
-fn is_of(peer: &Peer, away: bool) -> bool
-    ensures exact { CountsOne peer.now away result }
-{
-    peer.away == away
 }
 
 /// Puts a connection at its place.
