@@ -4,13 +4,13 @@ use Rattle.std.proofs.lemmas.Bool.{cases_eq}
 use Rattle.edge_io.specs.Acts.{Act}
 use Rattle.edge_io.specs.declared.event.Event.TheVariants as event
 use Rattle.edge_io.specs.declared.event.Event.{Event}
-use Rattle.hall_seats.proofs.ChangeLemmas.{Changes, changes_gone, changes_now, changes_put}
-use Rattle.hall_seats.proofs.SoundInLemmas.{IsLeft, is_gone, is_same, is_more, left_serves}
-use Rattle.hall_seats.specs.Sends.{IsPiece, sent_more, ServesEach}
-use Rattle.hall_seats.specs.State.{Connection, Phase, Reading, Waits, Answered, Silent, Service, State, freed, left_as, put}
-use Rattle.hall_seats.specs.Steps as steps
-use Rattle.hall_seats.specs.Steps.{AsksFor, GoesOn, Hears, Loses, Opens, Step, Takes, Works, session, turned_away, with_bytes, with_end}
-use Rattle.hall_seats.specs.Sends.ServesEach.{none as none_served, more as more_served}
+use Rattle.hall.proofs.ChangeLemmas.{Changes, changes_gone, changes_now, changes_put}
+use Rattle.hall.proofs.SoundInLemmas.{IsLeft, is_gone, is_same, is_more, left_serves}
+use Rattle.hall.specs.Sends.{IsPiece, sent_more, ServesEach}
+use Rattle.hall.specs.State.{Connection, Phase, Reading, Waits, Answered, Silent, Service, State, freed, left_as, put}
+use Rattle.hall.specs.Steps as steps
+use Rattle.hall.specs.Steps.{AsksFor, GoesOn, Hears, Loses, Opens, Step, Takes, Works, session, turned_away, with_bytes, with_end}
+use Rattle.hall.specs.Sends.ServesEach.{none as none_served, more as more_served}
 use Rattle.route_http.specs.Asked.{Asked}
 use Rattle.session_answers.specs.Searches.{turns_for}
 use Rattle.session_answers.specs.Stored.{Stored}

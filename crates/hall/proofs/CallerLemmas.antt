@@ -5,9 +5,9 @@ use Rattle.edge_io.specs.Acts.{Act, OpensOnce}
 use Rattle.edge_io.specs.Hub.{HubSeen}
 use Rattle.hall.proofs.EndedLemmas.{ended_each_wait}
 use Rattle.hall.specs.Law.{GetsOwn, KeepsApart}
-use Rattle.hall_seats.specs.Served.{AreLive}
+use Rattle.hall.specs.Serving.{AreLive}
 use Rattle.hall.specs.Served.{OpenOnceIn, Served}
-use Rattle.hall_seats.specs.State.{Service, State, empty_hall}
+use Rattle.hall.specs.State.{Service, State, empty_hall}
 use Rattle.hall.specs.Turns.{EventOf, Run}
 use Rattle.hall.specs.Uploads.{GrowsByUploads, StoresUploads}
 use Rattle.hall.specs.Waiting.{EndedEachWait, EndsEachWait}

@@ -4,7 +4,7 @@ use Rattle.edge_io.specs.Acts.{Act, Gave, told}
 use Rattle.hall.proofs.TrafficLemmas.{EndsSilent-more, OpensThen-more, SendsNone}
 use Rattle.hall.specs.Causes.{HasCause, IsDecidedIn, OpensIn, away, memory, row}
 use Rattle.hall.specs.Law.{GetsOwn, HadNoRoom, IsFrontOf, WasSilent, waits, no_room, silent, own}
-use Rattle.hall_seats.specs.State.{Service, State}
+use Rattle.hall.specs.State.{Service, State}
 use Rattle.session_answers.specs.Stored.{Stored}
 use Rattle.hall.specs.Turns.{Meets}
 
@@ -56,7 +56,7 @@ module _ (meets : Meets) (id : ℕ) (acts more : List Act) where
     ends = EndsSilent-more id was_silent.since more was_silent.ends;
   }
 
-  -- it had no seat
+  -- there was no room for it
   HadNoRoom-more : HadNoRoom meets id acts → HadNoRoom meets id (acts ++ more)
   HadNoRoom-more had = record {
     since = had.since ++ more;

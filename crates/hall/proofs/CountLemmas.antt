@@ -2,9 +2,9 @@
 use Rattle.std.proofs.Common.{◌≡◌, ◌≢◌, ◌==◌, ◌+◌, ℕ, suc, Bool, true, false, cond, List, [], ◌∷◌, Option, Some, None, inl, inr, refl, sym, ◌∙◌, ap, subst, arith, eq-eqb, eqb-true}
 use Rattle.std.proofs.lemmas.Bool.{false≢true}
 use Rattle.std.specs.Bool.{beq}
-use Rattle.hall_seats.proofs.IdLemmas.{among_kept, among_without, different_without, without_none}
-use Rattle.hall_seats.specs.Held.{AreDifferent, Counts, IsAmong, count_among, count_at}
-use Rattle.hall_seats.specs.State.{Connection, State, without}
+use Rattle.hall.proofs.IdLemmas.{among_kept, among_without, different_without, without_none}
+use Rattle.hall.specs.Held.{AreDifferent, Counts, IsAmong, count_among, count_at}
+use Rattle.hall.specs.State.{Connection, State, without}
 
 -- ---- Counts
 

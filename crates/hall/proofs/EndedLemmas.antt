@@ -1,7 +1,7 @@
 -- No search went on for ever in a run: the law of all runs, said of the turns of one.
 use Rattle.std.proofs.Common.{◌≡◌, ◌+◌, ℕ, suc, List, [], ◌++◌, inl, inr, refl, sym, subst, arith}
 use Rattle.edge_io.specs.Acts.{Act}
-use Rattle.hall_seats.specs.State.{Connection, Service, State, empty_hall}
+use Rattle.hall.specs.State.{Connection, Service, State, empty_hall}
 use Rattle.hall.specs.Turns.Turns.{none, more}
 use Rattle.hall.specs.Turns.{Turns}
 use Rattle.hall.specs.Waiting.{EndedEachWait, EndedSince, EndsAmong, EndsEachWait, HeldAfter}

@@ -5,17 +5,17 @@ use Rattle.std.specs.Bool.{beq}
 use Rattle.edge_io.specs.Acts.{Act}
 use Rattle.edge_io.specs.declared.event.Event.TheVariants as event
 use Rattle.edge_io.specs.declared.event.Event.{Event}
-use Rattle.hall_seats.proofs.ChangeLemmas.{Changes, changes_gone, changes_now, changes_put}
+use Rattle.hall.proofs.ChangeLemmas.{Changes, changes_gone, changes_now, changes_put}
 use Rattle.hall.proofs.CountLemmas.{count_first, count_taken}
-use Rattle.hall_seats.proofs.IdLemmas.{among_kept, among_without, different_without}
-use Rattle.hall_seats.proofs.SoundInLemmas.{IsLeft, is_gone, is_same, is_more, left_serves, waits_sound}
-use Rattle.hall_seats.specs.Held.{AreDifferent, AreFew, Counts, IsAmong, count_among, count_at, most_sessions}
-use Rattle.hall_seats.specs.Sends.{sent_more, ServesEach}
-use Rattle.hall_seats.specs.Sound.{IsSound}
-use Rattle.hall_seats.specs.State.{Connection, Service, State, empty_hall, left_as, put, without}
-use Rattle.hall_seats.specs.Steps as steps
-use Rattle.hall_seats.specs.Steps.{GoesOn, Hears, Loses, Opens, Step, Takes, Works, session, turned_away, whole_in, with_bytes, with_end}
-use Rattle.hall_seats.specs.Sends.ServesEach.{none as none_served, more as more_served}
+use Rattle.hall.proofs.IdLemmas.{among_kept, among_without, different_without}
+use Rattle.hall.proofs.SoundInLemmas.{IsLeft, is_gone, is_same, is_more, left_serves, waits_sound}
+use Rattle.hall.specs.Held.{AreDifferent, AreFew, Counts, IsAmong, count_among, count_at, most_sessions}
+use Rattle.hall.specs.Sends.{sent_more, ServesEach}
+use Rattle.hall.specs.Sound.{IsSound}
+use Rattle.hall.specs.State.{Connection, Service, State, empty_hall, left_as, put, without}
+use Rattle.hall.specs.Steps as steps
+use Rattle.hall.specs.Steps.{GoesOn, Hears, Loses, Opens, Step, Takes, Works, session, turned_away, with_bytes, with_end}
+use Rattle.hall.specs.Sends.ServesEach.{none as none_served, more as more_served}
 use Rattle.session_answers.specs.Stored.{Stored}
 
 -- ---- One changes

@@ -1,8 +1,8 @@
 -- Frames of two statuses differ.
 use Rattle.std.proofs.Common.{◌≡◌, ◌≢◌, ◌==◌, ℕ, ◌+◌, ◌-◌, ◌*◌, true, false, List, [], ◌∷◌, ◌++◌, length, get_or, cond, Some, None, Result, Ok, Err, refl, sym, ◌∙◌, arith}
 use Rattle.std.specs.Fmt.{digits}
-use Rattle.hall_seats.specs.State.{site_in, Service}
-use Rattle.hall_seats.specs.Steps.{uploaded}
+use Rattle.hall.specs.State.{site_in, Service}
+use Rattle.hall.specs.Steps.{uploaded}
 use Rattle.profile_text.specs.Lines.{text_line}
 use Rattle.profile_text.specs.Read.{profile_of}
 use Rattle.profile_text.specs.Tree.{Sections}

@@ -4,9 +4,9 @@ use Rattle.edge_io.specs.Acts.{Act}
 use Rattle.edge_io.specs.declared.event.Event.TheVariants.{Opened, Bytes, Ended, Lost, Quiet, Over}
 use Rattle.edge_io.specs.declared.event.Event.{Event}
 use Rattle.hall.proofs.OneLemmas.{each_stored, works_stored}
-use Rattle.hall_seats.specs.State.{Connection, Service, State}
-use Rattle.hall_seats.specs.Steps as steps
-use Rattle.hall_seats.specs.Steps.{Hears, Loses, Opens, Step, with_bytes, with_end}
+use Rattle.hall.specs.State.{Connection, Service, State}
+use Rattle.hall.specs.Steps as steps
+use Rattle.hall.specs.Steps.{Hears, Loses, Opens, Step, with_bytes, with_end}
 use Rattle.hall.specs.Turns.{EventOf, Turn, Turns}
 use Rattle.hall.specs.Turns.Turns.{none as none_turned, more as more_turned}
 use Rattle.session_answers.specs.Stored.{Stored}

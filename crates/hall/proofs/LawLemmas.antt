@@ -9,7 +9,7 @@ use Rattle.hall.proofs.StandLemmas.{AllStand-quiet, gets_own}
 use Rattle.hall.proofs.Status.{AllStand, Stands, unheard}
 use Rattle.hall.proofs.StepLemmas.{OpensAnew, step_stands}
 use Rattle.hall.specs.Law.{GetsOwn, KeepsApart}
-use Rattle.hall_seats.specs.State.{Service, State, empty_hall}
+use Rattle.hall.specs.State.{Service, State, empty_hall}
 use Rattle.hall.specs.Turns.{EventOf, Meets, Turn, Turns, last_act, shut}
 use Rattle.hall.specs.Turns.Turns.{none, more}
 use Rattle.session_answers.specs.Stored.{Stored}

@@ -6,12 +6,12 @@ use Rattle.edge_io.specs.Hub.{Closes as ClosesAt, HubSeen, Tells}
 use Rattle.edge_io.specs.declared.event.Event.{Event}
 use Rattle.edge_io.specs.declared.event.Event.TheVariants.{Opened, Bytes, Ended, Lost, Quiet, Over}
 use Rattle.edge_io.proofs.CallerLemmas.{IsLive-kept, IsLive-opened, Tells-live}
-use Rattle.hall_seats.proofs.ChangeLemmas.{Changes, changes_gone, changes_now, changes_put}
-use Rattle.hall_seats.specs.Served.{AreLive}
+use Rattle.hall.proofs.ChangeLemmas.{Changes, changes_gone, changes_now, changes_put}
+use Rattle.hall.specs.Serving.{AreLive}
 use Rattle.hall.specs.Served.{Heard, Stepped}
-use Rattle.hall_seats.specs.State.{Connection, Service, State, changed, freed}
-use Rattle.hall_seats.specs.Steps.{Hears, Loses, Opens, Step, Works, session, turned_away, with_bytes, with_end}
-use Rattle.hall_seats.specs.Steps as steps
+use Rattle.hall.specs.State.{Connection, Service, State, changed, freed}
+use Rattle.hall.specs.Steps.{Hears, Loses, Opens, Step, Works, session, turned_away, with_bytes, with_end}
+use Rattle.hall.specs.Steps as steps
 use Rattle.session_answers.specs.Stored.{Stored}
 
 -- ---- Ids that are held

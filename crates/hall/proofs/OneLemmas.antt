@@ -4,17 +4,17 @@ use Rattle.std.proofs.lemmas.Bool.{cases_eq, eq-eqb, false≢true, ne_eqb}
 use Rattle.edge_io.specs.Acts.{Act, Took, Broke, Closed, is_event_of}
 use Rattle.edge_io.specs.declared.event.Event.{Event}
 use Rattle.edge_io.specs.declared.event.Event.TheVariants.{Opened, Bytes, Ended, Lost, Quiet, Over}
-use Rattle.hall_seats.proofs.ChangeLemmas.{changes_gone, changes_left, changes_now, changes_put}
-use Rattle.hall_seats.proofs.IdLemmas.{among_first, among_last, among_split, different_split}
+use Rattle.hall.proofs.ChangeLemmas.{changes_gone, changes_left, changes_now, changes_put}
+use Rattle.hall.proofs.IdLemmas.{among_first, among_last, among_split, different_split}
 use Rattle.hall.proofs.TrafficLemmas.{AreApart, AreApart-more, AreApart-none, AreApart-one}
-use Rattle.hall_seats.specs.Held.{AreDifferent, IsAmong}
-use Rattle.hall_seats.specs.Sends.{Closes, Sends, Serves, ServesEach}
-use Rattle.hall_seats.specs.Sends as sending
-use Rattle.hall_seats.specs.State.{Connection, Service, State, changed, left_as}
-use Rattle.hall_seats.specs.Steps.{GoesOn, Hears, Loses, Opens, Step, Works, session, turned_away, with_bytes, with_end}
-use Rattle.hall_seats.specs.Steps as steps
+use Rattle.hall.specs.Held.{AreDifferent, IsAmong}
+use Rattle.hall.specs.Sends.{Closes, Sends, Serves, ServesEach}
+use Rattle.hall.specs.Sends as sending
+use Rattle.hall.specs.State.{Connection, Service, State, changed, left_as}
+use Rattle.hall.specs.Steps.{GoesOn, Hears, Loses, Opens, Step, Works, session, turned_away, with_bytes, with_end}
+use Rattle.hall.specs.Steps as steps
 use Rattle.hall.specs.Turns.{Turn}
-use Rattle.hall_seats.specs.Sends.ServesEach.{none as none_served, more as more_served}
+use Rattle.hall.specs.Sends.ServesEach.{none as none_served, more as more_served}
 use Rattle.session_answers.specs.Stored.{Stored}
 
 -- ---- An event

@@ -3,17 +3,17 @@ use Rattle.std.proofs.Common.{◌≡◌, ℕ, true, false, List, [], ◌∷◌, 
 use Rattle.std.proofs.lemmas.Bool.{eq-eqb, ne_eqb}
 use Rattle.edge_io.specs.Acts.{Act, Gave, Closed, Traffic, after_own, told}
 use Rattle.edge_io.specs.declared.event.Event.TheVariants.{Opened}
-use Rattle.hall_seats.proofs.ChangeLemmas.{changes_put}
+use Rattle.hall.proofs.ChangeLemmas.{changes_put}
 use Rattle.hall.proofs.StandLemmas.{AllStand-by, AllStand-same, is_new, new_is_none}
 use Rattle.hall.proofs.Status.{AllStand, FitsPhase, IsNew, Stands, held, gone}
 use Rattle.hall.proofs.TrafficLemmas.{AreApart-more, AreApart-one, told-own}
-use Rattle.hall_seats.proofs.VerdictLemmas.{nothing_is_undecided}
+use Rattle.hall.proofs.VerdictLemmas.{nothing_is_undecided}
 use Rattle.hall.specs.Causes.{OpensIn, away}
-use Rattle.hall_seats.specs.Held.{HasRoom, IsFull}
+use Rattle.hall.specs.Held.{HasRoom, IsFull}
 use Rattle.hall.specs.Law.{no_room}
-use Rattle.hall_seats.specs.State.{Connection, Service, State, put}
-use Rattle.hall_seats.specs.Steps as steps
-use Rattle.hall_seats.specs.Steps.{Opens, full_frame, session, turned_away}
+use Rattle.hall.specs.State.{Connection, Service, State, put}
+use Rattle.hall.specs.Steps as steps
+use Rattle.hall.specs.Steps.{Opens, session, turned_away}
 use Rattle.hall.specs.Turns.{Meets, shut}
 
 -- what was told of a connection when it opened

@@ -1,7 +1,7 @@
 -- How many ids stand before one at most.
 use Rattle.std.proofs.Common.{◌≡◌, ◌≢◌, ◌⊎◌, ◌==◌, ◌≤◌, ℕ, zero, suc, Bool, true, false, cond, List, [], ◌∷◌, ◌++◌, length, inl, inr, refl, sym, ◌∙◌, arith, eqb-true}
-use Rattle.hall_seats.specs.Held.{IsAmong}
-use Rattle.hall_seats.specs.State.{without}
+use Rattle.hall.specs.Held.{IsAmong}
+use Rattle.hall.specs.State.{without}
 
 -- an id is among the first so many of these
 abbrev pub IsAmongFirst : ℕ → ℕ → List ℕ → Type 0

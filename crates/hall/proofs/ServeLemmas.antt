@@ -9,15 +9,15 @@ use Rattle.hall.proofs.OneLemmas.{ServedOf, WorkedOf, goes, other, own_acts, res
 use Rattle.hall.proofs.StandLemmas.{GetsOwn-held, Stands-apart, held_at}
 use Rattle.hall.proofs.Status.{FitsPhase, IsAsked, IsHeldSo, Stands, held, gone}
 use Rattle.hall.proofs.TrafficLemmas.{opened-more, told-own}
-use Rattle.hall_seats.specs.Allowed as rows
-use Rattle.hall_seats.specs.Allowed.{IsRowOf}
+use Rattle.hall.specs.Allowed as rows
+use Rattle.hall.specs.Allowed.{IsRowOf}
 use Rattle.hall.specs.Causes.{memory, row}
 use Rattle.hall.specs.Law.{GetsOwn, own, silent}
-use Rattle.hall_seats.specs.Sends.{Closes, IsDone, IsPiece, Sends, Serves, most_piece, sent_more}
-use Rattle.hall_seats.specs.Sends as sending
-use Rattle.hall_seats.specs.State.{site_in, Answered, Connection, Phase, Reading, Service, Silent, Waits}
-use Rattle.hall_seats.specs.Steps.{AskedBy, GoesOn}
-use Rattle.hall_seats.specs.Steps as steps
+use Rattle.hall.specs.Sends.{Closes, IsDone, IsPiece, Sends, most_piece, sent_more}
+use Rattle.hall.specs.Sends as sending
+use Rattle.hall.specs.State.{site_in, Answered, Connection, Phase, Reading, Service, Silent, Waits}
+use Rattle.hall.specs.Steps.{AskedBy, GoesOn}
+use Rattle.hall.specs.Steps as steps
 use Rattle.hall.specs.Turns.{Meets}
 use Rattle.session_answers.specs.Rows.{IsQueryFrame}
 use Rattle.session_answers.specs.Stored.{Stored}

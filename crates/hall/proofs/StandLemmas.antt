@@ -3,11 +3,11 @@ use Rattle.std.proofs.Common.{◌≡◌, ◌≢◌, ℕ, Bool, true, false, List
 use Rattle.std.proofs.lemmas.Bool.{cases_eq}
 use Rattle.edge_io.specs.Acts.{Act, Traffic, told}
 use Rattle.hall.proofs.CauseLemmas.{GetsOwn-more, HasCause-more, IsDecidedIn-more, OpensIn-more, WasSilent-more}
-use Rattle.hall_seats.proofs.ChangeLemmas.{Changes, changes_none}
+use Rattle.hall.proofs.ChangeLemmas.{Changes, changes_none}
 use Rattle.hall.proofs.Status.{AllStand, FitsPhase, IsAsked, IsHeldSo, IsNew, IsRead, Stands, unheard, held, gone}
 use Rattle.hall.proofs.TrafficLemmas.{AreApart, SendsNone, SendsNone-apart, opened-more, told-apart}
 use Rattle.hall.specs.Law.{GetsOwn, waits, own}
-use Rattle.hall_seats.specs.State.{Answered, Connection, Phase, Reading, Service, Silent, State, Waits}
+use Rattle.hall.specs.State.{Answered, Connection, Phase, Reading, Service, Silent, State, Waits}
 use Rattle.hall.specs.Turns.{Meets}
 use Rattle.session_answers.specs.Stored.{Stored}
 

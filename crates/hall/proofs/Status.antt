@@ -2,9 +2,9 @@
 use Rattle.std.proofs.Common.{◌≡◌, ℕ, Bool, true, false, List, [], ◌++◌, length, take, Option, Some, None}
 use Rattle.edge_io.specs.Acts.{Act, told}
 use Rattle.hall.specs.Causes.{HasCause, IsDecidedIn, OpensIn}
-use Rattle.hall_seats.specs.Held.{HasRoom}
+use Rattle.hall.specs.Held.{HasRoom}
 use Rattle.hall.specs.Law.{GetsOwn, WasSilent}
-use Rattle.hall_seats.specs.State.{Answered, Connection, Phase, Reading, Service, Silent, State, Waits}
+use Rattle.hall.specs.State.{Answered, Connection, Phase, Reading, Service, Silent, State, Waits}
 use Rattle.hall.specs.Turns.{Meets}
 use Rattle.session_answers.specs.Stored.{Stored}
 use Rattle.session_answers.specs.Verdicts.{IsVerdict}

@@ -5,15 +5,15 @@ use Rattle.edge_io.specs.Acts.{Act, Gave, Traffic, is_act_on, is_event_of, told}
 use Rattle.edge_io.specs.declared.event.Event.TheVariants.{Opened, Bytes, Ended, Lost, Quiet, Over}
 use Rattle.edge_io.specs.declared.event.Event.{Event}
 use Rattle.hall.proofs.CauseLemmas.{GetsOwn-more}
-use Rattle.hall_seats.proofs.ChangeLemmas.{changes_gone, changes_now}
+use Rattle.hall.proofs.ChangeLemmas.{changes_gone, changes_now}
 use Rattle.hall.proofs.OpenStandLemmas.{opening_stands}
 use Rattle.hall.proofs.StandLemmas.{AllStand-by, AllStand-quiet, AllStand-same, GetsOwn-held, held_at, held_more}
 use Rattle.hall.proofs.Status.{AllStand, FitsPhase, IsHeldSo, IsRead, Stands, unheard, held, gone}
 use Rattle.hall.proofs.TakingLemmas.{IsTaking, bytes_taking, end_taking, read_at, takes_fit}
 use Rattle.hall.proofs.TrafficLemmas.{AreApart, AreApart-one, SendsNone-event, opened-more, told-own}
-use Rattle.hall_seats.specs.State.{Connection, Reading, Service, State, changed, freed}
-use Rattle.hall_seats.specs.Steps as steps
-use Rattle.hall_seats.specs.Steps.{Hears, Loses, Step, Takes, with_bytes, with_end}
+use Rattle.hall.specs.State.{Connection, Reading, Service, State, changed, freed}
+use Rattle.hall.specs.Steps as steps
+use Rattle.hall.specs.Steps.{Hears, Loses, Step, Takes, with_bytes, with_end}
 use Rattle.hall.specs.Turns.{Meets, shut}
 use Rattle.session_answers.specs.Stored.{Stored}
 

@@ -4,15 +4,15 @@ use Rattle.std.proofs.lemmas.Bool.{cases_eq}
 use Rattle.edge_io.specs.Acts.{Act}
 use Rattle.edge_io.specs.declared.event.Event.TheVariants as event
 use Rattle.edge_io.specs.declared.event.Event.{Event}
-use Rattle.hall_seats.proofs.ChangeLemmas.{changes_gone, changes_now, changes_put}
+use Rattle.hall.proofs.ChangeLemmas.{changes_gone, changes_now, changes_put}
 use Rattle.hall.proofs.PlaceLemmas.{IsAmongFirst, first_more, first_without}
-use Rattle.hall_seats.proofs.SoundInLemmas.{piece_waits}
-use Rattle.hall_seats.specs.Sends as sending
-use Rattle.hall_seats.specs.Sends.{Closes, IsDone, Sends, Serves, ServesEach}
-use Rattle.hall_seats.specs.State.{Connection, Phase, Reading, Waits, Answered, Silent, Service, State, changed, freed, left_as, put, waits_as, with_frame}
-use Rattle.hall_seats.specs.Steps as steps
-use Rattle.hall_seats.specs.Steps.{GoesOn, Hears, Loses, Opens, Step, Works, memory_frame, session, turned_away, with_bytes, with_end}
-use Rattle.hall_seats.specs.Sends.ServesEach.{none as none_served, more as more_served}
+use Rattle.hall.proofs.SoundInLemmas.{piece_waits}
+use Rattle.hall.specs.Sends as sending
+use Rattle.hall.specs.Sends.{Closes, IsDone, Sends, Serves, ServesEach}
+use Rattle.hall.specs.State.{Connection, Phase, Reading, Waits, Answered, Silent, Service, State, changed, freed, left_as, put, waits_as, with_frame}
+use Rattle.hall.specs.Steps as steps
+use Rattle.hall.specs.Steps.{GoesOn, Hears, Loses, Opens, Step, Works, memory_frame, session, turned_away, with_bytes, with_end}
+use Rattle.hall.specs.Sends.ServesEach.{none as none_served, more as more_served}
 use Rattle.session_answers.specs.Stored.{Stored}
 
 -- a session is as it was, and no more wait before it

@@ -1,16 +1,17 @@
 -- A room stays as it has to be where a making is dropped for which no session waits.
-use Rattle.std.proofs.Common.{◌≡◌, ◌≢◌, ◌<◌, ◌∙◌, ℕ, Bool, true, false, List, Option, Some, None, get_or, length, subst, sym}
-use Rattle.std.specs.Prelude.{MatchOption, take}
-use Rattle.std.proofs.lemmas.Bool.{false≢true}
+use Rattle.std.proofs.Common.{◌≡◌, ◌≢◌, ◌<◌, ◌∙◌, ℕ, zero, suc, Bool, true, false, List, [], ◌∷◌, Option, Some, None, get_or, take, length, inl, inr, refl, subst, sym, arith}
+use Rattle.std.proofs.lemmas.Bool.{cases_lt}
+use Rattle.std.proofs.lemmas.List.{get_or_past}
+use Rattle.std.proofs.lemmas.Option.{slice_get_read}
 use Rattle.hall.specs.Swept.{HasNoWaiter, HasWaiter, IsSwept, IsSweptAt}
-use Rattle.hall_seats.proofs.SeatLemmas.{seat_within}
-use Rattle.hall_seats.specs.Parts.{AreReadied, IsHeld, IsSearchIn, is_awaited_by}
-use Rattle.hall_seats.specs.State.{Service, State}
-use Rattle.hall_seats.specs.Steps.{Works}
-use Rattle.hall_seats.specs.declared.room.Room.{Room}
-use Rattle.hall_seats.specs.declared.seat.Phase.{Phase as Kept}
-use Rattle.hall_seats.specs.declared.seat.Phase.TheVariants as phases
-use Rattle.hall_seats.specs.declared.seat.Seat.{Seat}
+use Rattle.hall.proofs.PeerLemmas.{one_at}
+use Rattle.hall.specs.Parts.{AreReadied, IsHeld, IsSearchIn, is_awaited_by}
+use Rattle.hall.specs.State.{Service, State}
+use Rattle.hall.specs.Steps.{Works}
+use Rattle.hall.specs.declared.room.Room.{Room}
+use Rattle.hall.specs.declared.peer.Phase.{Phase as Kept}
+use Rattle.hall.specs.declared.peer.Phase.TheVariants as phases
+use Rattle.hall.specs.declared.peer.Peer.{Peer}
 use Rattle.session_answers.proofs.CallerLemmas.{job_unawaited}
 use Rattle.session_answers.specs.Makings.{Puts}
 use Rattle.session_answers.specs.Sites.{Site}
@@ -25,21 +26,25 @@ works_same service s worked swept works same = subst (Works service s) (sym same
 
 -- ---- Who waits
 
--- what is answered of a seat that may be free: whether its session waits for the making at a place
-abbrev pub TellsWaiter : Option Seat → ℕ → Bool → Type 0
-TellsWaiter slot k answer = MatchOption slot (answer ≡ false) (λ (taken : Seat). answer ≡ is_awaited_by taken.phase k)
+-- those at the places so far don't wait, nor does the one at the next
+pub none_next : (peers : List Peer) (j k : ℕ) (x : Peer) → j < length peers → x ≡ get_or peers j x →
+    is_awaited_by x.phase k ≡ false → HasNoWaiter (take j peers) k → HasNoWaiter (take (suc j) peers) k
+none_next [] j k x there is never all peer one = absurd (omega (arith, there))
+none_next (y ∷ peers) zero k x there is never all peer (inl same) =
+    subst (λ (z : Peer). is_awaited_by z.phase k ≡ false) (is ∙ same) never
+none_next (y ∷ peers) zero k x there is never all peer (inr later) = absurd later
+none_next (y ∷ peers) (suc j) k x there is never all peer (inl same) = all peer (inl same)
+none_next (y ∷ peers) (suc j) k x there is never all peer (inr later) =
+    none_next peers j k x (omega (arith, there)) is never (λ z one. all z (inr one)) peer later
 
--- a session that was found waits
-pub waiter_at : (seats : List (Option Seat)) (j k : ℕ) (slot : Option Seat) (answer : Bool) → get_or seats j None ≡ slot →
-    TellsWaiter slot k answer → answer ≡ true → HasWaiter seats k
-waiter_at seats j k None answer is tells found = absurd (false≢true (sym tells ∙ found))
-waiter_at seats j k (Some seat) answer is tells found = record { j = j; seat = seat; there = is; awaits = sym tells ∙ found }
-
--- and one that wasn't doesn't
-pub waits_not : (slot : Option Seat) (k : ℕ) (answer : Bool) (seat : Seat) → TellsWaiter slot k answer → answer ≡ false →
-    slot ≡ Some seat → is_awaited_by seat.phase k ≡ false
-waits_not slot k answer seat tells none is =
-    sym (subst (λ (o : Option Seat). TellsWaiter o k answer) is tells) ∙ none
+-- who was found waits
+pub waiter_at : (peers : List Peer) (j k : ℕ) (x : Peer) → j < length peers → x ≡ get_or peers j x →
+    is_awaited_by x.phase k ≡ true → HasWaiter peers k
+waiter_at peers j k x there is found = record {
+  peer = x;
+  there = one_at peers j x (slice_get_read peers (length peers) j x refl there is);
+  awaits = found;
+}
 
 -- ---- What stays
 
@@ -68,16 +73,16 @@ without_making room kept = record room { desk = record room.desk { kept = kept }
 module _ (room : Room) (kept : KeptProfiles) (k : ℕ)
     (puts : Puts room.desk.kept.makings.slots.items kept.makings.slots.items k None) where
   -- it is as it has to be where no session waited for that
-  pub swept : IsHeld room → HasNoWaiter room.seats.items k → AreReadied (record room.desk { kept = kept }) →
+  pub swept : IsHeld room → HasNoWaiter room.peers.items k → AreReadied (record room.desk { kept = kept }) →
       IsHeld (without_making room kept)
   swept held never are = record {
     sound = held.sound;
-    long = held.long;
-    once = held.once;
+    ascending = held.ascending;
+    roomy = held.roomy;
     few = held.few;
-    searching = λ j seat has.
-        search_unawaited _ _ room.desk.kept kept k puts (received_of seat.received) seat.ended seat.before seat.phase
-        (never j seat has) (held.searching j seat has);
+    searching = λ peer one.
+        search_unawaited _ _ room.desk.kept kept k puts (received_of peer.received) peer.ended peer.before peer.phase
+        (never peer one) (held.searching peer one);
     kept = are;
   }
 
@@ -89,9 +94,19 @@ module _ (room : Room) (kept : KeptProfiles) (k : ℕ)
   pub swept_elsewhere : (j : ℕ) → j ≢ k → IsSweptAt room j → IsSweptAt (without_making room kept) j
   swept_elsewhere j other was making there = was making (sym (puts.others j other) ∙ there)
 
+-- where a making stands, there is a place
+slot_within : {A : Type 0} (slots : List (Option A)) (k : ℕ) (x : A) → get_or slots k None ≡ Some x → k < length slots
+slot_within slots k x there =
+    elim (cases_lt k (length slots)) [
+      | inl below ↦ below
+      | inr past ↦
+          (let none : get_or slots k None ≡ None = get_or_past slots k None past in
+          let clash : Some x ≡ None = sym there ∙ none in cc)
+    ]
+
 -- each making is swept where those at all places are
 pub swept_whole : (room : Room) (n : ℕ) → n ≡ length room.desk.kept.makings.slots.items →
     ((k : ℕ) → k < n → IsSweptAt room k) → IsSwept room
 swept_whole room n whole below k making there =
     below k
-    (subst (λ (m : ℕ). k < m) (sym whole) (seat_within room.desk.kept.makings.slots.items k making there)) making there
+    (subst (λ (m : ℕ). k < m) (sym whole) (slot_within room.desk.kept.makings.slots.items k making there)) making there

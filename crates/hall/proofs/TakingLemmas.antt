@@ -7,14 +7,13 @@ use Rattle.edge_io.specs.declared.event.Event.{Event}
 use Rattle.hall.proofs.CauseLemmas.{OpensIn-more}
 use Rattle.hall.proofs.Status.{FitsPhase, IsHeldSo, IsRead}
 use Rattle.hall.proofs.TrafficLemmas.{told-own}
-use Rattle.hall_seats.proofs.VerdictLemmas.{silent_by, undecided_goes_on}
-use Rattle.hall_seats.specs.Allowed as rows
-use Rattle.hall_seats.specs.Allowed.{IsRowOf}
+use Rattle.hall.proofs.VerdictLemmas.{silent_by, undecided_goes_on}
+use Rattle.hall.specs.Allowed as rows
 use Rattle.hall.specs.Causes.{HearsIn, IsDecidedIn, OpensIn, memory, row}
 use Rattle.hall.specs.Law.{EndsSilent}
-use Rattle.hall_seats.specs.State.{Connection, Reading, Service, State, changed}
-use Rattle.hall_seats.specs.Steps as steps
-use Rattle.hall_seats.specs.Steps.{Hears, Loses, Step, Takes, with_bytes, with_end}
+use Rattle.hall.specs.State.{Connection, Reading, Service, State, changed}
+use Rattle.hall.specs.Steps as steps
+use Rattle.hall.specs.Steps.{Takes, with_bytes, with_end}
 use Rattle.hall.specs.Turns.{Meets}
 use Rattle.session_answers.proofs.CallerLemmas.{verdict_unique}
 use Rattle.session_answers.specs.Rows as queries

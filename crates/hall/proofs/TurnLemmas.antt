@@ -6,14 +6,14 @@ use Rattle.edge_io.specs.Hub.{HubSeen, IsFresh, IsFreshAmong, Tells}
 use Rattle.edge_io.specs.declared.event.Event.{Event}
 use Rattle.edge_io.specs.declared.event.Event.TheVariants.{Over}
 use Rattle.edge_io.proofs.CallerLemmas.{IsFresh-later, OpensOnce-more, OpensOnce-none, Tells-more}
-use Rattle.hall_seats.proofs.ServedLemmas.{Goes-more, Goes-none}
-use Rattle.hall_seats.specs.Sends.{Closes, Sends, nothing, taken, broken, gone, stays, done, ServesEach}
-use Rattle.hall_seats.specs.Served.{Goes, ServedAll}
+use Rattle.hall.proofs.ServedLemmas.{Goes-more, Goes-none}
+use Rattle.hall.specs.Sends.{Closes, Sends, nothing, taken, broken, gone, stays, done, ServesEach}
+use Rattle.hall.specs.Serving.{Goes, ServedAll}
 use Rattle.hall.specs.Served.{OpenOnceIn, Served, Stepped, TurnComesTo, TookTurn, TookTurns, Turned}
-use Rattle.hall_seats.specs.State.{Connection, Service, State}
-use Rattle.hall_seats.specs.Steps.{Works}
+use Rattle.hall.specs.State.{Connection, Service, State}
+use Rattle.hall.specs.Steps.{Works}
 use Rattle.hall.specs.Turns.{Turn, Turns, shut}
-use Rattle.hall_seats.specs.Sends.ServesEach.{none as none_each, more as more_each}
+use Rattle.hall.specs.Sends.ServesEach.{none as none_each, more as more_each}
 use Rattle.hall.specs.Turns.Turns.{none as no_turn, more as one_more}
 use Rattle.hall.specs.declared.serve_end.ServeEnd.{ServeEnd}
 use Rattle.hall.specs.declared.serve_end.ServeEnd.TheVariants as why

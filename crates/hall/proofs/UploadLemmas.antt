@@ -4,7 +4,7 @@ use Rattle.edge_io.specs.Acts.{Act, Gave, OpensOnce, Traffic, after_own, is_even
 use Rattle.edge_io.specs.declared.event.Event.TheVariants.{Opened, Bytes, Ended, Lost, Quiet, Over}
 use Rattle.edge_io.specs.declared.event.Event.{Event}
 use Rattle.edge_io.proofs.ActLemmas.{told-one}
-use Rattle.hall_seats.proofs.ChangeLemmas.{changes_now}
+use Rattle.hall.proofs.ChangeLemmas.{changes_now}
 use Rattle.hall.proofs.FrameLemmas.{ComesTo, accepted, comes_to, no_success-early, no_success-refusal, refused, status_in, stores_with_success}
 use Rattle.hall.proofs.LawLemmas.{once_before, turns_stand}
 use Rattle.hall.proofs.OneLemmas.{each_stored, works_stored}
@@ -12,9 +12,9 @@ use Rattle.hall.proofs.StandLemmas.{held_at}
 use Rattle.hall.proofs.Status.{AllStand, FitsPhase, IsHeldSo, IsRead}
 use Rattle.hall.proofs.TakingLemmas.{IsTaking, bytes_taking, end_taking, hears_it, read_at}
 use Rattle.hall.proofs.TrafficLemmas.{by_act}
-use Rattle.hall_seats.specs.State.{Answered, Connection, Reading, Service, Silent, State, Waits, changed, empty_hall, freed, put, with_frame}
-use Rattle.hall_seats.specs.Steps as steps
-use Rattle.hall_seats.specs.Steps.{Hears, Loses, Opens, Step, Takes, memory_frame, session, turned_away, uploaded, whole_in, with_bytes, with_end}
+use Rattle.hall.specs.State.{Answered, Connection, Reading, Service, Silent, State, Waits, changed, empty_hall, freed, put, with_frame}
+use Rattle.hall.specs.Steps as steps
+use Rattle.hall.specs.Steps.{Hears, Loses, Opens, Step, Takes, memory_frame, session, turned_away, uploaded, whole_in, with_bytes, with_end}
 use Rattle.hall.specs.Turns.{EventOf, Meets, Turns, last_act}
 use Rattle.hall.specs.Turns.Turns.{none as none_turned, more as more_turned}
 use Rattle.hall.specs.Uploads.{Accepts, Adds, AreAccepted, StoresUploads, nothing, one}

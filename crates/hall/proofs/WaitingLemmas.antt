@@ -5,12 +5,12 @@ use Rattle.edge_io.specs.declared.event.Event.{Event}
 use Rattle.hall.proofs.AskingLemmas.{AreAsking, asking_each, asking_step, asking_works}
 use Rattle.hall.proofs.FewLemmas.{few_each, few_empty, few_step, few_wait, few_works}
 use Rattle.hall.proofs.PlaceLemmas.{IsAmongFirst, first_all}
-use Rattle.hall_seats.proofs.SoundLemmas.{sound_each, sound_empty, sound_step, sound_works}
+use Rattle.hall.proofs.SoundLemmas.{sound_each, sound_empty, sound_step, sound_works}
 use Rattle.hall.proofs.StillLemmas.{HasWorked, framed, has_worked, nearer, still_each, still_step, waits_on}
-use Rattle.hall_seats.specs.Held.{AreFew, most_sessions}
-use Rattle.hall_seats.specs.Parts.{waiting_for}
-use Rattle.hall_seats.specs.Sound.{IsSound}
-use Rattle.hall_seats.specs.State.{Connection, Service, State, empty_hall, with_frame}
+use Rattle.hall.specs.Held.{AreFew, most_sessions}
+use Rattle.hall.specs.Parts.{waiting_for}
+use Rattle.hall.specs.Sound.{IsSound}
+use Rattle.hall.specs.State.{Connection, Service, State, empty_hall, with_frame}
 use Rattle.hall.specs.Turns.Turns.{none, more}
 use Rattle.hall.specs.Turns.{Turn, Turns}
 use Rattle.hall.specs.Waiting.{AllEndInTime, EndsAmong, EndsEachWait, EndsWait, lost, answered, most_turns}

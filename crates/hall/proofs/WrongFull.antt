@@ -4,12 +4,12 @@ use Rattle.std.specs.Fmt.{digits}
 use Rattle.edge_io.specs.Acts.{Act}
 use Rattle.hall.proofs.CountLemmas.{Counts-same}
 use Rattle.hall.proofs.FrameLemmas.{status-200, status-400, status-422, status-refusal, status_in}
-use Rattle.hall_seats.specs.Allowed as rows
-use Rattle.hall_seats.specs.Allowed.{IsRowOf}
+use Rattle.hall.specs.Allowed as rows
+use Rattle.hall.specs.Allowed.{IsRowOf}
 use Rattle.hall.specs.Causes.{HasCause, OpensIn, away, memory, row}
-use Rattle.hall_seats.specs.Held.{HasRoom, IsFull}
-use Rattle.hall_seats.specs.State.{site_in, Service, State}
-use Rattle.hall_seats.specs.Steps.{full_frame}
+use Rattle.hall.specs.Held.{HasRoom, IsFull}
+use Rattle.hall.specs.State.{site_in, Service, State}
+use Rattle.hall.specs.Steps.{full_frame}
 use Rattle.hall.specs.Turns.{Meets}
 use Rattle.profile_text.specs.Lines.{text_line}
 use Rattle.profile_text.specs.Read.{profile_of}
@@ -27,12 +27,12 @@ use Rattle.route_ready.specs.Lines.{route_line}
 use Rattle.session_answers.specs.Aims.{kind_for}
 use Rattle.session_answers.specs.Frames.{line_frame, refusal_frame, status_of}
 use Rattle.session_answers.specs.Rows as queries
-use Rattle.session_answers.specs.Rows.{Asks, IsEarlyFrame, IsQueryFrame}
+use Rattle.session_answers.specs.Rows.{IsQueryFrame}
 use Rattle.session_answers.specs.Stored.{Stored, Uploaded, by_check, by_text, most_uploads, stored_after, upload_name, upload_reply}
 use Rattle.session_answers.proofs.CallerLemmas.{if-so, path-so}
 use Rattle.session_answers.specs.Verdicts.{by_path, is_whole, most_body, of_query, of_upload, part, verdict_by}
 use Rattle.route_engine.specs.declared.aim.Aim.{Aim}
-use Rattle.session_answers.specs.declared.refusal.Refusal.TheVariants.{BadRequest, BodyTooLong, OutOfMemory, UnknownPath, UnknownProfile, SessionsFull, UploadsFull}
+use Rattle.session_answers.specs.declared.refusal.Refusal.TheVariants.{BadRequest, BodyTooLong, OutOfMemory, UnknownProfile, SessionsFull, UploadsFull}
 use Rattle.session_answers.specs.declared.verdict.Verdict.{Verdict}
 use Rattle.session_answers.specs.declared.verdict.Verdict.TheVariants.{Undecided, NoByte, Refused, Upload, Query}
 

@@ -6,10 +6,10 @@ use Rattle.edge_io.specs.declared.event.Event.{Event}
 use Rattle.edge_io.specs.declared.event.Event.TheVariants.{Opened, Bytes, Ended, Lost, Quiet, Over}
 use Rattle.hall.proofs.GrowthLemmas.{StandsBefore, events_in_order}
 use Rattle.hall.proofs.FrameLemmas.{no_success-early, status-200, status-422, status-refusal, status_in}
-use Rattle.hall_seats.specs.Allowed as rows
-use Rattle.hall_seats.specs.Allowed.{IsRowOf}
+use Rattle.hall.specs.Allowed as rows
+use Rattle.hall.specs.Allowed.{IsRowOf}
 use Rattle.hall.specs.Causes.{HasCause, HearsIn, IsDecidedIn, away, memory, row}
-use Rattle.hall_seats.specs.State.{site_in, Service, State}
+use Rattle.hall.specs.State.{site_in, Service, State}
 use Rattle.hall.specs.Turns.{EventOf, Meets, Turns}
 use Rattle.profile_text.specs.Lines.{text_line}
 use Rattle.profile_text.specs.Read.{profile_of}
@@ -24,7 +24,7 @@ use Rattle.session_answers.proofs.CallerLemmas.{verdict_unique}
 use Rattle.session_answers.specs.Aims.{kind_for}
 use Rattle.session_answers.specs.Frames.{line_frame, refusal_frame, status_of}
 use Rattle.session_answers.specs.Rows as queries
-use Rattle.session_answers.specs.Rows.{Asks, IsEarlyFrame, IsQueryFrame}
+use Rattle.session_answers.specs.Rows.{Asks, IsQueryFrame}
 use Rattle.session_answers.specs.Stored.{Stored, by_check, by_text, find_stored, upload_reply}
 use Rattle.session_answers.specs.Verdicts.{IsVerdict, part}
 use Rattle.route_engine.specs.declared.aim.Aim.{Aim}

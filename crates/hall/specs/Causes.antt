@@ -4,10 +4,10 @@ use Rattle.std.specs.Prelude.{◌≡◌, ℕ, Bool, true, false, List, [], ◌�
 use Rattle.edge_io.specs.Acts.{Act, Gave, is_event_of, told}
 use Rattle.edge_io.specs.declared.event.Event.{Event}
 use Rattle.edge_io.specs.declared.event.Event.TheVariants.{Opened}
-use Rattle.hall_seats.specs.Allowed.{IsRowOf}
-use Rattle.hall_seats.specs.Held.{HasRoom, IsFull}
-use Rattle.hall_seats.specs.State.{Service, State}
-use Rattle.hall_seats.specs.Steps.{full_frame, memory_frame}
+use Rattle.hall.specs.Allowed.{IsRowOf}
+use Rattle.hall.specs.Held.{HasRoom, IsFull}
+use Rattle.hall.specs.State.{Service, State}
+use Rattle.hall.specs.Steps.{full_frame, memory_frame}
 use Rattle.hall.specs.Turns.{Meets}
 use Rattle.session_answers.specs.Stored.{Stored}
 use Rattle.session_answers.specs.Verdicts.{IsVerdict}

@@ -1,7 +1,7 @@
 -- What the fields of a hall stand for, and what is true of them, for the parts alone (this project's own
 -- rule).
 use Rattle.hall.specs.View.{HallValue}
-use Rattle.hall_seats.specs.Parts.{IsHeld, seats_of}
+use Rattle.hall.specs.Parts.{IsHeld, entries_of}
 use Rattle.hall.specs.declared.hall.Hall.TheInside.{Inside}
 
 -- what is seen of a hall
@@ -11,7 +11,7 @@ hall_in h = record {
   labels = h.room.desk.labels;
   profiles = h.room.desk.profiles;
   waiting = h.room.desk.queue.items;
-  seats = seats_of h.room.seats.items;
+  peers = entries_of h.room.peers.items;
 }
 
 -- what is true of every hall

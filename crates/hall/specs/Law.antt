@@ -3,8 +3,8 @@ use Rattle.std.specs.Prelude.{◌≡◌, ℕ, Bool, true, false, List, [], ◌�
 use Rattle.edge_io.specs.Acts.{Act, Gave, OpensOnce, told}
 use Rattle.edge_io.specs.declared.event.Event.TheVariants.{Ended}
 use Rattle.hall.specs.Causes.{HasCause, OpensIn}
-use Rattle.hall_seats.specs.Held.{HasRoom, IsFull}
-use Rattle.hall_seats.specs.State.{Service, State, empty_hall}
+use Rattle.hall.specs.Held.{HasRoom, IsFull}
+use Rattle.hall.specs.State.{Service, State, empty_hall}
 use Rattle.session_answers.specs.Stored.{Stored}
 use Rattle.hall.specs.Turns.{EventOf, Meets, Run}
 

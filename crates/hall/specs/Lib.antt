@@ -1,7 +1,15 @@
+pub mod Allowed
 pub mod Causes
+pub mod Held
 pub mod Inside
 pub mod Law
+pub mod Parts
+pub mod Sends
 pub mod Served
+pub mod Serving
+pub mod Sound
+pub mod State
+pub mod Steps
 pub mod Swept
 pub mod Turns
 pub mod Uploads

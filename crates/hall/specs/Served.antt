@@ -5,9 +5,9 @@ use Rattle.edge_io.specs.Faults.{CountRose}
 use Rattle.edge_io.specs.Hub.{HubSeen, IsFresh, IsLive, Tells}
 use Rattle.edge_io.specs.declared.event.Event.{Event}
 use Rattle.edge_io.specs.declared.event.Event.TheVariants as events
-use Rattle.hall_seats.specs.Served.{Goes}
-use Rattle.hall_seats.specs.State.{Connection, Service, State}
-use Rattle.hall_seats.specs.Steps.{Step}
+use Rattle.hall.specs.Serving.{Goes}
+use Rattle.hall.specs.State.{Connection, Service, State}
+use Rattle.hall.specs.Steps.{Step}
 use Rattle.hall.specs.Turns.{Run, Turn, Turns, shut}
 use Rattle.hall.specs.declared.serve_end.ServeEnd.{ServeEnd}
 use Rattle.hall.specs.declared.serve_end.ServeEnd.TheVariants as why

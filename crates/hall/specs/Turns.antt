@@ -4,10 +4,10 @@ use Rattle.std.specs.Prelude.{◌≡◌, ◌≢◌, ◌⊎◌, ℕ, suc, Bool, t
 use Rattle.edge_io.specs.Acts.{Act, Gave, Closed}
 use Rattle.edge_io.specs.declared.event.Event.{Event}
 use Rattle.edge_io.specs.declared.event.Event.TheVariants.{Over}
-use Rattle.hall_seats.specs.Held.{AreAll}
-use Rattle.hall_seats.specs.Sends.{ServesEach}
-use Rattle.hall_seats.specs.State.{Service, State}
-use Rattle.hall_seats.specs.Steps.{Step, Works}
+use Rattle.hall.specs.Held.{AreAll}
+use Rattle.hall.specs.Sends.{ServesEach}
+use Rattle.hall.specs.State.{Service, State}
+use Rattle.hall.specs.Steps.{Step, Works}
 
 -- ---- A turn
 

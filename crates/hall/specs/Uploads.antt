@@ -3,8 +3,8 @@ use Rattle.std.specs.Prelude.{◌≡◌, ℕ, Bool, List, [], ◌∷◌, ◌++�
 use Rattle.edge_io.specs.Acts.{Act, OpensOnce}
 use Rattle.edge_io.specs.declared.event.Event.{Event}
 use Rattle.hall.specs.Causes.{HearsIn, OpensThen}
-use Rattle.hall_seats.specs.State.{Answered, Connection, Reading, Service, State, empty_hall}
-use Rattle.hall_seats.specs.Steps.{uploaded}
+use Rattle.hall.specs.State.{Answered, Connection, Reading, Service, State, empty_hall}
+use Rattle.hall.specs.Steps.{uploaded}
 use Rattle.hall.specs.Turns.{Run, Turns}
 use Rattle.hall.specs.Turns.Turns.{none, more}
 use Rattle.route_http.specs.declared.span.Span.{Span}

@@ -4,9 +4,9 @@ use Rattle.std.specs.Prelude.{◌≡◌, ◌⊎◌, ℕ, suc, ◌+◌, ◌*◌, 
 use Rattle.edge_io.specs.Acts.{Act}
 use Rattle.edge_io.specs.declared.event.Event.{Event}
 use Rattle.edge_io.specs.declared.event.Event.TheVariants.{Lost}
-use Rattle.hall_seats.specs.Held.{most_sessions}
-use Rattle.hall_seats.specs.State.{Connection, Service, State, Waits, empty_hall, with_frame}
-use Rattle.hall_seats.specs.Steps.{AsksFor}
+use Rattle.hall.specs.Held.{most_sessions}
+use Rattle.hall.specs.State.{Connection, Service, State, Waits, empty_hall, with_frame}
+use Rattle.hall.specs.Steps.{AsksFor}
 use Rattle.hall.specs.Turns.{Turns}
 use Rattle.hall.specs.Turns.Turns.{none, more}
 use Rattle.route_http.specs.Asked.{Asked}

@@ -1,13 +1,13 @@
 //! All connections of a server.
 
-ghost use Rattle.std.specs.Prelude.{◌≡◌, replicate, IfOk, None};
-ghost use Rattle.hall_seats.specs.Parts.{seat_count};
-
-use crate::opening::MOST_SESSIONS;
+use crate::desk::Desk;
+use crate::opening::{MOST_PEERS, MOST_SESSIONS};
+use crate::ready_frames::ReadyFrames;
+use crate::room::Room;
+use crate::serving::serve_peers;
 use crate::stepping::step;
 use crate::working::work;
 use edge_io::{Event, Hub};
-use hall_seats::{Desk, ReadyFrames, Room, SEATS, Seat, serve_seats};
 use route_ready::{Shelf, World};
 use session_answers::{KeptProfiles, Profiles, make_ready};
 use std::alloc::{AllocError, Global};
@@ -45,12 +45,12 @@ impl Model for Hall {
 
 impl Hall {
     ghost use Rattle.std.specs.Prelude.{◌≡◌, Bool, length, nat_lt, IfOk};
-    ghost use Rattle.hall_seats.specs.Allowed.{AreAllowed};
-    ghost use Rattle.hall_seats.specs.Held.{AreFew};
-    ghost use Rattle.hall_seats.specs.Served.{AreLive, ServedAll};
-    ghost use Rattle.hall_seats.specs.Sound.{IsSound};
-    ghost use Rattle.hall_seats.specs.State.{empty_hall};
-    ghost use Rattle.hall_seats.specs.Steps.{Step, Works};
+    ghost use Rattle.hall.specs.Allowed.{AreAllowed};
+    ghost use Rattle.hall.specs.Held.{AreFew};
+    ghost use Rattle.hall.specs.Serving.{AreLive, ServedAll};
+    ghost use Rattle.hall.specs.Sound.{IsSound};
+    ghost use Rattle.hall.specs.State.{empty_hall};
+    ghost use Rattle.hall.specs.Steps.{Step, Works};
     ghost use Rattle.hall.specs.View.{service_of, state_of};
     ghost use Rattle.route_ready.specs.Entries.{names_of};
     ghost use Rattle.route_ready.specs.Shelves.{shelf_of};
@@ -68,7 +68,7 @@ impl Hall {
             record { world = world_of world; given = given; labels = labels }) }
     {
         let mut kept = KeptProfiles::new(alloc)?;
-        let seats = free_seats(alloc)?;
+        let peers = Vec::with_capacity(alloc, MOST_PEERS)?;
         let queue = VecDeque::with_capacity(alloc, MOST_SESSIONS)?;
         let ready = ReadyFrames::new(alloc)?;
         let profiles = Profiles::new(shelf);
@@ -82,7 +82,7 @@ impl Hall {
             queue,
         };
         Ok(Hall {
-            room: Room { seats, desk },
+            room: Room { peers, desk },
             ready,
         })
     }
@@ -127,7 +127,7 @@ impl Hall {
         ensures few { (away : Bool) → AreFew (state_of self.new) away }
         ensures allowed { AreAllowed (service_of self.new) (state_of self.new) }
     {
-        serve_seats(&mut self.room, &self.ready, hub);
+        serve_peers(&mut self.room, &self.ready, hub);
     }
 
     /// What is true of a hall at any moment.
@@ -138,15 +138,4 @@ impl Hall {
     {
         let _room = &self.room;
     }
-}
-
-/// As many seats as there are, all of them free.
-fn free_seats(alloc: Global) -> Result<Vec<Option<Seat>>, AllocError>
-    ensures free { IfOk result (λ seats. seats.items ≡ replicate seat_count None) }
-{
-    let mut seats = Vec::with_capacity(alloc, SEATS)?;
-    'seats: for i in 0..SEATS {
-        seats.push(None)?;
-    }
-    Ok(seats)
 }

@@ -1,7 +1,7 @@
 //! That connections don't mix, and that accepted uploads alone are stored.
 
 ghost use Rattle.hall.specs.Law.{KeepsApart};
-ghost use Rattle.hall_seats.specs.State.{Service};
+ghost use Rattle.hall.specs.State.{Service};
 ghost use Rattle.hall.specs.Uploads.{StoresUploads};
 
 /// Whatever a run of turns from a hall without connections does, each connection gets its own: the

@@ -2,14 +2,20 @@
 //! the laws of its runs.
 #![tactic(auto)]
 
+mod changes;
+mod desk;
 mod hall;
 mod law;
 mod opening;
+mod peer;
+mod peers;
+mod pieces;
 mod queue;
 mod reading;
-mod seating;
-mod seats;
+mod ready_frames;
+mod room;
 mod serve_end;
+mod serving;
 mod stepping;
 mod sweeping;
 mod turn;

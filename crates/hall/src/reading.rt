@@ -1,20 +1,22 @@
 //! Sessions that are read.
 
 ghost use Rattle.std.specs.Prelude.{◌≡◌, ◌⊎◌, false};
-ghost use Rattle.hall_seats.specs.Parts.{AreReadied, IsHeld, Settles, answered_by, connection_of, frame_in, service_in, state_in};
-ghost use Rattle.hall_seats.specs.State.{Connection};
-ghost use Rattle.hall_seats.specs.Steps.{Hears, memory_frame, with_bytes, with_end};
-ghost use Rattle.hall_seats.specs.declared.seat.Frame.{Frame};
-ghost use Rattle.hall_seats.specs.declared.seat.Phase.TheVariants as phases;
+ghost use Rattle.hall.specs.Parts.{AreReadied, IsHeld, Settles, answered_by, connection_of, frame_in, service_in, state_in};
+ghost use Rattle.hall.specs.State.{Connection};
+ghost use Rattle.hall.specs.Steps.{Hears, memory_frame, with_bytes, with_end};
+ghost use Rattle.hall.specs.declared.peer.Frame.{Frame};
+ghost use Rattle.hall.specs.declared.peer.Phase.TheVariants as phases;
 ghost use Rattle.session_answers.specs.Frames.{refusal_frame};
 ghost use Rattle.session_answers.specs.Received.{received_of};
 ghost use Rattle.session_answers.specs.Verdicts.{IsVerdict, IsVerdictIn};
 ghost use Rattle.session_answers.specs.declared.verdict.Verdict.TheVariants.{Query, Upload};
 
+use crate::changes::{answered, silent, whole};
+use crate::desk::Desk;
+use crate::peer::{Frame, Peer};
+use crate::peers::reader_of;
 use crate::queue::joined;
-use crate::seating::{answered, silent, whole};
-use crate::seats::reader_of;
-use hall_seats::{Desk, Frame, Room, Seat, lifted, put};
+use crate::room::Room;
 use route_engine::Aim;
 use route_http::Span;
 use session_answers::{Begun, Refusal, Verdict, begin, refusal_frame, upload};
@@ -28,13 +30,9 @@ pub(crate) fn came(room: &mut Room, id: u64, bytes: &[u8])
     ensures held { IsHeld room.new }
     ensures same { service_in room.new ≡ service_in room.old }
 {
-    let k = match reader_of(&room.seats, id) {
-        Some(k) => k,
-        None => return,
-    };
-    let seat = lifted(&mut room.seats, k);
-    let seat = read(&mut room.desk, seat, bytes);
-    put(&mut room.seats, k, Some(seat));
+    if let Some(k) = reader_of(room, id) {
+        read(&mut room.desk, &mut room.peers[k], bytes);
+    }
 }
 
 /// Takes the end of a peer.
@@ -45,98 +43,95 @@ pub(crate) fn ended(room: &mut Room, id: u64)
     ensures held { IsHeld room.new }
     ensures same { service_in room.new ≡ service_in room.old }
 {
-    let k = match reader_of(&room.seats, id) {
-        Some(k) => k,
-        None => return,
-    };
-    let seat = lifted(&mut room.seats, k);
-    let seat = read_to_end(&mut room.desk, seat);
-    put(&mut room.seats, k, Some(seat));
-}
-
-/// A session that is read, after bytes came from it.
-fn read(desk: &mut Desk, seat: Seat, bytes: &[u8]) -> Seat
-    requires kept { AreReadied desk.old }
-    requires read { seat.phase ≡ phases.Reading }
-    requires unended { seat.ended ≡ false }
-    ensures settles { Settles desk.old desk.new (connection_of seat)
-        (with_bytes bytes.now (connection_of seat)) seat.id seat.away result }
-{
-    let mut seat = seat;
-    match seat.received.add(bytes) {
-        Ok(verdict) => settled(desk, seat, verdict),
-        Err(_) => answered(seat, Frame::Memory),
+    if let Some(k) = reader_of(room, id) {
+        read_to_end(&mut room.desk, &mut room.peers[k]);
     }
 }
 
-/// A session that is read, after its peer ended.
-fn read_to_end(desk: &mut Desk, seat: Seat) -> Seat
+/// Takes bytes that came from a session that is read.
+fn read(desk: &mut Desk, peer: &mut Peer, bytes: &[u8])
     requires kept { AreReadied desk.old }
-    requires read { seat.phase ≡ phases.Reading }
-    ensures settles { Settles desk.old desk.new (connection_of seat) (with_end (connection_of seat))
-        seat.id seat.away result }
+    requires read { peer.old.phase ≡ phases.Reading }
+    requires unended { peer.old.ended ≡ false }
+    ensures settles { Settles desk.old desk.new (connection_of peer.old)
+        (with_bytes bytes.now (connection_of peer.old)) peer.old.id peer.old.away peer.new }
 {
-    let mut seat = seat;
-    seat.ended = true;
-    let verdict = seat.received.end();
-    settled(desk, seat, verdict)
+    match peer.received.add(bytes) {
+        Ok(verdict) => settled(desk, peer, verdict),
+        Err(_) => answered(peer, Frame::Memory),
+    }
 }
 
-/// A session that is given what is fixed for it.
-fn settled(desk: &mut Desk, seat: Seat, verdict: Verdict) -> Seat
+/// Takes the end of the peer of a session that is read.
+fn read_to_end(desk: &mut Desk, peer: &mut Peer)
     requires kept { AreReadied desk.old }
-    requires read { seat.phase ≡ phases.Reading }
-    requires verdict { IsVerdict (received_of seat.received) seat.ended verdict }
-    requires within { IsVerdictIn (received_of seat.received) verdict }
+    requires read { peer.old.phase ≡ phases.Reading }
+    ensures settles { Settles desk.old desk.new (connection_of peer.old)
+        (with_end (connection_of peer.old)) peer.old.id peer.old.away peer.new }
+{
+    peer.ended = true;
+    let verdict = peer.received.end();
+    settled(desk, peer, verdict)
+}
+
+/// Gives a session what is fixed for it.
+fn settled(desk: &mut Desk, peer: &mut Peer, verdict: Verdict)
+    requires kept { AreReadied desk.old }
+    requires read { peer.old.phase ≡ phases.Reading }
+    requires verdict { IsVerdict (received_of peer.old.received) peer.old.ended verdict }
+    requires within { IsVerdictIn (received_of peer.old.received) verdict }
     ensures settles { (old : Connection) →
-        Settles desk.old desk.new old (connection_of seat) seat.id seat.away result }
+        Settles desk.old desk.new old (connection_of peer.old) peer.old.id peer.old.away peer.new }
 {
     match verdict {
-        Verdict::Undecided => seat,
-        Verdict::NoByte => silent(seat),
-        Verdict::Refused(refusal) => refused(desk.alloc, seat, refusal),
-        Verdict::Upload(span) => uploaded(desk, seat, span),
-        Verdict::Query(aim, span) => asked(desk, seat, aim, span),
+        Verdict::Undecided => {}
+        Verdict::NoByte => silent(peer),
+        Verdict::Refused(refusal) => refused(desk.alloc, peer, refusal),
+        Verdict::Upload(span) => uploaded(desk, peer, span),
+        Verdict::Query(aim, span) => asked(desk, peer, aim, span),
     }
 }
 
-/// A session that is refused.
-fn refused(alloc: Global, seat: Seat, refusal: Refusal) -> Seat
-    ensures value { (frame : Frame) × (result ≡ answered_by seat frame)
+/// Answers a session that is refused.
+fn refused(alloc: Global, peer: &mut Peer, refusal: Refusal)
+    ensures value { (frame : Frame) × (peer.new ≡ answered_by peer.old frame)
         × ((frame_in frame ≡ refusal_frame refusal) ⊎ (frame_in frame ≡ memory_frame)) }
 {
     match refusal_frame(alloc, refusal) {
-        Ok(frame) => answered(seat, Frame::Own(frame)),
-        Err(_) => answered(seat, Frame::Memory),
+        Ok(frame) => answered(peer, Frame::Own(frame)),
+        Err(_) => answered(peer, Frame::Memory),
     }
 }
 
-/// A session that uploads a profile.
-fn uploaded(desk: &mut Desk, seat: Seat, span: Span) -> Seat
+/// Answers a session that uploads a profile.
+fn uploaded(desk: &mut Desk, peer: &mut Peer, span: Span)
     requires kept { AreReadied desk.old }
-    requires verdict { IsVerdict (received_of seat.received) seat.ended (Upload span) }
-    requires within { IsVerdictIn (received_of seat.received) (Upload span) }
+    requires verdict { IsVerdict (received_of peer.old.received) peer.old.ended (Upload span) }
+    requires within { IsVerdictIn (received_of peer.old.received) (Upload span) }
     ensures settles { (old : Connection) →
-        Settles desk.old desk.new old (connection_of seat) seat.id seat.away result }
+        Settles desk.old desk.new old (connection_of peer.old) peer.old.id peer.old.away peer.new }
 {
     let before = desk.profiles.len();
-    let text = seat.received.part(span);
+    let text = peer.received.part(span);
     match upload(desk.alloc, desk.world.table(), &mut desk.profiles, text) {
-        Ok(frame) => answered(whole(seat, before), Frame::Own(frame)),
-        Err(_) => answered(seat, Frame::Memory),
+        Ok(frame) => {
+            whole(peer, before);
+            answered(peer, Frame::Own(frame));
+        }
+        Err(_) => answered(peer, Frame::Memory),
     }
 }
 
-/// A session that asks for a route or for a table.
-fn asked(desk: &mut Desk, seat: Seat, aim: Aim, span: Span) -> Seat
+/// Begins what a session asks for: a route or a table.
+fn asked(desk: &mut Desk, peer: &mut Peer, aim: Aim, span: Span)
     requires kept { AreReadied desk.old }
-    requires verdict { IsVerdict (received_of seat.received) seat.ended (Query aim span) }
-    requires within { IsVerdictIn (received_of seat.received) (Query aim span) }
+    requires verdict { IsVerdict (received_of peer.old.received) peer.old.ended (Query aim span) }
+    requires within { IsVerdictIn (received_of peer.old.received) (Query aim span) }
     ensures settles { (old : Connection) →
-        Settles desk.old desk.new old (connection_of seat) seat.id seat.away result }
+        Settles desk.old desk.new old (connection_of peer.old) peer.old.id peer.old.away peer.new }
 {
     let before = desk.profiles.len();
-    let query = seat.received.part(span);
+    let query = peer.received.part(span);
     match begin(
         desk.alloc,
         &desk.world,
@@ -146,8 +141,14 @@ fn asked(desk: &mut Desk, seat: Seat, aim: Aim, span: Span) -> Seat
         aim,
         query,
     ) {
-        Ok(Begun::Frame(frame)) => answered(whole(seat, before), Frame::Own(frame)),
-        Ok(Begun::Job(pending)) => joined(&mut desk.queue, whole(seat, before), pending),
-        Err(_) => answered(seat, Frame::Memory),
+        Ok(Begun::Frame(frame)) => {
+            whole(peer, before);
+            answered(peer, Frame::Own(frame));
+        }
+        Ok(Begun::Job(pending)) => {
+            whole(peer, before);
+            joined(&mut desk.queue, peer, pending);
+        }
+        Err(_) => answered(peer, Frame::Memory),
     }
 }

@@ -1,13 +1,13 @@
 //! Events.
 
 ghost use Rattle.std.specs.Prelude.{◌≡◌};
-ghost use Rattle.hall_seats.specs.Parts.{IsHeld, service_in, state_in};
-ghost use Rattle.hall_seats.specs.Steps.{Step};
+ghost use Rattle.hall.specs.Parts.{IsHeld, service_in, state_in};
+ghost use Rattle.hall.specs.Steps.{Step};
 
 use crate::opening::{lost, opened};
 use crate::reading::{came, ended};
+use crate::room::Room;
 use edge_io::Event;
-use hall_seats::Room;
 
 /// Takes an event, with the bytes that came.
 pub(crate) fn step(room: &mut Room, event: &Event, bytes: &[u8]) -> Option<u64>

@@ -1,10 +1,11 @@
 //! Makings for which no session waits any more.
 
-ghost use Rattle.std.specs.Prelude.{◌≡◌, ◌≢◌, ◌<◌, ℕ, MatchOption, false, length, true};
+ghost use Rattle.std.specs.Prelude.{◌≡◌, ◌≢◌, ◌<◌, ℕ, false, length, true};
 ghost use Rattle.hall.specs.Swept.{HasNoWaiter, HasWaiter, IsSwept, IsSweptAt};
-ghost use Rattle.hall_seats.specs.Parts.{IsHeld, is_awaited_by, service_in, state_in};
+ghost use Rattle.hall.specs.Parts.{IsHeld, is_awaited_by, service_in, state_in};
 
-use hall_seats::{Phase, Room, Seat};
+use crate::peer::{Peer, Phase};
+use crate::room::Room;
 
 /// Drops each making for which no session waits any more.
 pub(crate) fn sweep(room: &mut Room)
@@ -32,35 +33,31 @@ fn sweep_place(room: &mut Room, k: usize)
     ensures swept { IsSweptAt room.new k }
     ensures others { (j : ℕ) → j ≢ k → IsSweptAt room.old j → IsSweptAt room.new j }
 {
-    if is_awaited(&room.seats, k) {
+    if is_awaited(room, k) {
         return;
     }
     room.desk.kept.forget(k);
 }
 
 /// Whether some session waits for the making at a place.
-fn is_awaited(seats: &[Option<Seat>], k: usize) -> bool
-    ensures found { result ≡ true → HasWaiter seats.now k }
-    ensures none { result ≡ false → HasNoWaiter seats.now k }
+fn is_awaited(room: &Room, k: usize) -> bool
+    ensures found { result ≡ true → HasWaiter room.now.peers.items k }
+    ensures none { result ≡ false → HasNoWaiter room.now.peers.items k }
 {
-    'seats: for j in 0..seats.len() {
-        if is_awaited_in(&seats[j], k) {
+    'peers: for j in 0..room.peers.len() {
+        if awaits(&room.peers[j], k) {
             return true;
         }
     }
     false
 }
 
-/// Whether the session of a seat waits for it.
-fn is_awaited_in(seat: &Option<Seat>, k: usize) -> bool
-    ensures exact { MatchOption seat.now (result ≡ false)
-        (λ taken. result ≡ is_awaited_by taken.phase k) }
+/// Whether a session waits for it.
+fn awaits(peer: &Peer, k: usize) -> bool
+    ensures exact { result ≡ is_awaited_by peer.now.phase k }
 {
-    match seat {
-        Some(seat) => match &seat.phase {
-            Phase::Waits(search) => search.waits_for(k),
-            _ => false,
-        },
-        None => false,
+    match &peer.phase {
+        Phase::Waits(search) => search.waits_for(k),
+        _ => false,
     }
 }

@@ -3,11 +3,11 @@
 ghost use Rattle.std.specs.Prelude.{◌≡◌, ◌≢◌, ◌<◌, Bool, length};
 ghost use Rattle.edge_io.specs.Hub.{FitsBuffer, bytes_given};
 ghost use Rattle.edge_io.specs.declared.event.Event.TheVariants.{Over};
-ghost use Rattle.hall_seats.specs.Allowed.{AreAllowed};
-ghost use Rattle.hall_seats.specs.Held.{AreFew};
-ghost use Rattle.hall_seats.specs.Served.{AreLive};
+ghost use Rattle.hall.specs.Allowed.{AreAllowed};
+ghost use Rattle.hall.specs.Held.{AreFew};
+ghost use Rattle.hall.specs.Serving.{AreLive};
 ghost use Rattle.hall.specs.Served.{Heard, Served, Stepped, TurnComesTo, Turned};
-ghost use Rattle.hall_seats.specs.Sound.{IsSound};
+ghost use Rattle.hall.specs.Sound.{IsSound};
 ghost use Rattle.hall.specs.View.{service_of, state_of};
 
 use crate::hall::Hall;

@@ -1,6 +1,6 @@
 //! That each search comes to its end.
 
-ghost use Rattle.hall_seats.specs.State.{Service};
+ghost use Rattle.hall.specs.State.{Service};
 ghost use Rattle.hall.specs.Waiting.{EndsEachWait};
 
 /// Whatever a run of turns from a hall without connections does, a session whose search waits is

@@ -2,16 +2,18 @@
 
 ghost use Rattle.std.specs.Prelude.{◌≡◌};
 ghost use Rattle.hall.specs.Swept.{IsSwept};
-ghost use Rattle.hall_seats.specs.Parts.{AreReadied, HasTurn, IsHeld, IsSearchAt, IsSearchOf, IsWaitingIn, Makes, connection_of, service_in, site_at, state_in, waiting_for};
-ghost use Rattle.hall_seats.specs.Steps.{Works};
+ghost use Rattle.hall.specs.Parts.{AreReadied, HasTurn, IsHeld, IsSearchAt, IsSearchOf, IsWaitingIn, Makes, connection_of, service_in, site_at, state_in, waiting_for};
+ghost use Rattle.hall.specs.Steps.{Works};
 ghost use Rattle.session_answers.specs.Profiles.{stored_of};
 ghost use Rattle.session_answers.specs.Received.{received_of};
 
+use crate::changes::answered;
+use crate::desk::Desk;
+use crate::peer::{Frame, Peer, Phase};
+use crate::peers::place_of;
 use crate::queue::joined;
-use crate::seating::answered;
-use crate::seats::seat_of;
+use crate::room::Room;
 use crate::sweeping::sweep;
-use hall_seats::{Desk, Frame, Phase, Room, Seat, lifted, put};
 use item_list::Turn;
 use session_answers::Search;
 use std::mem::replace;
@@ -40,39 +42,37 @@ fn give_turn(room: &mut Room)
         Some(id) => id,
         None => return,
     };
-    let k = seat_of(&room.seats, id).unwrap();
-    let seat = lifted(&mut room.seats, k);
-    let seat = worked(&mut room.desk, seat);
-    put(&mut room.seats, k, Some(seat));
+    let k = place_of(room, id).unwrap();
+    worked(&mut room.desk, &mut room.peers[k]);
 }
 
-/// A connection after a turn of its search.
-fn worked(desk: &mut Desk, seat: Seat) -> Seat
+/// Gives a turn to the search of a connection. Where nothing more is said of it, the connection is
+/// answered by want of memory.
+fn worked(desk: &mut Desk, peer: &mut Peer)
     requires kept { AreReadied desk.old }
-    requires waits { IsWaitingIn seat.phase }
-    requires search { IsSearchAt desk.old seat }
-    ensures works { Makes desk.old desk.new (HasTurn desk.old (connection_of seat)) seat.id
-        seat.away result }
+    requires waits { IsWaitingIn peer.old.phase }
+    requires search { IsSearchAt desk.old peer.old }
+    ensures works { Makes desk.old desk.new (HasTurn desk.old (connection_of peer.old)) peer.old.id
+        peer.old.away peer.new }
 {
-    let mut seat = seat;
-    match replace(&mut seat.phase, Phase::Silent) {
-        Phase::Waits(pending) => turned(desk, seat, pending),
-        _ => seat,
+    let phase = replace(&mut peer.phase, Phase::Answered(Frame::Memory, 0));
+    if let Phase::Waits(pending) = phase {
+        turned(desk, peer, pending);
     }
 }
 
 /// The same by the search that waited, which was taken out.
-fn turned(desk: &mut Desk, seat: Seat, pending: Search) -> Seat
+fn turned(desk: &mut Desk, peer: &mut Peer, pending: Search)
     requires kept { AreReadied desk.old }
     requires search { IsSearchOf (site_at desk.old) (stored_of desk.old.profiles) desk.old.kept
-        (received_of seat.received) seat.ended seat.before pending }
+        (received_of peer.old.received) peer.old.ended peer.old.before pending }
     ensures works { Makes desk.old desk.new
-        (HasTurn desk.old (waiting_for (connection_of seat) pending.left)) seat.id seat.away
-        result }
+        (HasTurn desk.old (waiting_for (connection_of peer.old) pending.left)) peer.old.id
+        peer.old.away peer.new }
 {
     match pending.turn(desk.alloc, &desk.world, &desk.profiles, &mut desk.kept) {
-        Ok(Turn::More(pending)) => joined(&mut desk.queue, seat, pending),
-        Ok(Turn::Done(frame)) => answered(seat, Frame::Own(frame)),
-        Err(_) => answered(seat, Frame::Memory),
+        Ok(Turn::More(pending)) => joined(&mut desk.queue, peer, pending),
+        Ok(Turn::Done(frame)) => answered(peer, Frame::Own(frame)),
+        Err(_) => answered(peer, Frame::Memory),
     }
 }

@@ -1,6 +1,6 @@
 -- What is offered, and when a hall is that.
 use Rattle.std.proofs.Common.{◌≡◌, ℕ, length, ap, refl, sym, ◌∙◌, subst}
-use Rattle.hall_seats.specs.State.{Service, State, empty_hall}
+use Rattle.hall.specs.State.{Service, State, empty_hall}
 use Rattle.route_run.specs.Offer.{IsNew, Offer, offer_over}
 use Rattle.run_files.specs.World.{OfferedValue}
 

@@ -1,7 +1,7 @@
 -- What a server offers: a world and profiles, taken in from files. This project's own rule.
 use Rattle.std.specs.Prelude.{◌≡◌, ℕ, length, Ok}
 use Rattle.command_words.specs.declared.command.ServeCommand.{ServeCommand}
-use Rattle.hall_seats.specs.State.{Service, State, empty_hall}
+use Rattle.hall.specs.State.{Service, State, empty_hall}
 use Rattle.hall.specs.View.{HallValue, service_of, state_of}
 use Rattle.run_files.specs.Chain.{Settles, Stage, Then}
 use Rattle.run_files.specs.World.{OfferedValue, TakesWorld, WorldFiles}

@@ -5,15 +5,15 @@ use Rattle.command_words.specs.declared.command.ServeCommand.{ServeCommand}
 use Rattle.edge_io.specs.Acts.{Act, Listens}
 use Rattle.edge_io.specs.Files.{FilesSeen}
 use Rattle.edge_io.specs.Hub.{Does, Fails, HubSeen}
-use Rattle.hall_seats.specs.State.{State}
+use Rattle.hall.specs.State.{State}
 use Rattle.route_run.specs.Offer.{Offer, Offers}
 use Rattle.run_files.specs.declared.status.Status.{Status}
 use Rattle.run_files.specs.declared.status.Status.TheVariants as status
-use Rattle.hall_seats.specs.Allowed.{AreAllowed}
-use Rattle.hall_seats.specs.Held.{AreFew}
+use Rattle.hall.specs.Allowed.{AreAllowed}
+use Rattle.hall.specs.Held.{AreFew}
 use Rattle.hall.specs.Law.{GetsOwn}
 use Rattle.hall.specs.Served.{Served}
-use Rattle.hall_seats.specs.Sound.{IsSound}
+use Rattle.hall.specs.Sound.{IsSound}
 use Rattle.hall.specs.Turns.{EventOf, Turns}
 use Rattle.hall.specs.Uploads.{GrowsByUploads}
 use Rattle.hall.specs.Waiting.{AllEndInTime, EndedEachWait}

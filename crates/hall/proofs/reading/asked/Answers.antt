@@ -1,11 +1,11 @@
 use Rattle.std.proofs.Common.{List, ℕ, refl, subst, ap, ◌∙◌}
 use Rattle.hall.proofs.ReadingLemmas.{has_byte, settles_early, settles_frame, settles_search}
 use Rattle.std.proofs.Common.{inl, inr}
-use Rattle.hall_seats.specs.Parts.{Joins, answered_by, connection_of, site_at}
-use Rattle.hall_seats.specs.Steps.{gives_up}
-use Rattle.hall_seats.specs.declared.desk.Desk.{Desk}
-use Rattle.hall_seats.specs.declared.seat.Frame.TheVariants as frames
-use Rattle.hall_seats.specs.declared.seat.Seat.{Seat}
+use Rattle.hall.specs.Parts.{Joins, answered_by, connection_of, site_at}
+use Rattle.hall.specs.Steps.{gives_up}
+use Rattle.hall.specs.declared.desk.Desk.{Desk}
+use Rattle.hall.specs.declared.peer.Frame.TheVariants as frames
+use Rattle.hall.specs.declared.peer.Peer.{Peer}
 use Rattle.session_answers.specs.Jobs.{Begins, IsBegun}
 use Rattle.session_answers.specs.Profiles.{stored_of}
 use Rattle.session_answers.specs.Received.{received_of}
@@ -20,10 +20,10 @@ returns-in-Ok-Frame c =
     let frame = frames.Own c.in-Ok-Frame.frame in
     record {
       settles = λ old.
-          settles_early desk c.begin.new.kept c.begin.ensures.kept c.begin.ensures.stay old c.args.seat c.len-before.result c.len-before.ensures.value
+          settles_early desk c.begin.new.kept c.begin.ensures.kept c.begin.ensures.stay old c.args.peer.now c.len-before.result c.len-before.ensures.value
           c.args.aim c.args.span c.requires.verdict
-          c.answered.result frame c.part-query.result.now (c.answered.ensures.value
-          ∙ ap (λ (s : Seat). answered_by s frame) c.whole.ensures.value)
+          c.answered.new.peer frame c.part-query.result.now (c.answered.ensures.value
+          ∙ ap (λ (s : Peer). answered_by s frame) c.whole.ensures.value)
           c.part-query.ensures.value early;
     }
 
@@ -39,20 +39,20 @@ returns-in-Ok-Job c =
     begun in
     record {
       settles = λ old.
-          settles_search desk c.begin.new.kept c.begin.ensures.kept c.begin.ensures.stay old c.args.seat c.len-before.result c.len-before.ensures.value
+          settles_search desk c.begin.new.kept c.begin.ensures.kept c.begin.ensures.stay old c.args.peer.now c.len-before.result c.len-before.ensures.value
           c.args.aim c.args.span c.requires.verdict
-          new refl refl refl c.begin.ensures.kept c.begin.ensures.stay pending here c.joined.result
-          (subst (λ (s : Seat). Joins desk.queue.items c.joined.new.queue.items s pending c.joined.result)
+          new refl refl refl c.begin.ensures.kept c.begin.ensures.stay pending here c.joined.new.peer
+          (subst (λ (s : Peer). Joins desk.queue.items c.joined.new.queue.items s pending c.joined.new.peer)
           c.whole-in-Ok-Job.ensures.value c.joined.ensures.joins);
     }
 
 pub returns-in-Err : goal.returns-in-Err
 returns-in-Err c =
-    let seat = c.args.seat in
+    let peer = c.args.peer.now in
     record {
       settles = λ old.
-          settles_frame c.args.desk.now c.begin.new.kept c.begin.ensures.kept c.begin.ensures.stay old (connection_of seat) seat.id seat.away
-          c.answered-in-Err.result seat frames.Memory
+          settles_frame c.args.desk.now c.begin.new.kept c.begin.ensures.kept c.begin.ensures.stay old (connection_of peer) peer.id peer.away
+          c.answered-in-Err.new.peer peer frames.Memory
           c.answered-in-Err.ensures.value refl refl
-          (gives_up (has_byte (received_of seat.received) seat.ended (Query c.args.aim c.args.span) c.requires.verdict (λ e. cc)) (inr (inl refl)));
+          (gives_up (has_byte (received_of peer.received) peer.ended (Query c.args.aim c.args.span) c.requires.verdict (λ e. cc)) (inr (inl refl)));
     }

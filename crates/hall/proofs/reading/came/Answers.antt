@@ -1,45 +1,35 @@
-use Rattle.std.proofs.Common.{List, Option, Some, None, refl, subst, sym, arith}
+use Rattle.std.proofs.Common.{arith, refl, subst}
+use Rattle.std.specs.Vec.{with_item}
+use Rattle.hall.proofs.PeerFindLemmas.{at_within}
 use Rattle.hall.proofs.ReaderLemmas.{hears_by, reader_is}
-use Rattle.hall_seats.proofs.SeatLemmas.{seat_taken, seats_long}
-use Rattle.hall_seats.specs.Parts.{HaveOneSeat, IsReaderOf, seats_of}
-use Rattle.hall_seats.specs.Steps.{ignored, with_bytes}
-use Rattle.hall_seats.specs.declared.room.Room.{Room}
-use Rattle.hall_seats.specs.declared.seat.Seat.{Seat}
+use Rattle.hall.specs.Parts.{IsReaderOf}
+use Rattle.hall.specs.Steps.{ignored, with_bytes}
+use Rattle.hall.specs.declared.room.Room.{Room}
 use Rattle.hall.proofs.reading.came.Goals as goal
-use Rattle.hall_seats.proofs.RoomLemmas.{IsReplaced, replaced}
 
-pub reader_of-requires : goal.reader_of-requires
-reader_of-requires c = record {
-  once = subst (λ (l : List (Option Seat)). HaveOneSeat (seats_of l)) (sym c.deref.ensures.value) c.requires.held.once;
-}
+pub index_mut-requires : goal.index_mut-requires
+index_mut-requires c =
+    let peers = c.args.room.now.peers in
+    omega (arith, at_within peers.items c.args.id c.in-Some.k c.in-Some.ensures.exact.place, peers.ok.0)
 
-pub lifted-seat-requires : goal.lifted-seat-requires
-lifted-seat-requires c =
-    let seats = c.args.room.now.seats.items in
-    let found = subst (λ (l : List (Option Seat)). IsReaderOf (seats_of l) c.args.id (Some c.in-Some.k)) c.deref.ensures.value
-    c.in-Some.ensures.exact in
-    record { within = omega (arith, found.0, seats_long seats); taken = seat_taken seats c.in-Some.k found.1.0 found.1.1 }
+pub read-requires : goal.read-requires
+read-requires c =
+    let reader = reader_is c.args.room.now c.requires.held c.in-Some.k c.args.id c.index_mut.result.now c.in-Some.ensures.exact
+    c.index_mut.ensures.value in
+    record { kept = c.requires.held.kept; read = reader.reads; unended = reader.unended }
 
-pub read-seat-requires : goal.read-seat-requires
-read-seat-requires c =
-    let found = subst (λ (l : List (Option Seat)). IsReaderOf (seats_of l) c.args.id (Some c.in-Some.k)) c.deref.ensures.value
-    c.in-Some.ensures.exact in
-    let reader = reader_is c.args.room.now c.requires.held c.in-Some.k c.args.id c.lifted-seat.result found c.lifted-seat.ensures.exact in
-    record { kept = c.requires.held.kept; read = reader.read; unended = reader.unended }
-
-pub returns-in-None-clause-hears : goal.returns-in-None-clause-hears
-returns-in-None-clause-hears c =
-    ignored (subst (λ (l : List (Option Seat)). IsReaderOf (seats_of l) c.args.id None) c.deref.ensures.value c.in-None.ensures.exact)
-
-pub returns : goal.returns
-returns c =
+pub returns-in-Some : goal.returns-in-Some
+returns-in-Some c =
     let room = c.args.room.now in
-    let new : Room = record { seats = c.put.new.seats; desk = c.read-seat.new.desk } in
-    let found = subst (λ (l : List (Option Seat)). IsReaderOf (seats_of l) c.args.id (Some c.in-Some.k)) c.deref.ensures.value
-    c.in-Some.ensures.exact in
-    let back : IsReplaced room new c.in-Some.k c.lifted-seat.result (Some c.read-seat.result) =
-    replaced room new c.in-Some.k c.lifted-seat.result (Some c.read-seat.result) c.lifted-seat.new.seats.items c.lifted-seat.ensures.exact
-    c.lifted-seat.ensures.left c.put.ensures.value in
-    let heard = hears_by room new c.requires.held c.in-Some.k c.lifted-seat.result c.read-seat.result back c.args.id
-    (with_bytes c.args.bytes.now) (λ d. (refl, refl)) found c.read-seat.ensures.settles in
+    let k = c.in-Some.k in
+    let made = c.read.new.peer in
+    let new : Room = record { peers = with_item room.peers k made; desk = c.read.new.desk } in
+    let reader = reader_is room c.requires.held k c.args.id c.index_mut.result.now c.in-Some.ensures.exact c.index_mut.ensures.value in
+    let heard = hears_by room new c.requires.held k c.index_mut.result.now made
+    (record { there = reader.there; now = refl; roomy = refl }) c.args.id (with_bytes c.args.bytes.now) (λ d. (refl, refl)) reader
+    c.read.ensures.settles in
     record { hears = heard.is; held = heard.held; same = heard.same }
+
+pub returns-in_default-clause-hears : goal.returns-in_default-clause-hears
+returns-in_default-clause-hears c =
+    ignored (subst (IsReaderOf c.args.room.now.peers.items c.args.id) c.in_default.is c.reader_of.ensures.exact)

@@ -1,24 +1,28 @@
-use Rattle.std.proofs.Common.{◌≡◌, ◌∙◌, ℕ, None, Option, Some, arith, below_more, false, get_or, refl, sym}
-use Rattle.std.proofs.lemmas.List.{get_or_default}
-use Rattle.hall.proofs.SweepLemmas.{waiter_at, waits_not}
-use Rattle.hall_seats.proofs.SeatLemmas.{seat_within}
-use Rattle.hall_seats.specs.Parts.{is_awaited_by}
-use Rattle.hall_seats.specs.declared.seat.Seat.{Seat}
+use Rattle.std.proofs.Common.{List, add-one, arith, subst, sym, take, ℕ}
+use Rattle.std.proofs.lemmas.List.{take_all}
+use Rattle.hall.proofs.SweepLemmas.{none_next, waiter_at}
+use Rattle.hall.specs.Swept.{HasNoWaiter}
+use Rattle.hall.specs.declared.peer.Peer.{Peer}
 use Rattle.hall.proofs.sweeping.is_awaited.Goals as goal
 
-pub returns-then-is_awaited_in-clause-found : goal.returns-then-is_awaited_in-clause-found
-returns-then-is_awaited_in-clause-found c = λ _.
-    waiter_at c.args.seats.now c.seats.j c.args.k c.index-seats-j.result _
-    (get_or_default c.args.seats.now c.seats.j None c.index-seats-j.result c.seats-test.true ∙ sym c.index-seats-j.is)
-    c.if-is_awaited_in.ensures.exact refl
+pub peers-init : goal.peers-init
+peers-init c = λ peer one. absurd one
 
-pub seats-preserved : goal.seats-preserved
-seats-preserved c = λ i seat below found.
-    below_more (λ (i : ℕ). (seat : Seat) → get_or c.args.seats.now i None ≡ Some seat → is_awaited_by seat.phase c.args.k ≡ false)
-    c.seats.j
-    (λ i below seat found. c.seats.invariant i seat below found)
-    (λ seat found.
-    waits_not c.index-seats-j.result c.args.k false seat c.if-is_awaited_in.ensures.exact refl
-    (c.index-seats-j.is
-    ∙ sym (get_or_default c.args.seats.now c.seats.j None c.index-seats-j.result c.seats-test.true) ∙ found))
-    i below seat found
+pub returns-then-awaits-clause-found : goal.returns-then-awaits-clause-found
+returns-then-awaits-clause-found c = λ _.
+    let peers = c.args.room.now.peers in
+    waiter_at peers.items c.peers.j c.args.k c.index.result.now (omega (arith, c.peers-test.true, peers.ok.0)) c.index.ensures
+    (sym c.if-awaits.ensures.exact)
+
+pub peers-preserved : goal.peers-preserved
+peers-preserved c =
+    let peers = c.args.room.now.peers in
+    subst (λ (n : ℕ). HasNoWaiter (take n peers.items) c.args.k) (sym (add-one c.peers.j))
+    (none_next peers.items c.peers.j c.args.k c.index.result.now (omega (arith, c.peers-test.true, peers.ok.0)) c.index.ensures
+    (sym c.if-awaits.ensures.exact) c.peers.invariant)
+
+pub returns-clause-none : goal.returns-clause-none
+returns-clause-none c = λ _.
+    let peers = c.args.room.now.peers in
+    subst (λ (l : List Peer). HasNoWaiter l c.args.k) (take_all c.peers.j peers.items (omega (arith, c.peers-test.false, peers.ok.0)))
+    c.peers.invariant

@@ -1,6 +1,6 @@
 use Rattle.std.proofs.Common.{◌≡◌, ◌<◌, ℕ, length}
 use Rattle.hall.specs.Swept.{IsSweptAt}
-use Rattle.hall_seats.specs.Parts.{IsHeld, service_in, state_in}
+use Rattle.hall.specs.Parts.{IsHeld, service_in, state_in}
 use Rattle.hall.proofs.sweeping.sweep.Given as goal
 
 -- the room stays as it has to be, and holds what it held; the places so far are swept

@@ -1,8 +1,8 @@
 -- A step, a turn of work, and all connections.
 use Rattle.std.proofs.Common.{subst}
 use Rattle.hall.specs.View.{service_of, state_of}
-use Rattle.hall_seats.specs.State.{Service}
-use Rattle.hall_seats.specs.Steps.{Works}
+use Rattle.hall.specs.State.{Service}
+use Rattle.hall.specs.Steps.{Works}
 use Rattle.hall.proofs.LiveLemmas.{AreLive-ids, KeepsIds-work}
 use Rattle.hall.proofs.TurnLemmas.{turned}
 use Rattle.hall.proofs.turn.follow.Goals as goal

@@ -1,7 +1,7 @@
 -- No turn, then one more, and the end.
 use Rattle.std.proofs.Common.{None, Some, refl, ◌∙◌, subst, arith}
 use Rattle.hall.specs.View.{service_of, state_of}
-use Rattle.hall_seats.specs.State.{Service}
+use Rattle.hall.specs.State.{Service}
 use Rattle.hall.specs.Served.{TurnComesTo}
 use Rattle.hall.proofs.TurnLemmas.{no_turns, one_more_turn, served_end}
 use Rattle.hall.proofs.turn.take_turns.Goals as goal

@@ -1,7 +1,7 @@
 -- So many turns are taken.
 use Rattle.std.proofs.Common.{◌≡◌, length}
 use Rattle.hall.specs.View.{service_of, state_of}
-use Rattle.hall_seats.specs.Served.{AreLive}
+use Rattle.hall.specs.Serving.{AreLive}
 use Rattle.hall.specs.Served.{TookTurns}
 use Rattle.hall.proofs.turn.take_turns.Given as goal
 

@@ -1,10 +1,10 @@
 use Rattle.std.proofs.Common.{subst, sym}
-use Rattle.hall_seats.specs.Allowed.{AreAllowed}
-use Rattle.hall_seats.specs.Sound.{IsSound}
-use Rattle.hall_seats.specs.State.{Service, State}
+use Rattle.hall.specs.Allowed.{AreAllowed}
+use Rattle.hall.specs.Sound.{IsSound}
+use Rattle.hall.specs.State.{Service, State}
 use Rattle.hall.specs.View.{service_of, state_of}
 use Rattle.hall.proofs.CallerLemmas.{AreLive-empty, EndedEachWait-served, GetsOwn-served, GrowsByUploads-served}
-use Rattle.hall_seats.specs.Served.{AreLive}
+use Rattle.hall.specs.Serving.{AreLive}
 use Rattle.hall.specs.Turns.{Turns}
 use Rattle.route_run.proofs.server.served.Goals as goal
 

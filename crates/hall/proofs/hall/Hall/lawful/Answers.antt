@@ -1,20 +1,20 @@
 -- What is true of a hall, by what is kept of it.
 use Rattle.std.proofs.Common.{Bool, refl, subst}
-use Rattle.hall_seats.proofs.SeatCountLemmas.{counts}
-use Rattle.hall_seats.proofs.SoundLemmas.{are_allowed}
+use Rattle.hall.proofs.PeerCountLemmas.{counts}
+use Rattle.hall.proofs.SoundLemmas.{are_allowed}
 use Rattle.hall.proofs.hall.Hall.lawful.Goals as goal
-use Rattle.hall_seats.specs.Allowed.{AreAllowed}
-use Rattle.hall_seats.specs.Held.{AreFew}
-use Rattle.hall_seats.specs.Parts.{IsHeld, count_of, seats_of, service_in, state_in}
-use Rattle.hall_seats.specs.Sound.{IsSound}
+use Rattle.hall.specs.Allowed.{AreAllowed}
+use Rattle.hall.specs.Held.{AreFew}
+use Rattle.hall.specs.Parts.{IsHeld, count_of, service_in, state_in}
+use Rattle.hall.specs.Sound.{IsSound}
 use Rattle.hall.specs.View.{HallValue, service_of, state_of}
-use Rattle.hall_seats.specs.declared.room.Room.{Room}
+use Rattle.hall.specs.declared.room.Room.{Room}
 
--- few are held by the seats of a room
+-- few are held
 held_few : (room : Room) → IsHeld room → (away : Bool) → AreFew (state_in room) away
 held_few room held away =
-    let seats = seats_of room.seats.items in
-    (count_of seats away, counts (state_in room) seats away refl held.once, held.few away)
+    let peers = room.peers.items in
+    (count_of peers away, counts (state_in room) peers away refl held.ascending, held.few away)
 
 pub returns-clause-sound : goal.returns-clause-sound
 unfolding state_of service_of

@@ -1,9 +1,7 @@
-use Rattle.std.proofs.Common.{refl}
 use Rattle.hall.proofs.EmptyLemmas.{held_empty, state_empty}
-use Rattle.hall_seats.specs.Parts.{seat_count}
 use Rattle.hall.specs.View.{service_of, state_of}
-use Rattle.hall_seats.specs.declared.desk.Desk.{Desk}
-use Rattle.hall_seats.specs.declared.room.Room.{Room}
+use Rattle.hall.specs.declared.desk.Desk.{Desk}
+use Rattle.hall.specs.declared.room.Room.{Room}
 use Rattle.route_ready.specs.Shelves.{shelf_of}
 use Rattle.route_ready.specs.Entries.{profiles_of}
 use Rattle.route_ready.specs.World.{world_of}
@@ -25,8 +23,8 @@ invariant_of-result c =
       kept = c.make_ready.new.kept;
       queue = c.in_ok-queue.queue;
     } in
-    let room : Room = record { seats = c.in_ok-seats.seats; desk = desk } in
-    held_empty room seat_count c.in_ok-seats.ensures.free refl c.in_ok-queue.ensures.items c.make_ready.ensures.kept
+    let room : Room = record { peers = c.in_ok-peers.peers; desk = desk } in
+    held_empty room c.in_ok-peers.ensures.items c.in_ok-queue.ensures.items c.in_ok-peers.ensures.capacity c.make_ready.ensures.kept
 
 pub returns-clause-empty : goal.returns-clause-empty
 unfolding state_of
@@ -39,8 +37,8 @@ returns-clause-empty c =
       kept = c.make_ready.new.kept;
       queue = c.in_ok-queue.queue;
     } in
-    let room : Room = record { seats = c.in_ok-seats.seats; desk = desk } in
-    state_empty room seat_count (shelf_of c.args.shelf) c.in_ok-seats.ensures.free c.in_ok-queue.ensures.items c.new-profiles.ensures.value
+    let room : Room = record { peers = c.in_ok-peers.peers; desk = desk } in
+    state_empty room c.in_ok-peers.ensures.items c.in_ok-queue.ensures.items (shelf_of c.args.shelf) c.new-profiles.ensures.value
 
 pub returns-clause-service : goal.returns-clause-service
 unfolding service_of

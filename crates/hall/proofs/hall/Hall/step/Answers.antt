@@ -1,6 +1,6 @@
 use Rattle.std.proofs.Common.{◌∙◌, ap, subst}
-use Rattle.hall_seats.specs.Parts.{state_in}
-use Rattle.hall_seats.specs.Steps.{Step}
+use Rattle.hall.specs.Parts.{state_in}
+use Rattle.hall.specs.Steps.{Step}
 use Rattle.hall.specs.View.{HallValue, service_of, state_of}
 use Rattle.hall.proofs.hall.Hall.step.Goals as goal
 

@@ -1,7 +1,7 @@
 use Rattle.std.proofs.Common.{◌∙◌, ap, subst}
 use Rattle.hall.specs.View.{HallValue, service_of, state_of}
-use Rattle.hall_seats.specs.Parts.{state_in}
-use Rattle.hall_seats.specs.Steps.{Works}
+use Rattle.hall.specs.Parts.{state_in}
+use Rattle.hall.specs.Steps.{Works}
 use Rattle.hall.proofs.hall.Hall.work.Goals as goal
 
 pub returns-clause-works : goal.returns-clause-works

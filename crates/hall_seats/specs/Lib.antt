@@ -1,9 +1,0 @@
-pub mod Allowed
-pub mod Held
-pub mod Parts
-pub mod Seats
-pub mod Sends
-pub mod Served
-pub mod Sound
-pub mod State
-pub mod Steps
