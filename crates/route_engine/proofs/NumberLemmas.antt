@@ -1,5 +1,5 @@
 -- The waypoints between which costs are asked for are among those of the request.
-use Rattle.std.proofs.Common.{◌≡◌, inl, inr, ℕ, suc, ◌+◌, ◌<◌, ◌≤◌, List, [], ◌∷◌, ◌++◌, length, get_or, refl, sym, ◌∙◌, arith, subst}
+use Rattle.std.proofs.Common.{◌≡◌, inl, inr, ℕ, zero, suc, ◌+◌, ◌<◌, ◌≤◌, List, [], ◌∷◌, ◌++◌, length, get_or, refl, sym, ◌∙◌, arith, subst}
 use Rattle.std.proofs.lemmas.Bool.{cases_lt}
 use Rattle.std.proofs.lemmas.List.{get_or_append_left, get_or_push, length_push}
 use Rattle.route_http.specs.Numbers.{AreBelow}
@@ -7,12 +7,12 @@ use Rattle.route_engine.specs.Numbers.{chosen, numbers_below}
 
 -- there are as many numbers below a count
 below-count : (count : ℕ) → length (numbers_below count) ≡ count
-below-count 0 = refl
+below-count zero = refl
 below-count (suc n) = length_push (numbers_below n) n ∙ omega (arith, below-count n)
 
 -- each of them is below it
 below-each : (count k : ℕ) → k < count → get_or (numbers_below count) k 0 < count
-below-each 0 k there = absurd (omega (arith, there))
+below-each zero k there = absurd (omega (arith, there))
 below-each (suc n) k there = elim (cases_lt k n) [
   | inl less ↦
       let before : k < length (numbers_below n) = omega (arith, less, below-count n) in

@@ -1,10 +1,10 @@
 -- The waypoints between which costs are asked for, by their numbers (this project's own rule).
-use Rattle.std.specs.Prelude.{ℕ, suc, List, [], ◌∷◌, ◌++◌, length, get_or, map}
+use Rattle.std.specs.Prelude.{ℕ, zero, suc, List, [], ◌∷◌, ◌++◌, length, get_or, map}
 use Rattle.route_http.specs.Asked.{Asked}
 
 -- the numbers below a count, in their order
 abbrev pub numbers_below : (count : ℕ) → List ℕ
-numbers_below 0 = []
+numbers_below zero = []
 numbers_below (suc n) = numbers_below n ++ n ∷ []
 
 -- the numbers that are named; where none is, all below a count

@@ -1,5 +1,5 @@
 -- A request that was read is within the limits of its keys.
-use Rattle.std.proofs.Common.{◌≡◌, ℕ, suc, ◌+◌, ◌≤◌, ◌<◌, Bool, true, false, ◌&&◌, ◌||◌, not, nat_lt, nat_le, List, [], ◌∷◌, ◌++◌, length, get_or, Option, Some, None, Result, Ok, Err, refl, ap, sym, arith, length-append, subst}
+use Rattle.std.proofs.Common.{◌≡◌, ℕ, zero, suc, ◌+◌, ◌≤◌, ◌<◌, Bool, true, false, ◌&&◌, ◌||◌, not, nat_lt, nat_le, List, [], ◌∷◌, ◌++◌, length, get_or, Option, Some, None, Result, Ok, Err, refl, ap, sym, arith, length-append, subst}
 use Rattle.std.proofs.lemmas.Bool.Decides.{nat_tests}
 use Rattle.std.specs.Prelude.{if◌then◌else◌, is_some, unwrap_or}
 use Rattle.geo_int.specs.Place.{Place}
@@ -91,10 +91,10 @@ items-few read key most before (text ∷ texts) items few is =
 waypoints-fit : (value : List ℕ) (waypoints : List Place) → waypoints_of value ≡ Ok waypoints →
     (2 ≤ length waypoints) × (length waypoints ≤ 100)
 waypoints-fit value waypoints is =
-    let w = went (items_of place_of_text Lonlats 100 [] (parts_of value)) some_leg waypoints is in
+    let w = went (items_of place_of_text Lonlats 100 [] (parts_of 124 value)) some_leg waypoints is in
     let leg = refused-ok (nat_lt (length w.value) 2) w.value waypoints (error.BadValue Lonlats) w.rest in
     let some : 2 ≤ length w.value = let test = leg.0 in grind (arith, nat_tests) in
-    let few : length w.value ≤ 100 = items-few place_of_text Lonlats 100 [] (parts_of value) w.value (omega arith) w.given in
+    let few : length w.value ≤ 100 = items-few place_of_text Lonlats 100 [] (parts_of 124 value) w.value (omega arith) w.given in
     subst (λ (l : List Place). (2 ≤ length l) × (length l ≤ 100)) leg.1 (some, few)
 
 -- a digit is no more than the greatest
@@ -295,7 +295,7 @@ or-few (Some l) each = each l refl
 -- numbers that are tested are below their count
 below-each : (count : ℕ) (numbers : List ℕ) → all_below count numbers ≡ true → (k : ℕ) → k < length numbers → get_or numbers k 0 < count
 below-each count [] test k there = absurd (omega (arith, there))
-below-each count (n ∷ ns) test 0 there =
+below-each count (n ∷ ns) test zero there =
     let first : nat_lt n count ≡ true = (both-true (nat_lt n count) (all_below count ns) test).0 in
     grind (arith, nat_tests)
 below-each count (n ∷ ns) test (suc k) there =
