@@ -8,11 +8,7 @@ use item_list::Items;
 use std::alloc::{AllocError, Global};
 
 /// The numbers that are named; where none is, all below a count.
-pub(crate) fn chosen(
-    alloc: Global,
-    named: &[u64],
-    count: usize,
-) -> Result<Items<u64>, AllocError>
+pub(crate) fn chosen(alloc: Global, named: &[u64], count: usize) -> Result<Items<u64>, AllocError>
     ensures exact { IfOk result (λ numbers. numbers ≡ chosen named.now count) }
 {
     if named.is_empty() {

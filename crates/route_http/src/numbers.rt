@@ -15,11 +15,7 @@ use std::alloc::Global;
 const MOST_NUMBERS: usize = 100;
 
 /// The numbers of a value under this key, each of which stands there once.
-pub(crate) fn numbers_of(
-    alloc: Global,
-    key: Key,
-    value: &[u8],
-) -> Result<Items<u64>, RequestError>
+pub(crate) fn numbers_of(alloc: Global, key: Key, value: &[u8]) -> Result<Items<u64>, RequestError>
     ensures exact { Answers (λ numbers. numbers) (numbers_of key value.now) NoMemory result }
 {
     let mut numbers = Items::new(alloc);
