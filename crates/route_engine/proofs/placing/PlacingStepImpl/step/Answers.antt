@@ -1,7 +1,7 @@
 use Rattle.std.proofs.Common.{IfOk, subst, sym}
 use Rattle.route_ready.specs.World.{world_of}
 use Rattle.route_engine.specs.Placings.{PlacesOn}
-use Rattle.route_engine.proofs.PlacingLemmas.{steps-on, wants-memory}
+use Rattle.route_engine.proofs.PlacingLemmas.{planned, steps-on, wants-memory}
 use Rattle.route_engine.proofs.placing.PlacingStepImpl.step.Goals as goal
 
 pub returns-in-Cutting : goal.returns-in-Cutting
