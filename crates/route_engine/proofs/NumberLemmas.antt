@@ -1,5 +1,5 @@
 -- The waypoints between which costs are asked for are among those of the request.
-use Rattle.std.proofs.Common.{◌≡◌, inl, inr, ℕ, zero, suc, ◌+◌, ◌<◌, ◌≤◌, List, [], ◌∷◌, ◌++◌, length, get_or, map, take, refl, sym, ap, ◌∙◌, arith, subst}
+use Rattle.std.proofs.Common.{◌≡◌, inl, inr, ℕ, zero, suc, ◌+◌, ◌<◌, ◌≤◌, List, [], ◌∷◌, ◌++◌, length, get_or, map, take, refl, sym, ap, ◌∙◌, arith}
 use Rattle.std.proofs.lemmas.Bool.{cases_lt}
 use Rattle.std.proofs.lemmas.List.{get_or_append_left, get_or_push, length_push, map-append, take_more}
 use Rattle.route_http.specs.Numbers.{AreBelow}
@@ -16,11 +16,13 @@ below-each zero k there = absurd (omega (arith, there))
 below-each (suc n) k there = elim (cases_lt k n) [
   | inl less ↦
       let before : k < length (numbers_below n) = omega (arith, less, below-count n) in
-      let same = get_or_append_left (numbers_below n) (n ∷ []) 0 k before in
-      omega (arith, same, below-each n k less)
+      let same : get_or (numbers_below (suc n)) k 0 ≡ get_or (numbers_below n) k 0 =
+      get_or_append_left (numbers_below n) (n ∷ []) zero k before in
+      let less_now : get_or (numbers_below n) k 0 < n = below-each n k less in
+      omega (arith, same, less_now)
   | inr more ↦
       let last : k ≡ length (numbers_below n) = omega (arith, there, more, below-count n) in
-      let same = get_or_push (numbers_below n) n 0 k last in
+      let same : get_or (numbers_below (suc n)) k 0 ≡ n = get_or_push (numbers_below n) n zero k (sym last) in
       omega (arith, same)
 ]
 

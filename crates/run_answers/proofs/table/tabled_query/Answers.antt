@@ -1,4 +1,4 @@
-use Rattle.std.proofs.Common.{◌≡◌, ◌∙◌, subst}
+use Rattle.std.proofs.Common.{◌∙◌, subst}
 use Rattle.item_list.specs.Answer.{Answers}
 use Rattle.route_http.specs.Seen.{asked}
 use Rattle.run_files.specs.Query.{tabled_in}

@@ -1,6 +1,4 @@
-use Rattle.std.proofs.Common.{true, false, IfOk, arith}
-use Rattle.route_engine.specs.Jobs.{IsWithin}
-use Rattle.route_http.specs.Seen.{asked}
+use Rattle.std.proofs.Common.{true, false}
 use Rattle.session_answers.proofs.QueryLemmas.{read-within}
 use Rattle.route_http.specs.declared.form.Form.TheVariants.{GeoJson}
 use Rattle.session_answers.proofs.beginning.spelt_for.Goals as goal

@@ -36,7 +36,7 @@ returns-in-Placed c =
     let nodes = c.in-Placed.nodes in
     let stage = subst (IsPlacingStage world ready request) c.in-Placed.is c.requires.over.stage in
     let given = subst (λ q. MatchResult c.plan_with.result (IsPlanWith ready q cut.items nodes.items) (λ e. e ≡ NoMemory))
-    c.deref-in-Placed.ensures c.plan_with.ensures in
+    c.deref-in-Placed.ensures c.plan_with.ensures.exact in
     record {
       steps = record {
         fits = omega arith;
