@@ -29,6 +29,7 @@ use Rattle.route_engine.specs.Answers.{IsAnswer, early, found, refused}
 use Rattle.route_engine.specs.Jobs.{IsWithin}
 use Rattle.route_engine.specs.Settings.{Question}
 use Rattle.route_http.specs.Asked.{Asked}
+use Rattle.route_http.specs.Numbers.{AreBelow}
 use Rattle.route_http.specs.Seen.{places}
 use Rattle.route_http.specs.declared.form.Form.TheVariants.{GeoJson}
 use Rattle.route_ready.specs.World.{world_of}
@@ -63,8 +64,8 @@ corners-are plan last first second none one both is at_first at_second empty put
     ∙ ap (λ (p : Place). cell_place plan 0 ∷ p ∷ []) (at_second ∙ ap (cell_place plan) is)
 
 -- a request of the kind of hills
-abbrev request : List Place → List (Place × ℕ) → List ℕ → List (List ℕ × ℤ) → Asked
-request waypoints circles profile overrides = record {
+abbrev request : List Place → List (Place × ℕ) → List ℕ → List (List ℕ × ℤ) → (sources destinations : List ℕ) → Asked
+request waypoints circles profile overrides sources destinations = record {
   waypoints = waypoints;
   circles = circles;
   profile = profile;
@@ -74,22 +75,29 @@ request waypoints circles profile overrides = record {
   overrides = overrides;
   runs = false;
   cost = 0;
+  sources = sources;
+  destinations = destinations;
 }
 
 -- such a request between the corners
-pub request-is : (plan : Plan) (waypoints : List Place) (circles : List (Place × ℕ)) (profile : List ℕ) (overrides : List (List ℕ × ℤ)) →
-    waypoints ≡ cell_place plan 0 ∷ cell_place plan (cells_of plan - 1) ∷ [] → circles ≡ [] → profile ≡ [] → overrides ≡ [] →
-    request waypoints circles profile overrides ≡ corners_asked plan
-request-is plan waypoints circles profile overrides at no_circles no_profile no_overrides =
-    ap (λ (w : List Place). request w circles profile overrides) at
-    ∙ ap (λ (c : List (Place × ℕ)). request (corners_asked plan).waypoints c profile overrides) no_circles
-    ∙ ap (λ (p : List ℕ). request (corners_asked plan).waypoints [] p overrides) no_profile
-    ∙ ap (λ (o : List (List ℕ × ℤ)). request (corners_asked plan).waypoints [] [] o) no_overrides
+pub request-is : (plan : Plan) (waypoints : List Place) (circles : List (Place × ℕ)) (profile : List ℕ) (overrides : List (List ℕ × ℤ))
+    (sources destinations : List ℕ) → waypoints ≡ cell_place plan 0 ∷ cell_place plan (cells_of plan - 1) ∷ [] → circles ≡ [] → profile ≡ [] → overrides ≡ [] → sources ≡ [] →
+    destinations ≡ [] → request waypoints circles profile overrides sources destinations ≡ corners_asked plan
+request-is plan waypoints circles profile overrides sources destinations at no_circles no_profile no_overrides no_sources no_destinations =
+    ap (λ (w : List Place). request w circles profile overrides sources destinations) at
+    ∙ ap (λ (c : List (Place × ℕ)). request (corners_asked plan).waypoints c profile overrides sources destinations) no_circles
+    ∙ ap (λ (p : List ℕ). request (corners_asked plan).waypoints [] p overrides sources destinations) no_profile
+    ∙ ap (λ (o : List (List ℕ × ℤ)). request (corners_asked plan).waypoints [] [] o sources destinations) no_overrides
+    ∙ ap (λ (s : List ℕ). request (corners_asked plan).waypoints [] [] [] s destinations) no_sources
+    ∙ ap (λ (d : List ℕ). request (corners_asked plan).waypoints [] [] [] [] d) no_destinations
 
 -- the request between the corners is within the limits of requests
 pub corners-within : (plan : Plan) (asked : Asked) → asked ≡ corners_asked plan → IsWithin asked
 corners-within plan asked is =
-    subst IsWithin (sym is) (record { some = omega arith; few = omega arith; alternative = omega arith; labels = omega arith })
+    subst IsWithin (sym is) (record { some = omega arith; few = omega arith; alternative = omega arith; labels = omega arith; sources = none-below; destinations = none-below })
+  where
+    none-below : AreBelow 2 []
+    none-below = record { few = omega arith; each = λ k there. absurd (omega (arith, there)) }
 
 -- ---- The question
 

@@ -37,6 +37,8 @@ corners_asked plan = record {
   overrides = [];
   runs = false;
   cost = 0;
+  sources = [];
+  destinations = [];
 }
 
 -- the tag table, the tile of the seed and the profile that hills are crossed by

@@ -134,6 +134,8 @@ fn corners(alloc: Global, grid: &Grid) -> Result<Request, AllocError>
         overrides: Overrides::new(alloc),
         runs: false,
         cost: 0,
+        sources: Items::new(alloc),
+        destinations: Items::new(alloc),
     })
 }
 

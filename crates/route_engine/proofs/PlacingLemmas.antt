@@ -1,5 +1,5 @@
 -- The waypoints of a request are moved to nodes, step after step.
-use Rattle.std.proofs.Common.{◌≡◌, ◌⊎◌, inl, ℕ, ◌+◌, ◌-◌, ◌*◌, ◌<◌, ◌≤◌, min, true, false, Bool, List, [], ◌∷◌, ◌++◌, length, nat_eq, Some, None, Result, Ok, Err, IfOk, IfErr, Vec, refl, sym, ap, ◌∙◌, subst, arith}
+use Rattle.std.proofs.Common.{◌≡◌, ◌⊎◌, inl, ℕ, ◌+◌, ◌-◌, ◌*◌, ◌<◌, ◌≤◌, min, true, false, Bool, List, [], ◌∷◌, ◌++◌, length, nat_eq, Some, None, Result, Ok, Err, IfOk, IfErr, MatchResult, Vec, refl, sym, ap, ◌∙◌, subst, arith}
 use Rattle.std.proofs.Math.Nat.{le-max_left, le-max_right, min-le_left, min-le_right}
 use Rattle.std.proofs.lemmas.List.{length_push}
 use Rattle.std.specs.declared.alloc.Global.{Global}
@@ -7,6 +7,7 @@ use Rattle.nogo_areas.specs.Cuts.{cut_of}
 use Rattle.nogo_areas.specs.Cuttings.{IsCutting, judged}
 use Rattle.nogo_areas.specs.declared.circle.Circle.{Circle}
 use Rattle.nogo_areas.specs.declared.cutting.Cutting.{Cutting as TheCutting}
+use Rattle.route_http.specs.Numbers.{AreBelow}
 use Rattle.route_http.specs.Seen.{asked, circles_seen}
 use Rattle.route_http.specs.declared.asked.Request.{Request}
 use Rattle.route_ready.specs.Worlds.{WorldValue}
@@ -17,8 +18,9 @@ use Rattle.tasks.specs.Steps.{Steps}
 use Rattle.tasks.specs.declared.steps.Stepped.{Stepped}
 use Rattle.way_class.specs.Links.{links_of}
 use Rattle.route_engine.specs.Jobs.{IsWithin, setting_by}
-use Rattle.route_engine.specs.Placings.{AreMoved, IsPlacingOn, IsPlacingStage, IsPlanBy, PlacesOn, StepsTo, cutting_for, free_stages, moving, open_map_for, placing_left, work_of_placing}
+use Rattle.route_engine.specs.Placings.{AreMoved, IsPlaced, IsPlacingOn, IsPlacingStage, IsPlanBy, IsPlanWith, PlacesOn, StepsTo, cutting_for, free_stages, moving, open_map_for, placing_left, work_of_placing}
 use Rattle.route_engine.specs.Askings.{PlacesAs}
+use Rattle.route_engine.specs.Numbers.{chosen, columns_of, rows_of}
 use Rattle.route_engine.specs.Settings.{cut_links}
 use Rattle.route_engine.specs.Waypoints.{AreFirstNodes, AreNodes, IsMovedOn, RefusesWaypoint, waypoint_at}
 use Rattle.route_engine.specs.declared.placing.Placing.{Placing}
@@ -26,6 +28,7 @@ use Rattle.route_engine.specs.declared.placing_stage.PlacingStage.{PlacingStage}
 use Rattle.route_engine.specs.declared.placing_stage.PlacingStage.TheVariants as stages
 use Rattle.route_engine.specs.declared.placing_stage.PlacingStep.{PlacingStep}
 use Rattle.route_engine.specs.declared.plan.JobPlan.{JobPlan}
+use Rattle.route_engine.proofs.NumberLemmas.{chosen-below}
 use Rattle.route_engine.proofs.SettingLemmas.{cut-none, cut-seen, nodes-in}
 use Rattle.route_engine.proofs.WaypointLemmas.{nodes-more}
 
@@ -130,32 +133,48 @@ module _ (world : WorldValue) (ready : Ready) (request : Request) where
   pub planned-by : (plan : JobPlan) (cut : List Bool) (nodes : List ℕ) →
       (links_of ready.bound).count ≡ length world.map.links → IsWithin (asked request) →
       AreMoved world ready (asked request) cut nodes → length nodes ≡ length (asked request).waypoints →
-      plan.ready.value ≡ ready → plan.cut.items ≡ cut → plan.nodes ≡ nodes → plan.limit ≡ request.labels →
-      plan.alternative ≡ request.alternative → plan.runs ≡ request.runs → plan.cost ≡ request.cost → IsPlanBy world ready (asked request) plan
-  planned-by plan cut nodes counted within are all is_ready is_cut is_nodes is_limit is_alternative is_runs is_cost =
+      IsPlanWith ready request cut nodes plan → IsPlanBy world ready (asked request) plan
+  planned-by plan cut nodes counted within are all is =
       let places = (asked request).waypoints in
       let moved : AreNodes (open_map_for world ready (asked request)) places plan.nodes =
-      subst (AreNodes (open_map_for world ready (asked request)) places) (sym is_nodes)
+      subst (AreNodes (open_map_for world ready (asked request)) places) (sym is.nodes_are)
       (subst (λ n. AreFirstNodes (open_map_for world ready (asked request)) places n nodes) all are.nodes_are) in
+      let same : length plan.nodes ≡ length places = moved.count in
+      let rows : plan.rows ≡ rows_of (asked request) = is.rows ∙ ap (chosen request.sources) all in
+      let columns : plan.columns ≡ columns_of (asked request) = is.columns ∙ ap (chosen request.destinations) all in
       record {
-        by = is_ready;
+        by = is.ready_is;
         on = record {
-          counted = subst (λ (r : Ready). (links_of r.bound).count ≡ length world.map.links) (sym is_ready) counted;
+          counted = subst (λ (r : Ready). (links_of r.bound).count ≡ length world.map.links) (sym is.ready_is) counted;
           nodes_in = nodes-in (open_map_for world ready (asked request)) world.map places plan.nodes refl moved;
-          some = omega (arith, moved.count, within.some);
-          few = omega (arith, moved.count, within.few);
-          asked = omega (arith, is_alternative, within.alternative);
-          small = omega (arith, is_limit, within.labels);
+          some = omega (arith, same, within.some);
+          few = omega (arith, same, within.few);
+          asked = omega (arith, is.alternative, within.alternative);
+          small = omega (arith, is.limit, within.labels);
+          rows = subst (λ n. AreBelow n plan.rows) (sym same)
+              (subst (AreBelow (length places)) (sym rows) (chosen-below request.sources (length places) within.few within.sources));
+          columns = subst (λ n. AreBelow n plan.columns) (sym same)
+              (subst (AreBelow (length places)) (sym columns) (chosen-below request.destinations (length places) within.few within.destinations));
         };
         planned = record {
-          over = ap (λ (r : Ready). setting_by world r plan.cut.items) is_ready ∙ ap (setting_by world ready) (is_cut ∙ are.cut_is);
+          over = ap (λ (r : Ready). setting_by world r plan.cut.items) is.ready_is ∙ ap (setting_by world ready) (is.cut_is ∙ are.cut_is);
           nodes = moved;
-          alternative = is_alternative;
-          limit = is_limit;
-          runs = is_runs;
-          cost = is_cost;
+          alternative = is.alternative;
+          limit = is.limit;
+          runs = is.runs;
+          cost = is.cost;
+          rows = rows;
+          columns = columns;
         };
       }
+
+  -- so it is where memory is enough for it
+  pub planned : (given : Result JobPlan RouteError) (cut : List Bool) (nodes : List ℕ) →
+      (links_of ready.bound).count ≡ length world.map.links → IsWithin (asked request) →
+      AreMoved world ready (asked request) cut nodes → length nodes ≡ length (asked request).waypoints →
+      MatchResult given (IsPlanWith ready request cut nodes) (λ e. e ≡ NoMemory) → IsPlaced world ready (asked request) given
+  planned (Ok plan) cut nodes counted within are all is = planned-by plan cut nodes counted within are all is
+  planned (Err e) cut nodes counted within are all is = inl is
 
 -- what only memory stops may be refused by a waypoint besides
 pub wants-memory : (next : Result PlacingStep RouteError) (Why : RouteError → Type 0) → IfErr next (λ e. e ≡ NoMemory) →

@@ -9,6 +9,7 @@ pub mod Marked
 pub mod Nearby
 pub mod NearbyAnswers
 pub mod NearbyJobs
+pub mod Numbers
 pub mod Pendings
 pub mod Placings
 pub mod Planned

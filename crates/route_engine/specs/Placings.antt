@@ -15,6 +15,7 @@ use Rattle.route_ready.specs.declared.ready.Ready.{Ready}
 use Rattle.tasks.specs.declared.steps.Stepped.{Stepped}
 use Rattle.way_class.specs.Links.{links_of}
 use Rattle.route_engine.specs.Jobs.{IsPlanFor, IsPlanOn, IsWithin, plan_of, setting_of}
+use Rattle.route_engine.specs.Numbers.{chosen}
 use Rattle.route_engine.specs.Settings.{cut_links, open_map_of}
 use Rattle.route_engine.specs.Waypoints.{AreFirstNodes, OpenMap, RefusesWaypoint}
 use Rattle.route_engine.specs.declared.placing.Placing.{Placing}
@@ -101,6 +102,19 @@ abbrev pub work_of_placing : WorldValue → Placing → ℕ
 work_of_placing world p = placing_left world p.request.value p.stage
 
 -- ---- What it comes to
+
+-- this is what a request is to find, by a profile that is ready, these cut links and these nodes
+pub record IsPlanWith (ready : Ready) (request : Request) (cut : List Bool) (nodes : List ℕ) (plan : JobPlan) :
+    Type 0 where
+  pub ready_is : plan.ready.value ≡ ready
+  pub cut_is : plan.cut.items ≡ cut
+  pub nodes_are : plan.nodes ≡ nodes
+  pub limit : plan.limit ≡ request.labels
+  pub alternative : plan.alternative ≡ request.alternative
+  pub runs : plan.runs ≡ request.runs
+  pub cost : plan.cost ≡ request.cost
+  pub rows : plan.rows ≡ chosen request.sources (length nodes)
+  pub columns : plan.columns ≡ chosen request.destinations (length nodes)
 
 -- this is the plan of a request over a world, by a profile that is ready
 pub record IsPlanBy (world : WorldValue) (ready : Ready) (asked : Asked) (plan : JobPlan) : Type 0 where

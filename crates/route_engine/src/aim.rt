@@ -4,6 +4,7 @@ ghost use Rattle.std.specs.Prelude.{◌≡◌, ◌<◌, ◌≤◌, ◌^◌, leng
 ghost use Rattle.least_sums.specs.Findings.{most_found};
 ghost use Rattle.route_engine.specs.Aims.{most_for, searching_for};
 ghost use Rattle.route_engine.specs.Jobs.{IsWithin};
+ghost use Rattle.route_engine.specs.Numbers.{rows_of};
 ghost use Rattle.route_engine.specs.Placings.{placing_for};
 ghost use Rattle.route_http.specs.Seen.{asked};
 ghost use Rattle.route_ready.specs.World.{world_of};
@@ -68,8 +69,23 @@ fn searching_for(world: &World, aim: Aim, request: &Request) -> u64
             let walks = (waypoints - 1) * (request.alternative as u64 + 1);
             walks * (2 * most_found(world) + FIRST_LABELS + labels + BEGINNING as u64)
         }
-        Aim::Table | Aim::Within => waypoints * labels,
+        Aim::Table => rows_for(request) * labels,
+        Aim::Within => waypoints * labels,
         Aim::Certificate => (waypoints - 1) * (BEGINNING as u64 + most_found(world) + labels),
+    }
+}
+
+/// How many rows a table of a request has.
+fn rows_for(request: &Request) -> u64
+    requires within { IsWithin (asked request.now) }
+    ensures exact { result ≡ length (rows_of (asked request.now)) }
+    ensures small { result ≤ 100 }
+{
+    let sources = request.sources.len();
+    if sources == 0 {
+        request.waypoints.len() as u64
+    } else {
+        sources as u64
     }
 }
 

@@ -13,6 +13,7 @@ mod marks;
 mod nearby;
 mod nearby_json;
 mod nearby_lines;
+mod numbers;
 mod pendings;
 mod placing;
 mod placing_stage;

@@ -1,12 +1,14 @@
 //! The waypoints of a request are moved to nodes in steps, behind the cuts of its circles.
 
-ghost use Rattle.std.specs.Prelude.{◌≡◌, ◌/◌, ◌≤◌, IfOk, length};
+ghost use Rattle.std.specs.Prelude.{◌≡◌, ◌/◌, ◌≤◌, IfOk, MatchResult, length};
 ghost use Rattle.route_engine.specs.Jobs.{IsWithin};
-ghost use Rattle.route_engine.specs.Placings.{IsPlaced, IsPlacingOn, StepsTo, free_stages, placing_for, work_of_placing};
+ghost use Rattle.route_engine.specs.Placings.{IsPlaced, IsPlacingOn, IsPlanWith, StepsTo, free_stages, placing_for, work_of_placing};
 ghost use Rattle.route_http.specs.Seen.{asked};
 ghost use Rattle.route_ready.specs.World.{world_of};
+ghost use Rattle.route_ready.specs.declared.error.RouteError.TheVariants.{NoMemory};
 ghost use Rattle.way_class.specs.Links.{links_of};
 
+use crate::numbers::chosen;
 use crate::placing_stage::{PlacingStage, PlacingStep};
 use crate::placing_steps::{cut_more, first_stage, move_next};
 use crate::plan::JobPlan;
@@ -99,7 +101,7 @@ impl Step for Placing {
             }
             PlacingStage::Placed { cut, nodes } => Stepped {
                 spent: 0,
-                turn: Turn::Done(Ok(plan_with(ready, &request, cut, nodes))),
+                turn: Turn::Done(plan_with(alloc, ready, &request, cut, nodes)),
             },
         }
     }
@@ -152,22 +154,28 @@ fn stepped(
 }
 
 /// The plan of a request whose waypoints are moved to these nodes, where these links are cut.
-fn plan_with(ready: Rc<Ready>, request: &Request, cut: Vec<bool>, nodes: Vec<u32>) -> JobPlan
-    ensures ready { result.ready.value ≡ ready.value }
-    ensures cut { result.cut.items ≡ cut.items }
-    ensures nodes { result.nodes ≡ nodes.items }
-    ensures limit { result.limit ≡ request.now.labels }
-    ensures alternative { result.alternative ≡ request.now.alternative }
-    ensures runs { result.runs ≡ request.now.runs }
-    ensures cost { result.cost ≡ request.now.cost }
+fn plan_with(
+    alloc: Global,
+    ready: Rc<Ready>,
+    request: &Request,
+    cut: Vec<bool>,
+    nodes: Vec<u32>,
+) -> Result<JobPlan, RouteError>
+    ensures exact { MatchResult result (IsPlanWith ready.value request.now cut.items nodes.items)
+        (λ e. e ≡ NoMemory) }
 {
-    JobPlan {
+    let count = nodes.len();
+    let rows = chosen(alloc, request.sources.as_slice(), count)?;
+    let columns = chosen(alloc, request.destinations.as_slice(), count)?;
+    Ok(JobPlan {
         limit: request.labels,
         nodes: Items::from_vec(nodes),
         cut,
         alternative: request.alternative,
         runs: request.runs,
         cost: request.cost,
+        rows,
+        columns,
         ready,
-    }
+    })
 }

@@ -23,9 +23,9 @@ use std::alloc::{AllocError, Global};
 use std::rc::Rc;
 use tasks::Stepped;
 
-/// The costs between the waypoints of a request, found in turns: one search from each waypoint
-/// finds what it costs to come to all of them. The alternative, the form and the runs of the
-/// request have no effect.
+/// The costs between the waypoints of a request, found in turns: one search from each waypoint of a
+/// row finds what it costs to come to those of all columns. The alternative, the form and the runs
+/// of the request have no effect.
 pub struct TableJob {
     pub(crate) alloc: Global,
     pub(crate) plan: JobPlan,

@@ -1,5 +1,5 @@
 -- A request that was read is within the limits of its keys.
-use Rattle.std.proofs.Common.{◌≡◌, ℕ, suc, ◌+◌, ◌≤◌, Bool, true, false, ◌&&◌, ◌||◌, not, nat_lt, nat_le, List, [], ◌∷◌, ◌++◌, length, Option, Some, None, Result, Ok, Err, refl, ap, sym, arith, length-append, subst}
+use Rattle.std.proofs.Common.{◌≡◌, ℕ, zero, suc, ◌+◌, ◌≤◌, ◌<◌, Bool, true, false, ◌&&◌, ◌||◌, not, nat_lt, nat_le, List, [], ◌∷◌, ◌++◌, length, get_or, Option, Some, None, Result, Ok, Err, refl, ap, sym, arith, length-append, subst}
 use Rattle.std.proofs.lemmas.Bool.Decides.{nat_tests}
 use Rattle.std.specs.Prelude.{if◌then◌else◌, is_some, unwrap_or}
 use Rattle.geo_int.specs.Place.{Place}
@@ -8,15 +8,16 @@ use Rattle.fixed_num.specs.Decimal.{digits_after}
 use Rattle.route_http.specs.Asked.{Asked}
 use Rattle.route_http.specs.List.{one_more, items_of, parts_of}
 use Rattle.route_http.specs.Key.{key_of, variable_of}
+use Rattle.route_http.specs.Numbers.{AreBelow, all_below, number_in, numbers_of, once_each}
 use Rattle.route_http.specs.Parts.{Parts, no_parts, once, override_more, take_keyed, take_named, take_pair, take_pairs}
-use Rattle.route_http.specs.Request.{finish, pairs_of, request_by, request_of, whole, with_cost, with_form}
+use Rattle.route_http.specs.Request.{finish, pairs_of, request_by, request_of, whole, with_cost, with_form, with_numbers}
 use Rattle.route_http.specs.Value.{formed, some_leg, waypoints_of, place_of_text, digit_of, labels_of, is_count, within_labels}
 use Rattle.route_http.specs.declared.error.RequestError.{RequestError}
 use Rattle.route_http.specs.declared.error.RequestError.TheVariants as error
 use Rattle.route_http.specs.declared.form.Form.{Form}
 use Rattle.route_http.specs.declared.form.Form.TheVariants.{GeoJson}
 use Rattle.route_http.specs.declared.key.Key.{Key}
-use Rattle.route_http.specs.declared.key.Key.TheVariants.{Lonlats, Nogos, Profile, Alternativeidx, Format, Labels, Override, Runs, Cost}
+use Rattle.route_http.specs.declared.key.Key.TheVariants.{Lonlats, Nogos, Profile, Alternativeidx, Format, Labels, Override, Runs, Cost, Sources, Destinations}
 
 -- ---- What goes on
 
@@ -50,6 +51,12 @@ holds-some : {A : Type 0} (test : Bool) (a b : A) → (if test then Some a else 
 holds-some true a b is = record { test_is = refl; same = cc }
 holds-some false a b is = cc
 
+-- two tests that hold together hold each
+both-true : (a b : Bool) → (a && b) ≡ true → (a ≡ true) × (b ≡ true)
+both-true true b is = (refl, is)
+both-true false b is = cc
+
+-- a test that gives an answer holds, and its value is the given one
 holds-ok : {A E : Type 0} (test : Bool) (a b : A) (e : E) → (if test then Ok a else Err e) ≡ Ok b → Holds test a b
 holds-ok true a b e is = record { test_is = refl; same = cc }
 holds-ok false a b e is = cc
@@ -84,10 +91,10 @@ items-few read key most before (text ∷ texts) items few is =
 waypoints-fit : (value : List ℕ) (waypoints : List Place) → waypoints_of value ≡ Ok waypoints →
     (2 ≤ length waypoints) × (length waypoints ≤ 100)
 waypoints-fit value waypoints is =
-    let w = went (items_of place_of_text Lonlats 100 [] (parts_of value)) some_leg waypoints is in
+    let w = went (items_of place_of_text Lonlats 100 [] (parts_of 124 value)) some_leg waypoints is in
     let leg = refused-ok (nat_lt (length w.value) 2) w.value waypoints (error.BadValue Lonlats) w.rest in
     let some : 2 ≤ length w.value = let test = leg.0 in grind (arith, nat_tests) in
-    let few : length w.value ≤ 100 = items-few place_of_text Lonlats 100 [] (parts_of value) w.value (omega arith) w.given in
+    let few : length w.value ≤ 100 = items-few place_of_text Lonlats 100 [] (parts_of 124 value) w.value (omega arith) w.given in
     subst (λ (l : List Place). (2 ≤ length l) × (length l ≤ 100)) leg.1 (some, few)
 
 -- a digit is no more than the greatest
@@ -116,6 +123,14 @@ labels-fit value n is = go (is_count value) is
     go true given = within (digits_after 0 value) given
     go false given = cc
 
+-- numbers are at most 100
+numbers-fit : (key : Key) (value : List ℕ) (numbers : List ℕ) → numbers_of key value ≡ Ok numbers → length numbers ≤ 100
+numbers-fit key value numbers is =
+    let w = went (items_of number_in key 100 [] (parts_of 59 value)) (once_each key) numbers is in
+    let same = (holds-ok _ w.value numbers (error.BadValue key) w.rest).same in
+    let few : length w.value ≤ 100 = items-few number_in key 100 [] (parts_of 59 value) w.value (omega arith) w.given in
+    subst (λ (l : List ℕ). length l ≤ 100) same few
+
 -- ---- Pairs
 
 -- the values that came are within their limits
@@ -123,6 +138,8 @@ record AreLimited (p : Parts) : Type 0 where
   waypoints : (l : List Place) → p.waypoints ≡ Some l → (2 ≤ length l) × (length l ≤ 100)
   alternative : (n : ℕ) → p.alternative ≡ Some n → n ≤ 3
   labels : (n : ℕ) → p.labels ≡ Some n → n ≤ 4000000000
+  sources : (l : List ℕ) → p.sources ≡ Some l → length l ≤ 100
+  destinations : (l : List ℕ) → p.destinations ≡ Some l → length l ≤ 100
 
 -- what a pair adds is within its limits
 keyed-limited : (key : Key) (name value : List ℕ) (p q : Parts) → AreLimited p → take_keyed key name value p ≡ Ok q → AreLimited q
@@ -137,17 +154,19 @@ keyed-limited Lonlats name value p q are is =
       waypoints = λ l e. let here : w.value ≡ l = cc in subst (λ (x : List Place). (2 ≤ length x) × (length x ≤ 100)) here fits;
       alternative = are.alternative;
       labels = are.labels;
+      sources = are.sources;
+      destinations = are.destinations;
     })
 keyed-limited Nogos name value p q are is =
     let w = went (once Nogos p.circles _) _ q is in
     let new : Parts = record p { circles = Some w.value } in
     let same : new ≡ q = let rest = w.rest in cc in
-    subst AreLimited same (record { waypoints = are.waypoints; alternative = are.alternative; labels = are.labels })
+    subst AreLimited same (record { waypoints = are.waypoints; alternative = are.alternative; labels = are.labels; sources = are.sources; destinations = are.destinations })
 keyed-limited Profile name value p q are is =
     let w = went (once Profile p.profile _) _ q is in
     let new : Parts = record p { profile = Some w.value } in
     let same : new ≡ q = let rest = w.rest in cc in
-    subst AreLimited same (record { waypoints = are.waypoints; alternative = are.alternative; labels = are.labels })
+    subst AreLimited same (record { waypoints = are.waypoints; alternative = are.alternative; labels = are.labels; sources = are.sources; destinations = are.destinations })
 keyed-limited Alternativeidx name value p q are is =
     let w = went (once Alternativeidx p.alternative (formed Alternativeidx (digit_of 3 value))) _ q is in
     let new : Parts = record p { alternative = Some w.value } in
@@ -160,12 +179,14 @@ keyed-limited Alternativeidx name value p q are is =
       waypoints = are.waypoints;
       alternative = λ n e. let here : w.value ≡ n = cc in subst (λ (x : ℕ). x ≤ 3) here fits;
       labels = are.labels;
+      sources = are.sources;
+      destinations = are.destinations;
     })
 keyed-limited Format name value p q are is =
     let w = went (once Format p.form _) _ q is in
     let new : Parts = record p { form = Some w.value } in
     let same : new ≡ q = let rest = w.rest in cc in
-    subst AreLimited same (record { waypoints = are.waypoints; alternative = are.alternative; labels = are.labels })
+    subst AreLimited same (record { waypoints = are.waypoints; alternative = are.alternative; labels = are.labels; sources = are.sources; destinations = are.destinations })
 keyed-limited Labels name value p q are is =
     let w = went (once Labels p.labels (formed Labels (labels_of value))) _ q is in
     let new : Parts = record p { labels = Some w.value } in
@@ -177,27 +198,57 @@ keyed-limited Labels name value p q are is =
       waypoints = are.waypoints;
       alternative = are.alternative;
       labels = λ n e. let here : w.value ≡ n = cc in subst (λ (x : ℕ). x ≤ 4000000000) here fits;
+      sources = are.sources;
+      destinations = are.destinations;
     })
 keyed-limited Override name value p q are is =
     let w = went (override_more (variable_of name) value p.overrides) (λ x. Ok (record p { overrides = x })) q is in
     let new : Parts = record p { overrides = w.value } in
     let same : new ≡ q = let rest = w.rest in cc in
-    subst AreLimited same (record { waypoints = are.waypoints; alternative = are.alternative; labels = are.labels })
+    subst AreLimited same (record { waypoints = are.waypoints; alternative = are.alternative; labels = are.labels; sources = are.sources; destinations = are.destinations })
 keyed-limited Runs name value p q are is =
     let w = went (once Runs p.runs _) _ q is in
     let new : Parts = record p { runs = Some w.value } in
     let same : new ≡ q = let rest = w.rest in cc in
-    subst AreLimited same (record { waypoints = are.waypoints; alternative = are.alternative; labels = are.labels })
+    subst AreLimited same (record { waypoints = are.waypoints; alternative = are.alternative; labels = are.labels; sources = are.sources; destinations = are.destinations })
 keyed-limited Cost name value p q are is =
     let w = went (once Cost p.cost _) _ q is in
     let new : Parts = record p { cost = Some w.value } in
     let same : new ≡ q = let rest = w.rest in cc in
-    subst AreLimited same (record { waypoints = are.waypoints; alternative = are.alternative; labels = are.labels })
+    subst AreLimited same (record { waypoints = are.waypoints; alternative = are.alternative; labels = are.labels; sources = are.sources; destinations = are.destinations })
+keyed-limited Sources name value p q are is =
+    let w = went (once Sources p.sources (numbers_of Sources value)) _ q is in
+    let new : Parts = record p { sources = Some w.value } in
+    let same : new ≡ q = let rest = w.rest in cc in
+    let fits = numbers-fit Sources value w.value (once-is Sources p.sources (numbers_of Sources value) w.value w.given) in
+    let sources : (l : List ℕ) → new.sources ≡ Some l → length l ≤ 100 =
+    λ l e. let here : w.value ≡ l = cc in subst (λ (x : List ℕ). length x ≤ 100) here fits in
+    subst AreLimited same (record {
+      waypoints = are.waypoints;
+      alternative = are.alternative;
+      labels = are.labels;
+      sources = sources;
+      destinations = are.destinations;
+    })
+keyed-limited Destinations name value p q are is =
+    let w = went (once Destinations p.destinations (numbers_of Destinations value)) _ q is in
+    let new : Parts = record p { destinations = Some w.value } in
+    let same : new ≡ q = let rest = w.rest in cc in
+    let fits = numbers-fit Destinations value w.value (once-is Destinations p.destinations (numbers_of Destinations value) w.value w.given) in
+    let destinations : (l : List ℕ) → new.destinations ≡ Some l → length l ≤ 100 =
+    λ l e. let here : w.value ≡ l = cc in subst (λ (x : List ℕ). length x ≤ 100) here fits in
+    subst AreLimited same (record {
+      waypoints = are.waypoints;
+      alternative = are.alternative;
+      labels = are.labels;
+      destinations = destinations;
+      sources = are.sources;
+    })
 
 -- so is what a pair of any name adds
 pair-limited : (place : ℕ) (pair : List ℕ × List ℕ) (p q : Parts) → AreLimited p → take_pair place pair p ≡ Ok q → AreLimited q
 unfolding take_pair
-pair-limited place pair p q are is = go (key_of p.costed pair.0) is
+pair-limited place pair p q are is = go (key_of p.costed p.tabled pair.0) is
   where
     go : (key : Option Key) → take_named key place pair.0 pair.1 p ≡ Ok q → AreLimited q
     go None e = cc
@@ -210,30 +261,69 @@ pairs-limited place (pair ∷ pairs) p q are is =
     let w = went (take_pair place pair p) (take_pairs (suc place) pairs) q is in
     pairs-limited (suc place) pairs w.value q (pair-limited place pair p w.value are w.given) w.rest
 
-none-limited : (costed : Bool) → AreLimited (no_parts costed)
-none-limited costed = record { waypoints = λ l e. cc; alternative = λ n e. cc; labels = λ n e. cc }
+none-limited : (costed tabled : Bool) → AreLimited (no_parts costed tabled)
+none-limited costed tabled = record {
+  waypoints = λ l e. cc;
+  alternative = λ n e. cc;
+  labels = λ n e. cc;
+  sources = λ l e. cc;
+  destinations = λ l e. cc;
+}
 
 -- ---- Requests
 
--- two to 100 waypoints, alternatives 0 to 3, at most 4,000,000,000 labels
+-- two to 100 waypoints, alternatives 0 to 3, at most 4,000,000,000 labels, and sources and destinations among the
+-- waypoints
 pub record IsLimited (asked : Asked) : Type 0 where
   pub some : 2 ≤ length asked.waypoints
   pub few : length asked.waypoints ≤ 100
   pub alternative : asked.alternative ≤ 3
   pub labels : asked.labels ≤ 4000000000
+  pub sources : AreBelow (length asked.waypoints) asked.sources
+  pub destinations : AreBelow (length asked.waypoints) asked.destinations
 
 -- a value within a limit, or the one that stands for it
 or-fits : (most given : ℕ) (value : Option ℕ) → given ≤ most → ((n : ℕ) → value ≡ Some n → n ≤ most) → unwrap_or value given ≤ most
 or-fits most given None fits each = fits
 or-fits most given (Some n) fits each = each n refl
 
+-- so are numbers, or none
+or-few : (value : Option (List ℕ)) → ((l : List ℕ) → value ≡ Some l → length l ≤ 100) → length (unwrap_or value []) ≤ 100
+or-few None each = omega arith
+or-few (Some l) each = each l refl
+
+-- numbers that are tested are below their count
+below-each : (count : ℕ) (numbers : List ℕ) → all_below count numbers ≡ true → (k : ℕ) → k < length numbers → get_or numbers k 0 < count
+below-each count [] test k there = absurd (omega (arith, there))
+below-each count (n ∷ ns) test zero there =
+    let first : nat_lt n count ≡ true = (both-true (nat_lt n count) (all_below count ns) test).0 in
+    grind (arith, nat_tests)
+below-each count (n ∷ ns) test (suc k) there =
+    below-each count ns (both-true (nat_lt n count) (all_below count ns) test).1 k (omega (arith, there))
+
+-- a request whose numbers are tested is the one that was given, and they are below the count of its waypoints
+record Numbered (given asked : Asked) : Type 0 where
+  same : given ≡ asked
+  sources : all_below (length given.waypoints) given.sources ≡ true
+  destinations : all_below (length given.waypoints) given.destinations ≡ true
+
+numbered : (given asked : Asked) → with_numbers given ≡ Ok asked → Numbered given asked
+numbered given asked is =
+    go (all_below (length given.waypoints) given.sources) (all_below (length given.waypoints) given.destinations) refl refl is
+  where
+    go : (a b : Bool) → all_below (length given.waypoints) given.sources ≡ a → all_below (length given.waypoints) given.destinations ≡ b →
+        (if a then (if b then Ok given else Err (error.BadValue Destinations)) else Err (error.BadValue Sources)) ≡ Ok asked → Numbered given asked
+    go true true first second e = record { same = cc; sources = first; destinations = second }
+    go true false first second e = cc
+    go false b first second e = cc
+
 -- the request of values that are within their limits
 finish-limited : (p : Parts) (asked : Asked) → AreLimited p → finish p ≡ Ok asked → IsLimited asked
 unfolding finish
 finish-limited p asked are is = go p.waypoints refl is
   where
-    made : (w : List Place) → p.waypoints ≡ Some w → IsLimited (whole p)
-    made w there =
+    made : (w : List Place) → p.waypoints ≡ Some w → Numbered (whole p) asked → IsLimited (whole p)
+    made w there is_numbered =
         let fits = are.waypoints w there in
         let same : unwrap_or p.waypoints [] ≡ w = ap (λ (o : Option (List Place)). unwrap_or o []) there in
         record {
@@ -241,11 +331,23 @@ finish-limited p asked are is = go p.waypoints refl is
           few = subst (λ (l : List Place). length l ≤ 100) (sym same) fits.1;
           alternative = or-fits 3 0 p.alternative (omega arith) are.alternative;
           labels = or-fits 4000000000 10000000 p.labels (omega arith) are.labels;
+          sources = record {
+            few = or-few p.sources are.sources;
+            each = below-each (length (whole p).waypoints) (whole p).sources is_numbered.sources;
+          };
+          destinations = record {
+            few = or-few p.destinations are.destinations;
+            each = below-each (length (whole p).waypoints) (whole p).destinations is_numbered.destinations;
+          };
         }
 
-    named : (profile : Bool) → (if profile then with_cost p else Err (error.Missing Profile)) ≡ Ok asked → whole p ≡ asked
-    named true e =
-        (holds-ok (not p.costed || is_some p.cost) (whole p) asked (error.Missing Cost) e).same
+    named : (profile : Bool) → (if profile then with_cost p else Err (error.Missing Profile)) ≡ Ok asked → Numbered (whole p) asked
+    named true e = numbered (whole p) asked (costed (not p.costed || is_some p.cost) e)
+      where
+        costed : (test : Bool) → (if test then with_numbers (whole p) else Err (error.Missing Cost)) ≡ Ok asked →
+            with_numbers (whole p) ≡ Ok asked
+        costed true given = given
+        costed false given = cc
     named false e = cc
 
     go : (waypoints : Option (List Place)) → p.waypoints ≡ waypoints →
@@ -254,18 +356,25 @@ finish-limited p asked are is = go p.waypoints refl is
         IsLimited asked
     go None there e = cc
     go (Some w) there e =
-        subst IsLimited (named (is_some p.profile) e) (made w there)
+        let is_numbered = named (is_some p.profile) e in
+        subst IsLimited is_numbered.same (made w there is_numbered)
 
 -- a request that was read is within its limits
-pub read-limited : (costed : Bool) (form : Form) (query : List ℕ) (asked : Asked) → request_by costed form query ≡ Ok asked →
+pub read-limited : (costed tabled : Bool) (form : Form) (query : List ℕ) (asked : Asked) → request_by costed tabled form query ≡ Ok asked →
     IsLimited asked
 unfolding request_by
-read-limited costed form query asked is =
-    let w = went (take_pairs 0 (pairs_of query) (no_parts costed)) (λ p. finish (with_form form p)) asked is in
-    let are = pairs-limited 0 (pairs_of query) (no_parts costed) w.value (none-limited costed) w.given in
+read-limited costed tabled form query asked is =
+    let w = went (take_pairs 0 (pairs_of query) (no_parts costed tabled)) (λ p. finish (with_form form p)) asked is in
+    let are = pairs-limited 0 (pairs_of query) (no_parts costed tabled) w.value (none-limited costed tabled) w.given in
     finish-limited (with_form form w.value) asked
-    (record { waypoints = are.waypoints; alternative = are.alternative; labels = are.labels }) w.rest
+    (record {
+      waypoints = are.waypoints;
+      alternative = are.alternative;
+      labels = are.labels;
+      sources = are.sources;
+      destinations = are.destinations;
+    }) w.rest
 
 -- so it is of one without a cost
 pub request-limited : (query : List ℕ) (asked : Asked) → request_of query ≡ Ok asked → IsLimited asked
-request-limited query asked is = read-limited false GeoJson query asked is
+request-limited query asked is = read-limited false false GeoJson query asked is

@@ -5,10 +5,10 @@ use Rattle.profile_text.specs.Kind.{is_name, word_of, op_of}
 use Rattle.route_http.specs.declared.key.Key.{Key}
 use Rattle.route_http.specs.declared.key.Key.TheVariants as key
 
--- the key of a name, if there is one, where a cost may come or not; each name that begins with `profile:` is an
--- override's
-unfoldable pub key_of : Bool → List ℕ → Option Key
-key_of costed name =
+-- the key of a name, if there is one, where a cost may come or not, and sources and destinations may or not; each
+-- name that begins with `profile:` is an override's
+unfoldable pub key_of : (costed tabled : Bool) → List ℕ → Option Key
+key_of costed tabled name =
     if bytes_eq name (codes "lonlats") then Some key.Lonlats
     else (if bytes_eq name (codes "nogos") then Some key.Nogos
     else (if bytes_eq name (codes "profile") then Some key.Profile
@@ -17,7 +17,9 @@ key_of costed name =
     else (if bytes_eq name (codes "labels") then Some key.Labels
     else (if bytes_eq name (codes "runs") then Some key.Runs
     else (if costed && bytes_eq name (codes "cost") then Some key.Cost
-    else (if starts_with nat_eq name (codes "profile:") then Some key.Override else None))))))))
+    else (if tabled && bytes_eq name (codes "sources") then Some key.Sources
+    else (if tabled && bytes_eq name (codes "destinations") then Some key.Destinations
+    else (if starts_with nat_eq name (codes "profile:") then Some key.Override else None))))))))))
 
 -- the variable that an override's key names
 abbrev pub variable_of : List ℕ → List ℕ

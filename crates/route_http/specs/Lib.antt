@@ -1,5 +1,4 @@
 pub mod Asked
-pub mod Bars
 pub mod Ends
 pub mod Fields
 pub mod Frames
@@ -7,6 +6,8 @@ pub mod Heads
 pub mod Key
 pub mod Lines
 pub mod List
+pub mod Marks
+pub mod Numbers
 pub mod Parsed
 pub mod Parts
 pub mod Request

@@ -4,7 +4,7 @@ use Rattle.std.specs.Fmt.{decimal}
 use Rattle.route_http.specs.declared.error.RequestError.{RequestError}
 use Rattle.route_http.specs.declared.error.RequestError.TheVariants as error
 use Rattle.route_http.specs.declared.key.Key.{Key}
-use Rattle.route_http.specs.declared.key.Key.TheVariants.{Lonlats, Nogos, Profile, Alternativeidx, Format, Labels, Override, Runs, Cost}
+use Rattle.route_http.specs.declared.key.Key.TheVariants.{Lonlats, Nogos, Profile, Alternativeidx, Format, Labels, Override, Runs, Cost, Sources, Destinations}
 
 -- a key as it is written
 abbrev pub key_name : Key → List ℕ
@@ -17,6 +17,8 @@ key_name Labels = codes "labels"
 key_name Override = codes "profile:"
 key_name Runs = codes "runs"
 key_name Cost = codes "cost"
+key_name Sources = codes "sources"
+key_name Destinations = codes "destinations"
 
 -- the line, without an end of line
 abbrev pub request_line : RequestError → List ℕ

@@ -1,4 +1,4 @@
--- Lists of items that bars part. This project's own rule.
+-- Lists of items that a mark parts. This project's own rule.
 use Rattle.std.specs.Prelude.{ℕ, ◌==◌, nat_lt, List, [], ◌∷◌, ◌++◌, length, if◌then◌else◌, Option, Some, None, Result, Ok, Err}
 use Rattle.std.specs.List.{slice_split}
 use Rattle.item_list.specs.Answer.{and_then}
@@ -6,9 +6,9 @@ use Rattle.route_http.specs.declared.key.Key.{Key}
 use Rattle.route_http.specs.declared.error.RequestError.{RequestError}
 use Rattle.route_http.specs.declared.error.RequestError.TheVariants as error
 
--- what stands between the bars
-abbrev pub parts_of : List ℕ → List (List ℕ)
-parts_of text = slice_split (λ b. b == 124) text
+-- what stands between the marks
+abbrev pub parts_of : (mark : ℕ) → List ℕ → List (List ℕ)
+parts_of mark text = slice_split (λ b. b == mark) text
 
 -- one more item at the end of those before it: it has to be well formed, and then there has to be room for it
 abbrev pub one_more : {A : Type 0} → Key → ℕ → List A → Option A → Result (List A) RequestError

@@ -8,12 +8,14 @@ use Rattle.route_http.specs.declared.error.RequestError.{RequestError}
 use Rattle.route_http.specs.declared.error.RequestError.TheVariants as error
 use Rattle.route_http.specs.declared.form.Form.{Form}
 use Rattle.route_http.specs.declared.key.Key.{Key}
-use Rattle.route_http.specs.declared.key.Key.TheVariants.{Lonlats, Nogos, Profile, Alternativeidx, Format, Labels, Override, Runs, Cost}
+use Rattle.route_http.specs.declared.key.Key.TheVariants.{Lonlats, Nogos, Profile, Alternativeidx, Format, Labels, Override, Runs, Cost, Sources, Destinations}
 use Rattle.route_http.specs.Key.{key_of, variable_of, is_variable}
 use Rattle.route_http.specs.List.{one_more}
+use Rattle.route_http.specs.Numbers.{numbers_of}
 use Rattle.route_http.specs.Value.{formed, waypoints_of, circles_of, profile_of, digit_of, form_of, labels_of, runs_of, cost_of, override_of}
 
--- the values of the keys that came, and the overrides that came; and whether a cost may come
+-- the values of the keys that came, and the overrides that came; and whether a cost may come, and whether sources and
+-- destinations may
 pub record Parts : Type 0 where
   pub waypoints : Option (List Place)
   pub circles : Option (List (Place × ℕ))
@@ -25,10 +27,13 @@ pub record Parts : Type 0 where
   pub runs : Option Bool
   pub costed : Bool
   pub cost : Option ℕ
+  pub tabled : Bool
+  pub sources : Option (List ℕ)
+  pub destinations : Option (List ℕ)
 
 -- no pair came
-abbrev pub no_parts : Bool → Parts
-no_parts costed = record {
+abbrev pub no_parts : (costed tabled : Bool) → Parts
+no_parts costed tabled = record {
   waypoints = None;
   circles = None;
   profile = None;
@@ -39,6 +44,9 @@ no_parts costed = record {
   runs = None;
   costed = costed;
   cost = None;
+  tabled = tabled;
+  sources = None;
+  destinations = None;
 }
 
 -- the value of a key that hasn't come before
@@ -76,6 +84,11 @@ take_keyed Runs name value p =
     and_then (once Runs p.runs (formed Runs (runs_of value))) (λ x. Ok (record p { runs = Some x }))
 take_keyed Cost name value p =
     and_then (once Cost p.cost (formed Cost (cost_of value))) (λ x. Ok (record p { cost = Some x }))
+take_keyed Sources name value p =
+    and_then (once Sources p.sources (numbers_of Sources value)) (λ x. Ok (record p { sources = Some x }))
+take_keyed Destinations name value p =
+    and_then (once Destinations p.destinations (numbers_of Destinations value))
+    (λ x. Ok (record p { destinations = Some x }))
 
 -- what a pair adds whose name is this key, if it is one
 abbrev pub take_named : (key : Option Key) (place : ℕ) (name value : List ℕ) (parts : Parts)
@@ -85,7 +98,7 @@ take_named (Some key) place name value p = take_keyed key name value p
 
 -- what the pair at a place adds
 unfoldable pub take_pair : ℕ → List ℕ × List ℕ → Parts → Result Parts RequestError
-take_pair place pair p = take_named (key_of p.costed pair.0) place pair.0 pair.1 p
+take_pair place pair p = take_named (key_of p.costed p.tabled pair.0) place pair.0 pair.1 p
 
 -- what the pairs from a place on add, one after the other: the first at fault counts
 abbrev pub take_pairs : ℕ → List (List ℕ × List ℕ) → Parts → Result Parts RequestError

@@ -33,6 +33,8 @@ asked r = record {
   overrides = r.overrides;
   runs = r.runs;
   cost = r.cost;
+  sources = r.sources;
+  destinations = r.destinations;
 }
 
 -- what a draft holds of the pairs so far
@@ -48,4 +50,7 @@ parts_seen d = record {
   runs = d.runs;
   costed = d.costed;
   cost = d.cost;
+  tabled = d.tabled;
+  sources = d.sources;
+  destinations = d.destinations;
 }

@@ -53,7 +53,7 @@ some_leg waypoints = if nat_lt (length waypoints) 2 then Err (error.BadValue key
 
 -- waypoints: at most 100 places, and at least two, which is judged at the end
 abbrev pub waypoints_of : List ℕ → Result (List Place) RequestError
-waypoints_of value = and_then (items_of place_of_text key.Lonlats 100 [] (parts_of value)) some_leg
+waypoints_of value = and_then (items_of place_of_text key.Lonlats 100 [] (parts_of 124 value)) some_leg
 
 -- ---- Circles
 
@@ -83,7 +83,7 @@ circle_of_text text =
 -- circles: nothing, or at most 64
 abbrev pub circles_of : List ℕ → Result (List (Place × ℕ)) RequestError
 circles_of [] = Ok []
-circles_of (c ∷ cs) = items_of circle_of_text key.Nogos 64 [] (parts_of (c ∷ cs))
+circles_of (c ∷ cs) = items_of circle_of_text key.Nogos 64 [] (parts_of 124 (c ∷ cs))
 
 -- ---- Single values
 

@@ -26,6 +26,10 @@ pub struct Request {
     pub runs: bool,
     /// The cost within which nodes are asked for, in millionths; 0 where none are.
     pub cost: u64,
+    /// The numbers of the waypoints from which costs are asked for; none where these are all.
+    pub sources: Items<u64>,
+    /// The numbers of those to which they are asked for; none where these are all.
+    pub destinations: Items<u64>,
 }
 
 impl Drop for Request {
@@ -40,6 +44,8 @@ impl Drop for Request {
             overrides: _,
             runs: _,
             cost: _,
+            sources: _,
+            destinations: _,
         } = self;
     }
 }

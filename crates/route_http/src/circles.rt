@@ -25,7 +25,7 @@ pub(crate) fn circles_of(alloc: Global, value: &[u8]) -> Result<Items<Circle>, R
     if value.is_empty() {
         return Ok(circles);
     }
-    fill(&mut circles, value, Key::Nogos, MOST_CIRCLES)?;
+    fill(&mut circles, value, b'|', Key::Nogos, MOST_CIRCLES)?;
     Ok(circles)
 }
 

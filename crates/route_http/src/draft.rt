@@ -1,6 +1,5 @@
 //! What the pairs of a query so far say.
 ghost use Rattle.std.specs.Prelude.{◌≡◌};
-ghost use Rattle.route_http.specs.Parts.{override_more};
 ghost use Rattle.item_list.specs.Answer.{Answers};
 ghost use Rattle.route_http.specs.declared.error.RequestError.TheVariants.{NoMemory};
 ghost use Rattle.route_http.specs.declared.key.Key.TheVariants as key;
@@ -10,10 +9,8 @@ use crate::error::RequestError;
 use crate::form::Form;
 use crate::key::Key;
 use crate::spots::waypoints_of;
-use crate::value::{cost_of, digit_of, form_of, labels_of, runs_of};
-use crate::variable::{is_variable, variable_of};
+use crate::value::{digit_of, form_of, labels_of};
 use context_check::Overrides;
-use fixed_num::Num;
 use geo_int::Spot;
 use item_list::{Items, Name, bytes_of};
 use nogo_areas::Circle;
@@ -33,15 +30,19 @@ pub(crate) struct Draft {
     /// Whether a cost may come.
     pub(crate) costed: bool,
     pub(crate) cost: Option<u64>,
+    /// Whether sources and destinations may come.
+    pub(crate) tabled: bool,
+    pub(crate) sources: Option<Items<u64>>,
+    pub(crate) destinations: Option<Items<u64>>,
 }
 
 impl Draft {
     ghost use Rattle.route_http.specs.Parts.{no_parts, take_pair, take_keyed};
     ghost use Rattle.route_http.specs.Seen.{parts_seen};
 
-    /// No pair came; a cost may come or not.
-    pub(crate) fn new(alloc: Global, costed: bool) -> Draft
-        ensures value { parts_seen result ≡ no_parts costed }
+    /// No pair came; a cost may come or not, and sources and destinations.
+    pub(crate) fn new(alloc: Global, costed: bool, tabled: bool) -> Draft
+        ensures value { parts_seen result ≡ no_parts costed tabled }
     {
         Draft {
             waypoints: None,
@@ -54,6 +55,9 @@ impl Draft {
             runs: None,
             costed,
             cost: None,
+            tabled,
+            sources: None,
+            destinations: None,
         }
     }
 
@@ -69,7 +73,7 @@ impl Draft {
         ensures exact { let taken = take_pair place (name.now, value.now) (parts_seen self.old) in
             Answers (λ _. parts_seen self.new) taken NoMemory result }
     {
-        match Key::of(self.costed, name) {
+        match Key::of(self.costed, self.tabled, name) {
             None => Err(RequestError::UnknownKey { place }),
             Some(key) => self.take_keyed(alloc, key, name, value),
         }
@@ -96,6 +100,8 @@ impl Draft {
             Key::Override => self.take_override(alloc, name, value),
             Key::Runs => self.take_runs(name, value),
             Key::Cost => self.take_cost(name, value),
+            Key::Sources => self.take_sources(alloc, name, value),
+            Key::Destinations => self.take_destinations(alloc, name, value),
         }
     }
 
@@ -217,82 +223,4 @@ impl Draft {
             }
         }
     }
-
-    /// Takes whether runs are searched.
-    #[tactic(auto, unfolding(crate::specs::Parts::take_keyed))]
-    fn take_runs(&mut self, _name: &[u8], value: &[u8]) -> Result<(), RequestError>
-        ensures exact { let taken = take_keyed key.Runs _name.now value.now (parts_seen self.old) in
-            Answers (λ _. parts_seen self.new) taken NoMemory result }
-    {
-        if self.runs.is_some() {
-            return Err(RequestError::Repeated { key: Key::Runs });
-        }
-        match runs_of(value) {
-            None => Err(RequestError::BadValue { key: Key::Runs }),
-            Some(runs) => {
-                self.runs = Some(runs);
-                Ok(())
-            }
-        }
-    }
-
-    /// Takes the cost within which nodes are asked for.
-    #[tactic(auto, unfolding(crate::specs::Parts::take_keyed))]
-    fn take_cost(&mut self, _name: &[u8], value: &[u8]) -> Result<(), RequestError>
-        ensures exact { let taken = take_keyed key.Cost _name.now value.now (parts_seen self.old) in
-            Answers (λ _. parts_seen self.new) taken NoMemory result }
-    {
-        if self.cost.is_some() {
-            return Err(RequestError::Repeated { key: Key::Cost });
-        }
-        match cost_of(value) {
-            None => Err(RequestError::BadValue { key: Key::Cost }),
-            Some(cost) => {
-                self.cost = Some(cost);
-                Ok(())
-            }
-        }
-    }
-
-    /// Takes an override.
-    #[tactic(auto, unfolding(crate::specs::Parts::take_keyed))]
-    fn take_override(
-        &mut self,
-        alloc: Global,
-        name: &[u8],
-        value: &[u8],
-    ) -> Result<(), RequestError>
-        ensures exact { let taken =
-            take_keyed key.Override name.now value.now (parts_seen self.old) in
-            Answers (λ _. parts_seen self.new) taken NoMemory result }
-    {
-        override_more(alloc, &mut self.overrides, variable_of(name), value)
-    }
-}
-
-/// Puts an override at the end.
-fn override_more(
-    alloc: Global,
-    overrides: &mut Overrides,
-    variable: &[u8],
-    value: &[u8],
-) -> Result<(), RequestError>
-    ensures exact { let more = override_more variable.now value.now overrides.old in
-        Answers (λ _. overrides.new) more NoMemory result }
-{
-    if !is_variable(variable) {
-        return Err(RequestError::BadValue { key: Key::Override });
-    }
-    if overrides.find(variable).is_some() {
-        return Err(RequestError::Repeated { key: Key::Override });
-    }
-    let Ok(number) = Num::read(value) else {
-        return Err(RequestError::BadValue { key: Key::Override });
-    };
-    if overrides.len() >= 64 {
-        return Err(RequestError::TooMany { key: Key::Override });
-    }
-    let bytes = bytes_of(alloc, variable)?;
-    overrides.push((Items::from_vec(bytes), number))?;
-    Ok(())
 }

@@ -17,13 +17,17 @@ pub enum Key {
     Runs,
     /// The cost within which nodes are asked for.
     Cost,
+    /// The waypoints from which costs are asked for.
+    Sources,
+    /// The waypoints to which costs are asked for.
+    Destinations,
 }
 
 impl Key {
-    /// The key of a name, if there is one, where a cost may come or not.
+    /// The key of a name, if there is one, where a cost may come or not, and waypoints of a table.
     #[tactic(auto, unfolding(crate::specs::Key::key_of))]
-    pub(crate) fn of(costed: bool, name: &[u8]) -> Option<Key>
-        ensures exact { result ≡ key_of costed name.now }
+    pub(crate) fn of(costed: bool, tabled: bool, name: &[u8]) -> Option<Key>
+        ensures exact { result ≡ key_of costed tabled name.now }
     {
         if name == b"lonlats".as_slice() {
             Some(Key::Lonlats)
@@ -41,6 +45,10 @@ impl Key {
             Some(Key::Runs)
         } else if costed && name == b"cost".as_slice() {
             Some(Key::Cost)
+        } else if tabled && name == b"sources".as_slice() {
+            Some(Key::Sources)
+        } else if tabled && name == b"destinations".as_slice() {
+            Some(Key::Destinations)
         } else if name.starts_with(b"profile:") {
             Some(Key::Override)
         } else {
@@ -62,6 +70,8 @@ impl Key {
             Key::Override => "profile:",
             Key::Runs => "runs",
             Key::Cost => "cost",
+            Key::Sources => "sources",
+            Key::Destinations => "destinations",
         }
     }
 }

@@ -1,8 +1,8 @@
-//! Texts that are parted at commas and bars.
+//! Texts that are parted at commas and at marks.
 ghost use Rattle.std.specs.Prelude.{◌≡◌, ◌∷◌, ◌≤◌, length};
 ghost use Rattle.route_http.specs.Value.{before_comma, after_comma};
 ghost use Rattle.route_http.specs.List.{parts_of};
-ghost use Rattle.route_http.specs.Bars.{parts_after};
+ghost use Rattle.route_http.specs.Marks.{parts_after};
 
 use item_list::len_before;
 
@@ -17,10 +17,10 @@ pub(crate) fn at_comma(text: &[u8]) -> (&[u8], &[u8])
     }
 }
 
-/// What stands before the first bar, and what follows from that bar on.
-pub(crate) fn at_bar(text: &[u8]) -> (&[u8], &[u8])
-    ensures value { parts_of text.now ≡ result.0.now ∷ parts_after result.1.now }
+/// What stands before the first mark, and what follows from that mark on.
+pub(crate) fn at_mark(text: &[u8], mark: u8) -> (&[u8], &[u8])
+    ensures value { parts_of mark text.now ≡ result.0.now ∷ parts_after mark result.1.now }
     ensures fits { length result.1.now ≤ length text.now }
 {
-    text.split_at(len_before(text, b'|'))
+    text.split_at(len_before(text, mark))
 }

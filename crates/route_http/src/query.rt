@@ -2,7 +2,7 @@
 ghost use Rattle.std.specs.Prelude.{◌≡◌};
 ghost use Rattle.item_list.specs.Answer.{Answers};
 ghost use Rattle.route_http.specs.Parts.{take_pairs};
-ghost use Rattle.route_http.specs.Request.{costed_of, finish, lined_of, pairs_of, request_by, request_of, whole, with_cost, with_form};
+ghost use Rattle.route_http.specs.Request.{costed_of, finish, lined_of, pairs_of, request_by, request_of, tabled_of, whole, with_cost, with_form, with_numbers};
 ghost use Rattle.route_http.specs.Seen.{asked, parts_seen};
 ghost use Rattle.route_http.specs.declared.error.RequestError.TheVariants.{NoMemory};
 
@@ -11,42 +11,53 @@ use crate::draft::Draft;
 use crate::error::RequestError;
 use crate::form::Form;
 use crate::key::Key;
+use crate::numbers::all_below;
 use item_list::Items;
 use std::alloc::Global;
 
-/// The request of a query, which is read as form data, or its first refusal. A cost may not come.
+/// The request of a query, which is read as form data, or its first refusal. A cost,
+/// sources and destinations may not come.
 pub fn request(alloc: Global, query: &[u8]) -> Result<Request, RequestError>
     ensures exact { Answers asked (request_of query.now) NoMemory result }
 {
-    request_by(alloc, false, Form::GeoJson, query)
+    request_by(alloc, false, false, Form::GeoJson, query)
 }
 
 /// The same, as lines where no form is asked for.
 pub fn lined_request(alloc: Global, query: &[u8]) -> Result<Request, RequestError>
     ensures exact { Answers asked (lined_of query.now) NoMemory result }
 {
-    request_by(alloc, false, Form::Csv, query)
+    request_by(alloc, false, false, Form::Csv, query)
 }
 
 /// The request of a query that asks for what lies within a cost, or its first refusal.
 pub fn costed_request(alloc: Global, query: &[u8]) -> Result<Request, RequestError>
     ensures exact { Answers asked (costed_of query.now) NoMemory result }
 {
-    request_by(alloc, true, Form::GeoJson, query)
+    request_by(alloc, true, false, Form::GeoJson, query)
 }
 
-/// The request of a query in which a cost is asked for, or may not come; in this form where none is
-/// asked for.
+/// The request of a query that asks for costs between waypoints, or its first refusal. Sources and
+/// destinations may come.
+pub fn tabled_request(alloc: Global, query: &[u8]) -> Result<Request, RequestError>
+    ensures exact { Answers asked (tabled_of query.now) NoMemory result }
+{
+    request_by(alloc, false, true, Form::GeoJson, query)
+}
+
+/// The request of a query in which a cost is asked for, or may not come, and in which sources and
+/// destinations may come or not; in this form where none is asked for.
 #[tactic(auto, unfolding(crate::specs::Request::request_by))]
 fn request_by(
     alloc: Global,
     costed: bool,
+    tabled: bool,
     form: Form,
     query: &[u8],
 ) -> Result<Request, RequestError>
-    ensures exact { Answers asked (request_by costed form query.now) NoMemory result }
+    ensures exact { Answers asked (request_by costed tabled form query.now) NoMemory result }
 {
-    let mut draft = Draft::new(alloc, costed);
+    let mut draft = Draft::new(alloc, costed, tabled);
     take_all(alloc, &mut draft, query)?;
     finish(alloc, with_form(form, draft))
 }
@@ -95,7 +106,23 @@ fn with_cost(alloc: Global, draft: Draft) -> Result<Request, RequestError>
     if draft.costed && draft.cost.is_none() {
         return Err(RequestError::Missing { key: Key::Cost });
     }
-    Ok(whole(alloc, draft))
+    with_numbers(whole(alloc, draft))
+}
+
+/// A request whose sources and destinations are numbers of its waypoints, or which of them aren't.
+fn with_numbers(request: Request) -> Result<Request, RequestError>
+    ensures exact { Answers asked (with_numbers (asked request)) NoMemory result }
+{
+    let count = request.waypoints.len();
+    if !all_below(request.sources.as_slice(), count) {
+        return Err(RequestError::BadValue { key: Key::Sources });
+    }
+    if !all_below(request.destinations.as_slice(), count) {
+        return Err(RequestError::BadValue {
+            key: Key::Destinations,
+        });
+    }
+    Ok(request)
 }
 
 /// The request of all pairs, with the values that stand for keys that didn't come.
@@ -112,5 +139,7 @@ fn whole(alloc: Global, draft: Draft) -> Request
         overrides: draft.overrides,
         runs: draft.runs.unwrap_or(false),
         cost: draft.cost.unwrap_or(0),
+        sources: draft.sources.unwrap_or(Items::new(alloc)),
+        destinations: draft.destinations.unwrap_or(Items::new(alloc)),
     }
 }

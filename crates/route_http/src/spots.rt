@@ -23,7 +23,7 @@ pub(crate) fn waypoints_of(alloc: Global, value: &[u8]) -> Result<Items<Spot>, R
     ensures exact { Answers places (waypoints_of value.now) NoMemory result }
 {
     let mut spots = Items::new(alloc);
-    fill(&mut spots, value, Key::Lonlats, MOST_WAYPOINTS)?;
+    fill(&mut spots, value, b'|', Key::Lonlats, MOST_WAYPOINTS)?;
     if spots.len() < 2 {
         return Err(RequestError::BadValue { key: Key::Lonlats });
     }

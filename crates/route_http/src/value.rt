@@ -74,7 +74,7 @@ pub(crate) fn labels_of(value: &[u8]) -> Option<u64>
 }
 
 /// Whether a value has 1 to 10 digits.
-fn is_count(value: &[u8]) -> bool
+pub(crate) fn is_count(value: &[u8]) -> bool
     ensures exact { result ≡ is_count value.now }
 {
     if value.is_empty() || value.len() > 10 {
@@ -89,7 +89,7 @@ fn is_count(value: &[u8]) -> bool
 }
 
 /// The number of at most 10 digits.
-fn number_of(digits: &[u8]) -> u64
+pub(crate) fn number_of(digits: &[u8]) -> u64
     requires few { length digits.now ≤ 10 }
     requires digits { IsTrue (all_ascii_digits digits.now) }
     ensures exact { result ≡ digits_after 0 digits.now }

@@ -25,7 +25,7 @@ use Rattle.route_certificate.specs.declared.verdict.Verdict.TheVariants.{Yes, No
 use Rattle.route_engine.specs.Replies.{question_of}
 use Rattle.route_engine.specs.Settings.{Question}
 use Rattle.route_http.specs.Asked.{Asked}
-use Rattle.route_http.specs.Request.{lined_of, request_of}
+use Rattle.route_http.specs.Request.{lined_of, request_of, tabled_of}
 use Rattle.route_ready.specs.Worlds.{WorldValue}
 use Rattle.route_ready.specs.declared.error.RouteError.{RouteError}
 use Rattle.route_run.proofs.CauseLemmas.{Cause, IsInner, each-cause, file-cause, last-cause, leaves-cause, map-cause, settles-cause, then-cause}
@@ -41,7 +41,7 @@ use Rattle.run_answers.specs.Hills.{IsHillsAnswer}
 use Rattle.run_answers.specs.Make.{made_by}
 use Rattle.run_answers.specs.Refused.{IsRefusal}
 use Rattle.run_answers.specs.Route.{IsReplied, any_in, route_files}
-use Rattle.run_answers.specs.Table.{IsTabled}
+use Rattle.run_answers.specs.Table.{IsTabled, tabled_query}
 use Rattle.run_answers.specs.Within.{IsNearbyTold, costed, near_in}
 use Rattle.run_files.specs.Certificate.{IsCertificateIn, TakesCertificate}
 use Rattle.run_files.specs.Chain.{seen_as}
@@ -108,6 +108,10 @@ module _ (Faulty : ℕ → Type 0)
     -- a query that is none
     any-inner : (query : Named) (status : Status) → any_in query ≡ Err status → IsInner Faulty status
     any-inner query status is = mapped-inner Query (request_of query.name) (λ e. tt) status is
+
+    -- so it is with one that asks for costs between waypoints
+    tabled-inner : (query : Named) (status : Status) → tabled_query query ≡ Err status → IsInner Faulty status
+    tabled-inner query status is = mapped-inner Query (tabled_of query.name) (λ e. tt) status is
 
     -- so it is with one that asks for what lies within a cost
     near-inner : (cost : ℕ) (query : Named) (status : Status) → near_in cost query ≡ Err status → IsInner Faulty status
@@ -287,7 +291,7 @@ module _ (Faulty : ℕ → Type 0)
         query-cause first_in (IsWritten command.bound) command.route (first-inner command.route.query (may command.route.query.word refl)) (λ question status is_told. refusal-inner _ _ status is_told) old new r is
     command-cause (Form.TheVariants.Check command) may old new r is = check-cause command (may command.route.query.word refl) old new r is
     command-cause (Form.TheVariants.Table command) may old new r is =
-        query-cause any_in IsTabled command (any-inner command.query) (λ question status is_told. refusal-inner _ _ status is_told) old new r is
+        query-cause tabled_query IsTabled command (tabled-inner command.query) (λ question status is_told. refusal-inner _ _ status is_told) old new r is
     command-cause (Form.TheVariants.Within command) may old new r is =
         query-cause (near_in command.cost) IsNearbyTold command.route (near-inner command.cost command.route.query) (λ question status is_told. refusal-inner _ _ status is_told) old new r is
     command-cause (Form.TheVariants.Hills command) may old new r is =

@@ -13,7 +13,7 @@ use Rattle.run_answers.specs.Grid.{IsGridAnswer}
 use Rattle.run_answers.specs.Hills.{IsHillsAnswer}
 use Rattle.run_answers.specs.Make.{made_by}
 use Rattle.run_answers.specs.Route.{IsReplied, any_in, route_files}
-use Rattle.run_answers.specs.Table.{IsTabled}
+use Rattle.run_answers.specs.Table.{IsTabled, tabled_query}
 use Rattle.run_answers.specs.Within.{IsNearbyTold, near_in}
 use Rattle.route_run.specs.Serving.{IsServeOutcome}
 use Rattle.route_run.specs.Ends.{Ends}
@@ -44,7 +44,7 @@ IsCommandAnswer (Form.TheVariants.Route command) old new answer = AnswersQuery a
 IsCommandAnswer (Form.TheVariants.Certify command) old new answer =
     AnswersQuery first_in (IsCertificateWritten command.bound) command.route old new answer
 IsCommandAnswer (Form.TheVariants.Check command) old new answer = IsCheckedAnswer command old new answer
-IsCommandAnswer (Form.TheVariants.Table command) old new answer = AnswersQuery any_in IsTabled command old new answer
+IsCommandAnswer (Form.TheVariants.Table command) old new answer = AnswersQuery tabled_query IsTabled command old new answer
 IsCommandAnswer (Form.TheVariants.Within command) old new answer =
     AnswersQuery (near_in command.cost) IsNearbyTold command.route old new answer
 IsCommandAnswer (Form.TheVariants.Hills command) old new answer =

@@ -25,7 +25,7 @@ pub use map_error::MapFileError;
 pub use map_reading::read_map;
 pub use profile::take_profile;
 pub use profiles::take_profiles;
-pub use query::{lined_in, query_in};
+pub use query::{lined_in, query_in, tabled_in};
 pub use status::Status;
 pub use tag_table::take_table;
 pub use tiles::take_tiles;

@@ -58,15 +58,15 @@ failed-at site aim query e failed = ap (λ r. and_then r (λ (a : Asked). asked_
 pub limited-within : (labels : ℕ) (asked at : Asked) → at ≡ limited labels asked → IsWithin asked → IsWithin at
 limited-within labels asked at is within =
     subst IsWithin (sym is)
-    (record { some = within.some; few = within.few; alternative = within.alternative; labels = grind (arith, nat_tests, within.labels) })
+    (record { some = within.some; few = within.few; alternative = within.alternative; labels = grind (arith, nat_tests, within.labels); sources = within.sources; destinations = within.destinations })
 
 -- so is one that was read
-pub read-within : (costed : Bool) (form : Form) (query : List ℕ) (result : Result Request RequestError) →
-    Answers asked (request_by costed form query) request.NoMemory result → IfOk result (λ r. IsWithin (asked r))
-read-within costed form query (Ok read) is =
-    let limits = read-limited costed form query (asked read) is in
-    record { some = limits.some; few = limits.few; alternative = limits.alternative; labels = omega (arith, limits.labels) }
-read-within costed form query (Err e) is = _
+pub read-within : (costed tabled : Bool) (form : Form) (query : List ℕ) (result : Result Request RequestError) →
+    Answers asked (request_by costed tabled form query) request.NoMemory result → IfOk result (λ r. IsWithin (asked r))
+read-within costed tabled form query (Ok read) is =
+    let limits = read-limited costed tabled form query (asked read) is in
+    record { some = limits.some; few = limits.few; alternative = limits.alternative; labels = omega (arith, limits.labels); sources = limits.sources; destinations = limits.destinations }
+read-within costed tabled form query (Err e) is = _
 
 module _ (site : Site) (stored : List Stored) (aim : Aim) (query : List ℕ) where
   -- a query that is no request

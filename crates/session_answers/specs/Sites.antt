@@ -4,7 +4,7 @@ use Rattle.item_list.specs.Answer.{and_then}
 use Rattle.route_engine.specs.declared.aim.Aim.{Aim}
 use Rattle.route_engine.specs.declared.aim.Aim.TheVariants.{Certificate, Table, Track, Within}
 use Rattle.route_http.specs.Asked.{Asked}
-use Rattle.route_http.specs.Request.{costed_of, request_of}
+use Rattle.route_http.specs.Request.{costed_of, request_of, tabled_of}
 use Rattle.route_http.specs.declared.error.RequestError.{RequestError}
 use Rattle.route_http.specs.declared.error.RequestError.TheVariants.{BadValue}
 use Rattle.route_http.specs.declared.key.Key.TheVariants.{Alternativeidx}
@@ -34,10 +34,11 @@ is_taken Within alternative = true
 abbrev pub asked_for : Aim → Asked → Result Asked RequestError
 asked_for aim asked = if is_taken aim asked.alternative then Ok asked else Err (BadValue Alternativeidx)
 
--- the request that a query spells which asks for this: with a cost where that is asked for, and else without
+-- the request that a query spells which asks for this: with a cost where that is asked for, of a table with sources
+-- and destinations where these come, and else without
 abbrev pub spelt_for : Aim → List ℕ → Result Asked RequestError
 spelt_for Track query = request_of query
-spelt_for Table query = request_of query
+spelt_for Table query = tabled_of query
 spelt_for Certificate query = request_of query
 spelt_for Within query = costed_of query
 

@@ -23,7 +23,7 @@ use crate::refusal::Refusal;
 use crate::routes::route_frame;
 use crate::search::{Search, search_for};
 use route_engine::Aim;
-use route_http::{Key, Request, RequestError, costed_request, request};
+use route_http::{Key, Request, RequestError, costed_request, request, tabled_request};
 use route_ready::World;
 use std::alloc::{AllocError, Global};
 
@@ -88,6 +88,7 @@ fn spelt_for(alloc: Global, aim: Aim, query: &[u8]) -> Result<Request, RequestEr
 {
     match aim {
         Aim::Within => costed_request(alloc, query),
+        Aim::Table => tabled_request(alloc, query),
         _ => request(alloc, query),
     }
 }

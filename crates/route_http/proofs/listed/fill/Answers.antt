@@ -10,15 +10,15 @@ returns-in_err-take g c =
     let p = err_from_is_err_and c.from_residual.result c.from_residual.ensures.1 in
     record {
       exact = rw (p.1, p.2)
-          (Fills-refused g.T.Listed.read c.args.key c.args.most _ _ c.items.rest.now c.at_bar.result.0.now c.at_bar.result.1.now
-          c.items.invariant c.at_bar.ensures.value _ c.in_err-take.ensures.exact);
+          (Fills-refused g.T.Listed.read c.args.mark c.args.key c.args.most _ _ c.items.rest.now c.at_mark.result.0.now c.at_mark.result.1.now
+          c.items.invariant c.at_mark.ensures.value _ c.in_err-take.ensures.exact);
     }
 
 pub returns-then-is_empty : goal.returns-then-is_empty
 returns-then-is_empty g c =
     record {
-      exact = Fills-last g.T.Listed.read c.args.key c.args.most _ _ c.items.rest.now c.at_bar.result.0.now c.at_bar.result.1.now
-          c.items.invariant c.at_bar.ensures.value
+      exact = Fills-last g.T.Listed.read c.args.mark c.args.key c.args.most _ _ c.items.rest.now c.at_mark.result.0.now c.at_mark.result.1.now
+          c.items.invariant c.at_mark.ensures.value
           (map g.T.Listed.seen c.take.new.items) c.in_ok-take.ensures.exact
           (first_of (search rules, grind (arith, common_steps), grind (arith, nat_tests), omega (arith, nat_tests)));
     }
@@ -27,6 +27,6 @@ pub items-preserved : goal.items-preserved
 items-preserved g c =
     let back = c.split_at.ensures.back in
     rw back
-    (Fills-more g.T.Listed.read c.args.key c.args.most _ _ c.items.rest.now c.at_bar.result.0.now c.at_bar.result.1.now
-    c.items.invariant c.at_bar.ensures.value
+    (Fills-more g.T.Listed.read c.args.mark c.args.key c.args.most _ _ c.items.rest.now c.at_mark.result.0.now c.at_mark.result.1.now
+    c.items.invariant c.at_mark.ensures.value
     (map g.T.Listed.seen c.take.new.items) c.in_ok-take.ensures.exact (omega arith))

@@ -10,5 +10,7 @@ returns c = record {
     few = c.requires.within.few;
     alternative = c.requires.within.alternative;
     labels = c.requires.within.labels;
+    sources = c.requires.within.sources;
+    destinations = c.requires.within.destinations;
   };
 }

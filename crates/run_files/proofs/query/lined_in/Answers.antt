@@ -6,5 +6,5 @@ use Rattle.run_files.proofs.query.lined_in.Goals as goal
 
 pub returns-in-Ok-clause-within : goal.returns-in-Ok-clause-within
 returns-in-Ok-clause-within c =
-    let limited = read-limited false Csv c.args.text.now (asked c.in-Ok.request) c.in-Ok.ensures.exact in
-    record { some = limited.some; few = limited.few; alternative = limited.alternative; labels = omega (arith, limited.labels) }
+    let limited = read-limited false false Csv c.args.text.now (asked c.in-Ok.request) c.in-Ok.ensures.exact in
+    record { some = limited.some; few = limited.few; alternative = limited.alternative; labels = omega (arith, limited.labels); sources = limited.sources; destinations = limited.destinations }

@@ -1,7 +1,8 @@
-use Rattle.std.proofs.Common.{IfOk, subst, sym}
+use Rattle.std.proofs.Common.{◌≡◌, IfOk, MatchResult, subst, sym, arith}
 use Rattle.route_ready.specs.World.{world_of}
-use Rattle.route_engine.specs.Placings.{PlacesOn}
-use Rattle.route_engine.proofs.PlacingLemmas.{steps-on, wants-memory}
+use Rattle.route_ready.specs.declared.error.RouteError.TheVariants.{NoMemory}
+use Rattle.route_engine.specs.Placings.{IsPlacingStage, IsPlanWith, PlacesOn}
+use Rattle.route_engine.proofs.PlacingLemmas.{planned, steps-on, wants-memory}
 use Rattle.route_engine.proofs.placing.PlacingStepImpl.step.Goals as goal
 
 pub returns-in-Cutting : goal.returns-in-Cutting
@@ -24,4 +25,22 @@ returns-in-Moving c =
           (subst (λ s. IfOk c.move_next-next.result (PlacesOn world c.deref-in-Moving.result.now c.deref-in-Moving-2.result.now c.args.budget s))
           (sym c.in-Moving.is) c.move_next-next.ensures.on)
           c.move_next-next.ensures.cause c.stepped-in-Moving.ensures.exact;
+    }
+
+pub returns-in-Placed : goal.returns-in-Placed
+returns-in-Placed c =
+    let world = world_of c.args.dataset.now in
+    let ready = c.args.self.ready.value in
+    let request = c.args.self.request.value in
+    let cut = c.in-Placed.cut in
+    let nodes = c.in-Placed.nodes in
+    let stage = subst (IsPlacingStage world ready request) c.in-Placed.is c.requires.over.stage in
+    let given = subst (λ q. MatchResult c.plan_with.result (IsPlanWith ready q cut.items nodes.items) (λ e. e ≡ NoMemory))
+    c.deref-in-Placed.ensures c.plan_with.ensures.exact in
+    record {
+      steps = record {
+        fits = omega arith;
+        turn = planned world ready request c.plan_with.result cut.items nodes.items c.requires.over.counted c.requires.over.within
+            stage.0 stage.1 given;
+      };
     }
