@@ -1,6 +1,6 @@
 //! Cases on least sums by a hierarchy.
 
-ghost use Rattle.std.specs.Prelude.{IfOk};
+ghost use Rattle.std.specs.Prelude.{◌<◌, IfOk, OnOk, length};
 ghost use Rattle.link_hierarchy.specs.Arcs.{AreWithin};
 ghost use Rattle.link_hierarchy.specs.Rows.{IsSorted};
 
@@ -48,17 +48,32 @@ fn arcs(alloc: Global, case: &Case, nodes: u32) -> Result<Vec<Arc>, AllocError>
     let mut arcs: Vec<Arc> = Vec::new(alloc);
     let mut place = 4;
     'arcs: while place < case.len() {
-        let (from, to) = (case.count(place), case.count(place + 1));
-        if from < u64::from(nodes) && to < u64::from(nodes) {
-            arcs.push(Arc {
-                price: case.count(place + 2).min(u64::from(u32::MAX)) as u32,
-                from: from as u32,
-                to: to as u32,
-            })?;
-        }
+        take(&mut arcs, case, place, nodes)?;
         place += 3;
     }
     Ok(arcs)
+}
+
+/// Takes the arc of three words, where it is one between the nodes.
+fn take(arcs: &mut Vec<Arc>, case: &Case, place: usize, nodes: u32) -> Result<(), AllocError>
+    requires fits { place < length case.now.words.items }
+    requires within { AreWithin nodes arcs.old.items }
+    ensures within { OnOk result (AreWithin nodes arcs.new.items) }
+{
+    let (from, to) = (case.count(place), case.count(place + 1));
+    if from >= u64::from(nodes) {
+        return Ok(());
+    }
+    if to >= u64::from(nodes) {
+        return Ok(());
+    }
+    let arc = Arc {
+        price: case.count(place + 2).min(u64::from(u32::MAX)) as u32,
+        from: from as u32,
+        to: to as u32,
+    };
+    arcs.push(arc)?;
+    Ok(())
 }
 
 /// The sums of all nodes in a line.
