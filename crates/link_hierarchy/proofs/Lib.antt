@@ -13,3 +13,4 @@ pub mod MergeLemmas
 pub mod RowLemmas
 pub mod FlatLemmas
 pub mod EliminationLemmas
+pub mod NumberLemmas

@@ -7,3 +7,4 @@ pub mod Arcs
 pub mod Customizing
 pub mod Rows
 pub mod Eliminations
+pub mod Numbers

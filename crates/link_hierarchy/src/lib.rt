@@ -9,6 +9,7 @@ mod elimination;
 mod joining;
 mod limits;
 mod merge;
+mod numbers;
 mod potentials;
 mod rows;
 mod topology;
