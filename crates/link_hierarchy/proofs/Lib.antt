@@ -14,3 +14,7 @@ pub mod RowLemmas
 pub mod FlatLemmas
 pub mod EliminationLemmas
 pub mod NumberLemmas
+pub mod CustomizingLemmas
+pub mod AheadLemmas
+pub mod RaiseLemmas
+pub mod WaitingLemmas

@@ -1,5 +1,5 @@
 -- Rows that grow until they are closed.
-use Rattle.std.proofs.Common.{◌≡◌, ◌≢◌, ℕ, ◌+◌, ◌-◌, ◌^◌, ◌<◌, ◌≤◌, ◌⊎◌, min, inl, inr, List, [], ◌∷◌, ◌++◌, length, get_or, set, Vec, refl, sym, ap, ◌∙◌, subst, arith}
+use Rattle.std.proofs.Common.{◌≡◌, ◌≢◌, ℕ, ◌+◌, ◌-◌, ◌^◌, ◌<◌, ◌≤◌, ◌⊎◌, min, inl, inr, List, [], length, get_or, set, Vec, refl, sym, ap, ◌∙◌, subst, arith}
 use Rattle.std.proofs.lemmas.Bool.{cases_eq, cases_lt}
 use Rattle.std.proofs.lemmas.List.{get_or_default, get_or_past, get_or-set_same, get_or-set_other, length-map, length-set, map-set}
 use Rattle.std.specs.declared.alloc.Global.{Global}
@@ -9,7 +9,6 @@ use Rattle.link_hierarchy.specs.Arcs.{arcs_of}
 use Rattle.link_hierarchy.specs.Eliminations.{IsShared}
 use Rattle.link_hierarchy.specs.Rows.{AreLists, AreRows, Holds, IsHeld, IsPutOff, IsRow, IsSorted, Widens, row_at}
 use Rattle.link_hierarchy.specs.declared.arcs.Arc.{Arc}
-use Rattle.link_hierarchy.proofs.MergeLemmas.{row-more}
 
 -- a row is that of a node of the list
 pub holds-in : (rows : List (List ℕ)) (v x : ℕ) → Holds (row_at rows v) x → v < length rows
@@ -281,23 +280,6 @@ module _ (nodes : ℕ) (outs ins : List (List ℕ)) (arcs : List Arc) (taken nod
               ]
         ];
   }
-
--- a row with one more node behind
-pub row-pushed : (low nodes : ℕ) (row : List ℕ) (x : ℕ) → IsRow low nodes row → low < x → x < nodes →
-    (length row ≡ 0) ⊎ (get_or row (length row - 1) 0 < x) → IsRow low nodes (row ++ x ∷ [])
-row-pushed low nodes row x is above within behind =
-    row-more low nodes row x is above within
-    (λ m m_in.
-    elim behind [
-      | inl none ↦ absurd (omega (arith, none, m_in))
-      | inr less ↦
-          elim (cases_eq m (length row - 1)) [
-            | inl same ↦ let e = ap (λ n. get_or row n 0) same in omega (arith, e, less)
-            | inr other ↦
-                let before = is.sorted m (length row - 1) (omega (arith, other, m_in)) (omega (arith, m_in)) in
-                omega (arith, before, less)
-          ]
-    ])
 
 -- a row that takes nothing
 pub widens-none : (nodes low : ℕ) (rows : List (List ℕ)) → AreLists nodes rows → low < nodes → Widens nodes rows rows low

@@ -20,7 +20,8 @@ pub(crate) fn join_tail(
 )
     requires in_range { IsPlace (into_of topology.now) node first }
     requires customized { AreCustomized topology.now weights.old _arcs.now node first 0 _head 0 }
-    ensures customized { AreCustomized topology.now weights.new _arcs.now node (first + 1) 0 _head 0 }
+    ensures customized { AreCustomized topology.now weights.new _arcs.now node (first + 1) 0
+        _head 0 }
 {
     let _nodes = topology.nodes();
     let mut place = topology.out_start(topology.tail(first));
@@ -44,11 +45,14 @@ fn join_up(
 ) -> usize
     requires first { IsPlace (into_of topology.now) _node first }
     requires second { IsPlace (up_of topology.now) _node second }
-    requires ahead { IsAhead (up_of topology.now) _node (head_of (into_of topology.now) first) second from }
-    requires customized { AreCustomized topology.now weights.old _arcs.now _node first second _head 0 }
-    ensures customized { AreCustomized topology.now weights.new _arcs.now _node first (second + 1) _head 0 }
-    ensures ahead { IsAhead (up_of topology.now) _node (head_of (into_of topology.now) first) (second + 1)
-        result }
+    requires ahead { IsAhead (up_of topology.now) _node (head_of (into_of topology.now) first) second
+        from }
+    requires customized { AreCustomized topology.now weights.old _arcs.now _node first second
+        _head 0 }
+    ensures customized { AreCustomized topology.now weights.new _arcs.now _node first (second + 1)
+        _head 0 }
+    ensures ahead { IsAhead (up_of topology.now) _node (head_of (into_of topology.now) first)
+        (second + 1) result }
 {
     let _nodes = topology.nodes();
     let tail = topology.tail(first);
@@ -72,7 +76,8 @@ pub(crate) fn join_head(
 )
     requires in_range { IsPlace (up_of topology.now) node second }
     requires customized { AreCustomized topology.now weights.old _arcs.now node _tail 0 second 0 }
-    ensures customized { AreCustomized topology.now weights.new _arcs.now node _tail 0 (second + 1) 0 }
+    ensures customized { AreCustomized topology.now weights.new _arcs.now node _tail 0 (second + 1)
+        0 }
 {
     let _nodes = topology.nodes();
     let mut place = topology.in_start(topology.head(second));
@@ -96,11 +101,14 @@ fn join_down(
 ) -> usize
     requires first { IsPlace (into_of topology.now) _node first }
     requires second { IsPlace (up_of topology.now) _node second }
-    requires ahead { IsAhead (into_of topology.now) _node (head_of (up_of topology.now) second) first from }
-    requires customized { AreCustomized topology.now weights.old _arcs.now _node _tail 0 second first }
-    ensures customized { AreCustomized topology.now weights.new _arcs.now _node _tail 0 second (first + 1) }
-    ensures ahead { IsAhead (into_of topology.now) _node (head_of (up_of topology.now) second) (first + 1)
-        result }
+    requires ahead { IsAhead (into_of topology.now) _node (head_of (up_of topology.now) second) first
+        from }
+    requires customized { AreCustomized topology.now weights.old _arcs.now _node _tail 0 second
+        first }
+    ensures customized { AreCustomized topology.now weights.new _arcs.now _node _tail 0 second
+        (first + 1) }
+    ensures ahead { IsAhead (into_of topology.now) _node (head_of (up_of topology.now) second)
+        (first + 1) result }
 {
     let _nodes = topology.nodes();
     let tail = topology.tail(first);

@@ -71,8 +71,8 @@ impl Numbers {
         Ok(())
     }
 
-    /// Each number is this one again. Where it is the one that stood there at first, those alone are
-    /// put back that were set.
+    /// Each number is this one again. Where that stood there at first, those alone are put back that
+    /// were set.
     pub(crate) fn renew(&mut self, rest: u32)
         ensures value { self.new ≡ replicate (length self.old) rest }
     {

@@ -98,7 +98,8 @@ fn hold(
     _taken: usize,
 ) -> Result<(), AllocError>
     requires in_range { (from < nodes) × (to < nodes) }
-    requires rows { AreRows nodes (numbers_of outs.old.items) (numbers_of ins.old.items) _arcs.now _taken 0 }
+    requires rows { AreRows nodes (numbers_of outs.old.items) (numbers_of ins.old.items)
+        _arcs.now _taken 0 }
     ensures rows { OnOk result
         (AreRows nodes (numbers_of outs.new.items) (numbers_of ins.new.items) _arcs.now _taken 0) }
     ensures held { OnOk result
@@ -139,7 +140,8 @@ fn widen(
 
 /// Whether a node is above the last one of a row.
 fn is_behind(row: &[u32], high: u32) -> bool
-    ensures value { IsTrue result → (length row.now ≡ 0) ⊎ (get_or row.now (length row.now - 1) 0 < high) }
+    ensures value { IsTrue result →
+        (length row.now ≡ 0) ⊎ (get_or row.now (length row.now - 1) 0 < high) }
 {
     let long = row.len();
     long == 0 || row[long - 1] < high

@@ -1,6 +1,6 @@
 //! All of it in one call.
 
-ghost use Rattle.std.specs.Prelude.{◌<◌, ◌≡◌, ℕ, IfOk, length};
+ghost use Rattle.std.specs.Prelude.{◌<◌, ◌≡◌, IfOk, length};
 ghost use Rattle.item_list.specs.Pages.{numbers_of};
 ghost use Rattle.link_hierarchy.specs.Arcs.{AreWithin, Covers, arcs_of};
 ghost use Rattle.link_hierarchy.specs.Rows.{AreRows, IsSorted};

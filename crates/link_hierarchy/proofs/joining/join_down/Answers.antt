@@ -2,9 +2,10 @@ use Rattle.std.proofs.Common.{ℕ, sym, subst, arith}
 use Rattle.link_hierarchy.specs.Limits.{Adds}
 use Rattle.link_hierarchy.specs.Topologies.{IsPair, back_of, head_of, into_of, out_of, up_of}
 use Rattle.link_hierarchy.proofs.TopologyLemmas.{place-in}
+use Rattle.link_hierarchy.proofs.AheadLemmas.{ahead-found, ahead-skips}
 use Rattle.link_hierarchy.proofs.BaseLemmas.{linked-down}
 use Rattle.link_hierarchy.proofs.LowerLemmas.{lowers-back}
-use Rattle.link_hierarchy.proofs.JoinLemmas.{ahead-found, ahead-skips, join-down, places-linked, skip-down}
+use Rattle.link_hierarchy.proofs.JoinLemmas.{join-down, places-linked, skip-down}
 use Rattle.link_hierarchy.proofs.joining.join_down.Goals as goal
 
 pub tail-tail-requires : goal.tail-tail-requires

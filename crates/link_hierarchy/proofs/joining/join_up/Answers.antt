@@ -2,9 +2,10 @@ use Rattle.std.proofs.Common.{ℕ, sym, subst, arith}
 use Rattle.link_hierarchy.specs.Limits.{Adds}
 use Rattle.link_hierarchy.specs.Topologies.{IsPair, back_of, head_of, into_of, out_of, up_of}
 use Rattle.link_hierarchy.proofs.TopologyLemmas.{place-in}
+use Rattle.link_hierarchy.proofs.AheadLemmas.{ahead-found, ahead-skips}
 use Rattle.link_hierarchy.proofs.BaseLemmas.{linked-up}
 use Rattle.link_hierarchy.proofs.LowerLemmas.{lowers-out}
-use Rattle.link_hierarchy.proofs.JoinLemmas.{ahead-found, ahead-skips, join-up, places-linked, skip-up}
+use Rattle.link_hierarchy.proofs.JoinLemmas.{join-up, places-linked, skip-up}
 use Rattle.link_hierarchy.proofs.joining.join_up.Goals as goal
 
 pub tail-tail-requires : goal.tail-tail-requires

@@ -2,8 +2,8 @@ use Rattle.std.proofs.Common.{ℕ, ◌≡◌, ◌<◌, List, [], ◌∷◌, ◌+
 use Rattle.std.specs.declared.alloc.Global.{Global}
 use Rattle.item_list.proofs.PageLemmas.{page-read}
 use Rattle.link_hierarchy.specs.Rows.{Holds, IsRow}
-use Rattle.link_hierarchy.proofs.MergeLemmas.{holds-last, holds-push}
-use Rattle.link_hierarchy.proofs.RowLemmas.{put-holds, row-pushed, row-read, rows-counted, widens-one}
+use Rattle.link_hierarchy.proofs.MergeLemmas.{holds-last, holds-push, row-pushed}
+use Rattle.link_hierarchy.proofs.RowLemmas.{put-holds, row-read, rows-counted, widens-one}
 use Rattle.link_hierarchy.proofs.rows.widen.Goals as goal
 
 pub returns-then-is_behind-clause-widens : goal.returns-then-is_behind-clause-widens

@@ -1,6 +1,6 @@
 use Rattle.std.proofs.Common.{◌∙◌, replicate, ap, arith}
 use Rattle.link_hierarchy.specs.declared.limits.TheConstants.{NONE}
-use Rattle.link_hierarchy.proofs.JoinLemmas.{customization-begins}
+use Rattle.link_hierarchy.proofs.CustomizingLemmas.{customization-begins}
 use Rattle.link_hierarchy.proofs.customize.Customization.new.Goals as goal
 
 pub returns : goal.returns

@@ -1,5 +1,5 @@
 use Rattle.std.proofs.Common.{arith}
-use Rattle.link_hierarchy.proofs.JoinLemmas.{step-node}
+use Rattle.link_hierarchy.proofs.CustomizingLemmas.{step-node}
 use Rattle.link_hierarchy.proofs.customize.Customization.step.Goals as goal
 
 pub returns-else-self-out_end-clause-on : goal.returns-else-self-out_end-clause-on

@@ -3,7 +3,7 @@ use Rattle.std.proofs.lemmas.List.{get_or_default}
 use Rattle.link_hierarchy.specs.Arcs.{arc_from}
 use Rattle.link_hierarchy.specs.Customizing.{LowersEdge}
 use Rattle.link_hierarchy.proofs.BaseLemmas.{arc-there}
-use Rattle.link_hierarchy.proofs.JoinLemmas.{arc-taken}
+use Rattle.link_hierarchy.proofs.CustomizingLemmas.{arc-taken}
 use Rattle.link_hierarchy.proofs.customize.Customization.take.Goals as goal
 
 pub lower_edge-requires-clause-linked : goal.lower_edge-requires-clause-linked
