@@ -21,11 +21,14 @@ pub(crate) fn quota(case: &Case) -> u32 {
     case.text(1).parse::<u32>().unwrap_or(0)
 }
 
-/// Whether a request is within its limits.
+/// Whether a request for a track is within its limits: it names no sources and no destinations.
 pub(crate) fn is_within(request: &Request) -> bool
     ensures found { IsTrue result → IsWithin (asked request.now) }
 {
     if request.waypoints.len() < 2 || request.waypoints.len() > 100 {
+        return false;
+    }
+    if request.sources.len() > 0 || request.destinations.len() > 0 {
         return false;
     }
     request.alternative <= 3 && request.labels < 1 << 32
