@@ -14,12 +14,15 @@ use std::alloc::AllocError;
 /// Offers what the starts give.
 pub(crate) fn begin<T: Copy + Drop, S: Space<State = T>>(
     space: &S,
+    bounds: &mut S::Bounds,
     lists: &mut Lists<T>,
 ) -> Result<(), AllocError>
+    requires bounds { S.AreBounds space.now bounds.old }
     requires fresh { IsFresh (books lists.old) }
     ensures begins { OnOk result (Begins (S.rules space.now) (books lists.new)) }
     ensures leaves { Leaves (S.rules space.now) (books lists.old) (books lists.new) }
     ensures settled { (books lists.new).settled ≡ (books lists.old).settled }
+    ensures bounds { S.AreBounds space.now bounds.new }
 {
     renew_heads(&mut lists.fronts.heads, space.slots() as usize)?;
     'starts: for choice in 0..space.starts() {
@@ -31,7 +34,7 @@ pub(crate) fn begin<T: Copy + Drop, S: Space<State = T>>(
                 parent: 0,
                 choice,
             };
-            offer(space, lists, reached)?;
+            offer(space, bounds, lists, reached)?;
         }
     }
     Ok(())

@@ -21,9 +21,10 @@ pub fn least<S: Space>(alloc: Global, space: &S, limit: u64) -> Result<Outcome<R
     ensures enough { (most : ℕ) → HasFewPerCell (S.rules space.now) most →
         (S.rules space.now).cells * most ≤ limit → IfOk result IsUnspent }
 {
+    let mut bounds = space.bounds(alloc)?;
     let mut search: Search<S::State> = Search::new(alloc, limit);
     'search: loop {
-        match search.turn(space, QUOTA)? {
+        match search.turn(space, &mut bounds, QUOTA)? {
             Turn::More(_) => {}
             Turn::Done(end) => return search.outcome(alloc, end),
         }

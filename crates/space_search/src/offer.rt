@@ -105,9 +105,11 @@ fn is_covered_by_block<T: Copy + Drop, S: Space<State = T>>(
 #[inline(always)]
 pub(crate) fn offer<T: Copy + Drop, S: Space<State = T>>(
     space: &S,
+    bounds: &mut S::Bounds,
     lists: &mut Lists<T>,
     label: Label<T>,
 ) -> Result<(), AllocError>
+    requires bounds { S.AreBounds space.now bounds.old }
     requires kept { IsSearch (S.rules space.now) (books lists.old) }
     requires follows { let kept = books lists.old in
         Follows (S.rules space.now) kept (length kept.settled) label }
@@ -116,8 +118,10 @@ pub(crate) fn offer<T: Copy + Drop, S: Space<State = T>>(
         (books lists.new) label) }
     ensures leaves { Leaves (S.rules space.now) (books lists.old) (books lists.new) }
     ensures settled { (books lists.new).settled ≡ (books lists.old).settled }
+    ensures bounds { S.AreBounds space.now bounds.new }
 {
-    let Some(low) = space.low(&label.state) else {
+    let told = space.low(bounds, &label.state)?;
+    let Some(low) = told else {
         return Ok(());
     };
     if is_covered(space, lists, &label.state, label.cost) {

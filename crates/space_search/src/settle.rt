@@ -62,10 +62,12 @@ pub(crate) fn settle_next<T: Copy + Drop, S: Space<State = T>>(
 /// but for some that settled labels cover.
 pub(crate) fn advance<T: Copy + Drop, S: Space<State = T>>(
     space: &S,
+    bounds: &mut S::Bounds,
     lists: &mut Lists<T>,
     steps: &mut Steps<T>,
     label: &Label<T>,
 ) -> Result<(), AllocError>
+    requires bounds { S.AreBounds space.now bounds.old }
     requires kept { IsSearch (S.rules space.now) (books lists.old) }
     requires starts { HasStarts (S.rules space.now) (books lists.old) (S.rules space.now).starts }
     requires steps { HasStepsBelow (S.rules space.now) (books lists.old)
@@ -75,6 +77,7 @@ pub(crate) fn advance<T: Copy + Drop, S: Space<State = T>>(
         (Advances (S.rules space.now) (books lists.old) (books lists.new)) }
     ensures leaves { Leaves (S.rules space.now) (books lists.old) (books lists.new) }
     ensures settled { (books lists.new).settled ≡ (books lists.old).settled }
+    ensures bounds { S.AreBounds space.now bounds.new }
 {
     let parent = lists.settled.len() as u32;
     let known = Known {
@@ -89,7 +92,7 @@ pub(crate) fn advance<T: Copy + Drop, S: Space<State = T>>(
             parent,
             choice: step.choice,
         };
-        offer(space, lists, reached)?;
+        offer(space, bounds, lists, reached)?;
     }
     Ok(())
 }

@@ -1,6 +1,6 @@
 //! The interface of everything that is searched.
 
-ghost use Rattle.std.specs.Prelude.{◌≡◌, ◌<◌, IsTrue, OnOk};
+ghost use Rattle.std.specs.Prelude.{◌≡◌, ◌<◌, IfOk, IsTrue, OnOk};
 ghost use Rattle.space_search.specs.Known.{AreKnown, LeavesKnown};
 ghost use Rattle.space_search.specs.Listed.{steps_of};
 ghost use Rattle.space_search.specs.Rules.{Rules, LOW_BOUND};
@@ -9,10 +9,10 @@ ghost use Rattle.space_search.specs.Laws.{IsSpace, Supersedes};
 use crate::known::Known;
 use crate::point::Point;
 use crate::step::{Step, Steps};
-use std::alloc::AllocError;
+use std::alloc::{AllocError, Global};
 
-/// A space of states with starts, steps and goals, all by number. No call but `list_steps` takes
-/// memory, and that one only for its list.
+/// A space of states with starts, steps and goals, all by number. No call takes memory but
+/// `list_steps`, which takes it for its list alone, and those that find lower bounds.
 ///
 /// `rules` says in one record what all calls answer, and `keeps_laws` that the record keeps the
 /// laws of a space. A start or step that isn't permitted is `None`; else it gives the state that is
@@ -21,8 +21,15 @@ pub trait Space {
     /// A state; it is small, since a search keeps many.
     type State: Copy;
 
+    /// What is kept of the lower bounds that were asked for. It stands beside the space, so that a
+    /// search may ask for more of them while it looks at the space.
+    type Bounds: Drop;
+
     /// What the space answers.
     ghost rules: { Self → Rules Self.State };
+
+    /// This is kept of the lower bounds of the space.
+    ghost AreBounds: { Self → Self.Bounds → Type 0 };
 
     /// How many slots there are.
     fn slots(&self) -> u32
@@ -119,10 +126,20 @@ pub trait Space {
         false
     }
 
+    /// What is kept of lower bounds before any was asked for.
+    fn bounds(&self, alloc: Global) -> Result<Self::Bounds, AllocError>
+        ensures are { IfOk result (AreBounds self.now) };
+
     /// A lower bound of what is still to pay from a state to a goal; `None` where none is reached.
-    fn low(&self, state: &Self::State) -> Option<u128>
+    fn low(
+        &self,
+        bounds: &mut Self::Bounds,
+        state: &Self::State,
+    ) -> Result<Option<u128>, AllocError>
         requires valid { IsTrue ((rules self.now).is_valid state.now) }
-        ensures value { result ≡ (rules self.now).low state.now };
+        requires are { AreBounds self.now bounds.old }
+        ensures value { IfOk result (λ low. low ≡ (rules self.now).low state.now) }
+        ensures are { AreBounds self.now bounds.new };
 
     /// What the space answers keeps the laws of a space.
     ghost keeps_laws: { (space : Self) → IsSpace (rules space) };

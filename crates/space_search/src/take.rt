@@ -34,10 +34,12 @@ pub enum Taken {
 /// Where it is a goal, or the limit is spent, or nothing waits, the queue stays as it is.
 pub(crate) fn take<T: Copy + Drop, S: Space<State = T>>(
     space: &S,
+    bounds: &mut S::Bounds,
     lists: &mut Lists<T>,
     steps: &mut Steps<T>,
     limit: u64,
 ) -> Result<Taken, AllocError>
+    requires bounds { S.AreBounds space.now bounds.old }
     requires kept { IsSearch (S.rules space.now) (books lists.old) }
     requires closed { IsClosed (S.rules space.now) (books lists.old) }
     requires small { limit < 2 ^ 32 }
@@ -46,6 +48,7 @@ pub(crate) fn take<T: Copy + Drop, S: Space<State = T>>(
         Takes (S.rules space.now) limit (books lists.old) (books lists.new) taken) }
     ensures leaves { Leaves (S.rules space.now) (books lists.old) (books lists.new) }
     ensures fits { length (books lists.new).settled ≤ limit }
+    ensures bounds { S.AreBounds space.now bounds.new }
 {
     let Some(number) = next(space, lists) else {
         return Ok(Taken::Empty);
@@ -62,7 +65,7 @@ pub(crate) fn take<T: Copy + Drop, S: Space<State = T>>(
         return Ok(Taken::Spent);
     }
     settle_next(space, lists, number, &label)?;
-    advance(space, lists, steps, &label)?;
+    advance(space, bounds, lists, steps, &label)?;
     Ok(Taken::Settled)
 }
 
@@ -70,11 +73,13 @@ pub(crate) fn take<T: Copy + Drop, S: Space<State = T>>(
 /// number of the goal's label, where one was found.
 pub(crate) fn take_many<T: Copy + Drop, S: Space<State = T>>(
     space: &S,
+    bounds: &mut S::Bounds,
     lists: &mut Lists<T>,
     steps: &mut Steps<T>,
     limit: u64,
     quota: u32,
 ) -> Result<(Turn<(), Outcome<u32>>, u32), AllocError>
+    requires bounds { S.AreBounds space.now bounds.old }
     requires kept { IsSearch (S.rules space.now) (books lists.old) }
     requires closed { IsClosed (S.rules space.now) (books lists.old) }
     requires small { limit < 2 ^ 32 }
@@ -83,10 +88,11 @@ pub(crate) fn take_many<T: Copy + Drop, S: Space<State = T>>(
         (held_after limit (books lists.new) answer) answer.0) }
     ensures leaves { Leaves (S.rules space.now) (books lists.old) (books lists.new) }
     ensures fits { length (books lists.new).settled ≤ limit }
+    ensures bounds { S.AreBounds space.now bounds.new }
 {
     let mut count = 0;
     'turn: while count < quota {
-        match take(space, lists, steps, limit)? {
+        match take(space, bounds, lists, steps, limit)? {
             Taken::Dropped => {}
             Taken::Settled => count += 1,
             Taken::Goal(number) => {

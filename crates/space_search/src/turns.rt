@@ -51,11 +51,14 @@ impl<T: Copy + Drop> Search<T> {
     pub fn turn<S: Space<State = T>>(
         &mut self,
         space: &S,
+        bounds: &mut S::Bounds,
         quota: u32,
     ) -> Result<Turn<(), Outcome<u32>>, AllocError>
+        requires bounds { S.AreBounds space.now bounds.old }
         requires of { IsSearchOf (S.rules space.now) self.old }
         requires some { 1 ≤ quota }
 
+        ensures bounds { S.AreBounds space.now bounds.new }
         ensures of { IsSearchOf (S.rules space.now) self.new }
         ensures kept { GoesOn (S.rules space.now) (view self.old) (view self.new) }
 
@@ -80,11 +83,18 @@ impl<T: Copy + Drop> Search<T> {
             Phase::Failed => return Err(AllocError),
             Phase::New => {
                 self.phase = Phase::Failed;
-                begin(space, &mut self.lists)?;
+                begin(space, bounds, &mut self.lists)?;
             }
             Phase::Running => self.phase = Phase::Failed,
         }
-        let answer = take_many(space, &mut self.lists, &mut self.steps, self.limit, quota)?;
+        let answer = take_many(
+            space,
+            bounds,
+            &mut self.lists,
+            &mut self.steps,
+            self.limit,
+            quota,
+        )?;
         let (turn, found) = answer;
         self.found = found;
         self.phase = after_turn(turn);

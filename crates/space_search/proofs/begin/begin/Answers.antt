@@ -28,6 +28,7 @@ starts-preserved g c =
                 offers.extends c.starts.choice c.starts.invariant.starts
                 (this-one (IsAccounted (g.S.Space.rules c.args.space.now) (books w.offer.new.lists)) _ w.in-Some.found
                 w.in-Some.ensures.value offers.accounted);
+            bounds = rw w.bounds-is w.in_ok-offer.ensures.bounds;
             none_settled = offers.extends.settled ∙ c.starts.invariant.none_settled;
           }
           )
@@ -40,6 +41,7 @@ starts-preserved g c =
                 has_starts-more (g.S.Space.rules c.args.space.now) (books c.starts.lists) (books c.starts.lists)
                 (extends-refl (books c.starts.lists)) c.starts.choice c.starts.invariant.starts
                 (λ s cost is. absurd (w.in_default.not-Some (s, cost) (c.start.ensures.value ∙ is)));
+            bounds = rw w.bounds-is c.starts.invariant.bounds;
             none_settled = c.starts.invariant.none_settled;
           }
           )
@@ -62,6 +64,7 @@ starts-init g c =
     record {
       kept = search-fresh (g.S.Space.rules c.args.space.now) fresh_books fresh heads;
       starts = starts-none (g.S.Space.rules c.args.space.now) fresh_books fresh heads;
+      bounds = c.requires.bounds;
       none_settled = old.settled;
     }
 

@@ -7,5 +7,6 @@ invariant-starts g l =
     record {
       kept : IsSearch (g.S.Space.rules l.space) (books l.lists);
       starts : HasStarts (g.S.Space.rules l.space) (books l.lists) l.choice;
+      bounds : g.S.Space.AreBounds l.space l.bounds;
       none_settled : l.lists.settled.items ≡ [];
     }

@@ -7,6 +7,7 @@ abbrev pub invariant-search : goal.invariant-search
 invariant-search g l =
     record {
       of : IsSearchOf (g.S.Space.rules l.space) l.search;
+      bounds : g.S.Space.AreBounds l.space l.bounds;
       limit : (view l.search).limit ≡ l.limit;
     }
 

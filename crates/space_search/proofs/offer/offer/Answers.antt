@@ -9,17 +9,17 @@ is_covered-requires-clause-later g c =
     record {
       valid = c.requires.follows.valid;
       rank = c.args.label.cost + c.in-Some.low;
-      ranked = record { low = c.in-Some.low; is = sym c.in-Some.ensures.value; sum = refl };
+      ranked = record { low = c.in-Some.low; is = sym c.in_ok-told.ensures.value ∙ c.in-Some.is; sum = refl };
       above = c.requires.above;
     }
 
 pub low-requires : goal.low-requires
-low-requires g c = record { valid = c.requires.follows.valid }
+low-requires g c = record { valid = c.requires.follows.valid; are = c.requires.bounds }
 
 pub returns-in_default-clause-offers : goal.returns-in_default-clause-offers
 returns-in_default-clause-offers g c =
     offers-accounted (g.S.Space.rules c.args.space.now) (books c.args.lists.now) c.args.label c.requires.kept
-    (by_bound (sym c.low.ensures.value ∙ c.in_default.is))
+    (by_bound (sym c.in_ok-told.ensures.value ∙ c.in_default.is))
 
 pub returns-in_default-clause-leaves : goal.returns-in_default-clause-leaves
 returns-in_default-clause-leaves g c = leaves-same (g.S.Space.rules c.args.space.now) (books c.args.lists.now) c.requires.kept
@@ -50,7 +50,7 @@ pub enqueue-requires-clause-above : goal.enqueue-requires-clause-above
 enqueue-requires-clause-above g c = c.requires.above
 
 pub enqueue-requires-clause-ranked : goal.enqueue-requires-clause-ranked
-enqueue-requires-clause-ranked g c = record { low = c.in-Some.low; is = sym c.in-Some.ensures.value; sum = refl }
+enqueue-requires-clause-ranked g c = record { low = c.in-Some.low; is = sym c.in_ok-told.ensures.value ∙ c.in-Some.is; sum = refl }
 
 pub returns-clause-offers : goal.returns-clause-offers
 returns-clause-offers g c = c.enqueue.ensures.offers

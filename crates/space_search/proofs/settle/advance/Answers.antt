@@ -79,6 +79,7 @@ steps-preserved g c =
           offered-more (g.S.Space.rules c.args.space.now) (books c.steps.lists) (books c.offer.new.lists) offers.extends
           c.as_slice-step-items.result.now c.args.label.now.cost c.steps.step-index c.step-item.result
           c.steps.invariant.offered c.steps-test.true c.step-item.is offers.accounted;
+      bounds = c.in_ok-offer.ensures.bounds;
       work = omega (arith, offers.work, c.steps.invariant.work);
     }
 
@@ -127,6 +128,7 @@ steps-init g c =
       kept = c.requires.kept;
       extends = extends-refl (books c.args.lists.now);
       offered = none-offered (g.S.Space.rules c.args.space.now) (books c.args.lists.now) c.args.label.now c.as_slice-step-items.result.now;
+      bounds = c.requires.bounds;
       work = work-same (books c.args.lists.now);
     }
 

@@ -12,5 +12,6 @@ invariant-steps g l =
       offered :
           (place : ℕ) (one : Step g.row.T.Denot) → place < l.step-index → slice_get l.step-items place ≡ Some one →
           IsAccounted (g.S.Space.rules l.space) (books l.lists) one.state (l.label.cost + one.cost);
+      bounds : g.S.Space.AreBounds l.space l.bounds;
       work : work_left (books l.lists) ≤ work_left (books l.initial.lists);
     }

@@ -32,6 +32,7 @@ turn-init g c =
     record {
       kept = c.requires.kept;
       closed = c.requires.closed;
+      bounds = c.requires.bounds;
       within = c.requires.within;
       keeps = λ place label s. s;
       counted = counted-none (length c.args.lists.now.settled.items);
@@ -69,6 +70,7 @@ turn-preserved-in-Dropped g c =
     record {
       kept = takes.kept;
       closed = takes.closed;
+      bounds = c.in_ok-take.ensures.bounds;
       within = takes.within;
       keeps =
           keeps-more (g.S.Space.rules c.args.space.now) (books c.args.lists.now) (books c.turn.lists) c.turn.invariant.keeps
@@ -90,6 +92,7 @@ turn-preserved g c =
     record {
       kept = takes.kept;
       closed = takes.closed;
+      bounds = c.in_ok-take.ensures.bounds;
       within = takes.within;
       keeps =
           keeps-more (g.S.Space.rules c.args.space.now) (books c.args.lists.now) (books c.turn.lists) c.turn.invariant.keeps

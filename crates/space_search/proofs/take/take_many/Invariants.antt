@@ -7,6 +7,7 @@ invariant-turn g l =
     record {
       kept : IsSearch (g.S.Space.rules l.space) (books l.lists);
       closed : IsClosed (g.S.Space.rules l.space) (books l.lists);
+      bounds : g.S.Space.AreBounds l.space l.bounds;
       within : length l.lists.settled.items ≤ l.limit;
       keeps : KeepsLabels (books l.initial.lists) (books l.lists);
       counted : length l.lists.settled.items ≡ length l.initial.lists.settled.items + l.count;

@@ -106,7 +106,7 @@ pub returns-in-Failed-clause-of : goal.returns-in-Failed-clause-of
 returns-in-Failed-clause-of g c = c.requires.of
 
 pub begin-requires : goal.begin-requires
-begin-requires g c = record { fresh = phase-is (g.S.Space.rules c.args.space.now) c.args.self.now New c.requires.of c.in-New.is }
+begin-requires g c = record { bounds = c.requires.bounds; fresh = phase-is (g.S.Space.rules c.args.space.now) c.args.self.now New c.requires.of c.in-New.is }
 
 pub returns-in_err-begin-in-New-clause-of : goal.returns-in_err-begin-in-New-clause-of
 returns-in_err-begin-in-New-clause-of g c =
@@ -128,6 +128,7 @@ take_many-requires g c =
           let begins = w.in_ok-begin-in-New.ensures.begins in
           rw w.self-is
           (record {
+            bounds = rw w.bounds-is w.in_ok-begin-in-New.ensures.bounds;
             kept = begins.kept;
             closed = begins.closed;
             small = c.requires.of.small;
@@ -136,7 +137,7 @@ take_many-requires g c =
       | in-Running w ↦
           let phase = phase-is (g.S.Space.rules c.args.space.now) c.args.self.now Running c.requires.of w.in-Running.is in
           rw w.self-is
-          (record { kept = phase.0; closed = phase.1; small = c.requires.of.small; within = c.requires.of.within })
+          (record { bounds = rw w.bounds-is c.requires.bounds; kept = phase.0; closed = phase.1; small = c.requires.of.small; within = c.requires.of.within })
     ]
 
 pub returns-in_err-answer-clause-of : goal.returns-in_err-answer-clause-of
