@@ -1,27 +1,23 @@
 -- The space of a lawful search on a leg keeps the laws of a space.
 use Rattle.std.proofs.Common.{◌≡◌, ℕ, ◌+◌, ◌-◌, ◌<◌, ◌≤◌, ◌^◌, nat_eq, List, length, Option, Some, None, IsTrue, refl, sym, ap, ◌∙◌, subst, arith}
 use Rattle.std.proofs.lemmas.Bool.Decides.{nat_tests}
-use Rattle.std.proofs.Math.Logic.{∥∥₁_elim}
-use Rattle.std.proofs.Props.{props}
 use Rattle.elev_buffer.specs.Covers.{covers_label}
 use Rattle.elev_buffer.specs.declared.labels.Pair.{Pair}
 use Rattle.cost_model.specs.Labels.{label_of}
 use Rattle.cost_model.specs.Modes.{AllowsFacts, modes_before}
-use Rattle.cost_model.specs.Parts.{IsHeld, least_price}
+use Rattle.cost_model.specs.Parts.{IsHeld}
 use Rattle.cost_model.specs.Walks.{empty_pair, pair_of}
 use Rattle.cost_model.specs.declared.facts.LinkFacts.{LinkFacts}
 use Rattle.cost_model.specs.declared.parts.Carry.{Carry}
-use Rattle.cost_model.proofs.CallerLemmas.{cost-below, covers-carried, empty-held, held-after, label-cheaper, label-itself, label-through, least_price-least, modes-allow}
-use Rattle.least_sums.proofs.CallerLemmas.{up-to-none, up-to-only, up-to-step, up-to-target}
+use Rattle.cost_model.proofs.CallerLemmas.{cost-below, covers-carried, empty-held, held-after, label-cheaper, label-itself, label-through, modes-allow}
 use Rattle.overpass_graph.specs.Roads.{out_links}
 use Rattle.overpass_graph.proofs.CallerLemmas.{out-sound}
 use Rattle.space_search.specs.Laws.{HasBound, HasCovering, HasEvenBound, HasMoves, CoveredAlike, IsDearest, IsSpace, KeepsCovering}
 use Rattle.space_search.specs.Runs.{Walks, rests, steps}
 use Rattle.bike_space.specs.Spent.{terms_of}
-use Rattle.bike_space.specs.Remaining.{IsRemainingUpTo, rest_price}
-use Rattle.bike_space.specs.Tasks.{Task, chosen, covers_carry, entered, is_carried, may_take, rules_of}
-use Rattle.bike_space.specs.Lawful.{IsTask}
-use Rattle.bike_space.proofs.WalkLemmas.{take-follows}
+use Rattle.bike_space.specs.Tasks.{Task, chosen, covers_carry, entered, is_carried, may_take, price_of, rules_of}
+use Rattle.bike_space.specs.Lawful.{IsTask, MayGoOn}
+use Rattle.bike_space.proofs.WalkLemmas.{entered-is}
 use Rattle.bike_space.proofs.CarryLemmas.{carried-is, is-carried, covered-slot, covered-under, covers-parts, parts-cover, slot-one_of, some-is, step-is}
 use Rattle.std.proofs.lemmas.Option.{cond_some}
 
@@ -147,112 +143,49 @@ module _ (task : Task) (lawful : IsTask task) where
 
   -- ---- The bound
 
-  -- what still has to be paid behind a link
-  low-behind : (link : ℕ) → link < task.leg.ride.roads.links →
-      IsRemainingUpTo task.leg task.used task.radius (task.leg.ride.roads.to link) (task.low (task.leg.ride.roads.to link))
-  low-behind link within = lawful.low _ (lawful.roads.to_in link within)
+  -- a step goes on by a link, and costs what it costs to enter that
+  record IsEntry (from : Carry) (link cost : ℕ) : Type 0 where
+    goes_on : MayGoOn task.leg from.link link
+    price : price_of task (Some (task.leg.ride.facts from.link)) link (pair_of from) ≡ cost
 
-  -- an open link has its low price
-  priced : (link : ℕ) → IsTrue (task.leg.ride.is_open link) →
-      rest_price task.leg task.used link ≡ Some (least_price (task.used link) (task.leg.ride.facts link))
-  priced link opens = rw opens refl
-
-  -- at the target nothing has still to be paid
-  rest-target : (low : Option ℕ) → IsRemainingUpTo task.leg task.used task.radius task.leg.target low → low ≡ Some 0
-  rest-target low is = ∥∥₁_elim is (hlevel props)
-      (λ h. up-to-target task.leg.ride.roads (rest_price task.leg task.used) task.leg.target task.radius low h)
-
-  -- where there is none from a node, nothing else is
-  rest-only : (node : ℕ) (low : Option ℕ) → IsRemainingUpTo task.leg task.used task.radius node low →
-      IsRemainingUpTo task.leg task.used task.radius node None → low ≡ None
-  rest-only node low is none =
-      ∥∥₁_elim is (hlevel props) (λ h. ∥∥₁_elim none (hlevel props)
-      (λ k. up-to-only task.leg.ride.roads (rest_price task.leg task.used) task.leg.target task.radius node low h k))
-
-  -- what still has to be paid falls along an open link by no more than its low price
-  rest-step : (link before after : ℕ) → link < task.leg.ride.roads.links → IsTrue (task.leg.ride.is_open link) →
-      IsRemainingUpTo task.leg task.used task.radius (task.leg.ride.roads.from link) (Some before) →
-      IsRemainingUpTo task.leg task.used task.radius (task.leg.ride.roads.to link) (Some after) →
-      before ≤ least_price (task.used link) (task.leg.ride.facts link) + after
-  rest-step link before after within opens is other =
-      ∥∥₁_elim is (hlevel props) (λ h. ∥∥₁_elim other (hlevel props)
-      (λ k. up-to-step task.leg.ride.roads (rest_price task.leg task.used) task.leg.target task.radius link _ before after within
-      (priced link opens) h k))
-
-  -- where the target isn't reached from before an open link, it isn't from behind it
-  rest-none : (link : ℕ) → link < task.leg.ride.roads.links → IsTrue (task.leg.ride.is_open link) →
-      IsRemainingUpTo task.leg task.used task.radius (task.leg.ride.roads.from link) None →
-      IsRemainingUpTo task.leg task.used task.radius (task.leg.ride.roads.to link) None
-  rest-none link within opens is =
-      ∥∥₁_elim is (hlevel props)
-      (λ h. ∣ up-to-none task.leg.ride.roads (rest_price task.leg task.used) task.leg.target task.radius link _ within
-      (priced link opens) h ∣₁)
-
-  -- at a goal nothing has still to be paid
-  goal-low : (state : Carry) → IsTrue ((rules_of task).is_goal state) → (rules_of task).low state ≡ Some 0
-  goal-low state goal =
-      let is : IsTrue (nat_eq (task.leg.ride.roads.to state.link) task.leg.target) = goal in
-      let at : task.leg.ride.roads.to state.link ≡ task.leg.target = grind (arith, nat_tests) in
-      ap task.low at ∙ rest-target _ (lawful.low task.leg.target lawful.target_in)
-
-  -- the link that a step enters leaves where the last one arrives, is open, and costs no less than its low price
-  record IsEntry (last : ℕ) (next : Carry) (cost : ℕ) : Type 0 where
-    within : next.link < task.leg.ride.roads.links
-    leaves : task.leg.ride.roads.from next.link ≡ task.leg.ride.roads.to last
-    opens : IsTrue (task.leg.ride.is_open next.link)
-    dear : least_price (task.used next.link) (task.leg.ride.facts next.link) ≤ cost
-
-  -- what enters a link costs no less than its low price
-  entered-dear : (before : Option LinkFacts) (link : ℕ) (pair : Pair) → link < task.leg.ride.roads.links →
-      IsHeld task.leg.ride.prices pair →
-      (link ≡ (entered task before link pair).0.link) ×
-      (least_price (task.used link) (task.leg.ride.facts link) ≤ (entered task before link pair).1)
-  unfolding entered
-  entered-dear before link pair within held = (
-    refl,
-    least_price-least task.leg.ride.prices (task.used link) before (task.leg.ride.facts link) pair lawful.prices
-        (lawful.facts link within) held,
-  )
-
-  -- so is each step
+  -- so does each step
   step-entry : (from : Carry) (number : ℕ) (state : Carry) (cost : ℕ) → IsTrue (is_carried task.leg from) →
-      number < (rules_of task).steps from → (rules_of task).step from number ≡ Some (state, cost) →
-      IsEntry from.link state cost
+      number < (rules_of task).steps from → (rules_of task).step from number ≡ Some (state, cost) → IsEntry from state.link cost
   step-entry from number state cost valid within step =
       let s = step-is task from from.link number state cost refl within step in
       let link = chosen task.leg.ride.roads (task.leg.ride.roads.to from.link) number in
-      let e = entered-dear (Some (task.leg.ride.facts from.link)) link (pair_of from) s.within
-      (carried-is task.leg from valid).1 in
-      let same : link ≡ state.link = e.0 ∙ ap (λ (m : Carry × ℕ). m.0.link) s.is in
-      let f = take-follows task.leg from.link link s.taken s.leaves in
-      let dear : least_price (task.used link) (task.leg.ride.facts link) ≤ cost =
-      omega (arith, e.1, ap (λ (m : Carry × ℕ). m.1) s.is) in
-      record {
-        within = omega (arith, s.within, same);
-        leaves = subst (λ l. task.leg.ride.roads.from l ≡ task.leg.ride.roads.to from.link) same s.leaves;
-        opens = subst (λ l. IsTrue (task.leg.ride.is_open l)) same f.0;
-        dear = subst (λ l. least_price (task.used l) (task.leg.ride.facts l) ≤ cost) same dear;
-      }
+      let is = sym (entered-is task (Some (task.leg.ride.facts from.link)) link (pair_of from)) ∙ s.is in
+      subst (λ l. IsEntry from l cost) (ap (λ (m : Carry × ℕ). m.0.link) is)
+      (record {
+        goes_on = record {
+          last_in = (carried-is task.leg from valid).0;
+          link_in = s.within;
+          leaves = s.leaves;
+          taken = s.taken;
+        };
+        price = ap (λ (m : Carry × ℕ). m.1) is;
+      })
+
+  -- at a goal nothing has still to be paid
+  goal-low : (state : Carry) → IsTrue (is_carried task.leg state) → IsTrue ((rules_of task).is_goal state) →
+      (rules_of task).low state ≡ Some 0
+  goal-low state valid goal =
+      let is : IsTrue (nat_eq (task.leg.ride.roads.to state.link) task.leg.target) = goal in
+      lawful.bound.target state.link (carried-is task.leg state valid).0 (grind (arith, nat_tests))
 
   -- where a state has no bound, none has one behind a step
   low-stays : (from : Carry) (number : ℕ) (state : Carry) (cost : ℕ) → IsTrue (is_carried task.leg from) →
       number < (rules_of task).steps from → (rules_of task).step from number ≡ Some (state, cost) →
       (rules_of task).low from ≡ None → (rules_of task).low state ≡ None
   low-stays from number state cost valid within step none =
-      let e = step-entry from number state cost valid within step in
-      let before : IsRemainingUpTo task.leg task.used task.radius (task.leg.ride.roads.from state.link) None =
-      subst (λ n. IsRemainingUpTo task.leg task.used task.radius n None) (sym e.leaves)
-      (subst (IsRemainingUpTo task.leg task.used task.radius (task.leg.ride.roads.to from.link)) none
-      (low-behind from.link (carried-is task.leg from valid).0)) in
-      rest-only (task.leg.ride.roads.to state.link) _ (low-behind state.link e.within)
-      (rest-none state.link e.within e.opens before)
+      lawful.bound.stays from.link state.link (step-entry from number state cost valid within step).goes_on none
 
   -- from a state without a bound no goal is reached
   hopeless : {state end : Carry} {cost total : ℕ} {numbers : List ℕ} → IsTrue (is_carried task.leg state) →
       (rules_of task).low state ≡ None → Walks (rules_of task) state cost numbers end total →
       IsTrue ((rules_of task).is_goal end) → ⊥
   hopeless {state = state} valid none rests goal =
-      let some = goal-low state goal in
+      let some = goal-low state valid goal in
       let never : ⊥ = cc in
       never
   hopeless {state = state} valid none (steps {next = next} {more = more} {number = number} within is rest) goal =
@@ -262,20 +195,14 @@ module _ (task : Task) (lawful : IsTask task) where
   -- the bound is bounded, 0 at a goal, and falls along a step by no more than that costs
   has-bound : HasBound (rules_of task)
   has-bound = record {
-    small = λ state low valid is. lawful.low_small _ low
-        (lawful.roads.to_in state.link (carried-is task.leg state valid).0) is;
-    goal = λ state valid goal. goal-low state goal;
+    small = λ state low valid is. lawful.bound.small state.link low (carried-is task.leg state valid).0 is;
+    goal = λ state valid goal. goal-low state valid goal;
     hopeless = λ state end cost total numbers valid none walk goal. hopeless valid none walk goal;
     step = λ from number state cost before after valid within is first second.
         let e = step-entry from number state cost valid within is in
-        let here : IsRemainingUpTo task.leg task.used task.radius (task.leg.ride.roads.from state.link) (Some before) =
-        subst (λ n. IsRemainingUpTo task.leg task.used task.radius n (Some before)) (sym e.leaves)
-        (subst (IsRemainingUpTo task.leg task.used task.radius (task.leg.ride.roads.to from.link)) first
-        (low-behind from.link (carried-is task.leg from valid).0)) in
-        let there : IsRemainingUpTo task.leg task.used task.radius (task.leg.ride.roads.to state.link) (Some after) =
-        subst (IsRemainingUpTo task.leg task.used task.radius (task.leg.ride.roads.to state.link)) second (low-behind state.link e.within) in
-        let falls = rest-step state.link before after e.within e.opens here there in
-        omega (arith, falls, e.dear);
+        let falls =
+        lawful.bound.falls from.link state.link before after (pair_of from) e.goes_on (carried-is task.leg from valid).1 first second in
+        omega (arith, falls, e.price);
   }
 
   -- the space keeps the laws
@@ -291,6 +218,6 @@ module _ (task : Task) (lawful : IsTask task) where
   -- states that cover one another have one bound, and where it is none it is none behind every step
   pub even-bound : HasEvenBound (rules_of task)
   even-bound = record {
-    alike = λ a b ca cb va vb h. ap (λ l. task.low (task.leg.ride.roads.to l)) (covers-parts task.leg a b ca cb h).0;
+    alike = λ a b ca cb va vb h. ap task.low (covers-parts task.leg a b ca cb h).0;
     stays = λ from number state cost valid within is none. low-stays from number state cost valid within is none;
   }

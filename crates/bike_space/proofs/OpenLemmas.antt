@@ -1,15 +1,16 @@
 -- A space of a leg that was just opened is lawful.
-use Rattle.std.proofs.Common.{◌≡◌, ◌<◌, length, arith}
+use Rattle.std.proofs.Common.{◌≡◌, ◌<◌, length, refl, arith}
 use Rattle.cost_model.specs.Facts.{AreLinks}
 use Rattle.cost_model.specs.Prices.{IsPrices}
 use Rattle.cost_model.specs.Rides.{Terrain}
-use Rattle.least_sums.specs.Sums.{AreBelow, AreLeastSumsUpTo}
+use Rattle.least_sums.specs.Sums.{AreBelow, AreLeastSumsUpTo, sum_of}
 use Rattle.overpass_graph.specs.Maps.{IsMap, roads_of}
 use Rattle.bike_space.specs.Kept.{Wakes, task_of}
 use Rattle.bike_space.specs.Lawful.{IsTask}
 use Rattle.bike_space.specs.Remaining.{priced_by}
 use Rattle.bike_space.specs.declared.rested.Rested.{Rested}
 use Rattle.bike_space.proofs.LawLemmas.{keeps-laws}
+use Rattle.bike_space.proofs.SumBoundLemmas.{IsBySums, sums-bound, sums-whole}
 
 -- what a space is opened with
 pub record OpenedWith (terrain : Terrain) (kept : Rested) : Type 0 where
@@ -23,6 +24,18 @@ pub record OpenedWith (terrain : Terrain) (kept : Rested) : Type 0 where
       AreLeastSumsUpTo (roads_of terrain.map) (priced_by terrain kept.cut.items kept.used.items).price kept.target kept.low
   pub small : AreBelow kept.low.sums
 
+-- its bound is told by sums of nodes
+by-sums : (terrain : Terrain) (kept : Rested) → OpenedWith terrain kept → IsBySums (task_of terrain kept) (sum_of kept.low.sums)
+by-sums terrain kept is = record {
+  roads = is.is_map.roads;
+  facts = λ link within. is.sound link (omega (arith, within, is.counted));
+  prices = is.is_prices;
+  target_in = is.target;
+  sums = λ node within. ∣ is.sums.least node within ∣₁;
+  small = λ node low within at. omega (arith, is.small node low at);
+  low = λ link. refl;
+}
+
 -- the search is lawful
 task-lawful : (terrain : Terrain) (kept : Rested) → OpenedWith terrain kept → IsTask (task_of terrain kept)
 task-lawful terrain kept is = record {
@@ -31,8 +44,8 @@ task-lawful terrain kept is = record {
   prices = is.is_prices;
   start_in = is.start;
   target_in = is.target;
-  low = λ node within. ∣ is.sums.least node within ∣₁;
-  low_small = λ node low within at. omega (arith, is.small node low at);
+  bound = sums-bound (task_of terrain kept) (sum_of kept.low.sums) (by-sums terrain kept is);
+  whole = sums-whole (task_of terrain kept) (sum_of kept.low.sums) (by-sums terrain kept is);
 }
 
 -- it may be put to rest and woken

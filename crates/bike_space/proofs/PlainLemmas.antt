@@ -1,19 +1,17 @@
 -- A space of a leg in which no segment is used, and whose lower bound says nothing.
 use Rattle.std.proofs.Common.{◌≡◌, ℕ, ℤ, pos, ◌<◌, Bool, false, ◌&&◌, int_le, nat_lt, List, [], get_or, Option, Some, None, ap, ◌∙◌, subst, arith}
-use Rattle.std.proofs.Math.Logic.{∥∥₁_elim}
-use Rattle.std.proofs.Props.{props}
 use Rattle.std.proofs.lemmas.List.{get_or_past}
 use Rattle.cost_model.specs.Rides.{Leg}
 use Rattle.cost_model.specs.declared.parts.Carry.{Carry}
+use Rattle.cost_model.proofs.CallerLemmas.{empty-held}
 use Rattle.least_sums.specs.Prices.{Prices}
-use Rattle.least_sums.specs.Sums.{IsLeastSumUpTo}
+use Rattle.least_sums.specs.Sums.{AreLeastSumsUpTo, IsLeastSumUpTo, NodeSums, sum_of}
 use Rattle.overpass_graph.specs.Roads.{Roads}
 use Rattle.space_search.specs.Laws.{IsBlind}
 use Rattle.bike_space.specs.Lawful.{IsTask}
 use Rattle.bike_space.specs.Marks.{is_marked}
-use Rattle.bike_space.specs.Remaining.{IsRemainingUpTo}
 use Rattle.bike_space.specs.Tasks.{Task, is_carried, rules_of}
-use Rattle.bike_space.proofs.CarryLemmas.{carried-is}
+use Rattle.bike_space.proofs.CarryLemmas.{carried-is, is-carried}
 
 -- no number is marked in a list without marks
 pub unmarked : (marks : List Bool) → marks ≡ [] → (link : ℕ) → is_marked marks link ≡ false
@@ -26,19 +24,24 @@ least-none roads prices target node None none = absurd none
 least-none roads prices target node (Some sum) is =
     let none : sum ≡ 0 = omega (arith, is.within) in ap Some none
 
--- so the bound of a lawful search up to that radius is 0 behind each link of the map
-pub none-behind : (task : Task) → IsTask task → task.radius ≡ Some 0 → (link : ℕ) → link < task.leg.ride.roads.links →
-    task.low (task.leg.ride.roads.to link) ≡ Some 0
-none-behind task lawful same link within =
-    let node = task.leg.ride.roads.to link in
-    let is = lawful.low node (lawful.roads.to_in link within) in
-    ∥∥₁_elim (subst (λ r. IsRemainingUpTo task.leg task.used r node (task.low node)) same is) (hlevel props)
-    (λ h. least-none task.leg.ride.roads _ task.leg.target node (task.low node) h)
+-- so are those that are found for the nodes of a map
+pub sums-none : (roads : Roads) (prices : Prices) (target : ℕ) (low : NodeSums) → low.radius ≡ Some 0 →
+    AreLeastSumsUpTo roads prices target low → (node : ℕ) → node < roads.nodes → sum_of low.sums node ≡ Some 0
+sums-none roads prices target low none are node within =
+    least-none roads prices target node _
+    (subst (λ r. IsLeastSumUpTo roads prices target r node (sum_of low.sums node)) none (are.least node within))
 
--- it says nothing
-pub radius-blind : (task : Task) → IsTask task → task.radius ≡ Some 0 → IsBlind (rules_of task)
-radius-blind task lawful same state valid =
-    none-behind task lawful same state.link (carried-is task.leg state valid).0
+-- a bound of 0 behind each link says nothing
+pub none-blind : (task : Task) → ((link : ℕ) → link < task.leg.ride.roads.links → task.low link ≡ Some 0) →
+    IsBlind (rules_of task)
+none-blind task none state valid = none state.link (carried-is task.leg state valid).0
+
+-- one that says nothing is 0 behind each link
+pub none-behind : (task : Task) → IsTask task → IsBlind (rules_of task) → (link : ℕ) → link < task.leg.ride.roads.links →
+    task.low link ≡ Some 0
+none-behind task lawful blind link within =
+    blind (record { link = link; down = pos 0; up = pos 0 })
+    (is-carried task.leg _ within (empty-held task.leg.ride.prices lawful.prices))
 
 -- ---- The test of a state
 

@@ -11,7 +11,7 @@ use Rattle.elev_buffer.specs.declared.labels.Pair.{Pair}
 use Rattle.least_sums.proofs.CallerLemmas.{least-one}
 use Rattle.overpass_graph.proofs.CallerLemmas.{out-sound}
 use Rattle.bike_space.specs.Lawful.{IsTask}
-use Rattle.bike_space.specs.Remaining.{IsRemaining, IsRemainingUpTo, rest_price}
+use Rattle.bike_space.specs.Remaining.{IsRemaining, rest_price}
 use Rattle.bike_space.specs.Tasks.{Task, entered, rules_of}
 use Rattle.bike_space.proofs.AgreeLemmas.{remaining-agrees}
 use Rattle.bike_space.proofs.CarryLemmas.{step-is}
@@ -50,9 +50,7 @@ module _ (task : Task) where
   -- where no segment is used and there is no radius, the bound of a lawful search is what still has to be paid
   pub rest-behind : IsTask task → ((link : ℕ) → task.used link ≡ false) → task.radius ≡ None → (link : ℕ) →
       link < task.leg.ride.roads.links →
-      IsRemaining task.leg (λ _. false) (task.leg.ride.roads.to link) (task.low (task.leg.ride.roads.to link))
+      IsRemaining task.leg (λ _. false) (task.leg.ride.roads.to link) (task.low link)
   rest-behind lawful none whole link within =
-      let node = task.leg.ride.roads.to link in
-      remaining-agrees task.leg task.used (λ _. false) (λ other _. none other) node (task.low node)
-      (subst (λ r. IsRemainingUpTo task.leg task.used r node (task.low node)) whole
-      (lawful.low node (lawful.roads.to_in link within)))
+      remaining-agrees task.leg task.used (λ _. false) (λ other _. none other) (task.leg.ride.roads.to link) (task.low link)
+      (lawful.whole whole link within)

@@ -14,7 +14,7 @@ use Rattle.space_search.specs.View.{Reached}
 use Rattle.cost_model.specs.Rides.{Leg}
 use Rattle.bike_space.specs.LegWalks.{IsLegWalk, IsWalkTo, end_link, leg_rank}
 use Rattle.bike_space.specs.Spent.{AreShown, IsSpentBounded, IsSpentPlain, IsSpentStrong, nth_walk, terms_of, walk_buffers, walk_label}
-use Rattle.bike_space.specs.Remaining.{IsRemaining, IsRemainingUpTo}
+use Rattle.bike_space.specs.Remaining.{IsRemaining}
 use Rattle.bike_space.specs.Tasks.{Task, covers_carry, rules_of, walk_by}
 use Rattle.bike_space.specs.Runs.{IsWalkWith}
 use Rattle.bike_space.specs.Lawful.{IsTask}
@@ -142,7 +142,7 @@ module _ (task : Task) (lawful : IsTask task) (start : ℕ → Option (Carry × 
       let s = shown-at i (omega (arith, below)) in
       let t = shown-at j below in
       let one : s.one.state.link ≡ t.one.state.link = sym (end-at i s) ∙ same ∙ end-at j t in
-      let lows : Some s.low ≡ Some t.low = sym s.bound ∙ ap (λ l. task.low (task.leg.ride.roads.to l)) one ∙ t.bound in
+      let lows : Some s.low ≡ Some t.low = sym s.bound ∙ ap task.low one ∙ t.bound in
       let equal : s.low ≡ t.low = cc in
       let order = spent.ordered.rising i j s.one t.one (s.one.cost + s.low) (t.one.cost + t.low) (omega (arith, less))
       s.at t.at (ranked-at i s) (ranked-at j t) in
@@ -187,9 +187,7 @@ module _ (task : Task) (lawful : IsTask task) (start : ℕ → Option (Carry × 
         ap task.leg.ride.roads.to (sym (end-at k s)) in
         let rest : IsRemaining task.leg task.used (task.leg.ride.roads.to s.one.state.link) (Some s.low) =
         subst (IsRemaining task.leg task.used (task.leg.ride.roads.to s.one.state.link)) s.bound
-        (subst (λ r. IsRemainingUpTo task.leg task.used r (task.leg.ride.roads.to s.one.state.link)
-        (task.low (task.leg.ride.roads.to s.one.state.link))) all
-        (lawful.low _ (lawful.roads.to_in s.one.state.link (carried-is task.leg s.one.state s.valid).0))) in
+        (lawful.whole all s.one.state.link (carried-is task.leg s.one.state s.valid).0) in
         record {
           rest = s.low;
           remaining = subst (λ n. IsRemaining task.leg task.used n (Some s.low)) node rest;

@@ -2,6 +2,7 @@
 use Rattle.std.specs.Prelude.{◌≡◌, length}
 use Rattle.cost_model.specs.Rides.{Leg, Setting, Terrain, leg_between}
 use Rattle.least_sums.specs.Sums.{sum_of}
+use Rattle.overpass_graph.specs.Maps.{roads_of}
 use Rattle.space_search.specs.Laws.{IsSpace}
 use Rattle.bike_space.specs.Marks.{is_marked}
 use Rattle.bike_space.specs.Tasks.{Task, rules_of}
@@ -23,7 +24,7 @@ abbrev pub task_of : Terrain → Rested → Task
 task_of terrain kept = record {
   leg = leg_between (setting_of terrain kept) kept.start kept.target;
   used = is_marked kept.used.items;
-  low = sum_of kept.low.sums;
+  low = λ link. sum_of kept.low.sums ((roads_of terrain.map).to link);
   radius = kept.low.radius;
 }
 

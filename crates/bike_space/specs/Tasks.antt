@@ -18,8 +18,8 @@ use Rattle.space_search.specs.declared.point.Point.{Point}
 use Rattle.cost_model.specs.Rides.{Leg}
 use Rattle.bike_space.specs.Spent.{terms_of}
 
--- a search on a leg: the links whose segments were used, and for each node what still has to be paid from
--- there at least, up to a radius where there is one
+-- a search on a leg: the links whose segments were used, and for each link what still has to be paid behind it
+-- at least. Without a radius that is the least sum of the low forms of what it costs
 pub record Task : Type 0 where
   pub leg : Leg
   pub used : ℕ → Bool
@@ -115,5 +115,5 @@ rules_of task = record {
   is_goal = λ carry. nat_eq (task.leg.ride.roads.to carry.link) task.leg.target;
   covers = covers_carry task.leg;
   point = point_on task.leg;
-  low = λ carry. task.low (task.leg.ride.roads.to carry.link);
+  low = λ carry. task.low carry.link;
 }

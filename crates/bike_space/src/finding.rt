@@ -1,6 +1,6 @@
 //! A walk of least rank, found by a whole search.
 
-ghost use Rattle.std.specs.Prelude.{◌≢◌, ℕ, ◌*◌, ◌<◌, ◌≤◌, ◌^◌, IfOk, length};
+ghost use Rattle.std.specs.Prelude.{◌≡◌, ◌≢◌, ℕ, IsTrue, ◌*◌, ◌<◌, ◌≤◌, ◌^◌, IfOk, length};
 ghost use Rattle.bike_space.specs.Answers.{AnswersLeg};
 ghost use Rattle.bike_space.specs.Enough.{IsFlat, held_pairs};
 ghost use Rattle.bike_space.specs.Kept.{task_of};
@@ -22,6 +22,14 @@ pub struct Walk {
     pub links: Items<u32>,
     /// Its rank.
     pub rank: u128,
+}
+
+/// A space that tells its lower bounds without memory.
+pub trait TellsRests: Space {
+    /// What still has to be paid from a state at least, as `low` says.
+    fn rest(&self, state: &Self::State) -> Option<u128>
+        requires valid { IsTrue ((Self.rules self.now).is_valid state.now) }
+        ensures value { result ≡ (Self.rules self.now).low state.now };
 }
 
 /// A space whose runs are walks of a leg.

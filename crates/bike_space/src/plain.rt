@@ -71,6 +71,9 @@ fn rested<G: TerrainOf>(
     ensures wakes { IfOk result (Wakes (G.terrain terrain.now)) }
     ensures radius { IfOk result (λ kept.
         (task_of (G.terrain terrain.now) kept).radius ≡ Some 0) }
+    ensures none { IfOk result (λ kept. (link : ℕ) →
+        link < length (G.terrain terrain.now).map.links →
+        (task_of (G.terrain terrain.now) kept).low link ≡ Some 0) }
 {
     // What the map and the rates promise of themselves.
     let map = terrain.map();

@@ -81,6 +81,10 @@ impl Space for Line {
 
     type State = (u32, u32);
 
+    type Bounds = ();
+
+    ghost AreBounds = { λ _ _. Unit {0} };
+
     ghost rules = { λ line. line_rules line.cells line.goal line.starts line.steps };
 
     ghost keeps_laws = { λ line. line-keeps_laws line.cells line.goal line.starts line.steps
@@ -132,7 +136,11 @@ impl Space for Line {
         self.superseding && a.0 == b.0 && a.1 <= b.1
     }
 
-    fn low(&self, _state: &(u32, u32)) -> Option<u128> {
-        Some(0)
+    fn bounds(&self, _alloc: Global) -> Result<(), AllocError> {
+        Ok(())
+    }
+
+    fn low(&self, _bounds: &mut (), _state: &(u32, u32)) -> Result<Option<u128>, AllocError> {
+        Ok(Some(0))
     }
 }

@@ -102,10 +102,10 @@ fn tell_tolls(
     requires of { IsSearchOf (toll_rules toll.now.bounded) search.old }
     requires some { 1 ≤ quota }
 {
-    let first = search.turn(toll, quota)?;
+    let first = search.turn(toll, &mut (), quota)?;
     text.push_str(word_of(first))?;
     tell_labels(alloc, text, search)?;
-    let second = search.turn(toll, 1)?;
+    let second = search.turn(toll, &mut (), 1)?;
     write!(text, " {}", word_of(second))?;
     match second {
         Turn::Done(end) => tell_goal(alloc, text, search, end),
@@ -180,7 +180,7 @@ fn told_turns(
     let most = most_calls(search, line, number(case, 3))?;
     let few = yes_or_no(most <= case.count(4));
     let before = yes_or_no(reads_right(search));
-    let last = word_of(search.turn(line, 1)?);
+    let last = word_of(search.turn(line, &mut (), 1)?);
     let after = yes_or_no(reads_right(search));
     format!(in alloc; "{few} {before} {last} {after}")
 }
@@ -193,7 +193,7 @@ fn most_calls(search: &mut Search<(u32, u32)>, line: &Line, turns: u32) -> Resul
     let mut most = 0u64;
     'turns: for _ in 0..turns {
         let before = line.calls();
-        search.turn(line, 1)?;
+        search.turn(line, &mut (), 1)?;
         most = most.max(line.calls().wrapping_sub(before));
     }
     Ok(most)
@@ -215,7 +215,7 @@ fn reads_right(search: &Search<(u32, u32)>) -> bool
 fn settled_tolls(alloc: Global, case: &Case) -> Result<String, AllocError> {
     let toll = tolls_of(case);
     let mut search: Search<(u32, u32)> = Search::new(alloc, 9);
-    let turn = search.turn(&toll, 9)?;
+    let turn = search.turn(&toll, &mut (), 9)?;
     format!(in alloc; "{} {}", search.labels(), word_of(turn))
 }
 
@@ -225,6 +225,6 @@ fn both_ways(alloc: Global, case: &Case) -> Result<String, AllocError> {
     let superseding = place_of(&["superseding"], case.word(3)) == 0;
     let line = Line::both_ways(number(case, 1), number(case, 2), superseding);
     let mut search: Search<(u32, u32)> = Search::new(alloc, MOST);
-    let turn = search.turn(&line, 2_000_000)?;
+    let turn = search.turn(&line, &mut (), 2_000_000)?;
     format!(in alloc; "{} {}", search.labels(), word_of(turn))
 }

@@ -15,6 +15,10 @@ impl Space for Toll {
 
     type State = (u32, u32);
 
+    type Bounds = ();
+
+    ghost AreBounds = { λ _ _. Unit {0} };
+
     ghost rules = { λ toll. toll_rules toll.bounded };
 
     ghost keeps_laws = { λ toll. toll-keeps_laws toll.bounded };
@@ -78,11 +82,15 @@ impl Space for Toll {
         }
     }
 
-    fn low(&self, state: &(u32, u32)) -> Option<u128> {
+    fn bounds(&self, _alloc: Global) -> Result<(), AllocError> {
+        Ok(())
+    }
+
+    fn low(&self, _bounds: &mut (), state: &(u32, u32)) -> Result<Option<u128>, AllocError> {
         if self.bounded && state.0 == 1 {
-            Some(2 + state.1 as u128)
+            Ok(Some(2 + state.1 as u128))
         } else {
-            Some(0)
+            Ok(Some(0))
         }
     }
 }

@@ -1,12 +1,12 @@
 -- A space without goals keeps the laws, and has the runs of the space that it is made of.
 use Rattle.std.proofs.Common.{◌≡◌, ℕ, ◌+◌, inl, inr, List, IsTrue, refl, sym, ◌∙◌, arith}
 use Rattle.space_search.specs.Known.{AreKnown, LeavesKnown}
-use Rattle.space_search.specs.Laws.{HasEvenBound, IsBlind, IsSpace, Supersedes}
+use Rattle.space_search.specs.Laws.{HasEvenBound, IsBlind, IsSpace, Supersedes, SupersedesByCost}
 use Rattle.space_search.specs.Rules.{Rules}
 use Rattle.space_search.specs.Runs.{IsRun, Walks, rests, starts, steps}
 use Rattle.space_search.specs.declared.known.Known.{Known}
 use Rattle.space_search.specs.declared.step.Step.{Step}
-use Rattle.cost_table.specs.Endless.{AreOne, endless}
+use Rattle.cost_table.specs.Endless.{endless}
 
 -- its lower bound says nothing
 pub endless-blind : {S : Type 0} (rules : Rules S) → IsBlind (endless rules)
@@ -53,18 +53,14 @@ endless-laws rules laws = record {
   };
 }
 
--- where both states have one bound, what one supersedes in the space itself it supersedes there too
+-- what one state supersedes by cost in the space itself it supersedes there, and by rank too
 pub endless-supersedes :
-    {S : Type 0} (rules : Rules S) → HasEvenBound rules → (a : S) (ca : ℕ) (b : S) (cb : ℕ) →
-    IsTrue (rules.is_valid b) → AreOne (rules.low a) (rules.low b) → Supersedes rules a ca b cb →
+    {S : Type 0} (rules : Rules S) → (a : S) (ca : ℕ) (b : S) (cb : ℕ) → SupersedesByCost rules a ca b cb →
     Supersedes (endless rules) a ca b cb
-endless-supersedes rules even a ca b cb vb one is state cost low high valid first second up covers =
+endless-supersedes rules a ca b cb is state cost low high valid first second up covers =
     let low_first : 0 ≡ first.low = cc in
     let low_second : 0 ≡ second.low = cc in
-    let alike : rules.low b ≡ rules.low state = even.alike b state cb cost vb valid covers in
-    is state cost (ca + one.number) (cost + one.number) valid (record { low = one.number; is = one.first; sum = refl })
-    (record { low = one.number; is = sym alike ∙ one.second; sum = refl })
-    (omega (arith, up, first.sum, second.sum, low_first, low_second)) covers
+    is state cost valid (omega (arith, up, first.sum, second.sum, low_first, low_second)) covers
 
 -- ---- Runs
 

@@ -1,11 +1,11 @@
 //! A space without goals, whose lower bound says nothing.
 
-ghost use Rattle.std.specs.Prelude.{◌≡◌, IsTrue};
-ghost use Rattle.space_search.specs.Laws.{HasEvenBound, IsSpace};
-ghost use Rattle.cost_table.specs.Endless.{AreOne, endless};
+ghost use Rattle.std.specs.Prelude.{◌≡◌};
+ghost use Rattle.space_search.specs.Laws.{IsSpace};
+ghost use Rattle.cost_table.specs.Endless.{endless};
 
 use space_search::{Known, Point, Space, Steps};
-use std::alloc::AllocError;
+use std::alloc::{AllocError, Global};
 
 /// A space as one without goals, in which ranks are costs: a search over it settles whatever is
 /// reached, the cheaper first. Whichever target the space was made with, it has no effect. It takes
@@ -13,27 +13,15 @@ use std::alloc::AllocError;
 #[derive(Drop)]
 pub(crate) struct Endless<'a, S: Space> {
     pub(crate) space: &'a S,
-    ghost even: { HasEvenBound (S.rules space.now) },
     ghost keeps: { IsSpace (endless (S.rules space.now)) },
 }
 
 impl<'a, S: Space> Endless<'a, S> {
-    /// The space without goals of one in which states that cover one another have one bound.
+    /// The space without goals of a space.
     pub(crate) fn new(space: &'a S) -> Endless<'a, S>
-        requires even { HasEvenBound (S.rules space.now) }
         ensures space { result.space.now ≡ space.now }
     {
         Endless { space }
-    }
-}
-
-/// Whether these are one number.
-fn are_one(a: Option<u128>, b: Option<u128>) -> bool
-    ensures sound { IsTrue result → AreOne a b }
-{
-    match (a, b) {
-        (Some(a), Some(b)) => a == b,
-        _ => false,
     }
 }
 
@@ -41,6 +29,10 @@ impl<'a, S: Space> Space for Endless<'a, S> {
     ghost use Rattle.cost_table.specs.Endless.{endless};
 
     type State = S::State;
+
+    type Bounds = ();
+
+    ghost AreBounds = { λ _ _. Unit {0} };
 
     ghost rules = { λ it. endless (S.rules it.space.now) };
 
@@ -92,13 +84,15 @@ impl<'a, S: Space> Space for Endless<'a, S> {
         self.space.point(state, cost)
     }
 
-    // Where both have one bound, ranks are compared by costs in the space itself too. That is looked
-    // up last, since most labels of a front aren't superseded.
     fn supersedes(&self, a: &S::State, ca: u128, b: &S::State, cb: u128) -> bool {
-        self.space.supersedes(a, ca, b, cb) && are_one(self.space.low(a), self.space.low(b))
+        self.space.supersedes(a, ca, b, cb)
     }
 
-    fn low(&self, _state: &S::State) -> Option<u128> {
-        Some(0)
+    fn bounds(&self, _alloc: Global) -> Result<(), AllocError> {
+        Ok(())
+    }
+
+    fn low(&self, _bounds: &mut (), _state: &S::State) -> Result<Option<u128>, AllocError> {
+        Ok(Some(0))
     }
 }

@@ -119,7 +119,7 @@ impl Reach {
             (task_of (G.terrain space.now.terrain) space.now.kept) self.old).limit
             (settled_of self.old) (settled_of self.new)) }
     {
-        let turn = self.search.turn(&Endless::new(space), 1);
+        let turn = self.search.turn(&Endless::new(space), &mut (), 1);
         match turn? {
             Turn::More(_) => self.note(space, map),
             Turn::Done(end) => ended(end),

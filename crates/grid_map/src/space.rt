@@ -9,6 +9,7 @@ ghost use Rattle.grid_map.specs.Space.{grid_rules, step_forward, step_backward};
 
 use crate::grid::Grid;
 use space_search::{Point, Space};
+use std::alloc::{AllocError, Global};
 
 /// The cells of a grid, each a state with a cell and a slot of its own, and a step to each neighbour
 /// that a segment joins.
@@ -99,6 +100,10 @@ impl<'a> Space for GridSpace<'a> {
 
     type State = u32;
 
+    type Bounds = ();
+
+    ghost AreBounds = { λ _ _. Unit {0} };
+
     ghost rules = { rules_of };
 
     ghost keeps_laws = { λ space. space.keeps };
@@ -145,7 +150,11 @@ impl<'a> Space for GridSpace<'a> {
         Point { x: 0, y: 0, z: 0 }
     }
 
-    fn low(&self, _state: &u32) -> Option<u128> {
-        Some(0)
+    fn bounds(&self, _alloc: Global) -> Result<(), AllocError> {
+        Ok(())
+    }
+
+    fn low(&self, _bounds: &mut (), _state: &u32) -> Result<Option<u128>, AllocError> {
+        Ok(Some(0))
     }
 }

@@ -10,13 +10,14 @@ ghost use Rattle.route_certificate.specs.Entries.{AreBounded, IsBounded, labels_
 use crate::entries::carry;
 use crate::index::{Index, index_of, is_covered};
 use crate::verdict::Why;
+use bike_space::TellsRests;
 use certificate_text::Entry;
 use cost_model::Carry;
-use space_search::Space;
+
 use std::alloc::{AllocError, Global};
 
 /// The first part of a closed list that fails, if any does: starts, steps, goals.
-pub(crate) fn first_flaw<S: Space<State = Carry>>(
+pub(crate) fn first_flaw<S: TellsRests<State = Carry>>(
     alloc: Global,
     space: &S,
     entries: &[Entry],
@@ -39,7 +40,7 @@ pub(crate) fn first_flaw<S: Space<State = Carry>>(
 }
 
 /// Whether a label covers a state at a cost, or it ranks at least so much.
-fn is_covered_or_dear<S: Space<State = Carry>>(
+fn is_covered_or_dear<S: TellsRests<State = Carry>>(
     space: &S,
     entries: &[Entry],
     index: &Index,
@@ -59,19 +60,19 @@ fn is_covered_or_dear<S: Space<State = Carry>>(
 
 /// Whether a state at a cost ranks at least so much: with what still has to be paid, or where no
 /// goal is reached from it.
-fn is_dear<S: Space<State = Carry>>(space: &S, least: u128, state: &Carry, cost: u128) -> bool
+fn is_dear<S: TellsRests<State = Carry>>(space: &S, least: u128, state: &Carry, cost: u128) -> bool
     requires valid { IsTrue ((S.rules space.now).is_valid state.now) }
     requires small { cost < LOW_BOUND }
     ensures exact { IsTrue result ↔ IsDear (S.rules space.now) least state.now cost }
 {
-    match space.low(state) {
+    match space.rest(state) {
         Some(rest) => cost + rest >= least,
         None => true,
     }
 }
 
 /// Whether what each start gives is covered or dear.
-fn closes_starts<S: Space<State = Carry>>(
+fn closes_starts<S: TellsRests<State = Carry>>(
     space: &S,
     entries: &[Entry],
     index: &Index,
@@ -92,7 +93,7 @@ fn closes_starts<S: Space<State = Carry>>(
 }
 
 /// Whether what each step of each label gives is covered or dear.
-fn closes_steps<S: Space<State = Carry>>(
+fn closes_steps<S: TellsRests<State = Carry>>(
     space: &S,
     entries: &[Entry],
     index: &Index,
@@ -111,7 +112,7 @@ fn closes_steps<S: Space<State = Carry>>(
 }
 
 /// Whether what each step of a label gives is covered or dear.
-fn closes_steps_of<S: Space<State = Carry>>(
+fn closes_steps_of<S: TellsRests<State = Carry>>(
     space: &S,
     entries: &[Entry],
     index: &Index,
@@ -135,7 +136,7 @@ fn closes_steps_of<S: Space<State = Carry>>(
 }
 
 /// Whether each label that is a goal is dear.
-fn closes_goals<S: Space<State = Carry>>(space: &S, entries: &[Entry], least: u128) -> bool
+fn closes_goals<S: TellsRests<State = Carry>>(space: &S, entries: &[Entry], least: u128) -> bool
     requires bounded { AreBounded (S.rules space.now) entries.now }
     ensures exact { IsTrue result ↔ ClosesGoals (S.rules space.now) least entries.now }
 {
@@ -148,7 +149,7 @@ fn closes_goals<S: Space<State = Carry>>(space: &S, entries: &[Entry], least: u1
 }
 
 /// Whether a label is no goal, or costs at least so much.
-fn is_no_cheap_goal<S: Space<State = Carry>>(space: &S, entry: &Entry, least: u128) -> bool
+fn is_no_cheap_goal<S: TellsRests<State = Carry>>(space: &S, entry: &Entry, least: u128) -> bool
     requires one { IsBounded (S.rules space.now) entry.now }
     ensures exact { IsTrue result ↔ IsNoCheapGoal (S.rules space.now) least entry.now }
 {

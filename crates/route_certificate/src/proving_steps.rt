@@ -108,7 +108,7 @@ fn settle_on<G: TerrainOf>(
     let mut search = search;
     let before = search.labels();
     let space = kept.wake(terrain);
-    let turn = search.turn(&space, quota)?;
+    let turn = search.turn(&space, &mut (), quota)?;
     let settled = (search.labels() - before) as u64;
     match turn {
         Turn::More(_) => {

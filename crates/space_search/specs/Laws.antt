@@ -102,6 +102,13 @@ Supersedes {S} rules a ca b cb =
     HasRank rules a ca low → HasRank rules state cost high → low ≤ high →
     IsTrue (rules.covers b cb state cost) → IsTrue (rules.covers a ca state cost)
 
+-- the same by costs: what the second state covers at its cost, of the valid states that cost no less than the first,
+-- the first covers at its own
+abbrev pub SupersedesByCost : {S : Type 0} → Rules S → S → ℕ → S → ℕ → Type 0
+SupersedesByCost {S} rules a ca b cb =
+    (state : S) (cost : ℕ) → IsTrue (rules.is_valid state) → ca ≤ cost → IsTrue (rules.covers b cb state cost) →
+    IsTrue (rules.covers a ca state cost)
+
 -- a lower bound that covered states share, and that is none behind every step of a state where it is none
 pub record HasEvenBound {S : Type 0} (rules : Rules S) : Type 0 where
   pub alike :

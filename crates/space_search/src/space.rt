@@ -4,7 +4,7 @@ ghost use Rattle.std.specs.Prelude.{◌≡◌, ◌<◌, IfOk, IsTrue, OnOk};
 ghost use Rattle.space_search.specs.Known.{AreKnown, LeavesKnown};
 ghost use Rattle.space_search.specs.Listed.{steps_of};
 ghost use Rattle.space_search.specs.Rules.{Rules, LOW_BOUND};
-ghost use Rattle.space_search.specs.Laws.{IsSpace, Supersedes};
+ghost use Rattle.space_search.specs.Laws.{IsSpace, Supersedes, SupersedesByCost};
 
 use crate::known::Known;
 use crate::point::Point;
@@ -114,14 +114,16 @@ pub trait Space {
         ensures value { result ≡ (rules self.now).point state.now cost };
 
     /// Whether a settled label makes an older one needless in the covering test: for all that comes
-    /// and ranks no less than the first, the first covers what the second covers. A space may
-    /// always say no; one that says no of a label and itself isn't asked of others.
+    /// and ranks no less than the first, the first covers what the second covers; and so for all
+    /// that costs no less than it. A space may always say no; one that says no of a label and itself
+    /// isn't asked of others.
     fn supersedes(&self, a: &Self::State, ca: u128, b: &Self::State, cb: u128) -> bool
         requires valid_a { IsTrue ((rules self.now).is_valid a.now) }
         requires valid_b { IsTrue ((rules self.now).is_valid b.now) }
         requires small_a { ca < LOW_BOUND }
         requires small_b { cb < LOW_BOUND }
         ensures sound { IsTrue result → Supersedes (rules self.now) a.now ca b.now cb }
+        ensures by_cost { IsTrue result → SupersedesByCost (rules self.now) a.now ca b.now cb }
     {
         false
     }

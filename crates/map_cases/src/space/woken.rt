@@ -25,7 +25,7 @@ pub(crate) fn least_walk_woken<G: TerrainOf>(
     let mut space = space;
     let mut search: Search<Carry> = Search::new(alloc, limit);
     'search: loop {
-        match search.turn(&space, QUOTA)? {
+        match search.turn(&space, &mut (), QUOTA)? {
             Turn::More(_) => {}
             Turn::Done(end) => {
                 let outcome = search.outcome(alloc, end)?;

@@ -33,9 +33,10 @@ pub(crate) fn settle<S: Space>(
         EndsSearch (S.rules space.now) after ended.last) }
 {
     let limit = limit as u64;
+    let mut bounds = space.bounds(alloc)?;
     let mut search: Search<S::State> = Search::new(alloc, limit);
     'search: loop {
-        match search.turn(space, quota)? {
+        match search.turn(space, &mut bounds, quota)? {
             Turn::More(_) => {}
             Turn::Done(last) => return Ok(end_of(&search, last)),
         }

@@ -79,6 +79,10 @@ impl Space for Strip {
 
     type State = (u32, u32);
 
+    type Bounds = ();
+
+    ghost AreBounds = { λ _ _. Unit {0} };
+
     ghost rules = { λ s. strip_rules s.cells s.width s.starts s.steps };
 
     ghost keeps_laws = { λ s. strip-keeps_laws s.cells s.width s.starts s.steps
@@ -129,7 +133,11 @@ impl Space for Strip {
         self.superseding && a.0 == b.0 && a.1 <= b.1
     }
 
-    fn low(&self, _state: &(u32, u32)) -> Option<u128> {
-        Some(0)
+    fn bounds(&self, _alloc: Global) -> Result<(), AllocError> {
+        Ok(())
+    }
+
+    fn low(&self, _bounds: &mut (), _state: &(u32, u32)) -> Result<Option<u128>, AllocError> {
+        Ok(Some(0))
     }
 }

@@ -4,7 +4,7 @@ use Rattle.least_sums.specs.Sums.{AreLeastSumsUpTo}
 use Rattle.overpass_graph.specs.Maps.{IsMap, roads_of}
 use Rattle.bike_space.specs.Remaining.{priced_by}
 use Rattle.bike_space.proofs.OpenLemmas.{opened-wakes}
-use Rattle.bike_space.proofs.PlainLemmas.{unmarked}
+use Rattle.bike_space.proofs.PlainLemmas.{sums-none, unmarked}
 use Rattle.std.proofs.lemmas.Result.{IfOk-from_err}
 use Rattle.bike_space.proofs.plain.rested.Goals as goal
 
@@ -28,6 +28,16 @@ returns-clause-wakes g c =
       small = c.in_ok-low.ensures.small;
     })
 
+pub returns-clause-none : goal.returns-clause-none
+returns-clause-none g c link within =
+    let terrain = g.G.TerrainOf.terrain c.args.terrain.now in
+    let prices = (priced_by terrain c.in_ok-cut.cut.items c.new-used.result.items).price in
+    let is_map = subst IsMap c.map-map.ensures.value c.links-links.ensures.lawful in
+    sums-none (roads_of terrain.map) prices c.args.target c.in_ok-low.low c.in_ok-low.ensures.radius
+    (subst (λ m. AreLeastSumsUpTo (roads_of m) prices c.args.target c.in_ok-low.low) c.map-map.ensures.value
+    (c.in_ok-low.ensures.exact prices c.args.target))
+    _ (is_map.roads.to_in link within)
+
 pub returns-in_err-low : goal.returns-in_err-low
 returns-in_err-low g c =
     let no = c.from_residual.ensures.0 in
@@ -36,6 +46,7 @@ returns-in_err-low g c =
       unused = IfOk-from_err _ _ no;
       wakes = IfOk-from_err _ _ no;
       radius = IfOk-from_err _ _ no;
+      none = IfOk-from_err _ _ no;
     }
 
 pub returns-in_err-cut : goal.returns-in_err-cut
@@ -46,4 +57,5 @@ returns-in_err-cut g c =
       unused = IfOk-from_err _ _ no;
       wakes = IfOk-from_err _ _ no;
       radius = IfOk-from_err _ _ no;
+      none = IfOk-from_err _ _ no;
     }

@@ -13,5 +13,5 @@ plain-requires g c = record {
 pub returns-clause-rests : goal.returns-clause-rests
 returns-clause-rests g c =
     let terrain = g.G.TerrainOf.terrain c.args.terrain in
-    both-ok (λ space wakes radius. none-behind (task_of terrain space.kept) wakes.lawful radius) c.plain.result
-    c.plain.ensures.wakes c.plain.ensures.radius
+    both-ok (λ space wakes blind. none-behind (task_of terrain space.kept) wakes.lawful blind) c.plain.result
+    c.plain.ensures.wakes c.plain.ensures.blind

@@ -1,7 +1,8 @@
 use Rattle.std.proofs.Common.{ap, ◌∙◌}
 use Rattle.std.proofs.lemmas.Result.{IfOk-from_err}
 use Rattle.bike_space.specs.declared.rested.Rested.{Rested}
-use Rattle.bike_space.proofs.PlainLemmas.{radius-blind}
+use Rattle.bike_space.specs.Kept.{task_of}
+use Rattle.bike_space.proofs.PlainLemmas.{none-blind}
 use Rattle.bike_space.proofs.space.BikeSpace.plain.Goals as goal
 
 pub returns-clause-radius : goal.returns-clause-radius
@@ -10,8 +11,9 @@ returns-clause-radius g c =
 
 pub returns-clause-blind : goal.returns-clause-blind
 returns-clause-blind g c =
-    radius-blind _ c.wake.ensures.wakes.lawful
-    (ap (λ (kept : Rested). kept.low.radius) c.wake.ensures.kept ∙ c.in_ok-kept.ensures.radius)
+    let terrain = g.G.TerrainOf.terrain c.args.terrain in
+    none-blind _
+    (λ link within. ap (λ (kept : Rested). (task_of terrain kept).low link) c.wake.ensures.kept ∙ c.in_ok-kept.ensures.none link within)
 
 pub returns-in_err-kept : goal.returns-in_err-kept
 returns-in_err-kept g c =

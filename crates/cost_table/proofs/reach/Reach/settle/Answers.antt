@@ -2,7 +2,6 @@ use Rattle.std.proofs.Common.{◌+◌, length, subst}
 use Rattle.std.proofs.lemmas.Result.{IfOk-weaker}
 use Rattle.bike_space.specs.Kept.{task_of}
 use Rattle.bike_space.specs.Tasks.{rules_of}
-use Rattle.bike_space.proofs.CallerLemmas.{even-bound}
 use Rattle.item_list.specs.Turns.{Says, Settles}
 use Rattle.space_search.specs.Searches.{IsSearchOf}
 use Rattle.space_search.specs.Turns.{EndsSearch, GoesOn, IsClosedSoFar}
@@ -12,11 +11,6 @@ use Rattle.cost_table.specs.Reaches.{EndsBy, StepsTo, quest_of}
 use Rattle.cost_table.specs.declared.reach.Reach.{Reach}
 use Rattle.cost_table.proofs.StepLemmas.{ended-steps, searched-more, searched-stays}
 use Rattle.cost_table.proofs.reach.Reach.settle.Goals as goal
-
-pub new-requires : goal.new-requires
-new-requires g c =
-    let space = c.args.space.now in
-    record { even = even-bound (task_of (g.G.TerrainOf.terrain space.terrain) space.kept) space.wakes.lawful }
 
 pub returns-in_err-turn-clause-stays : goal.returns-in_err-turn-clause-stays
 returns-in_err-turn-clause-stays g c =
