@@ -10,7 +10,7 @@ use Rattle.bike_space.specs.Lawful.{IsTask}
 use Rattle.bike_space.specs.Remaining.{priced_by}
 use Rattle.bike_space.specs.declared.rested.Rested.{Rested}
 use Rattle.bike_space.proofs.LawLemmas.{keeps-laws}
-use Rattle.bike_space.proofs.SumBoundLemmas.{IsBySums, sums-bound, sums-whole}
+use Rattle.bike_space.proofs.SumBoundLemmas.{IsBySums, sums-bound, sums-known, sums-whole}
 
 -- what a space is opened with
 pub record OpenedWith (terrain : Terrain) (kept : Rested) : Type 0 where
@@ -55,5 +55,6 @@ opened-wakes terrain kept is =
     record {
       sums = is.sums.counted;
       lawful = lawful;
+      known = sums-known (task_of terrain kept) (sum_of kept.low.sums) (by-sums terrain kept is);
       keeps = keeps-laws (task_of terrain kept) lawful;
     }

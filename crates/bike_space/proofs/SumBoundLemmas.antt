@@ -28,9 +28,9 @@ pub record IsBySums (task : Task) (sum : ℕ → Option ℕ) : Type 0 where
 
 module _ (task : Task) (sum : ℕ → Option ℕ) (by : IsBySums task sum) where
   -- what still has to be paid behind a link
-  low-behind : (link : ℕ) → link < task.leg.ride.roads.links →
+  pub sums-known : (link : ℕ) → link < task.leg.ride.roads.links →
       IsRemainingUpTo task.leg task.used task.radius (task.leg.ride.roads.to link) (task.low link)
-  low-behind link within =
+  sums-known link within =
       subst (IsRemainingUpTo task.leg task.used task.radius (task.leg.ride.roads.to link)) (sym (by.low link))
       (by.sums _ (by.roads.to_in link within))
 
@@ -75,7 +75,7 @@ module _ (task : Task) (sum : ℕ → Option ℕ) (by : IsBySums task sum) where
       IsRemainingUpTo task.leg task.used task.radius (task.leg.ride.roads.from link) low
   rest-before last link low on is =
       subst (λ n. IsRemainingUpTo task.leg task.used task.radius n low) (sym on.leaves)
-      (subst (IsRemainingUpTo task.leg task.used task.radius (task.leg.ride.roads.to last)) is (low-behind last on.last_in))
+      (subst (IsRemainingUpTo task.leg task.used task.radius (task.leg.ride.roads.to last)) is (sums-known last on.last_in))
 
   -- a link that follows is open
   open-next : (last link : ℕ) → MayGoOn task.leg last link → IsTrue (task.leg.ride.is_open link)
@@ -86,18 +86,18 @@ module _ (task : Task) (sum : ℕ → Option ℕ) (by : IsBySums task sum) where
   sums-bound = record {
     small = λ link low within is. by.small _ low (by.roads.to_in link within) (sym (by.low link) ∙ is);
     target = λ link within at.
-        rest-target _ (subst (λ n. IsRemainingUpTo task.leg task.used task.radius n (task.low link)) at (low-behind link within));
+        rest-target _ (subst (λ n. IsRemainingUpTo task.leg task.used task.radius n (task.low link)) at (sums-known link within));
     falls = λ last link before after pair on held first second.
         let here = rest-before last link (Some before) on first in
         let there : IsRemainingUpTo task.leg task.used task.radius (task.leg.ride.roads.to link) (Some after) =
-        subst (IsRemainingUpTo task.leg task.used task.radius (task.leg.ride.roads.to link)) second (low-behind link on.link_in) in
+        subst (IsRemainingUpTo task.leg task.used task.radius (task.leg.ride.roads.to link)) second (sums-known link on.link_in) in
         let falls = rest-step link before after on.link_in (open-next last link on) here there in
         let dear =
         least_price-least task.leg.ride.prices (task.used link) (Some (task.leg.ride.facts last)) (task.leg.ride.facts link) pair
         by.prices (by.facts link on.link_in) held in
         omega (arith, falls, dear);
     stays = λ last link on none.
-        rest-only (task.leg.ride.roads.to link) _ (low-behind link on.link_in)
+        rest-only (task.leg.ride.roads.to link) _ (sums-known link on.link_in)
         (rest-none link on.link_in (open-next last link on) (rest-before last link None on none));
   }
 
@@ -105,4 +105,4 @@ module _ (task : Task) (sum : ℕ → Option ℕ) (by : IsBySums task sum) where
   pub sums-whole : task.radius ≡ None → (link : ℕ) → link < task.leg.ride.roads.links →
       IsRemainingUpTo task.leg task.used None (task.leg.ride.roads.to link) (task.low link)
   sums-whole all link within =
-      subst (λ r. IsRemainingUpTo task.leg task.used r (task.leg.ride.roads.to link) (task.low link)) all (low-behind link within)
+      subst (λ r. IsRemainingUpTo task.leg task.used r (task.leg.ride.roads.to link) (task.low link)) all (sums-known link within)

@@ -1,10 +1,11 @@
 -- What a space of a leg keeps while it rests, and when it may be woken (this project's own rule).
-use Rattle.std.specs.Prelude.{◌≡◌, length}
+use Rattle.std.specs.Prelude.{◌≡◌, ℕ, ◌<◌, length}
 use Rattle.cost_model.specs.Rides.{Leg, Setting, Terrain, leg_between}
 use Rattle.least_sums.specs.Sums.{sum_of}
 use Rattle.overpass_graph.specs.Maps.{roads_of}
 use Rattle.space_search.specs.Laws.{IsSpace}
 use Rattle.bike_space.specs.Marks.{is_marked}
+use Rattle.bike_space.specs.Remaining.{IsRemainingUpTo}
 use Rattle.bike_space.specs.Tasks.{Task, rules_of}
 use Rattle.bike_space.specs.Lawful.{IsTask}
 use Rattle.bike_space.specs.declared.ask.LegAsk.{LegAsk}
@@ -28,9 +29,16 @@ task_of terrain kept = record {
   radius = kept.low.radius;
 }
 
--- what is kept fits a terrain: there is a sum for each node, and the search is lawful and keeps the laws of a
--- space
+-- what still has to be paid is known behind each link, up to the radius of the search where it has one
+abbrev pub AreKnownBehind : Task → Type 0
+AreKnownBehind task =
+    (link : ℕ) → link < task.leg.ride.roads.links →
+    IsRemainingUpTo task.leg task.used task.radius (task.leg.ride.roads.to link) (task.low link)
+
+-- what is kept fits a terrain: there is a sum for each node, and the search is lawful, knows what still has to be
+-- paid, and keeps the laws of a space
 pub record Wakes (terrain : Terrain) (kept : Rested) : Type 0 where
   pub sums : length kept.low.sums ≡ length terrain.map.nodes
   pub lawful : IsTask (task_of terrain kept)
+  pub known : AreKnownBehind (task_of terrain kept)
   pub keeps : IsSpace (rules_of (task_of terrain kept))

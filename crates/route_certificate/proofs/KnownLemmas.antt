@@ -4,7 +4,7 @@ use Rattle.std.proofs.Math.Logic.{∥∥₁_elim}
 use Rattle.std.proofs.Props.{props}
 use Rattle.std.proofs.lemmas.Bool.{cases_lt}
 use Rattle.bike_space.specs.Closed.{IsDear}
-use Rattle.bike_space.specs.Lawful.{IsTask}
+use Rattle.bike_space.specs.Kept.{AreKnownBehind}
 use Rattle.bike_space.specs.Remaining.{IsRemainingUpTo, rest_price}
 use Rattle.bike_space.specs.Tasks.{Task}
 use Rattle.certificate_text.specs.declared.certificate.LowerBound.{LowerBound}
@@ -61,7 +61,7 @@ module _ (leg : Leg) (least : ℕ) (low other : ℕ → Option ℕ) (state : Car
         let known : IsRemainingUpTo leg unused q.radius node (Some rest) =
         subst (IsRemainingUpTo leg unused q.radius node) is (q.each state.link within) in
         ∥∥₁_elim (p.each state.link within) (hlevel props) (λ h. ∥∥₁_elim known (hlevel props)
-        (λ k. known-dear leg.ride.roads (rest_price leg unused) leg.target node p.radius q.radius (low node) rest h k least cost
+        (λ k. known-dear leg.ride.roads (rest_price leg unused) leg.target node p.radius q.radius (low state.link) rest h k least cost
         q.far dear.ranks));
   }
 
@@ -83,15 +83,14 @@ pub rests-below : (bound : LowerBound) (leg : Leg) (below : ℕ) (low : ℕ → 
 rests-below Zero leg below low are = are
 rests-below Least leg below low are = record { radius = None; far = λ most never. absurd (cc); each = are }
 
--- a lawful search in which no segment is used knows it up to its radius
-pub known-behind : (task : Task) → IsTask task → ((link : ℕ) → task.used link ≡ false) → (below : ℕ) →
+-- a search in which no segment is used, and which knows it up to its radius, knows it so
+pub known-behind : (task : Task) → AreKnownBehind task → ((link : ℕ) → task.used link ≡ false) → (below : ℕ) →
     ((most : ℕ) → task.radius ≡ Some most → below ≤ most) → AreKnownBelow task.leg below task.low
-known-behind task lawful none below far = record {
+known-behind task known none below far = record {
   radius = task.radius;
   far = far;
   each = λ link within.
-      let node = task.leg.ride.roads.to link in
       let same : task.used ≡ unused = λ i other. none other i in
-      subst (λ (u : ℕ → Bool). IsRemainingUpTo task.leg u task.radius node (task.low node)) same
-      (lawful.low node (lawful.roads.to_in link within));
+      subst (λ (u : ℕ → Bool). IsRemainingUpTo task.leg u task.radius (task.leg.ride.roads.to link) (task.low link)) same
+      (known link within);
 }

@@ -31,17 +31,17 @@ leg_rules leg low = rules_of (leg_task leg low)
 -- reached from there
 abbrev pub AreRests : LowerBound → Leg → (ℕ → Option ℕ) → Type 0
 AreRests Zero leg low =
-    (link : ℕ) → link < leg.ride.roads.links → low (leg.ride.roads.to link) ≡ Some 0
+    (link : ℕ) → link < leg.ride.roads.links → low link ≡ Some 0
 AreRests Least leg low =
     (link : ℕ) → link < leg.ride.roads.links →
-    IsRemaining leg unused (leg.ride.roads.to link) (low (leg.ride.roads.to link))
+    IsRemaining leg unused (leg.ride.roads.to link) (low link)
 
 -- what still has to be paid behind each link of the map, up to a radius that is no less than a cost, or without one
 pub record AreKnownBelow (leg : Leg) (below : ℕ) (low : ℕ → Option ℕ) : Type 0 where
   pub radius : Option ℕ
   pub far : (most : ℕ) → radius ≡ Some most → below ≤ most
   pub each : (link : ℕ) → link < leg.ride.roads.links →
-      IsRemainingUpTo leg unused radius (leg.ride.roads.to link) (low (leg.ride.roads.to link))
+      IsRemainingUpTo leg unused radius (leg.ride.roads.to link) (low link)
 
 -- the lower bound behind each link as far as a cost: what ranks below it by one such bound does so by each
 abbrev pub AreRestsBelow : LowerBound → Leg → (below : ℕ) → (ℕ → Option ℕ) → Type 0

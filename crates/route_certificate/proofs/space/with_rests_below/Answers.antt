@@ -19,7 +19,7 @@ returns-then-is_far-clause-rests g c =
     let none : (link : ℕ) → task.used link ≡ false = λ link.
     ap (λ (u : ℕ → Bool). u link) c.in_ok-space.ensures.used
     ∙ ap (λ (m : List Bool). is_marked m link) c.leg_ask.ensures.unused in
-    known-behind task c.in_ok-space.ensures.wakes.lawful none c.args.cost
+    known-behind task c.in_ok-space.ensures.wakes.known none c.args.cost
     (λ most at. c.is_far.ensures.exact.0 c.if-is_far.true most (c.radius.ensures.value ∙ at))
 
 pub returns-else-is_far-clause-unused : goal.returns-else-is_far-clause-unused
@@ -36,7 +36,7 @@ returns-else-is_far-clause-rests g c =
     let same = ap g.G.TerrainOf.terrain c.in_ok-space.ensures.terrain in
     three-ok
     (λ space wakes used whole.
-    known-behind (task_of terrain space.kept) (subst (λ (t : Terrain). Wakes t space.kept) same wakes).lawful
+    known-behind (task_of terrain space.kept) (subst (λ (t : Terrain). Wakes t space.kept) same wakes).known
     (λ link.
     ap (λ (u : ℕ → Bool). u link) used ∙ ap (λ (u : ℕ → Bool). u link) c.in_ok-space.ensures.used
     ∙ ap (λ (m : List Bool). is_marked m link) c.leg_ask.ensures.unused)
