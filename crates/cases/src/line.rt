@@ -4,6 +4,7 @@ ghost use Rattle.std.specs.Prelude.{◌≡◌, ◌<◌, ◌^◌};
 ghost use Rattle.cases.specs.Line.{neighbour};
 
 use space_search::{Point, Space};
+use std::alloc::{AllocError, Global};
 use std::cell::Cell;
 
 /// Cells one behind the other, each with so many steps: 0 leads a cell ahead, any other a cell

@@ -1,6 +1,7 @@
 //! A space that is searched: a state is a place and what is due at its next step.
 
 use space_search::{Point, Space};
+use std::alloc::{AllocError, Global};
 
 /// Three steps lead from the place 0 to the place 1, and leave more or less due there; one leads on
 /// to the goal 2. With a bound the space says what is still to pay at the place 1.

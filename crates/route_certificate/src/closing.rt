@@ -13,7 +13,6 @@ use crate::verdict::Why;
 use bike_space::TellsRests;
 use certificate_text::Entry;
 use cost_model::Carry;
-
 use std::alloc::{AllocError, Global};
 
 /// The first part of a closed list that fails, if any does: starts, steps, goals.

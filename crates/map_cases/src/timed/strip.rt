@@ -4,6 +4,7 @@ ghost use Rattle.std.specs.Prelude.{◌≡◌, ◌<◌, ◌≤◌, ◌^◌};
 ghost use Rattle.map_cases.specs.Strip.{ahead, back, neighbour};
 
 use space_search::{Point, Space};
+use std::alloc::{AllocError, Global};
 
 /// Cells in rows of one width, one row behind the other. So many starts lie in the first cell, each
 /// with more due and at less cost than the one before, and each cell has so many steps: 0 goes a

@@ -12,7 +12,7 @@ returns-clause-radius g c =
 pub returns-clause-blind : goal.returns-clause-blind
 returns-clause-blind g c =
     let terrain = g.G.TerrainOf.terrain c.args.terrain in
-    none-blind _
+    none-blind (task_of terrain c.wake.result.kept)
     (λ link within. ap (λ (kept : Rested). (task_of terrain kept).low link) c.wake.ensures.kept ∙ c.in_ok-kept.ensures.none link within)
 
 pub returns-in_err-kept : goal.returns-in_err-kept
