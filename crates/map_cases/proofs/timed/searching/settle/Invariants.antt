@@ -1,4 +1,4 @@
--- The search is one over the space, and its limit stays.
+-- The search is one over the space with what is kept of its bounds, and its limit stays.
 use Rattle.std.proofs.Common.{◌≡◌, ◌-◌, length}
 use Rattle.space_search.specs.Searches.{IsSearchOf}
 use Rattle.space_search.specs.View.{view}
@@ -8,6 +8,7 @@ abbrev pub invariant-search : goal.invariant-search
 invariant-search g l =
     record {
       of : IsSearchOf (g.S.Space.rules l.space) l.search;
+      bounds : g.S.Space.AreBounds l.space l.bounds;
       limit : (view l.search).limit ≡ l.limit;
     }
 
