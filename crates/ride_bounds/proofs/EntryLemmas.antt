@@ -14,6 +14,7 @@ use Rattle.ride_bounds.specs.Entries.{least_entry, weight_of}
 
 -- the numbers on the way to the price of a turn
 pub record PriceFits (turncost cosine : ℤ) : Type 0 where
+  pub narrow : SFits w64 turncost
   pub cost : SFits w128 turncost
   pub rest : SFits w64 (pos 1000000 -ℤ cosine)
   pub wide : SFits w128 (pos 1000000 -ℤ cosine)
@@ -34,6 +35,7 @@ price-fits turncost cosine is low high =
       mul-le (unsigned_abs turncost) (unsigned_abs (pos 1000000 -ℤ cosine)) 1000000000000000 2000000 cost rest,
     ) in
     record {
+      narrow = fits_signed_from_abs w64 _ (omega (arith, ints));
       cost = fits_signed_from_abs w128 _ (omega (arith, ints));
       rest = fits_signed_from_abs w64 _ (omega (arith, ints));
       wide = fits_signed_from_abs w128 _ (omega (arith, ints));

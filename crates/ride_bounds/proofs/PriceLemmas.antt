@@ -49,7 +49,7 @@ module _ (roads : Roads) (facts : ℕ → LinkFacts) (order : Order) (turns : Li
     }
 
     -- the next turn is one of the map
-    turn-there : IsTurn roads order turn.from turn.to
+    pub turn-there : IsTurn roads order turn.from turn.to
     turn-there =
         are_turns.only turn.from turn.to turn.price
         (record {

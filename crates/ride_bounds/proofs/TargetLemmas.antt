@@ -20,7 +20,7 @@ unfolding places_below
 places-miss key v n other = rw (ne_eqb (key n) v other) refl
 
 -- below 0 there is none
-places-none : (key : ℕ → ℕ) (v : ℕ) → places_below key v 0 ≡ []
+pub places-none : (key : ℕ → ℕ) (v : ℕ) → places_below key v 0 ≡ []
 unfolding places_below
 places-none key v = refl
 

@@ -57,10 +57,11 @@ impl LegBound {
         ensures room { HasRoom hierarchy.now.topology self.new.found }
 
         // What is told then is a lower bound.
-        ensures lawful { OnOk result
-            (IsLinkBound (roads_of map.now) (F.links _facts.now).facts target
-            (bound_of hierarchy.now weights.now (roads_of map.now) target)) }
+        ensures lawful { IsLinkBound (roads_of map.now) (F.links _facts.now).facts target
+            (bound_of hierarchy.now weights.now (roads_of map.now) target) }
     {
+        let _nodes = hierarchy.topology.nodes();
+        let _places = hierarchy.order.len();
         let targets = targets(alloc, map, &hierarchy.order, target)?;
         self.found
             .retarget(alloc, &hierarchy.topology, weights, targets.as_slice())
