@@ -114,8 +114,7 @@ module _ (roads : Roads) (order : Order) (target : ℕ) where
       arrives = λ less.
           elim one [
             | inl same ↦
-                let there = was.arrives (omega (arith, less, same)) in
-                (
+                let there = was.arrives (omega (arith, less, same)) in (
                   omega (arith, there.0, same),
                   omega (arith, there.1, same),
                   ap (λ n. roads.to (link_at order n)) same ∙ there.2,
@@ -125,8 +124,7 @@ module _ (roads : Roads) (order : Order) (target : ℕ) where
                 let twin_in = back-in k inside in
                 let place_in = is_order.place_in (twin_of (get_or (out_links roads target) k 0)) twin_in in
                 let link_is : link_at order new ≡ twin_of (get_or (out_links roads target) k 0) =
-                ap (link_at order) (here.0 ∙ place_is) ∙ is_order.link_is (twin_of (get_or (out_links roads target) k 0)) twin_in in
-                (
+                ap (link_at order) (here.0 ∙ place_is) ∙ is_order.link_is (twin_of (get_or (out_links roads target) k 0)) twin_in in (
                   omega (arith, here.0, here.1),
                   omega (arith, here.0, place_is, place_in, counted),
                   ap roads.to link_is ∙ is_roads.twin_to (get_or (out_links roads target) k 0) sound.0 ∙ sound.1,

@@ -13,6 +13,7 @@ mod pricing;
 mod ride_customization;
 mod taking;
 mod targets;
+mod whole;
 
 pub use entry::least_entry;
 pub use hierarchy::MapHierarchy;
@@ -20,3 +21,4 @@ pub use leg_bound::LegBound;
 pub use map_elimination::MapElimination;
 pub use order::LinkOrder;
 pub use ride_customization::RideCustomization;
+pub use whole::{map_hierarchy, ride_weights};

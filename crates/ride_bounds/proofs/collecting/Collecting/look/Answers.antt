@@ -19,8 +19,8 @@ returns-then-self-leaving c = record {
         (omega (
           arith,
           ap length (c.out_links-leaving.ensures.value
-          ∙ ap (out_links (roads_of c.args.map.now))
-          (ap (λ (l : Link). l.to) c.link-ends.ensures.value ∙ ap (λ n. (link_of c.args.map.now n).to) c.link-first.ensures.value)),
+              ∙ ap (out_links (roads_of c.args.map.now))
+              (ap (λ (l : Link). l.to) c.link-ends.ensures.value ∙ ap (λ n. (link_of c.args.map.now n).to) c.link-first.ensures.value)),
           c.if-self-leaving.true,
         ));
   };
