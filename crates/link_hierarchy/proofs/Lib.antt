@@ -18,3 +18,4 @@ pub mod CustomizingLemmas
 pub mod AheadLemmas
 pub mod RaiseLemmas
 pub mod WaitingLemmas
+pub mod LeastSumLemmas

@@ -1,8 +1,8 @@
 -- Numbers that are set and put back.
-use Rattle.std.proofs.Common.{◌≡◌, ◌≢◌, ℕ, ◌+◌, ◌<◌, ◌≤◌, inl, inr, List, [], ◌∷◌, ◌++◌, length, get_or, set, replicate, refl, sym, ap, ◌∙◌, subst, arith}
+use Rattle.std.proofs.Common.{◌≡◌, ◌≢◌, ℕ, ◌+◌, ◌<◌, ◌≤◌, inl, inr, List, [], ◌∷◌, ◌++◌, length, get_or, set, replicate, sym, ap, ◌∙◌, subst, arith}
 use Rattle.std.proofs.lemmas.Bool.{cases_eq, cases_lt}
 use Rattle.std.proofs.lemmas.List.{ext_get_or, get_or-replicate, get_or-set_same, get_or-set_other, get_or_append_left, get_or_push, length-replicate, length-set, length_push}
-use Rattle.link_hierarchy.specs.Numbers.{AreFirst, AreTouched, HoldsFrom, IsLeft}
+use Rattle.link_hierarchy.specs.Numbers.{AreFirst, AreTouched, IsLeft}
 use Rattle.link_hierarchy.specs.Walks.{Holds}
 use Rattle.link_hierarchy.proofs.MergeLemmas.{holds-last, holds-push}
 

@@ -8,3 +8,4 @@ pub mod Customizing
 pub mod Rows
 pub mod Eliminations
 pub mod Numbers
+pub mod LeastSums

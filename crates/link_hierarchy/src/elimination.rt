@@ -82,6 +82,33 @@ impl Elimination {
         self.node == self.rows.nodes
     }
 
+    /// The node that is eliminated now.
+    pub fn node(&self) -> u32
+        ensures value { result ≡ self.now.node }
+    {
+        self.node
+    }
+
+    /// How many tails stand above that node.
+    pub fn tails(&self, _arcs: &[Arc]) -> usize
+        requires on { IsElimination _arcs.now self.now }
+        requires more { self.now.node < self.now.rows.nodes }
+        ensures value { result ≡
+            length (row_at (numbers_of self.now.rows.ins.items) self.now.node) }
+    {
+        self.rows.ins[self.node as usize].len()
+    }
+
+    /// How many heads stand above it.
+    pub fn heads(&self, _arcs: &[Arc]) -> usize
+        requires on { IsElimination _arcs.now self.now }
+        requires more { self.now.node < self.now.rows.nodes }
+        ensures value { result ≡
+            length (row_at (numbers_of self.now.rows.outs.items) self.now.node) }
+    {
+        self.rows.outs[self.node as usize].len()
+    }
+
     /// One step: the row of one more tail or head above the node takes what stands above it; or
     /// the node is done.
     pub fn step(&mut self, alloc: Global, _arcs: &[Arc]) -> Result<(), AllocError>

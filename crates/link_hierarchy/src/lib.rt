@@ -19,6 +19,7 @@ mod whole;
 pub use arcs::Arc;
 pub use customize::{Customization, customized};
 pub use elimination::Elimination;
+pub use limits::FAR;
 pub use potentials::Potentials;
 pub use rows::Rows;
 pub use topology::Topology;

@@ -1,6 +1,6 @@
 //! The heads and the tails above each node, as rows that grow.
 
-ghost use Rattle.std.specs.Prelude.{◌≡◌, ◌+◌, ◌-◌, ◌<◌, ◌⊎◌, ℕ, IfOk, IsTrue, OnOk, length, get_or};
+ghost use Rattle.std.specs.Prelude.{◌≡◌, ◌+◌, ◌-◌, ◌<◌, ◌≤◌, ◌⊎◌, ℕ, IfOk, IsTrue, OnOk, length, get_or, true, false};
 ghost use Rattle.item_list.specs.Pages.{numbers_of};
 ghost use Rattle.link_hierarchy.specs.Arcs.{AreWithin};
 ghost use Rattle.link_hierarchy.specs.Rows.{AreLists, AreRows, Holds, IsHeld, Widens, row_at};
@@ -44,6 +44,15 @@ impl Rows {
             outs,
             ins,
         })
+    }
+
+    /// Whether all arcs were taken.
+    pub fn has_all(&self, arcs: &[Arc]) -> bool
+        requires within { self.now.taken ≤ length arcs.now }
+        ensures all { result ≡ true → self.now.taken ≡ length arcs.now }
+        ensures more { result ≡ false → self.now.taken < length arcs.now }
+    {
+        self.taken == arcs.len()
     }
 
     /// Takes the next arc. Arcs that come in ascending order, by the node that they leave and then

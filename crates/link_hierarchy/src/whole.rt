@@ -33,7 +33,7 @@ pub fn least_sum(
     let topology = topology_of(alloc, nodes, arcs)?;
     let weights = customized(alloc, &topology, arcs)?;
     let mut found = Potentials::new(alloc, &topology)?;
-    found.aim(alloc, &topology, &weights, targets)?;
+    found.retarget(alloc, &topology, &weights, targets)?;
     found.at(alloc, &topology, &weights, from)
 }
 

@@ -5,6 +5,7 @@
 #![tactic(auto)]
 
 mod answers;
+mod bounds;
 mod certificates;
 mod class;
 mod given;

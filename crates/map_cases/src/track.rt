@@ -1,6 +1,6 @@
 //! Cases on tracks.
 
-mod facts;
+pub(crate) mod facts;
 pub(crate) mod legs;
 
 ghost use Rattle.std.specs.Prelude.{◌≡◌, ◌<◌, IsTrue, length};

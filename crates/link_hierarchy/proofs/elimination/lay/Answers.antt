@@ -1,7 +1,5 @@
-use Rattle.std.proofs.Common.{◌≡◌, [], ◌∷◌, ◌++◌, length, sym, ◌∙◌, ap}
+use Rattle.std.proofs.Common.{[], ◌∷◌, ◌++◌, ◌∙◌, ap}
 use Rattle.std.proofs.lemmas.List.{length-set}
-use Rattle.item_list.specs.Pages.{numbers_of}
-use Rattle.link_hierarchy.specs.Rows.{row_at}
 use Rattle.link_hierarchy.proofs.RowLemmas.{put-other, put-same, row-read}
 use Rattle.link_hierarchy.proofs.elimination.lay.Goals as goal
 

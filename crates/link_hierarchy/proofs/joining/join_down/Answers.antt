@@ -1,4 +1,4 @@
-use Rattle.std.proofs.Common.{ℕ, sym, subst, arith}
+use Rattle.std.proofs.Common.{sym, subst, arith}
 use Rattle.link_hierarchy.specs.Limits.{Adds}
 use Rattle.link_hierarchy.specs.Topologies.{IsPair, back_of, head_of, into_of, out_of, up_of}
 use Rattle.link_hierarchy.proofs.TopologyLemmas.{place-in}

@@ -1,4 +1,4 @@
-use Rattle.std.proofs.Common.{sym, subst, arith}
+use Rattle.std.proofs.Common.{sym, arith}
 use Rattle.link_hierarchy.specs.Topologies.{IsPair, up_of}
 use Rattle.link_hierarchy.proofs.TopologyLemmas.{place-in}
 use Rattle.link_hierarchy.proofs.JoinLemmas.{stop-down}

@@ -1,5 +1,5 @@
 use Rattle.std.proofs.Common.{ℕ, ◌<◌, ◌≤◌, ◌-◌, length, get_or}
-use Rattle.link_hierarchy.specs.Rows.{Holds, IsFirstAbove}
+use Rattle.link_hierarchy.specs.Rows.{Holds}
 use Rattle.link_hierarchy.proofs.merge.holds_all.Given as goal
 
 abbrev pub invariant-nodes : goal.invariant-nodes

@@ -1,5 +1,4 @@
-use Rattle.std.proofs.Common.{ℕ, ◌≡◌, ◌<◌, List, [], ◌∷◌, ◌++◌, Vec, length, ◌∙◌, ap, sym, subst, refl, arith}
-use Rattle.std.specs.declared.alloc.Global.{Global}
+use Rattle.std.proofs.Common.{ℕ, ◌≡◌, ◌<◌, List, [], ◌∷◌, ◌++◌, length, ◌∙◌, ap, sym, subst, refl, arith}
 use Rattle.item_list.proofs.PageLemmas.{page-read}
 use Rattle.link_hierarchy.specs.Rows.{Holds, IsRow}
 use Rattle.link_hierarchy.proofs.MergeLemmas.{holds-last, holds-push, row-pushed}

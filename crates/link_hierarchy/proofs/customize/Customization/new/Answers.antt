@@ -1,4 +1,4 @@
-use Rattle.std.proofs.Common.{◌∙◌, replicate, ap, arith}
+use Rattle.std.proofs.Common.{◌∙◌, replicate, ap}
 use Rattle.link_hierarchy.specs.declared.limits.TheConstants.{NONE}
 use Rattle.link_hierarchy.proofs.CustomizingLemmas.{customization-begins}
 use Rattle.link_hierarchy.proofs.customize.Customization.new.Goals as goal

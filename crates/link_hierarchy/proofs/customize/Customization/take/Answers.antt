@@ -1,4 +1,4 @@
-use Rattle.std.proofs.Common.{get_or, subst, arith}
+use Rattle.std.proofs.Common.{get_or, subst}
 use Rattle.std.proofs.lemmas.List.{get_or_default}
 use Rattle.link_hierarchy.specs.Arcs.{arc_from}
 use Rattle.link_hierarchy.specs.Customizing.{LowersEdge}

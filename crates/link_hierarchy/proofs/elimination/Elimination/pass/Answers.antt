@@ -1,4 +1,4 @@
-use Rattle.std.proofs.Common.{◌+◌, sym, arith, subst}
+use Rattle.std.proofs.Common.{arith}
 use Rattle.item_list.specs.Pages.{numbers_of}
 use Rattle.link_hierarchy.proofs.EliminationLemmas.{laid-lists, numbers-counted, pass-fewer, passed}
 use Rattle.link_hierarchy.proofs.elimination.Elimination.pass.Goals as goal

@@ -1,4 +1,4 @@
-use Rattle.std.proofs.Common.{◌≡◌, ◌<◌, length, sym, subst, arith, List, ℕ}
+use Rattle.std.proofs.Common.{subst, arith, List, ℕ}
 use Rattle.item_list.specs.Pages.{numbers_of}
 use Rattle.link_hierarchy.specs.Rows.{IsItem, row_at}
 use Rattle.link_hierarchy.proofs.EliminationLemmas.{head-above, head-done, head-fewer, tail-above, tail-done, tail-fewer}

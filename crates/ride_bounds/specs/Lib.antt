@@ -1,0 +1,7 @@
+pub mod Orders
+pub mod Turns
+pub mod Entries
+pub mod Arcs
+pub mod Hierarchies
+pub mod Customizing
+pub mod Bounds
