@@ -1,11 +1,11 @@
 -- The turns of a map get the prices of a ride.
-use Rattle.std.proofs.Common.{◌≡◌, ◌≢◌, ℕ, ◌+◌, ◌<◌, ◌≤◌, inl, inr, Bool, true, false, List, [], ◌∷◌, ◌++◌, length, get_or, refl, sym, ap, ◌∙◌, subst, arith}
+use Rattle.std.proofs.Common.{◌≡◌, ℕ, ◌+◌, ◌<◌, inl, inr, true, false, List, [], ◌∷◌, ◌++◌, length, get_or, sym, ap, ◌∙◌, subst, arith}
 use Rattle.std.proofs.lemmas.Bool.{cases_eq}
 use Rattle.std.proofs.lemmas.List.{get_or_default}
 use Rattle.overpass_graph.specs.Roads.{Roads}
 use Rattle.cost_model.specs.OpenLinks.{is_passable}
 use Rattle.cost_model.specs.declared.facts.LinkFacts.{LinkFacts}
-use Rattle.link_hierarchy.specs.Arcs.{Covers, HasArc, arc_from, arcs_of}
+use Rattle.link_hierarchy.specs.Arcs.{Covers, arc_from}
 use Rattle.link_hierarchy.specs.declared.arcs.Arc.{Arc}
 use Rattle.link_hierarchy.specs.Topologies.{Topology}
 use Rattle.ride_bounds.specs.Arcs.{AreRideArcs, AreRideArcsTo, IsRideArc, turn_weight}

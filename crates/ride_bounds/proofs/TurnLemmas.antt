@@ -1,12 +1,12 @@
 -- The turns of a map are collected.
-use Rattle.std.proofs.Common.{◌≡◌, ◌≢◌, ℕ, ◌+◌, ◌<◌, ◌≤◌, inl, inr, List, [], ◌∷◌, ◌++◌, length, get_or, refl, sym, ap, ◌∙◌, subst, arith}
+use Rattle.std.proofs.Common.{◌≡◌, ◌≢◌, ℕ, ◌+◌, ◌<◌, ◌≤◌, inl, inr, List, [], ◌∷◌, ◌++◌, length, get_or, sym, ap, ◌∙◌, subst, arith}
 use Rattle.std.proofs.lemmas.Bool.{cases_eq}
 use Rattle.overpass_graph.specs.Roads.{Roads, out_links}
 use Rattle.overpass_graph.proofs.CallerLemmas.{out-sound, out-whole}
-use Rattle.link_hierarchy.specs.Arcs.{AreWithin, HasArc, arc_from}
+use Rattle.link_hierarchy.specs.Arcs.{AreWithin, arc_from}
 use Rattle.link_hierarchy.specs.declared.arcs.Arc.{Arc}
 use Rattle.ride_bounds.specs.Orders.{IsOrder, Order, link_at, place_of}
-use Rattle.ride_bounds.specs.Turns.{AreTurns, AreTurnsTo, IsTurn, StandsBefore}
+use Rattle.ride_bounds.specs.Turns.{AreTurns, AreTurnsTo, IsTurn}
 use Rattle.ride_bounds.proofs.ArcLemmas.{arc-cases, arc-last, arc-stays}
 
 module _ (roads : Roads) (order : Order) (is_order : IsOrder order) (counted : length order.links ≡ roads.links) where
