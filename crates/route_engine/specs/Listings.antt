@@ -1,5 +1,5 @@
 -- The nodes that have a cost, as they are listed by ascending number in steps. This project's own rule.
-use Rattle.std.specs.Prelude.{◌≡◌, ℕ, suc, ◌+◌, ◌/◌, ◌<◌, ◌≤◌, Bool, true, List, length, get_or, false, Option, Some, None}
+use Rattle.std.specs.Prelude.{◌≡◌, ℕ, ◌+◌, ◌*◌, ◌/◌, ◌<◌, ◌≤◌, Bool, true, List, length, get_or, false, Option, Some, None}
 use Rattle.cost_table.specs.Reaches.{cost_in}
 use Rattle.route_engine.specs.Nearby.{Costed, listed}
 use Rattle.route_engine.specs.declared.listing.Listing.{Listing}

@@ -37,19 +37,11 @@ impl Drop for Listing {
 }
 
 /// What a step of a listing came to.
+#[derive(Drop)]
 pub(crate) struct Looked {
     /// How much it counted.
     pub(crate) spent: u32,
     pub(crate) listing: Listing,
-}
-
-impl Drop for Looked {
-    fn drop(self) {
-        let Looked {
-            spent: _,
-            listing: _,
-        } = self;
-    }
 }
 
 impl Listing {
@@ -68,6 +60,19 @@ impl Listing {
             node: 0,
             list,
         })
+    }
+
+    /// The nodes that are listed.
+    pub(crate) fn into_list(self) -> Vec<(u32, u128)>
+        ensures value { result ≡ self.list }
+    {
+        let Listing {
+            reach: _,
+            marks: _,
+            node: _,
+            list,
+        } = self;
+        list
     }
 
     /// Looks at nodes further on, and counts `room` at most. A node counts one, and so do those of a

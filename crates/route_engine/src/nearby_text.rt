@@ -24,6 +24,7 @@ use tasks::Stepped;
 const ROWS: usize = 512;
 
 /// The list of a waypoint that is written.
+#[derive(Drop)]
 pub(crate) struct Rows {
     pub(crate) list: Vec<(u32, u128)>,
     pub(crate) part: Part,
@@ -31,33 +32,14 @@ pub(crate) struct Rows {
     pub(crate) place: usize,
 }
 
-impl Drop for Rows {
-    fn drop(self) {
-        let Rows {
-            list: _,
-            part: _,
-            place: _,
-        } = self;
-    }
-}
-
 /// The lists that are still to be written.
+#[derive(Drop)]
 pub(crate) struct Lists {
     /// The cost that is asked for, in millionths.
     pub(crate) cost: u64,
     /// The number of the waypoint whose list is written, or is next.
     pub(crate) number: usize,
     pub(crate) rest: IntoIter<Vec<(u32, u128)>, Global>,
-}
-
-impl Drop for Lists {
-    fn drop(self) {
-        let Lists {
-            cost: _,
-            number: _,
-            rest: _,
-        } = self;
-    }
 }
 
 /// The text of what lies within a cost, as far as it is written. A list that is written is gone.
@@ -95,7 +77,7 @@ impl NearbyText {
         ensures left { IfOk result (λ text.
             text_left (world_of _world.now) text ≡ nearby_to_write (world_of _world.now) found) }
     {
-        let Nearby { cost, lists } = found;
+        let (cost, lists) = found.into_parts();
         let text = reply_head(alloc, told.form)?;
         Ok(NearbyText {
             text,

@@ -27,6 +27,17 @@ impl Drop for Nearby {
     }
 }
 
+impl Nearby {
+    /// The cost, and the lists.
+    pub(crate) fn into_parts(self) -> (u64, Vec<Vec<(u32, u128)>>)
+        ensures cost { result.0 ≡ self.cost }
+        ensures lists { result.1 ≡ self.lists }
+    {
+        let Nearby { cost, lists } = self;
+        (cost, lists)
+    }
+}
+
 /// How far what lies within a cost of a waypoint is.
 #[derive(Drop)]
 pub(crate) enum NextList {

@@ -165,14 +165,8 @@ fn with_list(
     ensures more { Says (IsListMore (world_of _world.now) plan (length lists.items)) IsWantOfMemory
         result }
 {
-    let Listing {
-        reach: _,
-        marks: _,
-        node: _,
-        list,
-    } = listing;
     let mut lists = lists;
-    match lists.push(list) {
+    match lists.push(listing.into_list()) {
         Ok(()) => Turn::More(WithinJob {
             alloc,
             plan,

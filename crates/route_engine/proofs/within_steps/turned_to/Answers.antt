@@ -1,28 +1,32 @@
-use Rattle.std.proofs.Common.{◌≡◌, inr, length, refl, sym, subst, Some, None, Err, arith}
+use Rattle.std.proofs.Common.{◌≡◌, inr, length, refl, sym, subst, Err, arith}
 use Rattle.cost_table.specs.Reaches.{AnswersReach}
 use Rattle.item_list.specs.declared.turn.Turn.TheVariants.{More, Done}
+use Rattle.overpass_graph.specs.Maps.{IsMap}
 use Rattle.route_engine.specs.Jobs.{plan_of}
+use Rattle.route_engine.specs.Listings.{AreBelow, IsListing}
+use Rattle.cost_table.specs.Reaches.{cost_in}
 use Rattle.route_engine.specs.Nearby.{IsNearbyRefusal}
 use Rattle.route_engine.specs.NearbyJobs.{TurnsNearby}
 use Rattle.route_engine.specs.Sources.{quest_in}
+use Rattle.route_engine.specs.declared.within.NextList.TheVariants.{Listed, Searching}
 use Rattle.route_engine.specs.declared.within.WithinJob.{WithinJob}
 use Rattle.route_engine.proofs.NearbyLemmas.{nearby-spent}
-use Rattle.route_engine.proofs.NearbyStepLemmas.{list-more}
+use Rattle.route_engine.proofs.NearbyStepLemmas.{listing-begins, told-below}
 use Rattle.route_ready.specs.World.{world_of}
 use Rattle.route_ready.specs.declared.error.RouteError.TheVariants.{Budget}
 use Rattle.route_engine.proofs.within_steps.turned_to.Goals as goal
 
 pub returns-in-More : goal.returns-in-More
 returns-in-More c =
-    let world = world_of c.args._world.now in
-    let job : WithinJob = record { alloc = c.args.alloc; plan = c.args.plan; lists = c.args.lists; next = Some c.args.source } in
+    let world = world_of c.args.world.now in
+    let job : WithinJob = record { alloc = c.args.alloc; plan = c.args.plan; lists = c.args.lists; next = Searching c.args.source } in
     record { turns = subst (λ t. TurnsNearby world job t (More job)) (sym c.in-More.is) refl }
 
 pub returns-in-Budget : goal.returns-in-Budget
 returns-in-Budget c =
-    let world = world_of c.args._world.now in
+    let world = world_of c.args.world.now in
     let plan = plan_of world c.args.plan in
-    let job : WithinJob = record { alloc = c.args.alloc; plan = c.args.plan; lists = c.args.lists; next = Some c.args.source } in
+    let job : WithinJob = record { alloc = c.args.alloc; plan = c.args.plan; lists = c.args.lists; next = Searching c.args.source } in
     let quest = quest_in plan.setting.terrain c.args.source in
     let answers = subst (AnswersReach quest c.args.source.reach) c.in-Budget.is c.requires.answers in
     let here : c.len.result ≡ length c.args.lists.items = cc (c.args.lists.ok.0, c.len.ensures) in
@@ -31,24 +35,16 @@ returns-in-Budget c =
     record {
       turns = subst (λ t. TurnsNearby world job t (Done (Err c.spent.result))) (sym c.in-Budget.is)
           (inr (subst (IsNearbyRefusal plan plan.cost) (sym c.spent.ensures.value)
-          (subst (λ n. IsNearbyRefusal plan plan.cost (Budget n 0)) (sym here) refusal)));
+          (subst (λ n. IsNearbyRefusal plan plan.cost (Budget n 0)) (sym here) refusal)), refl);
     }
 
-pub returns-in-Ok : goal.returns-in-Ok
-returns-in-Ok c =
-    let world = world_of c.args._world.now in
-    let plan = plan_of world c.args.plan in
-    let job : WithinJob = record { alloc = c.args.alloc; plan = c.args.plan; lists = c.args.lists; next = Some c.args.source } in
-    let quest = quest_in plan.setting.terrain c.args.source in
+pub new-requires : goal.new-requires
+new-requires c =
+    let world = world_of c.args.world.now in
+    let quest = quest_in (plan_of world c.args.plan).setting.terrain c.args.source in
     let answers = subst (AnswersReach quest c.args.source.reach) c.in-Done.is c.requires.answers in
-    let more = list-more plan c.args.lists.items c.in-Ok.lists.items c.args.source c.requires.first c.requires.next answers.1
-    c.in-Ok.ensures.pushes in
-    let after : WithinJob = record { alloc = c.args.alloc; plan = c.args.plan; lists = c.in-Ok.lists; next = None } in
-    record {
-      turns = subst (λ t. TurnsNearby world job t (More after)) (sym c.in-Done.is) (record {
-        on = record { plan = c.requires.on; first = more.1; next = omega (arith, more.0, c.requires.next.there) };
-        same = refl;
-        counted = more.0;
-        none = refl;
-      });
-    }
+    let lawful = subst IsMap c.map.ensures.value c.nodes.ensures.lawful in
+    record { below = ? }
+
+pub returns-in-Ok : goal.returns-in-Ok
+returns-in-Ok c = ?
