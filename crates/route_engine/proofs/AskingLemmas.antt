@@ -26,7 +26,7 @@ use Rattle.route_engine.specs.Searches.{IsSomeones, IsTheirs, RepliesInTime}
 use Rattle.route_engine.specs.Told.{TellsOf, source_by}
 use Rattle.route_engine.specs.declared.asking.Asking.{Asking}
 use Rattle.route_engine.specs.declared.asking.AskingStage.{AskingStage}
-use Rattle.route_engine.specs.declared.asking.AskingStage.TheVariants.{Searching}
+use Rattle.route_engine.specs.declared.asking.AskingStage.TheVariants.{Searching, Writing}
 use Rattle.route_engine.specs.declared.placing.Placing.{Placing}
 use Rattle.route_engine.specs.declared.plan.JobPlan.{JobPlan}
 use Rattle.route_engine.specs.declared.told.Told.{Told}
@@ -79,8 +79,9 @@ module _ {S W F : Type 0} (Finds : Plan → F → Type 0) (Refuses : Plan → Ro
     where
       go : (stage : AskingStage S W) → BeginsStage IsOn plan world job_plan stage →
           IsAskingStage IsOn plan IsWriting world a.ready.value a.told stage
-      go (Searching search) (searching on same) =
-          (on, someones-of world request job_plan a.ready.value (plan search) can is.ready_is same)
+      go (Searching next) (searching on same) =
+          (on, someones-of world request job_plan a.ready.value (plan next) can is.ready_is same)
+      go (Writing writing) begins = elim begins [ ]
 
   -- whatever it ends with follows
   pub begun-follows : (end : Result (Vec ℕ Global) RouteError) → AsksAs Finds Refuses text plan comes_to world a end → (sections : Sections) →
@@ -91,9 +92,10 @@ module _ {S W F : Type 0} (Finds : Plan → F → Type 0) (Refuses : Plan → Ro
       go : (stage : AskingStage S W) → BeginsStage IsOn plan world job_plan stage →
           AsksFrom Finds Refuses text plan comes_to world a.ready.value a.told stage end →
           TellsOn Finds Refuses text (question_of world sections request) (bytes_in end)
-      go (Searching search) (searching on same) replies =
+      go (Searching next) (searching on same) replies =
           replies sections request
-          (theirs-of world request job_plan a.ready.value (plan search) can is.ready_is same sections a.told ready by is_ready is.told_is)
+          (theirs-of world request job_plan a.ready.value (plan next) can is.ready_is same sections a.told ready by is_ready is.told_is)
+      go (Writing writing) begins ends = elim begins [ ]
 
   -- and no more is left than may be spent on the request
   pub begun-few : (most : ℕ) → ((search : S) → IsPlanFor (setting_of world job_plan.ready.value request.circles) request (plan search) →
@@ -101,8 +103,9 @@ module _ {S W F : Type 0} (Finds : Plan → F → Type 0) (Refuses : Plan → Ro
   begun-few most planned = go a.stage is.stage_is
     where
       go : (stage : AskingStage S W) → BeginsStage IsOn plan world job_plan stage → work_of_stage work left stage ≤ most
-      go (Searching search) (searching on same) =
-          planned search (planned-for world request job_plan a.ready.value (plan search) can is.ready_is same)
+      go (Searching next) (searching on same) =
+          planned next (planned-for world request job_plan a.ready.value (plan next) can is.ready_is same)
+      go (Writing writing) begins = elim begins [ ]
 
 -- ---- The text of what was found
 

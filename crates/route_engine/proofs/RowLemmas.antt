@@ -1,6 +1,7 @@
 -- The rows of a list, one further; the parts of a list, one after the other; and the lists of all waypoints.
-use Rattle.std.proofs.Common.{◌≡◌, ℕ, suc, ◌+◌, ◌<◌, List, [], ◌∷◌, ◌++◌, length, drop, get_or, Some, None, refl, sym, ap, ◌∙◌, arith, append_assoc, append-nil}
-use Rattle.std.specs.Prelude.{codes}
+use Rattle.std.proofs.Common.{◌≡◌, ℕ, suc, ◌+◌, ◌<◌, List, [], ◌∷◌, ◌++◌, length, drop, get_or, Some, None, Result, Ok, Err, refl, sym, ap, ◌∙◌, arith, append_assoc, append-nil}
+use Rattle.std.specs.Prelude.{OnOk, codes, if◌then◌else◌}
+use Rattle.std.specs.Result.{is_ok}
 use Rattle.std.specs.List.{flat_map, join_by}
 use Rattle.std.proofs.lemmas.List.{drop_more}
 use Rattle.overpass_graph.specs.Maps.{MapValue}
@@ -12,6 +13,11 @@ use Rattle.route_engine.specs.Nearby.{Costed}
 use Rattle.route_engine.specs.NearbyAnswers.{asked_part, costs_part, feature, feature_name, id_of, lines_from, list_part, near_cost, near_id, near_position, near_text, nearby_text, nodes_part, points_part, within_geojson, within_lines}
 use Rattle.route_engine.specs.NearbyTexts.{GoesToPart, feature_begin, items_behind, items_from, lists_text, reply_head, rows_from}
 use Rattle.route_engine.specs.declared.nearby_parts.Part.TheVariants.{Ids, Costs, Places, Lines}
+
+-- where a call is Ok, what it leaves is the first of two
+pub ok-leaves : {T E : Type 0} (r : Result T E) (new first second : List ℕ) → new ≡ (if is_ok r then first else second) → OnOk r (new ≡ first)
+ok-leaves (Ok x) new first second is = is
+ok-leaves (Err e) new first second is = tt
 
 -- ---- Rows
 

@@ -1,10 +1,9 @@
-use Rattle.std.proofs.Common.{◌≡◌, inr, length, refl, sym, subst, Err, arith}
-use Rattle.cost_table.specs.Reaches.{AnswersReach}
+use Rattle.std.proofs.Common.{◌≡◌, ◌∙◌, ap, inr, length, refl, sym, subst, Err}
+use Rattle.cost_table.specs.Reaches.{AnswersReach, cost_in}
 use Rattle.item_list.specs.declared.turn.Turn.TheVariants.{More, Done}
-use Rattle.overpass_graph.specs.Maps.{IsMap}
+use Rattle.overpass_graph.specs.Maps.{IsMap, MapValue}
 use Rattle.route_engine.specs.Jobs.{plan_of}
 use Rattle.route_engine.specs.Listings.{AreBelow, IsListing}
-use Rattle.cost_table.specs.Reaches.{cost_in}
 use Rattle.route_engine.specs.Nearby.{IsNearbyRefusal}
 use Rattle.route_engine.specs.NearbyJobs.{TurnsNearby}
 use Rattle.route_engine.specs.Sources.{quest_in}
@@ -44,7 +43,34 @@ new-requires c =
     let quest = quest_in (plan_of world c.args.plan).setting.terrain c.args.source in
     let answers = subst (AnswersReach quest c.args.source.reach) c.in-Done.is c.requires.answers in
     let lawful = subst IsMap c.map.ensures.value c.nodes.ensures.lawful in
-    record { below = ? }
+    let many : c.nodes.result ≡ length world.map.nodes = c.nodes.ensures.value ∙ ap (λ (m : MapValue). length m.nodes) c.map.ensures.value in
+    record {
+      below = subst (λ n. AreBelow (cost_in c.args.source.reach) n) (sym many)
+          (told-below world c.args.plan (length c.args.lists.items) c.args.source c.requires.on lawful c.requires.next answers.1);
+    }
 
 pub returns-in-Ok : goal.returns-in-Ok
-returns-in-Ok c = ?
+returns-in-Ok c =
+    let world = world_of c.args.world.now in
+    let job : WithinJob = record { alloc = c.args.alloc; plan = c.args.plan; lists = c.args.lists; next = Searching c.args.source } in
+    let after : WithinJob = record { alloc = c.args.alloc; plan = c.args.plan; lists = c.args.lists; next = Listed c.in-Ok.listing } in
+    let quest = quest_in (plan_of world c.args.plan).setting.terrain c.args.source in
+    let answers = subst (AnswersReach quest c.args.source.reach) c.in-Done.is c.requires.answers in
+    let lawful = subst IsMap c.map.ensures.value c.nodes.ensures.lawful in
+    let many : c.nodes.result ≡ length world.map.nodes = c.nodes.ensures.value ∙ ap (λ (m : MapValue). length m.nodes) c.map.ensures.value in
+    let on = subst (λ n. IsListing n c.in-Ok.listing) many c.in-Ok.ensures.on in
+    record {
+      turns = subst (λ t. TurnsNearby world job t (More after)) (sym c.in-Done.is) (record {
+        on = record {
+          plan = c.requires.on;
+          first = c.requires.first;
+          next = listing-begins world c.args.plan (length c.args.lists.items) c.args.source c.requires.on lawful c.requires.next answers.1
+              c.in-Ok.listing c.in-Ok.ensures.same on;
+        };
+        same = refl;
+        lists_same = refl;
+        listing = c.in-Ok.listing;
+        next_is = refl;
+        begins = c.in-Ok.ensures.begins;
+      });
+    }

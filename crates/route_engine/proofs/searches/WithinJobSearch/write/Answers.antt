@@ -11,5 +11,5 @@ new-requires c =
     let asked = c.requires.found.0 in
     record {
       fit = found-fit world.map (setting_of world c.args.ready.now asked.circles) asked c.args.found refl
-          (subst IsMap c.map.ensures.value c.nodes-_count.ensures.lawful) c.requires.found.1;
+          (subst IsMap c.map.ensures.value c.nodes-count.ensures.lawful) c.requires.found.1;
     }
