@@ -1,9 +1,7 @@
--- The nodes that lie within a cost are on the map and stand by ascending id, and what is told of them.
-use Rattle.std.proofs.Common.{◌≡◌, ℕ, zero, suc, ◌+◌, ◌<◌, inl, inr, Bool, true, false, cond, nat_eq, List, [], ◌∷◌, ◌++◌, length, get_or, take, Some, Ok, Vec, refl, sym, ap, ◌∙◌, subst, arith, append-nil, append_assoc}
+-- The nodes that lie within a cost are on the map and stand by ascending id, and their lists may be written.
+use Rattle.std.proofs.Common.{◌≡◌, ℕ, zero, suc, ◌+◌, ◌<◌, ◌≤◌, Bool, true, false, cond, nat_eq, List, [], ◌∷◌, length, get_or, Some, Ok, Vec, refl, sym, ap, ◌∙◌, subst, arith}
 use Rattle.std.specs.declared.alloc.Global.{Global}
-use Rattle.std.specs.List.{join_by}
 use Rattle.std.proofs.lemmas.Bool.Decides.{nat_tests}
-use Rattle.std.proofs.lemmas.List.{get_or-map, length-map, length-take-le, map-append, take_more}
 use Rattle.cost_model.specs.Rides.{Setting}
 use Rattle.cost_table.specs.Costs.{IsCostWithin}
 use Rattle.geo_int.specs.Place.{Place}
@@ -12,7 +10,8 @@ use Rattle.overpass_graph.specs.Roads.{IsRoads, Roads}
 use Rattle.overpass_graph.specs.Walks.{IsWalkBy, link_at}
 use Rattle.route_engine.specs.Answers.{IsAnswerOf as answer}
 use Rattle.route_engine.specs.Nearby.{AreNearby, Costed, IsNearby, leg_from, listed, lists_in}
-use Rattle.route_engine.specs.NearbyAnswers.{AreAllByIds, AreAllOnMap, AreOnMap, IsByIds, IsNearbyAnswer, IsNearbyFor, lines_from, nearby_text, node_in}
+use Rattle.route_engine.specs.NearbyAnswers.{AreAllByIds, AreAllOnMap, AreOnMap, IsByIds, IsNearbyAnswer, IsNearbyFor, node_in}
+use Rattle.route_engine.specs.NearbyTexts.{FitMap, FitsMap}
 use Rattle.route_engine.specs.Plans.{Plan}
 use Rattle.route_engine.specs.Searches.{IsFoundOver}
 use Rattle.route_engine.specs.Settings.{Question, open_map_of}
@@ -52,18 +51,24 @@ listed-at (entry ∷ list) (suc place) below =
 
 module _ (map : MapValue) (plan : Plan) (same : plan.setting.terrain.map ≡ map) (lawful : IsMap map)
     (starts : (number : ℕ) → number < length plan.nodes → node_of plan number < length map.nodes) (most : ℕ) where
+  -- a node to which it costs so much to come from a waypoint is on the map
+  pub costly-on : (number node : ℕ) → number < length plan.nodes → (cost : ℕ) → IsCostWithin (leg_from plan number node) most (Some cost) →
+      node < length map.nodes
+  costly-on number node below cost least =
+      let many : length plan.setting.terrain.map.nodes ≡ length map.nodes = ap (λ (m : MapValue). length m.nodes) same in
+      let start = starts number below in
+      let ends : node < length plan.setting.terrain.map.nodes =
+      walk-ends (roads_of plan.setting.terrain.map) _ _ (node_of plan number) node least.least.walk
+      (subst (λ (m : MapValue). IsRoads (roads_of m)) (sym same) lawful.roads) (omega (arith, many, start))
+      least.least.least.is_walk in
+      omega (arith, many, ends)
+
   -- what lies within a cost of a waypoint is on the map
   nearby-on : (number : ℕ) (list : Costed) → number < length plan.nodes → IsNearby plan most number list → AreOnMap map list
   nearby-on number list below near place inside =
       let found = listed-at list place inside in
       let least = subst (IsCostWithin (leg_from plan number (node_in list place)) most) found.1 (near.costs (node_in list place)) in
-      let many : length plan.setting.terrain.map.nodes ≡ length map.nodes = ap (λ (m : MapValue). length m.nodes) same in
-      let start = starts number below in
-      let ends : node_in list place < length plan.setting.terrain.map.nodes =
-      walk-ends (roads_of plan.setting.terrain.map) _ _ (node_of plan number) (node_in list place) least.least.walk
-      (subst (λ (m : MapValue). IsRoads (roads_of m)) (sym same) lawful.roads) (omega (arith, many, start))
-      least.least.least.is_walk in
-      omega (arith, many, ends)
+      costly-on number (node_in list place) below found.0 least
 
   -- it stands by ascending id
   nearby-by_ids : (number : ℕ) (list : Costed) → number < length plan.nodes → IsNearby plan most number list → IsByIds map list
@@ -109,52 +114,40 @@ answer-by_ids question nearby lawful (answer.found {plan = plan} of is) =
     (subst (AreNodes (open_map_of of.setting) question.asked.waypoints) nodes of.mapped))
     plan.cost nearby.lists is.lists
 
--- ---- The lines
+-- ---- Lists that may be written
 
--- the items before a place and the one at it
-taken-next : {A : Type 0} (xs : List A) (place : ℕ) (x d : A) → place < length xs → x ≡ get_or xs place d →
-    take (place + 1) xs ≡ take place xs ++ x ∷ []
-taken-next xs place x d below is = take_more xs place d below ∙ ap (λ y. take place xs ++ y ∷ []) (sym is)
+-- in a list that rises from below each place is no greater than what stands there
+place-low : (list : Costed) → ((i j : ℕ) → i < j → j < length list → node_in list i < node_in list j) → (place : ℕ) → place < length list →
+    place ≤ node_in list place
+place-low list rising zero below = omega arith
+place-low list rising (suc place) below =
+    let before = place-low list rising place (omega (arith, below)) in
+    let more = rising place (suc place) (omega arith) below in
+    omega (arith, before, more)
 
--- the lines of one waypoint more
-lines-push : (map : MapValue) (number : ℕ) (lists : List Costed) (list : Costed) →
-    lines_from map number (lists ++ list ∷ []) ≡ lines_from map number lists ++ nearby_text map (number + length lists) list
-lines-push map number [] list =
-    let same : number ≡ number + 0 = omega arith in
-    append-nil (nearby_text map number list) ∙ ap (λ (n : ℕ). nearby_text map n list) same
-lines-push map number (first ∷ rest) list =
-    let same : suc number + length rest ≡ number + suc (length rest) = omega arith in
-    ap (λ text. nearby_text map number first ++ text)
-    (lines-push map (suc number) rest list ∙ ap (λ (n : ℕ). lines_from map (suc number) rest ++ nearby_text map n list) same)
-    ∙ sym (append_assoc (nearby_text map number first) (lines_from map (suc number) rest) (nearby_text map (number + suc (length rest)) list))
+-- so a list that rises is no longer than its map
+list-few : (map : MapValue) (list : Costed) → ((i j : ℕ) → i < j → j < length list → node_in list i < node_in list j) → AreOnMap map list →
+    length list ≤ length map.nodes
+list-few map list rising there = go (length list) refl
+  where
+    go : (n : ℕ) → length list ≡ n → n ≤ length map.nodes
+    go zero none = omega arith
+    go (suc n) some =
+        let below : n < length list = omega (arith, some) in
+        omega (arith, place-low list rising n below, there n below)
 
--- the list at a place
-list-at : (lists : List (Vec (ℕ × ℕ) Global)) (number : ℕ) (list d : Vec (ℕ × ℕ) Global) → number < length lists →
-    list ≡ get_or lists number d → list.items ≡ get_or (lists_in lists) number []
-list-at [] number list d below is = absurd (omega (arith, below))
-list-at (first ∷ rest) zero list d below is = ap (λ (l : Vec (ℕ × ℕ) Global). l.items) is
-list-at (first ∷ rest) (suc number) list d below is = list-at rest number list d (omega (arith, below)) is
+-- lists each of which fits a map fit it
+all-fit : (map : MapValue) (lists : List Costed) → ((number : ℕ) → number < length lists → FitsMap map (get_or lists number [])) → FitMap map lists
+all-fit map [] each = tt
+all-fit map (list ∷ lists) each =
+    (each 0 (omega arith), all-fit map lists (λ number below. each (suc number) (omega (arith, below))))
 
--- its nodes are on the map
-pub list-on : (map : MapValue) (lists : List (Vec (ℕ × ℕ) Global)) (number : ℕ) (list d : Vec (ℕ × ℕ) Global) (slice : Costed) →
-    number < length lists → list ≡ get_or lists number d → slice ≡ list.items → AreAllOnMap map (lists_in lists) → AreOnMap map slice
-list-on map lists number list d slice below is same there =
-    let many : length (lists_in lists) ≡ length lists = length-map lists (λ (l : Vec (ℕ × ℕ) Global). l.items) in
-    subst (AreOnMap map) (sym (same ∙ list-at lists number list d below is)) (there number (omega (arith, many, below)))
-
--- the lines of one waypoint more, behind those before it
-pub lists-more : (map : MapValue) (lists : List (Vec (ℕ × ℕ) Global)) (number : ℕ) (list d : Vec (ℕ × ℕ) Global) (slice : Costed)
-    (mid new : List ℕ) → number < length lists → list ≡ get_or lists number d → slice ≡ list.items →
-    mid ≡ lines_from map 0 (lists_in (take number lists)) → new ≡ mid ++ nearby_text map number slice →
-    new ≡ lines_from map 0 (lists_in (take (number + 1) lists))
-lists-more map lists number list d slice mid new below is same so_far added =
-    let many : length (lists_in (take number lists)) ≡ number =
-    length-map (take number lists) (λ (l : Vec (ℕ × ℕ) Global). l.items) ∙ length-take-le number lists (omega (arith, below)) in
-    let behind : number ≡ 0 + length (lists_in (take number lists)) = omega (arith, many) in
-    let front : lists_in (take (number + 1) lists) ≡ lists_in (take number lists) ++ list.items ∷ [] =
-    ap lists_in (taken-next lists number list d below is)
-    ∙ map-append (λ (l : Vec (ℕ × ℕ) Global). l.items) (take number lists) (list ∷ []) in
-    added ∙ ap (λ text. text ++ nearby_text map number slice) so_far
-    ∙ ap (λ (l : Costed). lines_from map 0 (lists_in (take number lists)) ++ nearby_text map number l) same
-    ∙ ap (λ (n : ℕ). lines_from map 0 (lists_in (take number lists)) ++ nearby_text map n list.items) behind
-    ∙ sym (lines-push map 0 (lists_in (take number lists)) list.items) ∙ ap (lines_from map 0) (sym front)
+-- what was found over a setting fits its map
+pub found-fit : (map : MapValue) (setting : Setting) (asked : Asked) (nearby : Nearby) → setting.terrain.map ≡ map → IsMap map →
+    IsFoundOver IsNearbyFor setting asked nearby → FitMap map (lists_in nearby.lists.items)
+found-fit map setting asked nearby same lawful found =
+    let lists = lists_in nearby.lists.items in
+    let on = found-on map setting asked nearby same lawful found in
+    all-fit map lists (λ number below.
+    let near = found.is.lists.each number (omega (arith, below, found.is.lists.count)) in
+    record { there = on number below; few = list-few map (get_or lists number []) near.rising (on number below) })

@@ -1,5 +1,6 @@
 -- What a request may be asked for, and what answers it.
-use Rattle.std.specs.Prelude.{ℕ, ◌+◌, List, Result, Err}
+use Rattle.std.specs.Prelude.{ℕ, ◌+◌, List, Result, Err, length}
+use Rattle.overpass_graph.specs.Maps.{MapValue}
 use Rattle.route_engine.specs.Answers.{IsAnswer, IsAnswerOf}
 use Rattle.route_engine.specs.Certificates.{IsCertificateFor, IsCertificateRefusal, IsCertificateReply, certificate_reply, most_for_certificate}
 use Rattle.route_engine.specs.Labels.{most_labels}
@@ -35,13 +36,13 @@ TellsTo Certificate question result =
     TellsOn IsCertificateFor IsCertificateRefusal certificate_reply question result
 TellsTo Within question result = TellsNearby question result
 
--- the most that is counted for what is asked on a map with so many links, once its waypoints have their nodes
-abbrev pub searching_for : (links : ℕ) → Aim → Asked → ℕ
-searching_for links Track asked = most_labels links asked
-searching_for links Table asked = most_for_costs asked
-searching_for links Certificate asked = most_for_certificate links asked
-searching_for links Within asked = most_for_nearby asked
+-- the most that is counted for what is asked on a map, once its waypoints have their nodes
+abbrev pub searching_for : MapValue → Aim → Asked → ℕ
+searching_for map Track asked = most_labels (length map.links) asked
+searching_for map Table asked = most_for_costs asked
+searching_for map Certificate asked = most_for_certificate (length map.links) asked
+searching_for map Within asked = most_for_nearby (length map.nodes) asked
 
--- the most that is counted for what is asked on a map with so many links
-abbrev pub most_for : (links : ℕ) → Aim → Asked → ℕ
-most_for links aim asked = placing_for links asked + searching_for links aim asked
+-- the most that is counted for what is asked on a map; crates above cite it by this name alone, so the sum may grow
+abbrev pub most_for : MapValue → Aim → Asked → ℕ
+most_for map aim asked = placing_for (length map.links) asked + searching_for map aim asked

@@ -5,12 +5,15 @@ pub mod Certificates
 pub mod Answers
 pub mod Jobs
 pub mod Labels
+pub mod Listings
 pub mod Marked
 pub mod Nearby
 pub mod NearbyAnswers
 pub mod NearbyJobs
+pub mod NearbyTexts
 pub mod Numbers
 pub mod Pendings
+pub mod Pieces
 pub mod Placings
 pub mod Planned
 pub mod Plans
@@ -24,5 +27,6 @@ pub mod Sources
 pub mod TableAnswers
 pub mod TableJobs
 pub mod Tables
+pub mod Texts
 pub mod Told
 pub mod Waypoints

@@ -1,6 +1,6 @@
 -- The answer to a request for what lies within a cost of its waypoints, and its bytes: lines, or GeoJSON after
 -- RFC 7946, whose properties are this project's own rule.
-use Rattle.std.specs.Prelude.{◌≡◌, ℕ, ℤ, suc, pos, ◌*◌, ◌<◌, ◌<ℤ◌, List, [], ◌∷◌, ◌++◌, length, get_or, codes, decimal, Result, Vec}
+use Rattle.std.specs.Prelude.{◌≡◌, ℕ, ℤ, suc, pos, ◌+◌, ◌*◌, ◌<◌, ◌<ℤ◌, List, [], ◌∷◌, ◌++◌, length, get_or, codes, decimal, Result, Vec}
 use Rattle.std.specs.Fmt.{signed_decimal}
 use Rattle.std.specs.List.{flat_map, join_by}
 use Rattle.std.specs.declared.alloc.Global.{Global}
@@ -151,8 +151,22 @@ IsNearbyReply = IsReplyOf IsNearbyFor RefusesNearby nearby_reply
 abbrev pub TellsNearby : Question → Result (List ℕ) RouteError → Type 0
 TellsNearby = TellsOn IsNearbyFor RefusesNearby nearby_reply
 
--- ---- How much is settled
+-- ---- How much is counted
 
--- the most labels that are settled for a request: the limit, for each waypoint
-abbrev pub most_for_nearby : Asked → ℕ
-most_for_nearby asked = length asked.waypoints * asked.labels
+-- the most that is counted for what lies within a cost of a waypoint on a map of so many nodes: the labels that are
+-- settled, and the nodes that are looked at for its list
+abbrev pub most_for_list : (nodes limit : ℕ) → ℕ
+most_for_list nodes limit = limit + nodes
+
+-- and for its text: three rows for each node, and what stands before and behind them
+abbrev pub most_for_feature : (nodes : ℕ) → ℕ
+most_for_feature nodes = 3 * nodes + 4
+
+-- the most that is counted for the text of so many waypoints, and its end
+abbrev pub most_for_features : (nodes waypoints : ℕ) → ℕ
+most_for_features nodes waypoints = waypoints * most_for_feature nodes + 1
+
+-- the most that is counted for a request
+abbrev pub most_for_nearby : (nodes : ℕ) → Asked → ℕ
+most_for_nearby nodes asked =
+    length asked.waypoints * most_for_list nodes asked.labels + most_for_features nodes (length asked.waypoints)

@@ -29,11 +29,12 @@ pub enum Aim {
 }
 
 /// The most that is counted for what is asked of a request over a world: links that are judged,
-/// waypoints that are moved, labels that are settled, and steps of finding what still has to be paid.
+/// waypoints that are moved, labels that are settled, steps of finding what still has to be paid,
+/// nodes that are looked at for a list, and rows that are written.
 pub fn most_for(world: &World, aim: Aim, request: &Request) -> u64
     requires within { IsWithin (asked request.now) }
     ensures exact { result ≡
-        most_for (length (world_of world.now).map.links) aim (asked request.now) }
+        most_for (world_of world.now).map aim (asked request.now) }
     ensures small { result < 2 ^ 43 }
 {
     placing_for(world, request) + searching_for(world, aim, request)
@@ -59,7 +60,7 @@ fn placing_for(world: &World, request: &Request) -> u64
 fn searching_for(world: &World, aim: Aim, request: &Request) -> u64
     requires within { IsWithin (asked request.now) }
     ensures exact { result ≡
-        searching_for (length (world_of world.now).map.links) aim (asked request.now) }
+        searching_for (world_of world.now).map aim (asked request.now) }
     ensures small { result < 2 ^ 42 }
 {
     let waypoints = request.waypoints.len() as u64;
@@ -70,7 +71,10 @@ fn searching_for(world: &World, aim: Aim, request: &Request) -> u64
             walks * (2 * most_found(world) + FIRST_LABELS + labels + BEGINNING as u64)
         }
         Aim::Table => rows_for(request) * labels,
-        Aim::Within => waypoints * labels,
+        Aim::Within => {
+            let nodes = world.map().nodes() as u64;
+            waypoints * (labels + nodes) + (waypoints * (3 * nodes + 4) + 1)
+        }
         Aim::Certificate => (waypoints - 1) * (BEGINNING as u64 + most_found(world) + labels),
     }
 }

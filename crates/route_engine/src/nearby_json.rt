@@ -1,78 +1,36 @@
-//! What lies within a cost, as GeoJSON on one line.
+//! What lies within a cost, as GeoJSON.
 
-ghost use Rattle.std.specs.Prelude.{◌≡◌, ◌++◌, ◌<◌, IfOk, OnOk, length};
-ghost use Rattle.std.specs.List.{join_by};
-ghost use Rattle.route_engine.specs.Nearby.{lists_in};
-ghost use Rattle.route_engine.specs.NearbyAnswers.{AreAllOnMap, AreOnMap, asked_part, costs_part, feature, feature_head, feature_name, list_part, near_cost, near_id, near_position, nodes_part, points_part, within_geojson};
+ghost use Rattle.std.specs.Prelude.{◌≡◌, ◌++◌, ◌≤◌, OnOk, length};
+ghost use Rattle.route_engine.specs.NearbyAnswers.{AreOnMap, asked_part, feature_head, feature_name, near_cost, near_id, near_position};
+ghost use Rattle.route_engine.specs.NearbyTexts.{feature_begin, items_behind};
 ghost use Rattle.route_engine.specs.Told.{source_by};
 ghost use Rattle.route_ready.specs.World.{world_of};
-ghost use Rattle.track_reply.specs.Joined.{comma};
 
 use crate::told::Told;
-use item_list::{append_number, append_signed, bytes_of};
+use item_list::{append_number, append_signed};
 use overpass_graph::Map;
 use route_ready::{Ready, World};
-use std::alloc::{AllocError, Global};
+use std::alloc::AllocError;
 use track_reply::{append_comma, append_escaped, append_position, append_sum};
 
-/// The collection of the features of all waypoints, by a profile that is ready.
-#[tactic(auto, unfolding(crate::specs::NearbyAnswers::within_geojson))]
-pub(crate) fn within_geojson(
-    alloc: Global,
-    world: &World,
-    _ready: &Ready,
-    told: &Told,
-    cost: u64,
-    lists: &[Vec<(u32, u128)>],
-) -> Result<Vec<u8>, AllocError>
-    requires there { AreAllOnMap (world_of world.now).map (lists_in lists.now) }
-    ensures exact { IfOk result (λ text. text.items ≡ within_geojson
-        (source_by (world_of world.now) _ready.now told.now) cost (lists_in lists.now)) }
-{
-    let mut text = bytes_of(alloc, b"{\"type\":\"FeatureCollection\",\"features\":[")?;
-    append_features(&mut text, world, _ready, told, cost, lists)?;
-    text.extend_from_slice(b"]}\n")?;
-    Ok(text)
-}
-
-/// Appends the features of waypoints, with a comma between each two.
-fn append_features(
+/// Appends what stands before the ids of the nodes of a waypoint, behind a comma but where it is the
+/// first.
+#[tactic(auto, unfolding(crate::specs::NearbyTexts::feature_begin))]
+pub(crate) fn append_feature_head(
     text: &mut Vec<u8>,
     world: &World,
     _ready: &Ready,
     told: &Told,
     cost: u64,
-    lists: &[Vec<(u32, u128)>],
+    number: usize,
 ) -> Result<(), AllocError>
-    requires there { AreAllOnMap (world_of world.now).map (lists_in lists.now) }
     ensures exact { let source = source_by (world_of world.now) _ready.now told.now in
-        OnOk result (text.new.items ≡
-        text.old.items ++ join_by (feature source cost) comma (lists_in lists.now)) }
+        OnOk result (text.new.items ≡ text.old.items ++ feature_begin source cost number) }
 {
-    'lists: for place in 0..lists.len() {
-        append_comma(text, place)?;
-        append_feature(text, world, _ready, told, cost, lists[place].as_slice())?;
-    }
-    Ok(())
-}
-
-/// Appends the feature of a waypoint.
-#[tactic(auto, unfolding(crate::specs::NearbyAnswers::feature))]
-fn append_feature(
-    text: &mut Vec<u8>,
-    world: &World,
-    _ready: &Ready,
-    told: &Told,
-    cost: u64,
-    list: &[(u32, u128)],
-) -> Result<(), AllocError>
-    requires there { AreOnMap (world_of world.now).map list.now }
-    ensures exact { let source = source_by (world_of world.now) _ready.now told.now in
-        OnOk result (text.new.items ≡ text.old.items ++ feature source cost list.now) }
-{
+    append_comma(text, number)?;
     append_name(text, world, _ready, told)?;
     append_asked(text, cost)?;
-    append_list(text, world, _ready, told, list)
+    text.extend_from_slice(b"\",\"nodes\":[")
 }
 
 /// Appends what stands up to the name: that of the profile, and the number of the alternative.
@@ -109,65 +67,43 @@ fn append_asked(text: &mut Vec<u8>, cost: u64) -> Result<(), AllocError>
     append_sum(text, u128::from(cost))
 }
 
-/// Appends the nodes of a waypoint with their costs and their places.
-#[tactic(auto, unfolding(crate::specs::NearbyAnswers::list_part))]
-fn append_list(
+/// Appends ids from a place up to another, each behind a comma but the first of all.
+pub(crate) fn append_ids(
     text: &mut Vec<u8>,
-    world: &World,
-    _ready: &Ready,
-    _told: &Told,
+    map: &Map,
     list: &[(u32, u128)],
+    place: usize,
+    end: usize,
 ) -> Result<(), AllocError>
-    requires there { AreOnMap (world_of world.now).map list.now }
-    ensures exact { let source = source_by (world_of world.now) _ready.now _told.now in
-        OnOk result (text.new.items ≡ text.old.items ++ list_part source list.now) }
-{
-    append_nodes(text, world.map(), list)?;
-    append_costs(text, list)?;
-    append_points(text, world, _ready, _told, list)
-}
-
-/// Appends the ids of the nodes.
-#[tactic(auto, unfolding(crate::specs::NearbyAnswers::nodes_part))]
-fn append_nodes(text: &mut Vec<u8>, map: &Map, list: &[(u32, u128)]) -> Result<(), AllocError>
     requires there { AreOnMap map.now list.now }
-    ensures exact { OnOk result (text.new.items ≡ text.old.items ++ nodes_part map.now list.now) }
+    requires rising { place ≤ end }
+    requires within { end ≤ length list.now }
+    ensures exact { OnOk result (text.new.items ++ items_behind (near_id map.now) end list.now ≡
+        text.old.items ++ items_behind (near_id map.now) place list.now) }
 {
-    text.extend_from_slice(b"\",\"nodes\":[")?;
-    append_ids(text, map, list)
-}
-
-/// Appends ids, with a comma between each two.
-fn append_ids(text: &mut Vec<u8>, map: &Map, list: &[(u32, u128)]) -> Result<(), AllocError>
-    requires there { AreOnMap map.now list.now }
-    ensures exact { OnOk result (text.new.items ≡
-        text.old.items ++ join_by (near_id map.now) comma list.now) }
-{
-    'nodes: for place in 0..list.len() {
-        append_comma(text, place)?;
-        let entry = list[place];
+    'nodes: for at in place..end {
+        append_comma(text, at)?;
+        let entry = list[at];
         append_signed(text, map.node_id(entry.0))?;
     }
     Ok(())
 }
 
-/// Appends the costs of the nodes.
-#[tactic(auto, unfolding(crate::specs::NearbyAnswers::costs_part))]
-fn append_costs(text: &mut Vec<u8>, list: &[(u32, u128)]) -> Result<(), AllocError>
-    ensures exact { OnOk result (text.new.items ≡ text.old.items ++ costs_part list.now) }
+/// Appends costs in quotation marks, from a place up to another.
+pub(crate) fn append_sums(
+    text: &mut Vec<u8>,
+    list: &[(u32, u128)],
+    place: usize,
+    end: usize,
+) -> Result<(), AllocError>
+    requires rising { place ≤ end }
+    requires within { end ≤ length list.now }
+    ensures exact { OnOk result (text.new.items ++ items_behind near_cost end list.now ≡
+        text.old.items ++ items_behind near_cost place list.now) }
 {
-    text.extend_from_slice(b"],\"costs\":[")?;
-    append_sums(text, list)
-}
-
-/// Appends costs in quotation marks, with a comma between each two.
-fn append_sums(text: &mut Vec<u8>, list: &[(u32, u128)]) -> Result<(), AllocError>
-    ensures exact { OnOk result (text.new.items ≡
-        text.old.items ++ join_by near_cost comma list.now) }
-{
-    'costs: for place in 0..list.len() {
-        append_comma(text, place)?;
-        let entry = list[place];
+    'costs: for at in place..end {
+        append_comma(text, at)?;
+        let entry = list[at];
         append_cost(text, entry.1)?;
     }
     Ok(())
@@ -182,40 +118,26 @@ fn append_cost(text: &mut Vec<u8>, cost: u128) -> Result<(), AllocError>
     text.extend_from_slice(b"\"")
 }
 
-/// Appends the places of the nodes.
-#[tactic(auto, unfolding(crate::specs::NearbyAnswers::points_part))]
-fn append_points(
+/// Appends positions from a place up to another.
+pub(crate) fn append_places(
     text: &mut Vec<u8>,
     world: &World,
     _ready: &Ready,
     _told: &Told,
     list: &[(u32, u128)],
+    place: usize,
+    end: usize,
 ) -> Result<(), AllocError>
     requires there { AreOnMap (world_of world.now).map list.now }
+    requires rising { place ≤ end }
+    requires within { end ≤ length list.now }
     ensures exact { let source = source_by (world_of world.now) _ready.now _told.now in
-        OnOk result (text.new.items ≡ text.old.items ++ points_part source list.now) }
+        OnOk result (text.new.items ++ items_behind (near_position source) end list.now ≡
+        text.old.items ++ items_behind (near_position source) place list.now) }
 {
-    text.extend_from_slice(b"]},\"geometry\":{\"type\":\"MultiPoint\",\"coordinates\":[")?;
-    append_places(text, world, _ready, _told, list)?;
-    text.extend_from_slice(b"]}}")
-}
-
-/// Appends positions, with a comma between each two.
-fn append_places(
-    text: &mut Vec<u8>,
-    world: &World,
-    _ready: &Ready,
-    _told: &Told,
-    list: &[(u32, u128)],
-) -> Result<(), AllocError>
-    requires there { AreOnMap (world_of world.now).map list.now }
-    ensures exact { let source = source_by (world_of world.now) _ready.now _told.now in
-        OnOk result (text.new.items ≡
-        text.old.items ++ join_by (near_position source) comma list.now) }
-{
-    'places: for place in 0..list.len() {
-        append_comma(text, place)?;
-        let entry = list[place];
+    'places: for at in place..end {
+        append_comma(text, at)?;
+        let entry = list[at];
         append_position(text, world.tiles(), world.map().node_spot(entry.0))?;
     }
     Ok(())

@@ -16,6 +16,7 @@ use crate::aim::Aim;
 use crate::asking::{Asking, turned};
 use crate::certificate::CertificateJob;
 use crate::job::Job;
+use crate::nearby_text::NearbyText;
 use crate::placing::Placing;
 use crate::table::TableJob;
 use crate::within::WithinJob;
@@ -23,16 +24,17 @@ use item_list::Turn;
 use route_http::Request;
 use route_ready::{Ready, RouteError, World};
 use std::alloc::{AllocError, Global};
+use std::convert::Infallible;
 use std::rc::Rc;
 use tasks::{Chain, Task};
 
 /// A request of any kind that is answered in turns.
 #[derive(Drop)]
 pub enum Pending {
-    Track(Chain<Placing, Asking<Job>, Rc<Request>>),
-    Table(Chain<Placing, Asking<TableJob>, Rc<Request>>),
-    Certificate(Chain<Placing, Asking<CertificateJob>, Rc<Request>>),
-    Within(Chain<Placing, Asking<WithinJob>, Rc<Request>>),
+    Track(Chain<Placing, Asking<Job, Infallible>, Rc<Request>>),
+    Table(Chain<Placing, Asking<TableJob, Infallible>, Rc<Request>>),
+    Certificate(Chain<Placing, Asking<CertificateJob, Infallible>, Rc<Request>>),
+    Within(Chain<Placing, Asking<WithinJob, NearbyText>, Rc<Request>>),
 }
 
 impl Pending {
@@ -55,7 +57,7 @@ impl Pending {
             EndsAs (world_of world.now) p end →
             TellsTo aim (question_of (world_of world.now) sections (asked request)) (bytes_in end)) }
         ensures few { IfOk result (λ p. (budget : ℕ) → turns_of (world_of world.now) budget p ≤
-            suc (most_for (length (world_of world.now).map.links) aim (asked request) / budget)) }
+            suc (most_for (world_of world.now).map aim (asked request) / budget)) }
     {
         match aim {
             Aim::Track => match turned::<Job>(alloc, world, ready, request) {

@@ -2,12 +2,13 @@
 
 ghost use Rattle.std.specs.Prelude.{◌≡◌, ◌≤◌};
 ghost use Rattle.route_engine.specs.Jobs.{IsPlanOn, plan_of};
-ghost use Rattle.route_engine.specs.NearbyJobs.{IsNearbyOn, StepsNearby, nearby_plan};
+ghost use Rattle.route_engine.specs.NearbyJobs.{IsNearbyOn, LeavesText, StepsNearby, nearby_plan};
 ghost use Rattle.route_ready.specs.World.{world_of};
 
+use crate::listing::Listing;
 use crate::plan::JobPlan;
 use crate::sources::Source;
-use crate::within_steps::{begun, gone_on};
+use crate::within_steps::{begun, gone_on, listed_on};
 use route_ready::{RouteError, World};
 use std::alloc::Global;
 use tasks::Stepped;
@@ -26,6 +27,28 @@ impl Drop for Nearby {
     }
 }
 
+impl Nearby {
+    /// The cost, and the lists.
+    pub(crate) fn into_parts(self) -> (u64, Vec<Vec<(u32, u128)>>)
+        ensures cost { result.0 ≡ self.cost }
+        ensures lists { result.1 ≡ self.lists }
+    {
+        let Nearby { cost, lists } = self;
+        (cost, lists)
+    }
+}
+
+/// How far what lies within a cost of a waypoint is.
+#[derive(Drop)]
+pub(crate) enum NextList {
+    /// Its search isn't begun.
+    New,
+    /// It is searched for.
+    Searching(Source),
+    /// What the search told is listed.
+    Listed(Listing),
+}
+
 /// What lies within a cost of the waypoints of a request, found in turns: one search from each
 /// waypoint. The alternative and the runs of the request have no effect on what is found.
 pub struct WithinJob {
@@ -33,8 +56,8 @@ pub struct WithinJob {
     pub(crate) plan: JobPlan,
     /// What lies within the cost of the first waypoints.
     pub(crate) lists: Vec<Vec<(u32, u128)>>,
-    /// The search from the waypoint behind them; none before its beginning.
-    pub(crate) next: Option<Source>,
+    /// How far it is with the waypoint behind them.
+    pub(crate) next: NextList,
 }
 
 impl Drop for WithinJob {
@@ -60,11 +83,12 @@ impl WithinJob {
             alloc,
             plan,
             lists: Vec::new(alloc),
-            next: None,
+            next: NextList::New,
         }
     }
 
-    /// A step of it: the beginning of the search from its next waypoint, or a turn of that search.
+    /// A step of it: the beginning of the search from its next waypoint, a turn of that search, or a
+    /// step of the list of what that told.
     pub(crate) fn stepped(
         self,
         world: &World,
@@ -73,6 +97,7 @@ impl WithinJob {
         requires on { IsNearbyOn (world_of world.now) self }
         requires some { 1 ≤ budget }
         ensures steps { StepsNearby (world_of world.now) budget self result }
+        ensures leaves { LeavesText (world_of world.now) self result }
     {
         let WithinJob {
             alloc,
@@ -81,8 +106,9 @@ impl WithinJob {
             next,
         } = self;
         match next {
-            Some(source) => gone_on(alloc, world, plan, lists, source, budget),
-            None => begun(alloc, world, plan, lists, budget),
+            NextList::New => begun(alloc, world, plan, lists, budget),
+            NextList::Searching(source) => gone_on(alloc, world, plan, lists, source, budget),
+            NextList::Listed(listing) => listed_on(alloc, world, plan, lists, listing, budget),
         }
     }
 }

@@ -29,7 +29,7 @@ work_quota = 2000
 -- how many turns what is asked goes on for at most, once its profile is ready: those of the search, which begins where
 -- the waypoints have their nodes, and the two in which each of these begins
 abbrev pub turns_after : WorldValue → Aim → Asked → ℕ
-turns_after world aim asked = suc (suc (most_for (length world.map.links) aim asked / work_quota))
+turns_after world aim asked = suc (suc (most_for world.map aim asked / work_quota))
 
 -- and with those in which a profile is made ready
 abbrev pub turns_for : WorldValue → Aim → Asked → ℕ

@@ -1,7 +1,7 @@
 use Rattle.std.proofs.Common.{subst}
 use Rattle.route_engine.specs.Jobs.{plan_of}
 use Rattle.route_engine.specs.Sources.{TurnsSource}
-use Rattle.route_engine.proofs.NearbyStepLemmas.{nearby-fits, nearby-turned, next-same}
+use Rattle.route_engine.proofs.NearbyStepLemmas.{nearby-fits, nearby-turned, nearby-unfound, next-same}
 use Rattle.route_ready.specs.World.{world_of}
 use Rattle.std.proofs.Common.{length}
 use Rattle.route_engine.proofs.within_steps.gone_on.Goals as goal
@@ -20,9 +20,12 @@ returns-in-Ok c =
     let turns = subst (λ t. TurnsSource t c.args.source c.args.quota turn) c.terrain.ensures.exact c.in-Ok.ensures.turns in
     record {
       steps = record {
-        fits = nearby-fits world c.args.alloc c.args.plan c.args.lists c.args.source c.args.quota turn c.requires.on c.requires.first
-            c.requires.next c.requires.some turns;
-        turn = nearby-turned world c.args.alloc c.args.plan c.args.lists c.args.source c.args.quota turn c.requires.on c.requires.first
-            c.requires.next c.requires.some turns c.turned_to.result c.turned_to.ensures.turns;
+        fits = nearby-fits world c.args.alloc c.args.plan c.args.lists c.args.quota c.requires.on c.requires.first c.requires.some
+            c.args.source turn c.requires.next turns;
+        turn = nearby-turned world c.args.alloc c.args.plan c.args.lists c.args.quota c.requires.on c.requires.first c.requires.some
+            c.args.source turn c.requires.next turns c.turned_to.result c.turned_to.ensures.turns;
       };
+      leaves = λ found ends.
+          absurd (nearby-unfound world c.args.alloc c.args.plan c.args.lists c.args.quota c.requires.on c.requires.first c.requires.some
+          c.args.source turn c.requires.next turns c.turned_to.result c.turned_to.ensures.turns found ends);
     }

@@ -1,37 +1,46 @@
-use Rattle.std.proofs.Common.{ap, subst, ◌∙◌}
-use Rattle.item_list.specs.Turns.{Says}
+use Rattle.std.proofs.Common.{subst, sym}
 use Rattle.route_ready.specs.World.{world_of}
-use Rattle.route_engine.specs.Searches.{EndsSearch}
-use Rattle.route_engine.specs.Told.{source_by}
-use Rattle.route_engine.proofs.SearchLemmas.{found-told, refused-told}
+use Rattle.route_engine.specs.Askings.{IsAskingStage, StepsAsking}
 use Rattle.route_engine.proofs.asking.AskingStep.step.Goals as goal
 
-pub returns-in-Ok : goal.returns-in-Ok
-returns-in-Ok g c =
+pub searched-requires : goal.searched-requires
+searched-requires g c =
     let world = world_of c.args.dataset.now in
-    let told = c.args.self.told in
-    let plan = g.S.Search.plan world c.args.self.search in
-    let finds = subst (EndsSearch g.S.Search.Finds g.S.Search.Refuses plan) c.in-Done-Ok.field-0-is
-    (subst (Says _ (EndsSearch g.S.Search.Finds g.S.Search.Refuses plan)) c.in-Done-Ok.is c.step-spent.ensures.steps.turn) in
+    let S = g.S.Search in
+    let over = subst (IsAskingStage (S.IsOn world) (S.plan world) (S.IsWriting world) world c.args.self.ready.value c.args.self.told)
+    c.in-Searching.is c.requires.over in
+    record { on = over.0; someones = over.1; some = c.requires.some }
+
+pub written-requires : goal.written-requires
+written-requires g c =
+    let world = world_of c.args.dataset.now in
+    let S = g.S.Search in
     record {
-      steps = record {
-        fits = c.step-spent.ensures.steps.fits;
-        turn = found-told g.S.Search.Finds g.S.Search.Refuses g.S.Search.text world c.args.self.ready.value told plan
-            c.in-Done-Ok.found c.in-Ok.bytes finds
-            (c.in-Ok.ensures.exact ∙ ap (λ r. g.S.Search.text told.form (source_by world r told) c.in-Done-Ok.found) c.deref.ensures);
-      };
+      on = subst (IsAskingStage (S.IsOn world) (S.plan world) (S.IsWriting world) world c.args.self.ready.value c.args.self.told)
+          c.in-Writing.is c.requires.over;
+      some = c.requires.some;
     }
 
-pub returns : goal.returns
-returns g c =
+pub returns-in-Searching : goal.returns-in-Searching
+returns-in-Searching g c =
     let world = world_of c.args.dataset.now in
-    let plan = g.S.Search.plan world c.args.self.search in
-    let refuses = subst (EndsSearch g.S.Search.Finds g.S.Search.Refuses plan) c.in-Done-Err.field-0-is
-    (subst (Says _ (EndsSearch g.S.Search.Finds g.S.Search.Refuses plan)) c.in-Done-Err.is c.step-spent.ensures.steps.turn) in
+    let S = g.S.Search in
     record {
-      steps = record {
-        fits = c.step-spent.ensures.steps.fits;
-        turn = refused-told g.S.Search.Finds g.S.Search.Refuses g.S.Search.text world c.args.self.ready.value c.args.self.told plan
-            c.in-Done-Err.error refuses;
-      };
+      steps = subst
+          (λ stage. StepsAsking S.Finds S.Refuses S.text (S.IsOn world) (S.plan world) (S.IsWriting world) (S.comes_to world) (S.work world)
+          (S.left world) (S.free world) world c.args.budget
+          (record { told = c.args.self.told; ready = c.args.self.ready; stage = stage }) c.searched.result)
+          (sym c.in-Searching.is) c.searched.ensures.steps;
+    }
+
+pub returns-in-Writing : goal.returns-in-Writing
+returns-in-Writing g c =
+    let world = world_of c.args.dataset.now in
+    let S = g.S.Search in
+    record {
+      steps = subst
+          (λ stage. StepsAsking S.Finds S.Refuses S.text (S.IsOn world) (S.plan world) (S.IsWriting world) (S.comes_to world) (S.work world)
+          (S.left world) (S.free world) world c.args.budget
+          (record { told = c.args.self.told; ready = c.args.self.ready; stage = stage }) c.written.result)
+          (sym c.in-Writing.is) c.written.ensures.steps;
     }
