@@ -32,9 +32,11 @@ returns-in-Budget c =
     let refusal = nearby-spent plan plan.cost (length c.args.lists.items) quest c.requires.next.from c.requires.next.asks answers.0
     c.requires.next.there answers.1 in
     record {
-      turns = subst (λ t. TurnsNearby world job t (Done (Err c.spent.result))) (sym c.in-Budget.is)
-          (inr (subst (IsNearbyRefusal plan plan.cost) (sym c.spent.ensures.value)
-          (subst (λ n. IsNearbyRefusal plan plan.cost (Budget n 0)) (sym here) refusal)), refl);
+      turns = subst (λ t. TurnsNearby world job t (Done (Err c.spent.result))) (sym c.in-Budget.is) (
+        inr (subst (IsNearbyRefusal plan plan.cost) (sym c.spent.ensures.value)
+            (subst (λ n. IsNearbyRefusal plan plan.cost (Budget n 0)) (sym here) refusal)),
+        refl,
+      );
     }
 
 pub new-requires : goal.new-requires
