@@ -13,7 +13,7 @@ use case_inputs::{Case, place_of};
 use std::alloc::{AllocError, Global};
 
 /// The calls of this part.
-pub(crate) const CALLS: [&str; 6] = ["route", "costs", "job", "reply", "table", "shelf"];
+pub(crate) const CALLS: [&str; 7] = ["route", "costs", "job", "reply", "table", "shelf", "near"];
 
 /// The place of the call of a case.
 fn call_of(case: &Case) -> usize {

@@ -12,7 +12,7 @@ use crate::worlds::world_of;
 use case_inputs::{Case, profile_of};
 use profile_text::Profile;
 use route_engine::route;
-use route_http::{Request, request};
+use route_http::{Request, RequestError, costed_request, request};
 use route_ready::{World, line};
 use std::alloc::{AllocError, Global};
 use track_legs::Track;
@@ -41,9 +41,17 @@ fn by_profile(
     world: &World,
     profile: &Profile,
 ) -> Result<Vec<u8>, AllocError> {
-    match request(alloc, word(case, 4)) {
+    match request_of(alloc, case) {
         Ok(request) => to_request(alloc, case, world, profile, request),
         Err(error) => error.line(alloc),
+    }
+}
+
+/// The request of a case, with a cost where what lies within one is asked for.
+fn request_of(alloc: Global, case: &Case) -> Result<Request, RequestError> {
+    match call_of(case) {
+        6 => costed_request(alloc, word(case, 4)),
+        _ => request(alloc, word(case, 4)),
     }
 }
 

@@ -11,7 +11,7 @@ use route_http::Request;
 /// The word at a place, counted without the quota of a case that has one.
 pub(crate) fn word(case: &Case, place: usize) -> &[u8] {
     match call_of(case) {
-        2..=4 => case.word(place.saturating_add(1)),
+        2..=4 | 6 => case.word(place.saturating_add(1)),
         _ => case.word(place),
     }
 }
