@@ -18,8 +18,8 @@ ascending-push count numbers are =
           elim (cases_lt k (length numbers)) [
             | inl old ↦ get_or_append_left numbers (count ∷ []) 0 k old ∙ are.is k (omega (arith, old, are.counted))
             | inr last ↦
-                let same : k ≡ length numbers = omega (arith, below, last, are.counted) in
-                get_or_push numbers count 0 k same ∙ (sym are.counted ∙ sym same)
+                let same : length numbers ≡ k = omega (arith, below, last, are.counted) in
+                get_or_push numbers count 0 k same ∙ (sym are.counted ∙ same)
           ];
     }
 
