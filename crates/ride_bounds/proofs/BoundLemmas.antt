@@ -1,5 +1,5 @@
 -- What is told of a link is a lower bound.
-use Rattle.std.proofs.Common.{◌≡◌, ◌≢◌, ℕ, ◌+◌, ◌*◌, ◌<◌, ◌≤◌, ◌^◌, min, true, List, length, Option, Some, None, refl, sym, ap, ◌∙◌, subst, arith}
+use Rattle.std.proofs.Common.{◌≡◌, ℕ, ◌*◌, ◌<◌, ◌≤◌, true, List, Option, Some, None, refl, sym, ap, ◌∙◌, subst, arith}
 use Rattle.overpass_graph.specs.Roads.{Roads}
 use Rattle.cost_model.specs.OpenLinks.{is_passable}
 use Rattle.cost_model.specs.declared.facts.LinkFacts.{LinkFacts}

@@ -1,11 +1,11 @@
 -- What it costs at least to enter a link after another.
-use Rattle.std.proofs.Common.{◌≡◌, ℕ, ◌*◌, ◌≤◌, ℤ, pos, negsuc, ◌+ℤ◌, ◌-ℤ◌, ◌*ℤ◌, ◌≤ℤ◌, Bool, true, false, Some, unsigned_abs, SFits, w64, arith}
-use Rattle.std.specs.Int.{w128, int_div_euclid}
+use Rattle.std.proofs.Common.{ℕ, ◌*◌, ◌≤◌, ℤ, pos, negsuc, ◌+ℤ◌, ◌-ℤ◌, ◌*ℤ◌, ◌≤ℤ◌, Bool, true, false, Some, unsigned_abs, SFits, w64, arith}
+use Rattle.std.specs.Int.{w128}
 use Rattle.std.proofs.lemmas.Int.{ints, fits_signed_from_abs, unsigned_abs-mul}
 use Rattle.std.proofs.lemmas.Nat.{mul-le}
 use Rattle.elev_buffer.specs.declared.labels.Pair.{Pair}
 use Rattle.cost_model.specs.Facts.{AreFacts, IsCost}
-use Rattle.cost_model.specs.Parts.{IsHeld, entry_cost, least_distance, least_price, parts_after, parts_with, ranked, sum_of, turn_of, turn_price, initial_of}
+use Rattle.cost_model.specs.Parts.{IsHeld, entry_cost, least_distance, parts_after, parts_with, ranked, sum_of}
 use Rattle.cost_model.specs.Prices.{IsPrices, Prices}
 use Rattle.cost_model.specs.declared.facts.LinkFacts.{LinkFacts}
 use Rattle.cost_model.specs.declared.parts.Parts.{Parts}

@@ -1,21 +1,17 @@
 -- The turns of a map get the prices of a ride.
-use Rattle.std.proofs.Common.{◌≡◌, ◌≢◌, ℕ, ◌+◌, ◌<◌, ◌≤◌, inl, inr, Bool, true, false, List, [], ◌∷◌, ◌++◌, length, get_or, refl, sym, ap, ◌∙◌, subst, arith}
+use Rattle.std.proofs.Common.{◌≡◌, ℕ, ◌+◌, ◌<◌, inl, inr, true, List, [], ◌∷◌, ◌++◌, length, get_or, sym, ap, ◌∙◌, subst, arith}
 use Rattle.std.proofs.lemmas.Bool.{cases_eq}
 use Rattle.std.proofs.lemmas.List.{get_or_default}
 use Rattle.overpass_graph.specs.Roads.{Roads}
 use Rattle.cost_model.specs.OpenLinks.{is_passable}
 use Rattle.cost_model.specs.declared.facts.LinkFacts.{LinkFacts}
-use Rattle.link_hierarchy.specs.Arcs.{Covers, HasArc, arc_from, arcs_of}
+use Rattle.link_hierarchy.specs.Arcs.{Covers, arc_from}
 use Rattle.link_hierarchy.specs.declared.arcs.Arc.{Arc}
 use Rattle.link_hierarchy.specs.Topologies.{Topology}
 use Rattle.ride_bounds.specs.Arcs.{AreRideArcs, AreRideArcsTo, IsRideArc, turn_weight}
 use Rattle.ride_bounds.specs.Orders.{Order, link_at}
 use Rattle.ride_bounds.specs.Turns.{AreTurns, IsTurn}
 use Rattle.ride_bounds.proofs.ArcLemmas.{arc-cases, arc-last, arc-stays}
-
--- true isn't false
-true-false : true ≡ false → ⊥
-true-false same = cc
 
 module _ (roads : Roads) (facts : ℕ → LinkFacts) (order : Order) (turns : List Arc) (are_turns : AreTurns roads order turns) where
   -- no turn has its price
@@ -33,20 +29,6 @@ module _ (roads : Roads) (facts : ℕ → LinkFacts) (order : Order) (turns : Li
     there-is x y number same there =
         sym turn_is ∙ get_or_default turns count (arc_from 0 0 0) (arc_from x y 0) some
         ∙ ap (λ n. get_or turns n (arc_from x y 0)) (sym same) ∙ there
-
-    -- the next turn leads into a link that is closed
-    pub prices-closed : is_passable (facts (link_at order turn.to)) ≡ false → AreRideArcsTo roads facts order turns (count + 1) priced
-    prices-closed closed = record {
-      within = omega (arith, some);
-      only = are.only;
-      all = λ number x y price below there is.
-          elim (cases_eq number count) [
-            | inl same ↦
-                let y_is : turn.to ≡ y = ap (λ (a : Arc). a.to) (there-is x y number same there) in
-                absurd (true-false (sym is.passable ∙ ap (λ n. is_passable (facts (link_at order n))) (sym y_is) ∙ closed))
-            | inr other ↦ are.all number x y price (omega (arith, below, other)) there is
-          ];
-    }
 
     -- the next turn is one of the map
     pub turn-there : IsTurn roads order turn.from turn.to

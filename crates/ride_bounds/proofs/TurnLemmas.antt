@@ -1,12 +1,12 @@
 -- The turns of a map are collected.
-use Rattle.std.proofs.Common.{◌≡◌, ◌≢◌, ℕ, ◌+◌, ◌<◌, ◌≤◌, inl, inr, List, [], ◌∷◌, ◌++◌, length, get_or, refl, sym, ap, ◌∙◌, subst, arith}
+use Rattle.std.proofs.Common.{◌≡◌, ◌≢◌, ℕ, ◌+◌, ◌<◌, ◌≤◌, inl, inr, List, [], ◌∷◌, ◌++◌, length, get_or, sym, ap, ◌∙◌, subst, arith}
 use Rattle.std.proofs.lemmas.Bool.{cases_eq}
 use Rattle.overpass_graph.specs.Roads.{Roads, out_links}
 use Rattle.overpass_graph.proofs.CallerLemmas.{out-sound, out-whole}
-use Rattle.link_hierarchy.specs.Arcs.{AreWithin, HasArc, arc_from}
+use Rattle.link_hierarchy.specs.Arcs.{AreWithin, arc_from}
 use Rattle.link_hierarchy.specs.declared.arcs.Arc.{Arc}
 use Rattle.ride_bounds.specs.Orders.{IsOrder, Order, link_at, place_of}
-use Rattle.ride_bounds.specs.Turns.{AreTurns, AreTurnsTo, IsTurn, StandsBefore}
+use Rattle.ride_bounds.specs.Turns.{AreTurns, AreTurnsTo, IsTurn}
 use Rattle.ride_bounds.proofs.ArcLemmas.{arc-cases, arc-last, arc-stays}
 
 module _ (roads : Roads) (order : Order) (is_order : IsOrder order) (counted : length order.links ≡ roads.links) where
@@ -48,30 +48,6 @@ module _ (roads : Roads) (order : Order) (is_order : IsOrder order) (counted : l
 
     module _ (second : ℕ) (some : next < length (out_links roads (roads.to (link_at order place))))
         (second_is : second ≡ get_or (out_links roads (roads.to (link_at order place))) next 0) where
-      -- the next one of a link goes back
-      pub turns-back : roads.to second ≡ roads.from (link_at order place) → AreTurnsTo roads order place (next + 1) turns
-      turns-back back = record {
-        inside = are.inside;
-        only = are.only;
-        passed = λ x y turn passed.
-            elim passed [
-              | inl below ↦ are.passed x y turn (inl below)
-              | inr here ↦
-                  elim (cases_eq here.1.place next) [
-                    | inl last ↦
-                        let link_is : link_at order y ≡ second =
-                        sym here.1.is ∙ ap (λ n. get_or (out_links roads (roads.to (link_at order place))) n 0) last ∙ sym second_is in
-                        absurd (turn.leads.ahead (ap roads.to link_is ∙ back ∙ sym (ap (λ n. roads.from (link_at order n)) here.0)))
-                    | inr other ↦
-                        are.passed x y turn
-                        (inr (
-                          here.0,
-                          record { place = here.1.place; before = omega (arith, here.1.before, other); is = here.1.is },
-                        ))
-                  ]
-            ];
-      }
-
       -- it is a turn
       pub turn-is : roads.to second ≢ roads.from (link_at order place) → IsTurn roads order place (place_of order second)
       turn-is ahead =

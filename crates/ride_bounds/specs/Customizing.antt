@@ -1,5 +1,5 @@
 -- The weights of a map's hierarchy for a ride (this project's own rule).
-use Rattle.std.specs.Prelude.{ℕ, length}
+use Rattle.std.specs.Prelude.{ℕ}
 use Rattle.overpass_graph.specs.Roads.{Roads}
 use Rattle.cost_model.specs.declared.facts.LinkFacts.{LinkFacts}
 use Rattle.link_hierarchy.specs.Customizing.{IsCustomization}

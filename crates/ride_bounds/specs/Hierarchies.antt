@@ -1,5 +1,5 @@
 -- The hierarchy of a map's links (this project's own rule).
-use Rattle.std.specs.Prelude.{◌≡◌, ℕ, ◌<◌, ◌≤◌, length}
+use Rattle.std.specs.Prelude.{◌≡◌, ◌≤◌, length}
 use Rattle.item_list.specs.Pages.{numbers_of}
 use Rattle.overpass_graph.specs.Roads.{Roads}
 use Rattle.link_hierarchy.specs.Arcs.{Covers}

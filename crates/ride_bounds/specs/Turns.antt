@@ -1,5 +1,5 @@
 -- The turns of a map, between places of an order of its links (this project's own rule).
-use Rattle.std.specs.Prelude.{◌≡◌, ◌≢◌, ℕ, ◌<◌, ◌≤◌, ◌⊎◌, List, length, get_or}
+use Rattle.std.specs.Prelude.{◌≡◌, ◌≢◌, ℕ, ◌<◌, ◌≤◌, ◌⊎◌, List, get_or}
 use Rattle.overpass_graph.specs.Roads.{Roads, out_links}
 use Rattle.overpass_graph.specs.Walks.{Joins}
 use Rattle.link_hierarchy.specs.Arcs.{HasArc, arcs_of}

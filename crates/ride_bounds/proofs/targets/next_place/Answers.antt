@@ -1,4 +1,4 @@
-use Rattle.std.proofs.Common.{◌≡◌, ℕ, ◌<◌, ◌≤◌, List, length, get_or, sym, ap, ◌∙◌, subst, arith}
+use Rattle.std.proofs.Common.{ℕ, ◌<◌, List, length, get_or, sym, ap, ◌∙◌, subst, arith}
 use Rattle.overpass_graph.specs.Maps.{roads_of}
 use Rattle.overpass_graph.specs.Roads.{out_links, twin_of}
 use Rattle.ride_bounds.specs.Orders.{place_of}

@@ -1,13 +1,12 @@
-use Rattle.std.proofs.Common.{◌≡◌, ◌≢◌, ℕ, ◌+◌, ◌<◌, ◌≤◌, List, [], ◌∷◌, ◌++◌, length, get_or, sym, ap, ◌∙◌, subst, arith}
+use Rattle.std.proofs.Common.{ℕ, ◌+◌, ◌<◌, List, [], ◌∷◌, ◌++◌, length, get_or, sym, ap, ◌∙◌, subst, arith}
 use Rattle.overpass_graph.specs.Maps.{link_of, roads_of}
 use Rattle.overpass_graph.specs.Roads.{out_links}
 use Rattle.overpass_graph.specs.declared.link.Link.{Link}
 use Rattle.overpass_graph.proofs.CallerLemmas.{out-sound}
 use Rattle.link_hierarchy.specs.Arcs.{arc_from}
 use Rattle.link_hierarchy.specs.declared.arcs.Arc.{Arc}
-use Rattle.ride_bounds.specs.Orders.{link_at}
 use Rattle.ride_bounds.specs.Turns.{AreTurnsTo}
-use Rattle.ride_bounds.proofs.TurnLemmas.{turns-back, turns-more, turns-next}
+use Rattle.ride_bounds.proofs.TurnLemmas.{turns-more, turns-next}
 use Rattle.ride_bounds.proofs.collecting.Collecting.look.Goals as goal
 
 pub returns-then-self-leaving : goal.returns-then-self-leaving

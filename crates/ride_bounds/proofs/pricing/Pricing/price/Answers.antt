@@ -1,4 +1,4 @@
-use Rattle.std.proofs.Common.{◌≡◌, ◌<◌, ◌+◌, List, [], ◌∷◌, ◌++◌, length, sym, ap, ◌∙◌, subst, arith}
+use Rattle.std.proofs.Common.{◌<◌, ◌+◌, List, [], ◌∷◌, ◌++◌, length, sym, ap, ◌∙◌, subst, arith}
 use Rattle.std.proofs.lemmas.List.{get_or_read}
 use Rattle.overpass_graph.specs.Maps.{roads_of}
 use Rattle.cost_model.specs.Facts.{AreFacts}
@@ -9,8 +9,7 @@ use Rattle.link_hierarchy.specs.declared.arcs.Arc.{Arc}
 use Rattle.ride_bounds.specs.Arcs.{AreRideArcsTo}
 use Rattle.ride_bounds.specs.Entries.{least_entry, weight_of}
 use Rattle.ride_bounds.specs.Orders.{link_at}
-use Rattle.ride_bounds.specs.Turns.{IsTurn}
-use Rattle.ride_bounds.proofs.PriceLemmas.{prices-closed, prices-more, turn-there}
+use Rattle.ride_bounds.proofs.PriceLemmas.{prices-more, turn-there}
 use Rattle.ride_bounds.proofs.pricing.Pricing.price.Goals as goal
 
 pub link-requires : goal.link-requires
