@@ -160,9 +160,9 @@ module _ (links places : List ℕ) (p q a b : ℕ) (is : IsOrder (record { links
               | inr not_first ↦
                   ap (λ n. get_or stand n 0) (at-others k not_first not_second)
                   ∙ (of-others (get_or links k 0)
-                      (λ e. not_first (sym (is.place_is k inside) ∙ (ap (λ n. get_or places n 0) e ∙ a-place)))
-                      (λ e. not_second (sym (is.place_is k inside) ∙ (ap (λ n. get_or places n 0) e ∙ b-place)))
-                    ∙ is.place_is k inside)
+                  (λ e. not_first (sym (is.place_is k inside) ∙ (ap (λ n. get_or places n 0) e ∙ a-place)))
+                  (λ e. not_second (sym (is.place_is k inside) ∙ (ap (λ n. get_or places n 0) e ∙ b-place)))
+                  ∙ is.place_is k inside)
             ]
       ]
 
@@ -178,9 +178,9 @@ module _ (links places : List ℕ) (p q a b : ℕ) (is : IsOrder (record { links
               | inr not_first ↦
                   ap (λ n. get_or after n 0) (of-others x not_first not_second)
                   ∙ (at-others (get_or places x 0)
-                      (λ e. not_first (sym (is.link_is x inside) ∙ (ap (λ n. get_or links n 0) e ∙ sym a_is)))
-                      (λ e. not_second (sym (is.link_is x inside) ∙ (ap (λ n. get_or links n 0) e ∙ sym b_is)))
-                    ∙ is.link_is x inside)
+                  (λ e. not_first (sym (is.link_is x inside) ∙ (ap (λ n. get_or links n 0) e ∙ sym a_is)))
+                  (λ e. not_second (sym (is.link_is x inside) ∙ (ap (λ n. get_or links n 0) e ∙ sym b_is)))
+                  ∙ is.link_is x inside)
             ]
       ]
 

@@ -14,6 +14,10 @@ link_at order place = get_or order.links place 0
 abbrev pub place_of : Order → ℕ → ℕ
 place_of order link = get_or order.places link 0
 
+-- each item of a list is a place of the other one, where its own place stands
+abbrev pub LeadsBack : List ℕ → List ℕ → ℕ → Type 0
+LeadsBack there back count = (k : ℕ) → k < count → (get_or there k 0 < length back) × (get_or back (get_or there k 0) 0 ≡ k)
+
 -- both lists are as long, and inverse to each other: each link has one place, and each place one link
 pub record IsOrder (order : Order) : Type 0 where
   pub few : length order.links < 2 ^ 32

@@ -1,7 +1,7 @@
 //! An order of links.
 
-ghost use Rattle.std.specs.Prelude.{◌≡◌, ◌<◌, IfOk, length};
-ghost use Rattle.link_order.specs.Orders.{IsOrder, link_at, place_of};
+ghost use Rattle.std.specs.Prelude.{◌≡◌, ◌<◌, IfOk, IfSome, IsTrue, length};
+ghost use Rattle.link_order.specs.Orders.{IsOrder, LeadsBack, link_at, place_of};
 
 use crate::lists::ascending;
 use std::alloc::{AllocError, Global};
@@ -42,6 +42,17 @@ impl LinkOrder {
         let links = ascending(alloc, count)?;
         let places = ascending(alloc, count)?;
         Ok(LinkOrder { links, places })
+    }
+
+    /// The order of these lists, where both are as long and inverse to each other.
+    pub fn of_lists(links: Vec<u32>, places: Vec<u32>) -> Option<LinkOrder>
+        ensures value { IfSome result (λ order. order.links ≡ links.items) }
+    {
+        if are_inverse(links.as_slice(), places.as_slice()) {
+            Some(LinkOrder { links, places })
+        } else {
+            None
+        }
     }
 
     /// How many links there are.
@@ -85,4 +96,27 @@ impl LinkOrder {
         self.places[a as usize] = second;
         self.places[b as usize] = first;
     }
+}
+
+/// Whether two lists are as long, not too long, and inverse to each other.
+fn are_inverse(links: &[u32], places: &[u32]) -> bool
+    ensures sound { IsTrue result → IsOrder (record { links = links.now; places = places.now }) }
+{
+    links.len() == places.len()
+        && links.len() < 0x1_0000_0000
+        && leads_back(links, places)
+        && leads_back(places, links)
+}
+
+/// Whether each item of a list is a place of the other one, where its own place stands.
+fn leads_back(there: &[u32], back: &[u32]) -> bool
+    ensures sound { IsTrue result → LeadsBack there.now back.now (length there.now) }
+{
+    'places: for place in 0..there.len() {
+        let at = there[place] as usize;
+        if at >= back.len() || back[at] as usize != place {
+            return false;
+        }
+    }
+    true
 }
