@@ -1,27 +1,8 @@
 -- Orders whose links change places, and the one by number.
-use Rattle.std.proofs.Common.{◌≡◌, ◌≢◌, ℕ, ◌+◌, ◌<◌, ◌≤◌, ◌^◌, inl, inr, List, [], ◌∷◌, ◌++◌, length, get_or, set, sym, ap, ◌∙◌, subst, refl, arith}
-use Rattle.std.proofs.lemmas.Bool.{cases_eq, cases_lt}
-use Rattle.std.proofs.lemmas.List.{get_or-set_same, get_or-set_other, get_or_append_left, get_or_push, length-set, length_push}
-use Rattle.link_order.specs.Orders.{AreAscending, IsOrder, Order, link_at, place_of}
-
--- the numbers below 0
-pub ascending-none : AreAscending 0 []
-ascending-none = record { counted = refl; is = λ k below. absurd (omega (arith, below)) }
-
--- one more number
-pub ascending-push : (count : ℕ) (numbers : List ℕ) → AreAscending count numbers → AreAscending (count + 1) (numbers ++ count ∷ [])
-ascending-push count numbers are =
-    let long = length_push numbers count in
-    record {
-      counted = omega (arith, long, are.counted);
-      is = λ k below.
-          elim (cases_lt k (length numbers)) [
-            | inl old ↦ get_or_append_left numbers (count ∷ []) 0 k old ∙ are.is k (omega (arith, old, are.counted))
-            | inr last ↦
-                let same : length numbers ≡ k = omega (arith, below, last, are.counted) in
-                get_or_push numbers count 0 k same ∙ (sym are.counted ∙ same)
-          ];
-    }
+use Rattle.std.proofs.Common.{◌≡◌, ◌≢◌, ℕ, ◌<◌, ◌^◌, inl, inr, List, length, get_or, set, sym, ap, ◌∙◌, subst, arith}
+use Rattle.std.proofs.lemmas.Bool.{cases_eq}
+use Rattle.std.proofs.lemmas.List.{get_or-set_same, get_or-set_other, length-set}
+use Rattle.link_order.specs.Orders.{AreAscending, IsOrder}
 
 -- links by number are in an order
 pub ascending-order : (count : ℕ) (links places : List ℕ) → count < 2 ^ 32 → AreAscending count links → AreAscending count places →

@@ -1,6 +1,6 @@
 //! Trees and chains of degree two leave a map, so that its junctions are left.
 
-ghost use Rattle.std.specs.Prelude.{◌≡◌, OnOk, length};
+ghost use Rattle.std.specs.Prelude.{◌≡◌, length};
 
 use crate::lists::{NONE, at, filled, put};
 use crate::placing::Placing;

@@ -1,6 +1,6 @@
 //! The order of a map's links, worked out in steps.
 
-ghost use Rattle.std.specs.Prelude.{◌≡◌, ◌<◌, ℕ, IfOk, OnOk, false, length};
+ghost use Rattle.std.specs.Prelude.{◌≡◌, ◌<◌, IfOk, OnOk, false, length};
 ghost use Rattle.item_list.specs.Turns.{Says};
 ghost use Rattle.link_order.specs.Orderings.{IsOrderOf, OrdersOn, left_of, links_of, most_left};
 

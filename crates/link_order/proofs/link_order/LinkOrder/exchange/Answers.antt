@@ -1,4 +1,4 @@
-use Rattle.std.proofs.Common.{◌≡◌, ◌<◌, length, ◌∙◌, arith}
+use Rattle.std.proofs.Common.{◌<◌, length, ◌∙◌, arith}
 use Rattle.std.proofs.lemmas.Grind.{get_or_default_zero}
 use Rattle.link_order.proofs.OrderLemmas.{exchanged-order}
 use Rattle.link_order.proofs.link_order.LinkOrder.exchange.Goals as goal
