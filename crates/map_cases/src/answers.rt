@@ -6,7 +6,7 @@ use crate::map::pieces::{by_sizes, cuts, fronts, told_by_piece};
 use crate::map::shown::counts_of;
 use crate::near::nearest;
 use crate::sums::{all_sums, near_sums};
-use crate::{bounds, certificates, class, reaches, space, track};
+use crate::{bounds, certificates, class, orders, reaches, space, track};
 use case_inputs::{Case, map_of, place_of};
 use overpass_graph::Map;
 use std::alloc::{AllocError, Global};
@@ -26,7 +26,7 @@ const ON_TEXTS: [&str; 7] = [
 ];
 
 /// The calls on a map, whose text is the first word behind them.
-const ON_MAPS: [&str; 21] = [
+const ON_MAPS: [&str; 22] = [
     "map_cut",
     "map_counts",
     "near",
@@ -48,6 +48,7 @@ const ON_MAPS: [&str; 21] = [
     "costs_counted",
     "within_counted",
     "bounds",
+    "order",
 ];
 
 /// The answer to a case.
@@ -87,6 +88,7 @@ fn by_call(alloc: Global, case: &Case, map: &Map, call: usize) -> Result<String,
         8..=11 => space::answer(alloc, case, map),
         16..=19 => reaches::answer(alloc, case, map),
         20 => bounds::answer(alloc, case, map),
+        21 => orders::answer(alloc, case, map),
         _ => certificates::answer(alloc, case, map),
     }
 }

@@ -12,8 +12,9 @@ use crate::track::facts::given_by_words;
 use case_inputs::Case;
 use cost_model::FactsOf;
 use link_hierarchy::Weights;
+use link_order::LinkOrder;
 use overpass_graph::Map;
-use ride_bounds::{LegBound, LinkOrder, MapHierarchy, map_hierarchy, ride_weights};
+use ride_bounds::{LegBound, MapHierarchy, map_hierarchy, ride_weights};
 use std::alloc::{AllocError, Global};
 
 /// More steps than the maps of cases take.

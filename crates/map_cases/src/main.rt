@@ -11,6 +11,7 @@ mod class;
 mod given;
 mod map;
 mod near;
+mod orders;
 mod reaches;
 mod space;
 mod sums;

@@ -14,7 +14,7 @@ use Rattle.ride_bounds.specs.Bounds.{IsLinkBound, bound_of, millionths_of, targe
 use Rattle.ride_bounds.specs.Customizing.{AreRideWeights}
 use Rattle.ride_bounds.specs.Entries.{least_entry, weight_of}
 use Rattle.ride_bounds.specs.Hierarchies.{IsMapHierarchy}
-use Rattle.ride_bounds.specs.Orders.{IsOrder, link_at, place_of}
+use Rattle.link_order.specs.Orders.{IsOrder, link_at, place_of}
 use Rattle.ride_bounds.specs.Turns.{LeadsOn}
 use Rattle.ride_bounds.specs.declared.hierarchy.MapHierarchy.{MapHierarchy}
 use Rattle.ride_bounds.proofs.EntryLemmas.{weight-below}

@@ -9,7 +9,7 @@ use Rattle.link_hierarchy.specs.Arcs.{Covers, arc_from}
 use Rattle.link_hierarchy.specs.declared.arcs.Arc.{Arc}
 use Rattle.link_hierarchy.specs.Topologies.{Topology}
 use Rattle.ride_bounds.specs.Arcs.{AreRideArcs, AreRideArcsTo, IsRideArc, turn_weight}
-use Rattle.ride_bounds.specs.Orders.{Order, link_at}
+use Rattle.link_order.specs.Orders.{Order, link_at}
 use Rattle.ride_bounds.specs.Turns.{AreTurns, IsTurn}
 use Rattle.ride_bounds.proofs.ArcLemmas.{arc-cases, arc-last, arc-stays}
 

@@ -7,7 +7,7 @@ use Rattle.link_hierarchy.specs.Rows.{IsSorted}
 use Rattle.link_hierarchy.specs.Walks.{Holds}
 use Rattle.link_hierarchy.proofs.CallerLemmas.{sorted-more, sorted-none}
 use Rattle.ride_bounds.specs.Bounds.{IsNext, IsNextOf, targets_of}
-use Rattle.ride_bounds.specs.Orders.{IsOrder, Order, link_at, place_of}
+use Rattle.link_order.specs.Orders.{IsOrder, Order, link_at, place_of}
 
 -- a number with the value is the next place
 places-hit : (key : ℕ → ℕ) (v n : ℕ) → key n ≡ v → places_below key v (suc n) ≡ places_below key v n ++ n ∷ []

@@ -5,7 +5,7 @@ use Rattle.overpass_graph.specs.Roads.{Roads, out_links}
 use Rattle.overpass_graph.proofs.CallerLemmas.{out-sound, out-whole}
 use Rattle.link_hierarchy.specs.Arcs.{AreWithin, arc_from}
 use Rattle.link_hierarchy.specs.declared.arcs.Arc.{Arc}
-use Rattle.ride_bounds.specs.Orders.{IsOrder, Order, link_at, place_of}
+use Rattle.link_order.specs.Orders.{IsOrder, Order, link_at, place_of}
 use Rattle.ride_bounds.specs.Turns.{AreTurns, AreTurnsTo, IsTurn}
 use Rattle.ride_bounds.proofs.ArcLemmas.{arc-cases, arc-last, arc-stays}
 

@@ -6,7 +6,7 @@ use Rattle.cost_model.specs.declared.facts.LinkFacts.{LinkFacts}
 use Rattle.link_hierarchy.specs.Arcs.{arc_from, arcs_of}
 use Rattle.link_hierarchy.specs.declared.arcs.Arc.{Arc}
 use Rattle.ride_bounds.specs.Entries.{least_entry, weight_of}
-use Rattle.ride_bounds.specs.Orders.{Order, link_at}
+use Rattle.link_order.specs.Orders.{Order, link_at}
 use Rattle.ride_bounds.specs.Turns.{IsTurn}
 
 -- the weight of a turn between two places

@@ -7,7 +7,7 @@ use Rattle.link_hierarchy.specs.LeastSums.{least_sum_of}
 use Rattle.link_hierarchy.specs.Potentials.{ArePotentials}
 use Rattle.link_hierarchy.specs.Topologies.{Weights}
 use Rattle.ride_bounds.specs.Entries.{least_entry}
-use Rattle.ride_bounds.specs.Orders.{Order, link_at, place_of}
+use Rattle.link_order.specs.Orders.{Order, link_at, place_of}
 use Rattle.ride_bounds.specs.Turns.{LeadsOn}
 use Rattle.ride_bounds.specs.declared.hierarchy.MapHierarchy.{MapHierarchy}
 use Rattle.ride_bounds.specs.declared.leg_bound.LegBound.{LegBound}

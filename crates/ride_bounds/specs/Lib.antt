@@ -1,4 +1,3 @@
-pub mod Orders
 pub mod Turns
 pub mod Entries
 pub mod Arcs

@@ -4,7 +4,7 @@ use Rattle.overpass_graph.specs.Roads.{Roads, out_links}
 use Rattle.overpass_graph.specs.Walks.{Joins}
 use Rattle.link_hierarchy.specs.Arcs.{HasArc, arcs_of}
 use Rattle.link_hierarchy.specs.declared.arcs.Arc.{Arc}
-use Rattle.ride_bounds.specs.Orders.{Order, link_at}
+use Rattle.link_order.specs.Orders.{Order, link_at}
 
 -- the second link leaves where the first arrives, and doesn't go back to where the first left
 pub record LeadsOn (roads : Roads) (first second : ℕ) : Type 0 where

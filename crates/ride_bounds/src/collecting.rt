@@ -5,8 +5,8 @@ ghost use Rattle.overpass_graph.specs.Maps.{roads_of};
 ghost use Rattle.ride_bounds.specs.Hierarchies.{IsCollecting, IsHolding};
 
 use crate::holding::Holding;
-use crate::order::LinkOrder;
 use link_hierarchy::{Arc, Rows};
+use link_order::LinkOrder;
 use overpass_graph::Map;
 use std::alloc::{AllocError, Global};
 

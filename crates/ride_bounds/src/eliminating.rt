@@ -5,8 +5,8 @@ ghost use Rattle.overpass_graph.specs.Maps.{roads_of};
 ghost use Rattle.ride_bounds.specs.Hierarchies.{IsEliminating, IsMapHierarchy};
 
 use crate::hierarchy::MapHierarchy;
-use crate::order::LinkOrder;
 use link_hierarchy::{Arc, Elimination};
+use link_order::LinkOrder;
 use overpass_graph::Map;
 use std::alloc::{AllocError, Global};
 

@@ -1,7 +1,7 @@
 //! The hierarchy of a map's links.
 
-use crate::order::LinkOrder;
 use link_hierarchy::{Arc, Topology};
+use link_order::LinkOrder;
 
 /// The hierarchy of a map's links: their order, the turns between their places, and what leads where.
 pub struct MapHierarchy {

@@ -9,8 +9,8 @@ use crate::collecting::Collecting;
 use crate::eliminating::Eliminating;
 use crate::hierarchy::MapHierarchy;
 use crate::holding::Holding;
-use crate::order::LinkOrder;
 use item_list::Turn;
+use link_order::LinkOrder;
 use overpass_graph::Map;
 use std::alloc::{AllocError, Global};
 

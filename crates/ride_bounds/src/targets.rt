@@ -4,7 +4,7 @@ ghost use Rattle.std.specs.Prelude.{◌≡◌, ◌<◌, ◌≤◌, ◌⊎◌, If
 ghost use Rattle.overpass_graph.specs.Maps.{roads_of};
 ghost use Rattle.ride_bounds.specs.Bounds.{IsNext, targets_of};
 
-use crate::order::LinkOrder;
+use link_order::LinkOrder;
 use overpass_graph::{Map, twin};
 use std::alloc::{AllocError, Global};
 

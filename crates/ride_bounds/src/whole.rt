@@ -7,11 +7,11 @@ ghost use Rattle.ride_bounds.specs.Hierarchies.{IsMapHierarchy};
 
 use crate::hierarchy::MapHierarchy;
 use crate::map_elimination::MapElimination;
-use crate::order::LinkOrder;
 use crate::ride_customization::RideCustomization;
 use cost_model::FactsOf;
 use item_list::Turn;
 use link_hierarchy::Weights;
+use link_order::LinkOrder;
 use overpass_graph::Map;
 use std::alloc::{AllocError, Global};
 

@@ -1,7 +1,7 @@
 use Rattle.std.proofs.Common.{ℕ, ◌<◌, List, length, get_or, sym, ap, ◌∙◌, subst, arith}
 use Rattle.overpass_graph.specs.Maps.{roads_of}
 use Rattle.overpass_graph.specs.Roads.{out_links, twin_of}
-use Rattle.ride_bounds.specs.Orders.{place_of}
+use Rattle.link_order.specs.Orders.{place_of}
 use Rattle.ride_bounds.proofs.TargetLemmas.{back-in, next-end, next-more}
 use Rattle.ride_bounds.proofs.targets.next_place.Goals as goal
 

@@ -1,6 +1,6 @@
 use Rattle.std.proofs.Common.{◌<◌, length, sym, ◌∙◌, arith}
 use Rattle.overpass_graph.specs.Maps.{roads_of}
-use Rattle.ride_bounds.specs.Orders.{link_at}
+use Rattle.link_order.specs.Orders.{link_at}
 use Rattle.ride_bounds.proofs.TargetLemmas.{places-none, targets-end, targets-more}
 use Rattle.ride_bounds.proofs.targets.targets.Goals as goal
 

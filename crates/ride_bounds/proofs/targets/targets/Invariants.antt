@@ -2,7 +2,7 @@ use Rattle.std.proofs.Common.{◌≡◌, ◌≤◌, ◌-◌, length}
 use Rattle.overpass_graph.specs.Maps.{roads_of}
 use Rattle.overpass_graph.specs.Roads.{places_below}
 use Rattle.ride_bounds.specs.Bounds.{IsNext}
-use Rattle.ride_bounds.specs.Orders.{link_at}
+use Rattle.link_order.specs.Orders.{link_at}
 use Rattle.ride_bounds.proofs.targets.targets.Given as goal
 
 abbrev pub invariant-targets : goal.invariant-targets

@@ -8,7 +8,7 @@ use Rattle.link_hierarchy.specs.Arcs.{arc_from}
 use Rattle.link_hierarchy.specs.declared.arcs.Arc.{Arc}
 use Rattle.ride_bounds.specs.Arcs.{AreRideArcsTo}
 use Rattle.ride_bounds.specs.Entries.{least_entry, weight_of}
-use Rattle.ride_bounds.specs.Orders.{link_at}
+use Rattle.link_order.specs.Orders.{link_at}
 use Rattle.ride_bounds.proofs.PriceLemmas.{prices-more, turn-there}
 use Rattle.ride_bounds.proofs.pricing.Pricing.price.Goals as goal
 

@@ -1,8 +1,10 @@
 //! An order of links.
 
-ghost use Rattle.std.specs.Prelude.{◌≡◌, ◌<◌, ◌≤◌, ◌^◌, IfSome, IsTrue, length};
-ghost use Rattle.ride_bounds.specs.Orders.{IsOrder, LeadsBack, link_at, place_of};
+ghost use Rattle.std.specs.Prelude.{◌≡◌, ◌<◌, IfOk, IfSome, IsTrue, length};
+ghost use Rattle.link_order.specs.Orders.{IsOrder, LeadsBack, link_at, place_of};
 
+use crate::lists::ascending;
+use std::alloc::{AllocError, Global};
 use std::marker::Model;
 
 /// For each place the link that stands there, and for each link its place. The first is the least
@@ -22,7 +24,7 @@ impl Drop for LinkOrder {
 }
 
 impl Model for LinkOrder {
-    ghost use Rattle.ride_bounds.specs.Orders.{IsOrder, Order};
+    ghost use Rattle.link_order.specs.Orders.{IsOrder, Order};
 
     ghost Value = { Order };
 
@@ -33,6 +35,15 @@ impl Model for LinkOrder {
 }
 
 impl LinkOrder {
+    /// So many links in the order of their numbers.
+    pub(crate) fn new(alloc: Global, count: u32) -> Result<LinkOrder, AllocError>
+        ensures counted { IfOk result (λ order. length order.links ≡ count) }
+    {
+        let links = ascending(alloc, count)?;
+        let places = ascending(alloc, count)?;
+        Ok(LinkOrder { links, places })
+    }
+
     /// The order of these lists, where both are as long and inverse to each other.
     pub fn of_lists(links: Vec<u32>, places: Vec<u32>) -> Option<LinkOrder>
         ensures value { IfSome result (λ order. order.links ≡ links.items) }
@@ -68,6 +79,22 @@ impl LinkOrder {
         ensures lawful { IsOrder self.now }
     {
         self.places[link as usize]
+    }
+
+    /// The links of two places are exchanged; nothing happens where there is no such place.
+    pub(crate) fn exchange(&mut self, first: u32, second: u32)
+        ensures counted { length self.new.links ≡ length self.old.links }
+    {
+        let (p, q) = (first as usize, second as usize);
+        if p >= self.links.len() || q >= self.links.len() {
+            return;
+        }
+        let a = self.links[p];
+        let b = self.links[q];
+        self.links[p] = b;
+        self.links[q] = a;
+        self.places[a as usize] = second;
+        self.places[b as usize] = first;
     }
 }
 

@@ -26,3 +26,8 @@ pub record IsOrder (order : Order) : Type 0 where
   pub place_in : (link : ℕ) → link < length order.links → place_of order link < length order.links
   pub place_is : (place : ℕ) → place < length order.links → place_of order (link_at order place) ≡ place
   pub link_is : (link : ℕ) → link < length order.links → link_at order (place_of order link) ≡ link
+
+-- the numbers below a count, in their order
+pub record AreAscending (count : ℕ) (numbers : List ℕ) : Type 0 where
+  pub counted : length numbers ≡ count
+  pub is : (k : ℕ) → k < count → get_or numbers k 0 ≡ k
