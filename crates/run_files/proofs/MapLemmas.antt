@@ -1,16 +1,14 @@
 -- What the file of a map comes to.
-use Rattle.std.proofs.Common.{◌≡◌, ℕ, Bool, true, false, List, ◌++◌, length, Result, Ok, Err, refl, sym, subst}
+use Rattle.std.proofs.Common.{◌≡◌, ℕ, Bool, true, false, List, Result, Err, refl, sym, subst}
 use Rattle.command_words.specs.Given.{Named}
 use Rattle.edge_io.specs.Files.{FailsToOpen, FilesSeen, Opens}
 use Rattle.edge_io.specs.Whole.{ReadsBytes}
 use Rattle.overpass_graph.specs.Maps.{MapValue}
-use Rattle.run_files.proofs.NoteLemmas.{noted-more}
 use Rattle.run_files.specs.File.{Asks}
 use Rattle.run_files.specs.File.{Asks as asks}
 use Rattle.run_files.specs.Limits.{most_map}
 use Rattle.run_files.specs.Map.{IsMapAnswer, TakesMap, map_notes}
 use Rattle.run_files.specs.Map.{TakesMap as takes}
-use Rattle.run_files.specs.NoteLines.{map_note, read_notes}
 use Rattle.run_files.specs.Notes.{Inputs, IsNoted, NotesSeen, inputs}
 use Rattle.run_files.specs.declared.status.Status.{Status}
 use Rattle.run_files.specs.declared.status.Status.TheVariants.{NotFound, ReadFault}

@@ -1,5 +1,5 @@
 -- Notes that follow one another.
-use Rattle.std.proofs.Common.{◌≡◌, ◌≤◌, ◌<◌, ℕ, zero, suc, ◌+◌, ◌*◌, ◌/◌, ◌∙◌, Bool, true, false, List, [], ◌∷◌, ◌++◌, length, take, drop, refl, sym, ap, subst, arith, append_assoc, length-append}
+use Rattle.std.proofs.Common.{◌≡◌, ◌≤◌, ◌<◌, ℕ, suc, ◌+◌, ◌/◌, ◌∙◌, Bool, true, false, List, [], ◌++◌, length, take, drop, refl, sym, ap, subst, arith, append_assoc, length-append}
 use Rattle.std.proofs.KnownBytes.{Appends-nil, Appends-trans}
 use Rattle.std.proofs.lemmas.List.{take-append-drop}
 use Rattle.std.specs.Io.KnownBytes.{Appends}
@@ -71,14 +71,6 @@ parts-more file before more first mid new small begins so_far next =
     subst (λ (n : ℕ). IsNoted (part_note file n) mid new) one next in
     subst (λ (n : ℕ). IsNoted (part_notes file n) first new) (sym one)
     (noted-more (read_notes file before) (part_note file (suc (before / part_size))) first mid new so_far last)
-
--- the notes on parts, where no other one begins
-pub parts-same : (file : Named) (before more : ℕ) (first new : NotesSeen) →
-    (before / part_size < (before + more) / part_size → ⊥) → IsNoted (read_notes file before) first new →
-    IsNoted (read_notes file (before + more)) first new
-parts-same file before more first new none so_far =
-    let same : before / part_size ≡ (before + more) / part_size = omega (arith, none) in
-    subst (λ (n : ℕ). IsNoted (part_notes file n) first new) same so_far
 
 -- the notes on bytes that were read, with a piece behind them
 pub read-more : (file : Named) (bytes piece : List ℕ) (before more : ℕ) (first mid new : NotesSeen) → before ≡ length bytes →

@@ -1,7 +1,6 @@
 -- What the bytes of a map's file come to, of which so many are taken (this project's own rule).
 use Rattle.std.specs.Prelude.{◌≡◌, ◌⊎◌, ℕ, ◌<◌, ◌≤◌, List, length, take, Option, Some, None, Result, Ok, Err}
 use Rattle.edge_io.specs.Faults.{CountRose}
-use Rattle.edge_io.specs.Files.{FilesSeen}
 use Rattle.edge_io.specs.Whole.{ReadsBytes}
 use Rattle.command_words.specs.Given.{Named}
 use Rattle.run_files.specs.NoteLines.{read_notes}

@@ -1,10 +1,9 @@
 -- Where the program notes what it does, and stages that note. This project's own rule.
-use Rattle.std.specs.Prelude.{ℕ, ◌≡◌, ◌&&◌, Bool, true, false, List, ◌++◌, Result, Ok, Err}
+use Rattle.std.specs.Prelude.{ℕ, ◌≡◌, ◌&&◌, Bool, true, false, List, ◌++◌, Ok, Err}
 use Rattle.std.specs.Io.KnownBytes.{Appends}
 use Rattle.edge_io.specs.Files.{FilesSeen}
 use Rattle.edge_io.specs.Sink.{SinkSeen}
 use Rattle.run_files.specs.Chain.{Stage, StageOver}
-use Rattle.run_files.specs.declared.status.Status.{Status}
 
 -- what is seen of where notes go: what the sink there shows, and whether notes are still written
 pub record NotesSeen : Type 0 where

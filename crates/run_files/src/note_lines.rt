@@ -1,7 +1,7 @@
 //! The lines that are noted of files.
 
-ghost use Rattle.std.specs.Prelude.{◌≡◌, ◌≤◌, ◌<◌, ◌+◌, ◌++◌, ◌^◌, IfOk, OnOk, decimal, codes};
-ghost use Rattle.run_files.specs.NoteLines.{digit, grouped, in_thousands, last_group, map_note, map_size, note_on, part_note, part_size, read_notes};
+ghost use Rattle.std.specs.Prelude.{◌≡◌, ◌≤◌, ◌<◌, ◌+◌, ◌++◌, ◌^◌, IfOk, OnOk};
+ghost use Rattle.run_files.specs.NoteLines.{digit, grouped, in_thousands, last_group, map_note, note_on, part_note, part_size, read_notes};
 ghost use Rattle.run_files.specs.Notes.{IsNoted, NotesSeen};
 
 use crate::notes::Notes;

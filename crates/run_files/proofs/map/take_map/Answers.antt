@@ -2,6 +2,7 @@ use Rattle.std.proofs.Common.{Err, subst}
 use Rattle.run_files.specs.Limits.{most_map}
 use Rattle.run_files.specs.MapReading.{CountsMapFault, IsReadAs, IsReadFrom}
 use Rattle.run_files.specs.declared.map_error.MapFileError.{MapFileError}
+use Rattle.run_files.specs.declared.status.Status.TheVariants.{Map}
 use Rattle.run_files.proofs.MapLemmas.{map-failed, map-missing, map-read}
 use Rattle.run_files.proofs.NoteLemmas.{noted-more}
 use Rattle.run_files.proofs.map.take_map.Goals as goal
@@ -51,7 +52,8 @@ returns-in-Err-TooLong g c = record {
 
 pub returns-in-Err-Map : goal.returns-in-Err-Map
 returns-in-Err-Map g c = record {
-  taken = map-read _ _ _ _ _ c.in-Err-Map.ensures.kept.bytes _ _ _ _ c.name.ensures.exact c.in-Ok-true.field-0-test
+  taken = rw c.in-Err-Map.field-0-is (map-read c.args.file.now (g.F.Files.seen c.args.files.now) c.args.notes.now _ _ c.in-Err-Map.ensures.kept.bytes _ _ _
+      (Err (Map c.word-word.result c.in-Err-Map.error)) c.name.ensures.exact c.in-Ok-true.field-0-test
       c.in-Ok-true.ensures.found c.in-Err-Map.ensures.kept.how (
         c.word-word.ensures.exact,
         subst (λ (e : MapFileError). IsReadAs most_map c.in-Err-Map.ensures.kept.bytes (Err e)) c.in-Err-Map.field-0-is c.in-Err-Map.ensures.kept.is,
@@ -59,7 +61,7 @@ returns-in-Err-Map g c = record {
             c.in-Err-Map.ensures.exact,
         subst (λ (e : MapFileError). CountsMapFault (g.F.Files.seen c.open.new.self).faults (g.F.Files.seen c.read_map.new.files).faults
             (Err e)) c.in-Err-Map.field-0-is c.in-Err-Map.ensures.cause,
-      ) c.in-Err-Map.ensures.kept.noted;
+      ) c.in-Err-Map.ensures.kept.noted);
 }
 
 pub returns-in-Err-NoMemory : goal.returns-in-Err-NoMemory

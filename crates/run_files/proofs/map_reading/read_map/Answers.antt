@@ -71,7 +71,7 @@ returns-in-Err-clause-kept g c =
     (read-fault (Unit {0}) _ _ (Some _) (Some []) _ _ _ c.reading.invariant.held (sym (append-nil _))
     (subst (λ (l : List ℕ). OnFault {T = Unit {0}} (Err c.in-Err.error) (IsFaultOfBeginning (c.reading.invariant.bytes ++ l)))
     c.within.ensures.exact (c.in-Err.ensures.exact _ c.reading.invariant.stands)))
-    (read-more _ c.reading.invariant.bytes _ _ _ _ _ _ (omega (arith, c.reading.invariant.held))
+    (read-more c.args.file.now c.reading.invariant.bytes _ _ _ _ _ _ (omega (arith, c.reading.invariant.held))
     (length-take-le _ _ c.in_ok-given.ensures.fits) c.note_part.ensures.noted c.reading.invariant.noted)
 
 pub returns-in-Err-clause-cause : goal.returns-in-Err-clause-cause
@@ -95,7 +95,7 @@ returns-then-given-room-clause-kept g c =
     (omega (arith, c.if-given-room.true, length-take-le _ _ c.in_ok-given.ensures.fits)) (sym (append-nil _))
     (subst (λ (l : List ℕ). MayBecomeMap (c.reading.invariant.bytes ++ l)) c.within.ensures.exact
     (c.in-Ok.ensures.found _ c.reading.invariant.stands)))
-    (read-more _ c.reading.invariant.bytes _ _ _ _ _ _ (omega (arith, c.reading.invariant.held))
+    (read-more c.args.file.now c.reading.invariant.bytes _ _ _ _ _ _ (omega (arith, c.reading.invariant.held))
     (length-take-le _ _ c.in_ok-given.ensures.fits) c.note_part.ensures.noted c.reading.invariant.noted)
 
 -- a piece was fed
@@ -122,7 +122,7 @@ reading-preserved g c =
         length-append c.reading.invariant.bytes (take c.in_ok-given.given c.read.new.buf),
       );
       is_open = c.in_ok-given.ensures.found.is_open ∙ c.reading.invariant.is_open;
-      noted = read-more _ c.reading.invariant.bytes _ _ _ _ _ _ (omega (arith, c.reading.invariant.held))
+      noted = read-more c.args.file.now c.reading.invariant.bytes _ _ _ _ _ _ (omega (arith, c.reading.invariant.held))
           (length-take-le _ _ c.in_ok-given.ensures.fits) c.note_part.ensures.noted c.reading.invariant.noted;
       read = HasRead-more _ _ _ _ _ _ _ refl (omega (arith, c.if-given-eq0.false)) c.in_ok-given.ensures.fits c.reading.invariant.read
           c.in_ok-given.ensures.found;

@@ -1,6 +1,6 @@
 -- Making a profile ready, by what is kept of a hall.
 use Rattle.std.proofs.Common.{◌≡◌, ◌<◌, ◌∙◌, ap, length, subst, sym}
-use Rattle.hall.specs.State.{State, empty_hall}
+use Rattle.hall.specs.State.{empty_hall}
 use Rattle.hall.specs.View.{HallValue, service_of, state_of}
 use Rattle.session_answers.specs.Warming.{MakesReady}
 use Rattle.hall.proofs.hall.Hall.make_ready.Goals as goal
