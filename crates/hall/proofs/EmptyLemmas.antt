@@ -46,7 +46,7 @@ entries_none entries none x rest is = go (x.id == x.id) (eq-eqb x.id x.id refl)
     (ap (λ (l : List Entry). known_at l x.id) (sym is) ∙ none x.id)
   where
     go : (b : Bool) → b ≡ true → (if b then Some x.known else known_at rest x.id) ≡ None → ⊥
-    go true yes same = absurd (cc)
+    go true test same = absurd (cc)
     go false clash same = absurd (cc)
 
 -- nobody is held
