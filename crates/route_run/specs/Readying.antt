@@ -1,5 +1,5 @@
 -- The profiles of a server that are made ready before it listens, each noted. This project's own rule.
-use Rattle.std.specs.Prelude.{◌≡◌, ℕ, suc, List, [], ◌∷◌, Result, Ok, Err, codes, take}
+use Rattle.std.specs.Prelude.{◌≡◌, ℕ, ◌+◌, List, [], ◌∷◌, Result, Ok, Err, codes, take}
 use Rattle.command_words.specs.Given.{Named}
 use Rattle.route_ready.specs.Worlds.{WorldValue}
 use Rattle.route_ready.specs.declared.error.RouteError.{RouteError}
@@ -34,7 +34,7 @@ abbrev pub ReadiesFrom :
     (world : WorldValue) (stored : List Stored) (place : ℕ) (files : List Named) (old new : NotesSeen) → Type 0
 ReadiesFrom world stored place [] old new = new ≡ old
 ReadiesFrom world stored place (file ∷ files) old new =
-    Readies world stored place file (λ between. ReadiesFrom world stored (suc place) files between new) old
+    Readies world stored place file (λ between. ReadiesFrom world stored (place + 1) files between new) old
 
 -- the profiles of the first of these files are, as many as are kept
 abbrev pub ReadiesFirst :

@@ -3,7 +3,7 @@
 ghost use Rattle.std.specs.Prelude.{◌≡◌, ◌≤◌, length, IfOk};
 ghost use Rattle.hall.specs.View.{service_of, state_of};
 ghost use Rattle.route_run.specs.Offer.{IsNew, offer_of};
-ghost use Rattle.route_run.specs.Readying.{ReadiesFirst, ready_note};
+ghost use Rattle.route_run.specs.Readying.{ReadiesFirst, ReadiesFrom, most_ready, ready_note};
 ghost use Rattle.run_files.specs.Notes.{IsNoted};
 
 use command_words::FileWord;
@@ -11,13 +11,11 @@ use edge_io::Sink;
 use hall::Hall;
 use route_ready::RouteError;
 use run_files::{Notes, note_on};
+use session_answers::MOST_KEPT;
 use std::alloc::Global;
 
-/// How many profiles are made ready at most: as many as are kept.
-const MOST_READY: usize = 8;
-
-/// Makes the profiles of the first of these files ready, in the order in which they are stored, and
-/// notes each.
+/// Makes the profiles of the first of these files ready, as many as are kept, in the order in which
+/// they are stored, and notes each.
 pub fn make_ready<N: Sink>(
     alloc: Global,
     hall: &mut Hall,
@@ -30,8 +28,29 @@ pub fn make_ready<N: Sink>(
         profiles.now notes.old notes.new }
     ensures same { offer_of hall.new ≡ offer_of hall.old }
 {
-    let count = profiles.len().min(MOST_READY);
-    'profiles: for place in 0..count {
+    if profiles.len() > MOST_KEPT {
+        make_each_ready(alloc, hall, &profiles[..MOST_KEPT], notes);
+    } else {
+        make_each_ready(alloc, hall, profiles, notes);
+    }
+}
+
+/// Makes the profiles of all these files ready, in the order in which they are stored, and notes
+/// each.
+fn make_each_ready<N: Sink>(
+    alloc: Global,
+    hall: &mut Hall,
+    profiles: &[FileWord],
+    notes: &mut Notes<N>,
+)
+    requires few { length profiles.now ≤ most_ready }
+    requires new { IsNew (offer_of hall.old) }
+    requires stored { length profiles.now ≤ length (state_of hall.old).stored }
+    ensures readied { ReadiesFrom (service_of hall.old).world (state_of hall.old).stored 0
+        profiles.now notes.old notes.new }
+    ensures same { offer_of hall.new ≡ offer_of hall.old }
+{
+    'profiles: for place in 0..profiles.len() {
         let end = hall.make_ready(place as u32);
         note_ready(alloc, &profiles[place], &end, notes);
     }
