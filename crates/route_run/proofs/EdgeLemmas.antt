@@ -1,8 +1,8 @@
 -- What a command line comes to at the edge of the program.
-use Rattle.std.proofs.Common.{◌≡◌, ℕ, inl, inr, List, Option, Some, None, Result, Ok, Err, OnOk, OnErr, refl, subst}
+use Rattle.std.proofs.Common.{◌≡◌, ℕ, inl, inr, true, false, List, [], Option, Some, None, Result, Ok, Err, OnOk, OnErr, refl, subst}
 use Rattle.edge_io.specs.Files.{FilesSeen}
 use Rattle.edge_io.specs.Sink.{SinkSeen, Grows, BreaksOff}
-use Rattle.route_run.specs.Edge.{IsReplyBy, IsTelling, IsPrinted, IsTold}
+use Rattle.route_run.specs.Edge.{IsEnd, IsReplyBy, IsTelling, IsPrinted, IsTold, told_by}
 use Rattle.route_run.specs.Ends.{Ends}
 use Rattle.route_run.specs.Outcome.{Reach, reach}
 use Rattle.run_files.specs.Notes.{NotesSeen}
@@ -48,3 +48,17 @@ telling result lines status told bytes old new number is_told is whole front num
   line = subst (λ b. IsPrinted b old new) is (is_written result bytes old new whole front);
   number_is = number_is;
 }
+
+-- words that were read are answered, and behind the notes it is told how that ended
+pub end-read : (words : List (List ℕ)) (old : Reach) (files : FilesSeen) (out : SinkSeen) (hub : HubSeen) (noted said : NotesSeen)
+    (status : Status) (number : ℕ) → IsReplyBy words (told_of words) old (reach files out hub noted) status →
+    IsTelling (told_by true words) status noted.sink said.sink number → IsEnd (Ok words) old (reach files out hub said) number
+end-read words old files out hub noted said status number reply telling =
+    record { status = status; noted = noted; reply = reply; telling = telling }
+
+-- words that couldn't be read are told to be so
+pub end-unread : (refusal : Status) (files : FilesSeen) (out : SinkSeen) (hub : HubSeen) (notes said : NotesSeen) (number : ℕ) →
+    IsTelling (told_by false []) refusal notes.sink said.sink number →
+    IsEnd (Err refusal) (reach files out hub notes) (reach files out hub said) number
+end-unread refusal files out hub notes said number telling =
+    record { status = refusal; noted = notes; reply = (refl, refl); telling = telling }

@@ -1,5 +1,5 @@
 -- Profiles that are made ready one after the other.
-use Rattle.std.proofs.Common.{◌≡◌, ◌≤◌, ◌<◌, ℕ, ◌+◌, List, ◌∷◌, Result, Ok, Unit, drop, length, min, slice_index_or, sym, ap, subst, arith}
+use Rattle.std.proofs.Common.{◌≡◌, ◌≤◌, ◌<◌, ℕ, ◌+◌, List, ◌∷◌, Result, Ok, drop, length, min, slice_index_or, sym, ap, subst, arith}
 use Rattle.command_words.specs.Given.{Named}
 use Rattle.hall.specs.State.{State}
 use Rattle.route_ready.specs.Worlds.{WorldValue}

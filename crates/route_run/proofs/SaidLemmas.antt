@@ -120,8 +120,8 @@ serve-said : (command : ServeCommand) (old new : Reach) (begins : Inputs) (statu
     new.out.faults ≡ old.out.faults → Said (Ok (Form.TheVariants.Serve command)) old new status
 serve-said command old new begins status is (outcome.refused offers same) out =
     refusal-said (Ok (Form.TheVariants.Serve command)) old new status
-    (subst (λ (s : FilesSeen). Cause (Faulty (Ok (Form.TheVariants.Serve command))) (file_words (Ok (Form.TheVariants.Serve command))) s
-    new.files (Err {A = Offer} status)) is
+    (subst (λ (s : FilesSeen). RefusalCause (Faulty (Ok (Form.TheVariants.Serve command))) (file_words (Ok (Form.TheVariants.Serve command)))
+    s new.files status) is
     (offers-cause (Faulty (Ok (Form.TheVariants.Serve command))) command begins (inputs_in new) (Err status) offers)) out
     (ap (λ (s : HubSeen). s.faults) same)
 serve-said command old new begins status is (outcome.served {offer = offer} {between = between} offers to) out =

@@ -1,4 +1,4 @@
-use Rattle.std.proofs.Common.{◌≡◌, ◌≤◌, Ok, List, ap, length, refl, subst, sym, cc}
+use Rattle.std.proofs.Common.{◌≡◌, ◌≤◌, Ok, List, ap, length, refl, subst, sym}
 use Rattle.command_words.specs.Given.{Named}
 use Rattle.route_run.proofs.ReadyLemmas.{new-as}
 use Rattle.route_run.specs.Offer.{MakesReady, Offer, offer_of, offer_over}
