@@ -7,7 +7,6 @@ use Rattle.run_files.proofs.StageLemmas.{then-goes, then-stops}
 use Rattle.run_files.specs.Chain.{Settles}
 use Rattle.run_files.specs.Notes.{inputs}
 use Rattle.run_files.specs.World.{offered_of}
-use Rattle.hall.specs.View.{service_of, state_of}
 use Rattle.route_run.proofs.offer.readied.Goals as goal
 
 pub make_ready-requires : goal.make_ready-requires

@@ -1,5 +1,4 @@
-use Rattle.std.proofs.Common.{◌≤◌, List, Ok, length, refl, subst}
-use Rattle.command_words.specs.Given.{Named}
+use Rattle.std.proofs.Common.{Ok, refl}
 use Rattle.route_run.proofs.GivenLemmas.{world-given, world-many}
 use Rattle.route_run.specs.Offer.{serve_files}
 use Rattle.run_files.proofs.StageLemmas.{then-goes, then-stops}
