@@ -28,7 +28,7 @@ use Rattle.command_words.specs.declared.command.WithinCommand.{WithinCommand}
 use Rattle.command_words.specs.declared.completing.Sizes.{Sizes}
 use Rattle.command_words.specs.declared.rows.CommandName.{CommandName}
 use Rattle.command_words.specs.declared.rows.CommandName.TheVariants as Name
-use Rattle.command_words.specs.declared.rows.Key.TheVariants.{Seed, Width, Height, From, To, What, Lookups, Profile, Map, Tile, Listen, Turns, Hangup, Labels, Certificate, Cost, Bound}
+use Rattle.command_words.specs.declared.rows.Key.TheVariants.{Seed, Width, Height, From, To, What, Lookups, Profile, Map, Tile, Listen, Turns, Hangup, Labels, Certificate, Cost, Bound, Notes}
 use Rattle.command_words.specs.declared.value.Place.{Place}
 
 in_grid : (w h : ℕ) (place : Place) → lies_in w h place ≡ true → (place.x < w) × (place.y < h)
@@ -187,14 +187,14 @@ listen-fit (Some entry) fit word is =
 
 -- a server takes as many events as may be, a search of it settles as many labels, its profiles have names of their own, and
 -- where it listens is an address
-serve_with-fit : (after : ℕ) (lookups roads : Option Given) (profiles tiles : List Named) (listen turns hangup labels : Option Given)
+serve_with-fit : (after : ℕ) (lookups roads : Option Given) (profiles tiles : List Named) (listen turns hangup labels notes : Option Given)
     (command : Command) →
     AreProfileFiles profiles → AreOnceAfter [] profiles →
     ((e : Given) → listen ≡ Some e → is_address e.text ≡ true) →
     ((e : Given) → turns ≡ Some e → (1 ≤ number_in e.value) × (number_in e.value ≤ most_turns)) →
     ((e : Given) → labels ≡ Some e → (1 ≤ number_in e.value) × (number_in e.value ≤ most_labels)) →
-    serve_with after lookups roads profiles tiles listen turns hangup labels ≡ Ok command → IsFit command
-serve_with-fit after (Some lookups) (Some roads) profiles tiles listen turns hangup labels command named once where_to a b e =
+    serve_with after lookups roads profiles tiles listen turns hangup labels notes ≡ Ok command → IsFit command
+serve_with-fit after (Some lookups) (Some roads) profiles tiles listen turns hangup labels notes command named once where_to a b e =
     let made : ServeCommand = record {
       lookups = file_in lookups;
       map = file_in roads;
@@ -204,6 +204,7 @@ serve_with-fit after (Some lookups) (Some roads) profiles tiles listen turns han
       turns = number_or turns most_turns;
       hangup = number_or hangup 0 == 1;
       labels = number_or labels most_labels;
+      notes = number_or notes 1 == 1;
     } in
     let same : Form.TheVariants.Serve made ≡ command = cc in
     let limits = number_or-fit turns most_turns (omega arith) a in
@@ -217,9 +218,9 @@ serve_with-fit after (Some lookups) (Some roads) profiles tiles listen turns han
       once = once;
       listens = listen-fit listen where_to;
     })
-serve_with-fit after None roads profiles tiles listen turns hangup labels command named once where_to a b e =
+serve_with-fit after None roads profiles tiles listen turns hangup labels notes command named once where_to a b e =
     absurd (err-not_ok after command e)
-serve_with-fit after (Some lookups) None profiles tiles listen turns hangup labels command named once where_to a b e =
+serve_with-fit after (Some lookups) None profiles tiles listen turns hangup labels notes command named once where_to a b e =
     absurd (err-not_ok after command e)
 
 complete-fit : (name : CommandName) (entries : List Given) (after : ℕ) (command : Command) → AllFit (keys_of name) entries →
@@ -252,7 +253,8 @@ complete-fit Name.Within entries after command all once e =
     (λ x is. with-fit (keys_of Name.Within) Cost entries x all is) e
 complete-fit Name.Serve entries after command all once e =
     serve_with-fit after (entry_with Lookups entries) (entry_with Map entries) (files_in Profile entries) (files_in Tile entries)
-    (entry_with Listen entries) (entry_with Turns entries) (entry_with Hangup entries) (entry_with Labels entries) command
+    (entry_with Listen entries) (entry_with Turns entries) (entry_with Hangup entries) (entry_with Labels entries)
+    (entry_with Notes entries) command
     (profiles-fit (keys_of Name.Serve) entries (λ text x fit. fit) all) once
     (λ x is. with-fit (keys_of Name.Serve) Listen entries x all is) (λ x is. with-fit (keys_of Name.Serve) Turns entries x all is)
     (λ x is. with-fit (keys_of Name.Serve) Labels entries x all is) e

@@ -4,12 +4,12 @@ use Rattle.std.specs.Prelude.{ℕ, ◌+◌, ◌==◌, Bool, cond, ◌&&◌, nat_
 use Rattle.std.specs.Str.{bytes_eq}
 use Rattle.command_words.specs.Given.{Given, Named}
 use Rattle.command_words.specs.Reader.{entries_of, entries_with, entry_with}
-use Rattle.command_words.specs.Rows.{command_name, commands, default_number, keys_of}
+use Rattle.command_words.specs.Rows.{command_name, commands, default_number, keys_of, server_notes}
 use Rattle.command_words.specs.Value.{number_in, place_in, product_in}
 use Rattle.command_words.specs.declared.rows.CommandName.{CommandName}
 use Rattle.command_words.specs.declared.rows.CommandName.TheVariants.{Grid, Make, Code, Route, Certify, Check, Table, Within, Hills, Serve}
 use Rattle.command_words.specs.declared.rows.Key.{Key}
-use Rattle.command_words.specs.declared.rows.Key.TheVariants.{Seed, Width, Height, From, To, What, Lookups, Profile, Map, Query, Tile, Listen, Turns, Hangup, Labels, Certificate, Cost, Bound}
+use Rattle.command_words.specs.declared.rows.Key.TheVariants.{Seed, Width, Height, From, To, What, Lookups, Profile, Map, Query, Tile, Listen, Turns, Hangup, Labels, Certificate, Cost, Bound, Notes}
 use Rattle.command_words.specs.declared.command.Command.{Command}
 use Rattle.command_words.specs.declared.command.Command as Form
 use Rattle.command_words.specs.declared.command.CodeCommand.{CodeCommand}
@@ -95,28 +95,31 @@ code_with after lookups profile = Err after
 abbrev pub files_in : Key → List Given → List Named
 files_in key entries = map file_in (entries_with key entries)
 
--- a query and the files that it is answered over, none where one is missing
-abbrev pub ride_with : (lookups profile roads query : Option Given) (tiles : List Named) → Option RouteCommand
-ride_with (Some lookups) (Some profile) (Some roads) (Some query) tiles =
+-- the number of an entry, or this one where the entry is missing
+unfoldable pub number_or : Option Given → ℕ → ℕ
+number_or None missing = missing
+number_or (Some entry) missing = number_in entry.value
+
+-- a query, the files that it is answered over, and whether notes are written; none where a file is missing
+abbrev pub ride_with : (lookups profile roads query : Option Given) (tiles : List Named) (notes : Bool) →
+    Option RouteCommand
+ride_with (Some lookups) (Some profile) (Some roads) (Some query) tiles notes =
     Some (record {
       lookups = file_in lookups;
       profile = file_in profile;
       map = file_in roads;
       query = file_in query;
       tiles = tiles;
+      notes = notes;
     })
-ride_with lookups profile roads query tiles = None
+ride_with lookups profile roads query tiles notes = None
 
 -- the query of these entries and its files
 abbrev pub ride_in : List Given → Option RouteCommand
 ride_in entries =
     ride_with (entry_with Lookups entries) (entry_with Profile entries) (entry_with Map entries)
     (entry_with Query entries) (files_in Tile entries)
-
--- the number of an entry, or this one where the entry is missing
-unfoldable pub number_or : Option Given → ℕ → ℕ
-number_or None missing = missing
-number_or (Some entry) missing = number_in entry.value
+    (number_or (entry_with Notes entries) (default_number Notes) == 1)
 
 -- the command that checks a certificate for a query, or the place after the last word where it is missing
 abbrev pub check_by : ℕ → RouteCommand → Option Given → Result Command ℕ
@@ -159,8 +162,8 @@ address_of (Some word) = word.name
 
 -- the command of a server, or the place after the last word where the tag table or the map is missing
 abbrev pub serve_with : (after : ℕ) (lookups roads : Option Given) (profiles tiles : List Named)
-    (listen turns hangup labels : Option Given) → Result Command ℕ
-serve_with after (Some lookups) (Some roads) profiles tiles listen turns hangup labels =
+    (listen turns hangup labels notes : Option Given) → Result Command ℕ
+serve_with after (Some lookups) (Some roads) profiles tiles listen turns hangup labels notes =
     Ok (Form.TheVariants.Serve (record {
       lookups = file_in lookups;
       map = file_in roads;
@@ -170,8 +173,9 @@ serve_with after (Some lookups) (Some roads) profiles tiles listen turns hangup 
       turns = number_or turns (default_number Turns);
       hangup = number_or hangup (default_number Hangup) == 1;
       labels = number_or labels (default_number Labels);
+      notes = number_or notes server_notes == 1;
     }))
-serve_with after lookups roads profiles tiles listen turns hangup labels = Err after
+serve_with after lookups roads profiles tiles listen turns hangup labels notes = Err after
 
 -- the command of this name and these entries, before the word at this place
 unfoldable pub complete : CommandName → List Given → ℕ → Result Command ℕ
@@ -189,7 +193,7 @@ complete Hills entries after = hills_with after (sizes_in entries)
 complete Serve entries after =
     serve_with after (entry_with Lookups entries) (entry_with Map entries) (files_in Profile entries)
     (files_in Tile entries) (entry_with Listen entries) (entry_with Turns entries) (entry_with Hangup entries)
-    (entry_with Labels entries)
+    (entry_with Labels entries) (entry_with Notes entries)
 
 -- the command of this name and the words after it
 abbrev pub command_with : CommandName → List (List ℕ) → Result Command ℕ

@@ -3,7 +3,7 @@ use Rattle.std.specs.Prelude.{ℕ, List, None, codes, decimal}
 use Rattle.command_words.specs.Command.{address_of}
 use Rattle.command_words.specs.Rows.{default_number}
 use Rattle.command_words.specs.declared.rows.Key.{Key}
-use Rattle.command_words.specs.declared.rows.Key.TheVariants.{Seed, Width, Height, From, To, What, Lookups, Profile, Map, Query, Tile, Listen, Turns, Hangup, Labels, Certificate, Cost, Bound}
+use Rattle.command_words.specs.declared.rows.Key.TheVariants.{Seed, Width, Height, From, To, What, Lookups, Profile, Map, Query, Tile, Listen, Turns, Hangup, Labels, Certificate, Cost, Bound, Notes}
 
 -- what the value of a key is for
 unfoldable pub meaning_of : Key → List ℕ
@@ -25,6 +25,7 @@ meaning_of Labels = codes "how many labels a search may settle at most"
 meaning_of Certificate = codes "the file of the certificate"
 meaning_of Cost = codes "the most that the way to a node may cost"
 meaning_of Bound = codes "1 where labels rank with a lower bound of what is still to pay"
+meaning_of Notes = codes "1 where what is done is noted on standard error"
 
 -- what stands for a key that isn't given
 unfoldable pub default_text : Key → List ℕ
@@ -33,4 +34,5 @@ default_text Turns = decimal (default_number Turns)
 default_text Labels = decimal (default_number Labels)
 default_text Hangup = decimal (default_number Hangup)
 default_text Bound = decimal (default_number Bound)
+default_text Notes = codes "1 of serve, else 0"
 default_text key = codes "none"

@@ -1,7 +1,7 @@
 -- The commands as rows. This project's own rule.
 use Rattle.std.specs.Prelude.{ℕ, ◌^◌, List, [], ◌∷◌, ◌++◌, codes}
 use Rattle.command_words.specs.declared.rows.Key.{Key}
-use Rattle.command_words.specs.declared.rows.Key.TheVariants.{Seed, Width, Height, From, To, What, Lookups, Profile, Map, Query, Tile, Listen, Turns, Hangup, Labels, Certificate, Cost, Bound}
+use Rattle.command_words.specs.declared.rows.Key.TheVariants.{Seed, Width, Height, From, To, What, Lookups, Profile, Map, Query, Tile, Listen, Turns, Hangup, Labels, Certificate, Cost, Bound, Notes}
 use Rattle.command_words.specs.declared.rows.Form.{Form}
 use Rattle.command_words.specs.declared.rows.Form.TheVariants as form
 use Rattle.command_words.specs.declared.rows.KeyRow.{KeyRow}
@@ -28,6 +28,7 @@ key_name Labels = codes "labels"
 key_name Certificate = codes "certificate"
 key_name Cost = codes "cost"
 key_name Bound = codes "bound"
+key_name Notes = codes "notes"
 
 -- the first word of a command
 unfoldable pub command_name : CommandName → List ℕ
@@ -65,11 +66,15 @@ default_number Turns = most_turns
 default_number Labels = most_labels
 default_number key = 0
 
+-- whether a server notes what it does where it isn't told
+abbrev pub server_notes : ℕ
+server_notes = 1
+
 -- the keys of a command that answers a query over files
 abbrev pub ride_keys : List KeyRow
 ride_keys =
     once Lookups form.File ∷ once Profile form.ProfileFile ∷ once Map form.File ∷ once Query
-    form.Query ∷ up_to 64 Tile form.File ∷ []
+    form.Query ∷ up_to 64 Tile form.File ∷ up_to 1 Notes (form.Number 0 1) ∷ []
 
 -- the keys of a command
 unfoldable pub keys_of : CommandName → List KeyRow
@@ -91,7 +96,8 @@ keys_of Hills = once Seed (form.Number 0 65535) ∷ once Width (form.Number 1 10
 keys_of Serve =
     once Lookups form.File ∷ once Map form.File ∷ up_to 64 Profile form.ProfileFile ∷ up_to 64 Tile form.File
     ∷ up_to 1 Listen form.Address ∷ up_to 1 Turns (form.Number 1 most_turns)
-    ∷ up_to 1 Hangup (form.Number 0 1) ∷ up_to 1 Labels (form.Number 1 most_labels) ∷ []
+    ∷ up_to 1 Hangup (form.Number 0 1) ∷ up_to 1 Labels (form.Number 1 most_labels)
+    ∷ up_to 1 Notes (form.Number 0 1) ∷ []
 
 -- what a command does
 unfoldable pub about_of : CommandName → List ℕ

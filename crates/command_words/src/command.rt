@@ -43,7 +43,7 @@ pub struct CodeCommand<'a> {
 }
 
 /// The commands `route` and `table`: the files of the tag table, of the profile, of the map and of
-/// the tiles, and a query.
+/// the tiles, a query, and whether notes are written.
 #[derive(Drop)]
 pub struct RouteCommand<'a> {
     pub lookups: FileWord<'a>,
@@ -51,6 +51,7 @@ pub struct RouteCommand<'a> {
     pub map: FileWord<'a>,
     pub query: FileWord<'a>,
     pub tiles: Items<FileWord<'a>>,
+    pub notes: bool,
 }
 
 /// The command `certify`: what the command `route` is given, and whether labels rank with the lower
@@ -85,7 +86,8 @@ pub struct HillsCommand {
 
 /// The command `serve`: the files of the tag table, of the map, of the profiles and of the tiles,
 /// where to listen, if that is told, how many events are taken at most, whether an end of a peer is
-/// the loss of its connection, and how many labels a search may settle for an alternative of a leg.
+/// the loss of its connection, how many labels a search may settle for an alternative of a leg, and
+/// whether notes are written.
 pub struct ServeCommand<'a> {
     pub lookups: FileWord<'a>,
     pub map: FileWord<'a>,
@@ -95,6 +97,7 @@ pub struct ServeCommand<'a> {
     pub turns: u64,
     pub hangup: bool,
     pub labels: u64,
+    pub notes: bool,
 }
 
 impl<'a> Drop for ServeCommand<'a> {
@@ -108,6 +111,7 @@ impl<'a> Drop for ServeCommand<'a> {
             turns: _,
             hangup: _,
             labels: _,
+            notes: _,
         } = self;
     }
 }

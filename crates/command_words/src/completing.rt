@@ -14,7 +14,7 @@ use crate::command::{
 };
 use crate::entry::{Entry, FileWord};
 use crate::reader::entry_with;
-use crate::rows::{CommandName, Key};
+use crate::rows::{CommandName, Key, SERVER_NOTES};
 use crate::value::Place;
 use item_list::Items;
 
@@ -224,6 +224,7 @@ fn ride_in<'a>(entries: &[Entry<'a>], tiles: Items<FileWord<'a>>) -> Option<Rout
             map: map.file(),
             query: query.file(),
             tiles,
+            notes: number_for(entries, Key::Notes) == 1,
         }),
         _ => None,
     }
@@ -289,6 +290,7 @@ fn complete_serve<'a>(
             turns: number_for(entries, Key::Turns),
             hangup: number_for(entries, Key::Hangup) == 1,
             labels: number_for(entries, Key::Labels),
+            notes: number_or(entry_with(entries, Key::Notes), SERVER_NOTES) == 1,
         })),
         _ => Err(after),
     }

@@ -131,7 +131,7 @@ impl<'a> Entry<'a> {
 }
 
 /// All keys.
-const ALL_KEYS: [Key; 18] = [
+const ALL_KEYS: [Key; 19] = [
     Key::Seed,
     Key::Width,
     Key::Height,
@@ -150,6 +150,7 @@ const ALL_KEYS: [Key; 18] = [
     Key::Certificate,
     Key::Cost,
     Key::Bound,
+    Key::Notes,
 ];
 
 /// The key that a text names.

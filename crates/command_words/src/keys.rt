@@ -5,6 +5,14 @@ use crate::rows::{Form, Key, KeyRow, LABELS, MOST_TURNS};
 /// The most files of a kind of which there may be several.
 const MOST_FILES: usize = 64;
 
+/// The key that says whether notes are written.
+const NOTES: KeyRow = KeyRow {
+    form: Form::Number { low: 0, high: 1 },
+    least: 0,
+    most: 1,
+    key: Key::Notes,
+};
+
 /// The keys of the command `grid`.
 pub const GRID_KEYS: [KeyRow; 7] = [
     KeyRow {
@@ -102,7 +110,7 @@ pub const CODE_KEYS: [KeyRow; 2] = [
 ];
 
 /// The keys of the commands `route` and `table`.
-pub const ROUTE_KEYS: [KeyRow; 5] = [
+pub const ROUTE_KEYS: [KeyRow; 6] = [
     KeyRow {
         form: Form::File,
         least: 1,
@@ -133,10 +141,11 @@ pub const ROUTE_KEYS: [KeyRow; 5] = [
         most: MOST_FILES,
         key: Key::Tile,
     },
+    NOTES,
 ];
 
 /// The keys of the command `certify`.
-pub const CERTIFY_KEYS: [KeyRow; 6] = [
+pub const CERTIFY_KEYS: [KeyRow; 7] = [
     KeyRow {
         form: Form::File,
         least: 1,
@@ -167,6 +176,7 @@ pub const CERTIFY_KEYS: [KeyRow; 6] = [
         most: MOST_FILES,
         key: Key::Tile,
     },
+    NOTES,
     KeyRow {
         form: Form::Number { low: 0, high: 1 },
         least: 0,
@@ -176,7 +186,7 @@ pub const CERTIFY_KEYS: [KeyRow; 6] = [
 ];
 
 /// The keys of the command `check`.
-pub const CHECK_KEYS: [KeyRow; 6] = [
+pub const CHECK_KEYS: [KeyRow; 7] = [
     KeyRow {
         form: Form::File,
         least: 1,
@@ -207,6 +217,7 @@ pub const CHECK_KEYS: [KeyRow; 6] = [
         most: MOST_FILES,
         key: Key::Tile,
     },
+    NOTES,
     KeyRow {
         form: Form::File,
         least: 1,
@@ -216,7 +227,7 @@ pub const CHECK_KEYS: [KeyRow; 6] = [
 ];
 
 /// The keys of the command `within`.
-pub const WITHIN_KEYS: [KeyRow; 6] = [
+pub const WITHIN_KEYS: [KeyRow; 7] = [
     KeyRow {
         form: Form::File,
         least: 1,
@@ -247,6 +258,7 @@ pub const WITHIN_KEYS: [KeyRow; 6] = [
         most: MOST_FILES,
         key: Key::Tile,
     },
+    NOTES,
     KeyRow {
         form: Form::Cost,
         least: 1,
@@ -281,7 +293,7 @@ pub const HILLS_KEYS: [KeyRow; 3] = [
 ];
 
 /// The keys of the command `serve`.
-pub const SERVE_KEYS: [KeyRow; 8] = [
+pub const SERVE_KEYS: [KeyRow; 9] = [
     KeyRow {
         form: Form::File,
         least: 1,
@@ -333,4 +345,5 @@ pub const SERVE_KEYS: [KeyRow; 8] = [
         most: 1,
         key: Key::Labels,
     },
+    NOTES,
 ];

@@ -26,5 +26,6 @@ pub use entry::FileWord;
 pub use file_names::{is_profile_file, profile_name};
 pub use help::told_text;
 pub use reader::Refusal;
+pub use shown::append_shown;
 pub use usage::append_usage;
 pub use value::{Place, Product};

@@ -33,6 +33,7 @@ impl Key {
             Key::Certificate => "the file of the certificate",
             Key::Cost => "the most that the way to a node may cost",
             Key::Bound => "1 where labels rank with a lower bound of what is still to pay",
+            Key::Notes => "1 where what is done is noted on standard error",
         }
     }
 }
@@ -47,6 +48,7 @@ pub fn append_default(text: &mut Vec<u8>, key: Key) -> Result<(), AllocError>
         Key::Turns | Key::Labels | Key::Hangup | Key::Bound => {
             append_number(text, key.default_number())
         }
+        Key::Notes => append_bytes(text, b"1 of serve, else 0"),
         _ => append_bytes(text, b"none"),
     }
 }

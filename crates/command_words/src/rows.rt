@@ -29,6 +29,7 @@ pub enum Key {
     Certificate,
     Cost,
     Bound,
+    Notes,
 }
 
 /// What the value of a key has to be.
@@ -90,6 +91,9 @@ pub const LABELS: Form = Form::Number {
     high: MOST_LABELS,
 };
 
+/// Whether a server notes what it does where it isn't told.
+pub const SERVER_NOTES: u64 = 1;
+
 /// The commands that are built.
 pub const COMMANDS: [CommandName; 10] = [
     CommandName::Grid,
@@ -129,6 +133,7 @@ impl Key {
             Key::Certificate => "certificate",
             Key::Cost => "cost",
             Key::Bound => "bound",
+            Key::Notes => "notes",
         }
     }
 

@@ -3,13 +3,14 @@
 use crate::desk::Desk;
 use crate::opening::{MOST_PEERS, MOST_SESSIONS};
 use crate::ready_frames::ReadyFrames;
+use crate::readying::make_ready_in;
 use crate::room::Room;
 use crate::serving::serve_peers;
 use crate::stepping::step;
 use crate::working::work;
 use edge_io::{Event, Hub};
-use route_ready::{Shelf, World};
-use session_answers::{KeptProfiles, Profiles, make_ready};
+use route_ready::{RouteError, Shelf, World};
+use session_answers::{KeptProfiles, Profiles};
 use std::alloc::{AllocError, Global};
 use std::collections::VecDeque;
 use std::marker::Model;
@@ -44,7 +45,7 @@ impl Model for Hall {
 }
 
 impl Hall {
-    ghost use Rattle.std.specs.Prelude.{◌≡◌, Bool, length, nat_lt, IfOk};
+    ghost use Rattle.std.specs.Prelude.{◌≡◌, ◌<◌, Bool, length, nat_lt, IfOk};
     ghost use Rattle.hall.specs.Allowed.{AreAllowed};
     ghost use Rattle.hall.specs.Held.{AreFew};
     ghost use Rattle.hall.specs.Serving.{AreLive, ServedAll};
@@ -56,10 +57,10 @@ impl Hall {
     ghost use Rattle.route_ready.specs.Shelves.{shelf_of};
     ghost use Rattle.route_ready.specs.World.{world_of};
     ghost use Rattle.session_answers.specs.Stored.{AreGiven};
+    ghost use Rattle.session_answers.specs.Warming.{MakesReady};
 
-    /// A hall without connections, in which the first profiles were made ready. No search settles
-    /// more than `labels` of them, whatever a request asks. No name in the shelf begins with
-    /// `custom_`.
+    /// A hall without connections, in which no profile was made ready. No search settles more than
+    /// `labels` of them, whatever a request asks. No name in the shelf begins with `custom_`.
     pub fn new(alloc: Global, world: World, shelf: Shelf, labels: u64) -> Result<Hall, AllocError>
         requires given { AreGiven (names_of (shelf_of shelf)) }
         ensures empty { IfOk result (λ hall. state_of hall ≡ empty_hall (shelf_of shelf)) }
@@ -67,12 +68,11 @@ impl Hall {
             IfOk result (λ hall. service_of hall ≡
             record { world = world_of world; given = given; labels = labels }) }
     {
-        let mut kept = KeptProfiles::new(alloc)?;
+        let kept = KeptProfiles::new(alloc)?;
         let peers = Vec::with_capacity(alloc, MOST_PEERS)?;
         let queue = VecDeque::with_capacity(alloc, MOST_SESSIONS)?;
         let ready = ReadyFrames::new(alloc)?;
         let profiles = Profiles::new(shelf);
-        make_ready(alloc, &world, &profiles, &mut kept);
         let desk = Desk {
             alloc,
             world,
@@ -85,6 +85,20 @@ impl Hall {
             room: Room { peers, desk },
             ready,
         })
+    }
+
+    /// Makes the stored profile at a place ready, without overrides, where nobody is connected: so
+    /// no first request pays for it. Of one that is refused nothing is kept; each request that names
+    /// it is told.
+    pub fn make_ready(&mut self, place: u32) -> Result<(), RouteError>
+        requires new { state_of self.old ≡ empty_hall (state_of self.old).stored }
+        requires fits { place < length (state_of self.old).stored }
+        ensures exact { MakesReady (service_of self.old).world (state_of self.old).stored place
+            result }
+        ensures state { state_of self.new ≡ state_of self.old }
+        ensures same { service_of self.new ≡ service_of self.old }
+    {
+        make_ready_in(&mut self.room, place)
     }
 
     /// Takes an event of the hub, with the bytes that came. An opened connection for which there is

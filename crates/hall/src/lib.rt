@@ -13,6 +13,7 @@ mod pieces;
 mod queue;
 mod reading;
 mod ready_frames;
+mod readying;
 mod room;
 mod serve_end;
 mod serving;

@@ -6,12 +6,14 @@ use Rattle.edge_io.specs.Files.{FilesSeen, Opens}
 use Rattle.edge_io.specs.Whole.{ReadsBytes}
 use Rattle.route_run.proofs.CountLemmas.{count_after-count_after, get_after, get_front}
 use Rattle.route_run.specs.Outcome.{HasOpened, HasOpenedAll, IsReadFault, words_in}
-use Rattle.run_files.specs.Chain.{Leaves, Settles, Stage, TakesEachAfter, Then}
+use Rattle.run_files.specs.Chain.{Leaves, Settles, Stage, StageOver, TakesEachAfter, Then}
 use Rattle.overpass_graph.specs.Maps.{MapValue}
 use Rattle.run_files.specs.File.{Asks as asks}
 use Rattle.run_files.specs.File.{Asks, IsFileAnswer, TakesFile}
 use Rattle.run_files.specs.Limits.{most_map}
+use Rattle.run_files.proofs.MapLemmas.{map-asked}
 use Rattle.run_files.specs.Map.{IsMapAnswer, TakesMap}
+use Rattle.run_files.specs.Notes.{Inputs, Noting}
 use Rattle.run_files.specs.declared.status.Status.{Status}
 use Rattle.run_files.specs.declared.status.Status.TheVariants.{Done, Usage, Query, TooLong, Lookup, Text, Check, Map, Tile, Certificate, Route, Refuted, NotFound, ReadFault, WriteFault, TurnsSpent, HubFault, NoMemory}
 
@@ -42,6 +44,13 @@ IsInner Faulty HubFault = ⊥
 IsInner Faulty Done = ⊥
 IsInner Faulty status = Unit {0}
 
+-- what shows files: they themselves, and files with notes
+abbrev pub itself : FilesSeen → FilesSeen
+itself seen = seen
+
+abbrev pub files_in : Inputs → FilesSeen
+files_in old = old.files
+
 -- one file was opened
 opened-one : (old new : FilesSeen) → new.faults ≡ old.faults → new.opens ≡ next_count old.opens → HasOpened 1 old new
 opened-one old new faults opens = record { faults = faults; times = 1; few = omega arith; opened = opens }
@@ -57,7 +66,7 @@ opened-none most old new same = record {
 }
 
 -- all of no files were opened
-opens-none : (old new : FilesSeen) → new ≡ old → HasOpenedAll 0 old new
+pub opens-none : (old new : FilesSeen) → new ≡ old → HasOpenedAll 0 old new
 opens-none old new same = record { faults = ap (λ (s : FilesSeen). s.faults) same; opened = ap (λ (s : FilesSeen). s.opens) same }
 
 module _ (Faulty : ℕ → Type 0)
@@ -149,9 +158,10 @@ module _ (Faulty : ℕ → Type 0)
     file-cause file limit = asks-cause file limit (IsFileAnswer file limit) (file-read file limit)
 
     -- and that of a map's file
-    pub map-cause : (file : Named) (old new : FilesSeen) (result : Result MapValue Status) → TakesMap file old new result →
-        Cause Faulty (file.word ∷ []) old new result
-    map-cause file = asks-cause file most_map (IsMapAnswer file) (map-read file most_map)
+    pub map-cause : (file : Named) (old new : Inputs) (result : Result MapValue Status) → TakesMap file old new result →
+        Cause Faulty (file.word ∷ []) old.files new.files result
+    map-cause file old new result is =
+        asks-cause file most_map (IsMapAnswer file) (map-read file most_map) old.files new.files result (map-asked file old new result is)
 
     -- such a status has its cause
     inner-cause : (old new : FilesSeen) (status : Status) → IsInner Faulty status → new ≡ old → RefusalCause Faulty [] old new status
@@ -174,23 +184,7 @@ module _ (Faulty : ℕ → Type 0)
     inner-cause old new (NotFound word) inner same = opened-none 0 old new same
     inner-cause old new NoMemory inner same = opened-none 0 old new same
 
-    -- a stage that gives an answer and touches no file, whose refusals are of that kind
-    pub settles-cause : {A : Type 0} (answer : Result A Status) → ((status : Status) → answer ≡ Err status → IsInner Faulty status) →
-        (old new : FilesSeen) (result : Result A Status) → Settles answer old new result → Cause Faulty [] old new result
-    settles-cause answer inner old new (Ok a) settles = opens-none old new settles.same
-    settles-cause answer inner old new (Err status) settles =
-        elim settles.gives [
-          | inl none ↦ inner-cause old new status (subst (IsInner Faulty) (sym none) tt) settles.same
-          | inr is ↦ inner-cause old new status (inner status is) settles.same
-        ]
-
-    -- a stage that leaves the files, whose refusals are of that kind
-    pub leaves-cause : {A : Type 0} (Is : Result A Status → Type 0) → ((status : Status) → Is (Err status) → IsInner Faulty status) →
-        (old new : FilesSeen) (result : Result A Status) → Leaves Is old new result → Cause Faulty [] old new result
-    leaves-cause Is inner old new (Ok a) is = opens-none old new is.1
-    leaves-cause Is inner old new (Err status) is = inner-cause old new status (inner status is.0) is.1
-
-    -- ---- Stages one after the other
+    -- ---- Refusals of files that stand before others or behind them
 
     -- a refusal over files, told of others
     refusal-as : (words others : List ℕ) (old new first last : FilesSeen) →
@@ -253,42 +247,71 @@ module _ (Faulty : ℕ → Type 0)
           named = get_after words more f.before word f.named;
         }
 
-    -- two stages together
-    pub then-cause : {A B : Type 0} (first : Stage A) (second : A → Stage B) (words more : List ℕ)
-        → ((old new : FilesSeen) (r : Result A Status) → first old new r → Cause Faulty words old new r)
-        → ((a : A) (old new : FilesSeen) (r : Result B Status) → second a old new r → Cause Faulty more old new r)
-        → (old new : FilesSeen) (r : Result B Status) → Then first second old new r → Cause Faulty (words ++ more) old new r
-    then-cause first second words more one two old new r (inl stops) =
-        subst (Cause Faulty (words ++ more) old new) (sym stops.answer)
-        (refusal-front words more old new stops.status (one old new (Err stops.status) stops.refused))
-    then-cause first second words more one two old new (Ok b) (inr goes) =
-        let before = one old goes.between (Ok goes.value) goes.given in
-        let after = two goes.value goes.between new (Ok b) goes.rest in
-        record {
-          faults = after.faults ∙ before.faults;
-          opened = after.opened ∙ ap (count_after (length more)) before.opened
-              ∙ count_after-count_after (length words) (length more) old.opens
-              ∙ ap (λ n. count_after n old.opens) (sym (length-append words more));
-        }
-    then-cause first second words more one two old new (Err status) (inr goes) =
-        refusal-after words more old goes.between new status (one old goes.between (Ok goes.value) goes.given)
-        (two goes.value goes.between new (Err status) goes.rest)
+    -- ---- Stages, over whatever shows files
 
-    -- two stages, of which the second opens no file
-    pub last-cause : {A B : Type 0} (first : Stage A) (second : A → Stage B) (words : List ℕ)
-        → ((old new : FilesSeen) (r : Result A Status) → first old new r → Cause Faulty words old new r)
-        → ((a : A) (old new : FilesSeen) (r : Result B Status) → second a old new r → Cause Faulty [] old new r)
-        → (old new : FilesSeen) (r : Result B Status) → Then first second old new r → Cause Faulty words old new r
-    last-cause first second words one two old new r is =
-        subst (λ (w : List ℕ). Cause Faulty w old new r) (append-nil words) (then-cause first second words [] one two old new r is)
+    module _ {S : Type 0} (seen : S → FilesSeen)
+      where
+        -- a stage that gives an answer and touches no file, whose refusals are of that kind
+        pub settles-cause : {A : Type 0} (answer : Result A Status) → ((status : Status) → answer ≡ Err status → IsInner Faulty status) →
+            (old new : S) (result : Result A Status) → Settles answer old new result → Cause Faulty [] (seen old) (seen new) result
+        settles-cause answer inner old new (Ok a) settles = opens-none (seen old) (seen new) (ap seen settles.same)
+        settles-cause answer inner old new (Err status) settles =
+            elim settles.gives [
+              | inl none ↦ inner-cause (seen old) (seen new) status (subst (IsInner Faulty) (sym none) tt) (ap seen settles.same)
+              | inr is ↦ inner-cause (seen old) (seen new) status (inner status is) (ap seen settles.same)
+            ]
 
-    -- files that are taken in one after the other
-    pub each-cause : {A : Type 0} (stage : Named → Stage A)
-        → ((file : Named) (old new : FilesSeen) (r : Result A Status) → stage file old new r → Cause Faulty (file.word ∷ []) old new r)
-        → (before : List A) (files : List Named) (old new : FilesSeen) (r : Result (List A) Status) →
-        TakesEachAfter stage before files old new r
-        → Cause Faulty (words_in files) old new r
-    each-cause stage one before [] old new r is = settles-cause (Ok before) (λ status none. cc) old new r is
-    each-cause stage one before (file ∷ files) old new r is =
-        then-cause (stage file) (λ a. TakesEachAfter stage (before ++ a ∷ []) files) (file.word ∷ []) (words_in files) (one file)
-        (λ a old new r. each-cause stage one (before ++ a ∷ []) files old new r) old new r is
+        -- a stage that leaves the files, whose refusals are of that kind
+        pub leaves-cause : {A : Type 0} (Is : Result A Status → Type 0) → ((status : Status) → Is (Err status) → IsInner Faulty status) →
+            (old new : S) (result : Result A Status) → Leaves Is old new result → Cause Faulty [] (seen old) (seen new) result
+        leaves-cause Is inner old new (Ok a) is = opens-none (seen old) (seen new) (ap seen is.1)
+        leaves-cause Is inner old new (Err status) is = inner-cause (seen old) (seen new) status (inner status is.0) (ap seen is.1)
+
+        -- two stages together
+        pub then-cause : {A B : Type 0} (first : StageOver S A) (second : A → StageOver S B) (words more : List ℕ)
+            → ((old new : S) (r : Result A Status) → first old new r → Cause Faulty words (seen old) (seen new) r)
+            → ((a : A) (old new : S) (r : Result B Status) → second a old new r → Cause Faulty more (seen old) (seen new) r)
+            → (old new : S) (r : Result B Status) → Then first second old new r → Cause Faulty (words ++ more) (seen old) (seen new) r
+        then-cause first second words more one two old new r (inl stops) =
+            subst (Cause Faulty (words ++ more) (seen old) (seen new)) (sym stops.answer)
+            (refusal-front words more (seen old) (seen new) stops.status (one old new (Err stops.status) stops.refused))
+        then-cause first second words more one two old new (Ok b) (inr goes) =
+            let before = one old goes.between (Ok goes.value) goes.given in
+            let after = two goes.value goes.between new (Ok b) goes.rest in
+            record {
+              faults = after.faults ∙ before.faults;
+              opened = after.opened ∙ ap (count_after (length more)) before.opened
+                  ∙ count_after-count_after (length words) (length more) (seen old).opens
+                  ∙ ap (λ n. count_after n (seen old).opens) (sym (length-append words more));
+            }
+        then-cause first second words more one two old new (Err status) (inr goes) =
+            refusal-after words more (seen old) (seen goes.between) (seen new) status (one old goes.between (Ok goes.value) goes.given)
+            (two goes.value goes.between new (Err status) goes.rest)
+
+        -- two stages, of which the second opens no file
+        pub last-cause : {A B : Type 0} (first : StageOver S A) (second : A → StageOver S B) (words : List ℕ)
+            → ((old new : S) (r : Result A Status) → first old new r → Cause Faulty words (seen old) (seen new) r)
+            → ((a : A) (old new : S) (r : Result B Status) → second a old new r → Cause Faulty [] (seen old) (seen new) r)
+            → (old new : S) (r : Result B Status) → Then first second old new r → Cause Faulty words (seen old) (seen new) r
+        last-cause first second words one two old new r is =
+            subst (λ (w : List ℕ). Cause Faulty w (seen old) (seen new) r) (append-nil words) (then-cause first second words [] one two old new r is)
+
+        -- files that are taken in one after the other
+        pub each-cause : {A : Type 0} (stage : Named → StageOver S A)
+            → ((file : Named) (old new : S) (r : Result A Status) → stage file old new r → Cause Faulty (file.word ∷ []) (seen old) (seen new) r)
+            → (before : List A) (files : List Named) (old new : S) (r : Result (List A) Status) →
+            TakesEachAfter stage before files old new r
+            → Cause Faulty (words_in files) (seen old) (seen new) r
+        each-cause stage one before [] old new r is = settles-cause (Ok before) (λ status none. cc) old new r is
+        each-cause stage one before (file ∷ files) old new r is =
+            then-cause (stage file) (λ a. TakesEachAfter stage (before ++ a ∷ []) files) (file.word ∷ []) (words_in files) (one file)
+            (λ a old new r. each-cause stage one (before ++ a ∷ []) files old new r) old new r is
+
+    -- ---- Stages that note
+
+    -- a stage over files whose value is noted
+    pub noting-cause : {A : Type 0} (stage : Stage A) (note : A → List ℕ) (words : List ℕ)
+        → ((old new : FilesSeen) (r : Result A Status) → stage old new r → Cause Faulty words old new r)
+        → (old new : Inputs) (r : Result A Status) → Noting stage note old new r → Cause Faulty words old.files new.files r
+    noting-cause stage note words one old new (Ok a) is = one old.files new.files (Ok a) is.0
+    noting-cause stage note words one old new (Err status) is = one old.files new.files (Err status) is.0

@@ -28,8 +28,8 @@ use Rattle.route_http.specs.Asked.{Asked}
 use Rattle.route_http.specs.Request.{lined_of, request_of, tabled_of}
 use Rattle.route_ready.specs.Worlds.{WorldValue}
 use Rattle.route_ready.specs.declared.error.RouteError.{RouteError}
-use Rattle.route_run.proofs.CauseLemmas.{Cause, IsInner, each-cause, file-cause, last-cause, leaves-cause, map-cause, settles-cause, then-cause}
-use Rattle.route_run.specs.Offer.{Offer, Offers, offer_over, serve_files}
+use Rattle.route_run.proofs.CauseLemmas.{Cause, IsInner, each-cause, file-cause, files_in, itself, last-cause, leaves-cause, map-cause, noting-cause, opens-none, settles-cause, then-cause}
+use Rattle.route_run.specs.Offer.{MakesReady, Offer, Offers, Opens, offer_over, serve_files}
 use Rattle.route_run.specs.Outcome.{IsCommandAnswer, IsQueryWord, check_words, file_words, profile_words, words_in, world_words}
 use Rattle.run_answers.specs.Asks.{AnswersQuery, IsAnsweredBy, IsAnsweredOver}
 use Rattle.run_answers.specs.Certify.{IsWritten}
@@ -46,11 +46,13 @@ use Rattle.run_answers.specs.Within.{IsNearbyTold, costed, near_in}
 use Rattle.run_files.specs.Certificate.{IsCertificateIn, TakesCertificate}
 use Rattle.run_files.specs.Chain.{seen_as}
 use Rattle.run_files.specs.Checked.{TakesChecked, checked_by, checked_in}
+use Rattle.run_files.specs.NoteLines.{certificate_note, profile_note, table_note, tile_note}
+use Rattle.run_files.specs.Notes.{Inputs}
 use Rattle.run_files.specs.Profile.{TakesProfile, profile_in}
-use Rattle.run_files.specs.Profiles.{NamedProfile, TakesNamed, named_by, profile_named}
+use Rattle.run_files.specs.Profiles.{NamedProfile, NotesNamed, TakesNamed, named_by, profile_named}
 use Rattle.run_files.specs.Query.{query_in}
 use Rattle.run_files.specs.TagTable.{TakesTable, table_in}
-use Rattle.run_files.specs.Tiles.{TakesTile, TakesTiles, tile_in}
+use Rattle.run_files.specs.Tiles.{NotesTile, TakesTile, TakesTiles, tile_in}
 use Rattle.run_files.specs.World.{OfferedValue, TakesWorld, WorldFiles}
 use Rattle.run_files.specs.declared.status.Status.{Status}
 use Rattle.run_files.specs.declared.status.Status.TheVariants as told
@@ -174,62 +176,75 @@ module _ (Faulty : ℕ → Type 0)
     certificate-cause : (map : MapValue) (file : Named) (old new : FilesSeen) (r : Result Certificate Status) →
         TakesCertificate map file old new r → Cause Faulty (file.word ∷ []) old new r
     certificate-cause map file =
-        last-cause Faulty _ _ (file.word ∷ []) (file-cause Faulty file _)
-        (λ text. leaves-cause Faulty (IsCertificateIn map file.word text) (certificate-inner map file.word text))
+        last-cause Faulty itself _ _ (file.word ∷ []) (file-cause Faulty file _)
+        (λ text. leaves-cause Faulty itself (IsCertificateIn map file.word text) (certificate-inner map file.word text))
 
     -- the stage of the tag table
     table-cause : (file : Named) (old new : FilesSeen) (r : Result TagTable Status) → TakesTable file old new r →
         Cause Faulty (file.word ∷ []) old new r
     table-cause file =
-        last-cause Faulty _ _ (file.word ∷ []) (file-cause Faulty file _)
-        (λ text. settles-cause Faulty (table_in file.word text) (mapped-inner (Lookup file.word) (table_of text) (λ e. tt)))
+        last-cause Faulty itself _ _ (file.word ∷ []) (file-cause Faulty file _)
+        (λ text. settles-cause Faulty itself (table_in file.word text) (mapped-inner (Lookup file.word) (table_of text) (λ e. tt)))
 
     -- the stage of the profile
     profile-cause : (file : Named) (old new : FilesSeen) (r : Result Sections Status) → TakesProfile file old new r →
         Cause Faulty (file.word ∷ []) old new r
     profile-cause file =
-        last-cause Faulty _ _ (file.word ∷ []) (file-cause Faulty file _)
-        (λ text. settles-cause Faulty (profile_in file.word text) (mapped-inner (Text file.word) (profile_of text) (λ e. tt)))
+        last-cause Faulty itself _ _ (file.word ∷ []) (file-cause Faulty file _)
+        (λ text. settles-cause Faulty itself (profile_in file.word text) (mapped-inner (Text file.word) (profile_of text) (λ e. tt)))
 
     -- the stage of the profile with its check
     checked-cause : (table : TagTable) (file : Named) (old new : FilesSeen) (r : Result Sections Status) →
         TakesChecked table file old new r → Cause Faulty (file.word ∷ []) old new r
     checked-cause table file =
-        last-cause Faulty _ _ (file.word ∷ []) (profile-cause file)
-        (λ sections. settles-cause Faulty (checked_in file.word table sections) (checked-inner file.word table sections))
+        last-cause Faulty itself _ _ (file.word ∷ []) (profile-cause file)
+        (λ sections. settles-cause Faulty itself (checked_in file.word table sections) (checked-inner file.word table sections))
 
     -- the stage of a profile under its name
     named-cause : (table : TagTable) (file : Named) (old new : FilesSeen) (r : Result NamedProfile Status) →
         TakesNamed table file old new r → Cause Faulty (file.word ∷ []) old new r
     named-cause table file =
-        last-cause Faulty _ _ (file.word ∷ []) (checked-cause table file)
-        (λ sections. settles-cause Faulty (Ok (named_by file sections)) (λ status none. cc))
+        last-cause Faulty itself _ _ (file.word ∷ []) (checked-cause table file)
+        (λ sections. settles-cause Faulty itself (Ok (named_by file sections)) (λ status none. cc))
 
     -- the stage of a tile
     tile-cause : (file : Named) (old new : FilesSeen) (r : Result Relief Status) → TakesTile file old new r →
         Cause Faulty (file.word ∷ []) old new r
     tile-cause file =
-        last-cause Faulty _ _ (file.word ∷ []) (file-cause Faulty file _)
-        (λ bytes. settles-cause Faulty (tile_in file.word file.name bytes)
+        last-cause Faulty itself _ _ (file.word ∷ []) (file-cause Faulty file _)
+        (λ bytes. settles-cause Faulty itself (tile_in file.word file.name bytes)
         (mapped-inner (Tile file.word) (relief_of_file file.name bytes) (λ e. tt)))
 
+    -- the stage of a tile that is noted
+    noted_tile-cause : (file : Named) (old new : Inputs) (r : Result Relief Status) → NotesTile file old new r →
+        Cause Faulty (file.word ∷ []) old.files new.files r
+    noted_tile-cause file = noting-cause Faulty (TakesTile file) (λ relief. tile_note file) (file.word ∷ []) (tile-cause file)
+
+    -- the stage of a profile that is noted
+    noted-cause : (table : TagTable) (file : Named) (old new : Inputs) (r : Result NamedProfile Status) → NotesNamed table file old new r →
+        Cause Faulty (file.word ∷ []) old.files new.files r
+    noted-cause table file =
+        noting-cause Faulty (TakesNamed table file) (λ named. profile_note file) (file.word ∷ []) (named-cause table file)
+
     -- the stage of tiles
-    tiles-cause : (files : List Named) (old new : FilesSeen) (r : Result Tiles Status) → TakesTiles files old new r →
-        Cause Faulty (words_in files) old new r
-    tiles-cause files old new (Ok tiles) is = each-cause Faulty TakesTile tile-cause [] files old new (Ok is.reliefs) is.taken
-    tiles-cause files old new (Err status) is = each-cause Faulty TakesTile tile-cause [] files old new (Err status) is
+    tiles-cause : (files : List Named) (old new : Inputs) (r : Result Tiles Status) → TakesTiles files old new r →
+        Cause Faulty (words_in files) old.files new.files r
+    tiles-cause files old new (Ok tiles) is =
+        each-cause Faulty files_in NotesTile noted_tile-cause [] files old new (Ok is.reliefs) is.taken
+    tiles-cause files old new (Err status) is = each-cause Faulty files_in NotesTile noted_tile-cause [] files old new (Err status) is
 
     -- the stage of a world
-    world-cause : (files : WorldFiles) (old new : FilesSeen) (r : Result OfferedValue Status) → TakesWorld files old new r →
-        Cause Faulty (world_words files) old new r
+    world-cause : (files : WorldFiles) (old new : Inputs) (r : Result OfferedValue Status) → TakesWorld files old new r →
+        Cause Faulty (world_words files) old.files new.files r
     world-cause files =
-        then-cause Faulty _ _ (files.lookups.word ∷ []) (words_in files.profiles ++ (files.map.word ∷ words_in files.tiles))
-        (table-cause files.lookups)
-        (λ table. then-cause Faulty _ _ (words_in files.profiles) (files.map.word ∷ words_in files.tiles)
-        (each-cause Faulty (TakesNamed table) (named-cause table) [] files.profiles)
-        (λ profiles. then-cause Faulty _ _ (files.map.word ∷ []) (words_in files.tiles) (map-cause Faulty files.map)
-        (λ map. last-cause Faulty _ _ (words_in files.tiles) (tiles-cause files.tiles)
-        (λ tiles. settles-cause Faulty _ (λ status none. cc)))))
+        then-cause Faulty files_in _ _ (files.lookups.word ∷ []) (words_in files.profiles ++ (files.map.word ∷ words_in files.tiles))
+        (noting-cause Faulty (TakesTable files.lookups) (λ table. table_note files.lookups) (files.lookups.word ∷ [])
+        (table-cause files.lookups))
+        (λ table. then-cause Faulty files_in _ _ (words_in files.profiles) (files.map.word ∷ words_in files.tiles)
+        (each-cause Faulty files_in (NotesNamed table) (noted-cause table) [] files.profiles)
+        (λ profiles. then-cause Faulty files_in _ _ (files.map.word ∷ []) (words_in files.tiles) (map-cause Faulty files.map)
+        (λ map. last-cause Faulty files_in _ _ (words_in files.tiles) (tiles-cause files.tiles)
+        (λ tiles. settles-cause Faulty files_in _ (λ status none. cc)))))
 
     -- ---- The commands
 
@@ -237,33 +252,34 @@ module _ (Faulty : ℕ → Type 0)
     code-cause : (command : CodeCommand) (old new : FilesSeen) (r : Result (List ℕ) Status) → IsCodeAnswer command old new r →
         Cause Faulty (profile_words (Some command)) old new r
     code-cause command =
-        then-cause Faulty _ _ (command.lookups.word ∷ []) (command.profile.word ∷ []) (table-cause command.lookups)
-        (λ table. last-cause Faulty _ _ (command.profile.word ∷ []) (profile-cause command.profile)
-        (λ sections. settles-cause Faulty (listing_in command.profile.word table sections)
+        then-cause Faulty itself _ _ (command.lookups.word ∷ []) (command.profile.word ∷ []) (table-cause command.lookups)
+        (λ table. last-cause Faulty itself _ _ (command.profile.word ∷ []) (profile-cause command.profile)
+        (λ sections. settles-cause Faulty itself (listing_in command.profile.word table sections)
         (listing-inner command.profile.word table sections)))
 
     -- a command that asks something of its query
     query-cause : (reads : Named → Result Asked Status) (answers : Question → Result (List ℕ) Status → Type 0) (command : RouteCommand) →
         ((status : Status) → reads command.query ≡ Err status → IsInner Faulty status) →
         ((question : Question) (status : Status) → answers question (Err status) → IsInner Faulty status) →
-        (old new : FilesSeen) (r : Result (List ℕ) Status) → AnswersQuery reads answers command old new r →
-        Cause Faulty (world_words (route_files command)) old new r
+        (old new : Inputs) (r : Result (List ℕ) Status) → AnswersQuery reads answers command old new r →
+        Cause Faulty (world_words (route_files command)) old.files new.files r
     query-cause reads answers command reader inner =
-        then-cause Faulty _ _ [] (world_words (route_files command)) (settles-cause Faulty (reads command.query) reader)
-        (λ asked. last-cause Faulty _ _ (world_words (route_files command)) (world-cause (route_files command))
-        (λ offered. leaves-cause Faulty (IsAnsweredOver answers offered asked)
+        then-cause Faulty files_in _ _ [] (world_words (route_files command)) (settles-cause Faulty files_in (reads command.query) reader)
+        (λ asked. last-cause Faulty files_in _ _ (world_words (route_files command)) (world-cause (route_files command))
+        (λ offered. leaves-cause Faulty files_in (IsAnsweredOver answers offered asked)
         (answered-inner answers inner (profile_named offered.profiles asked.profile) offered.world asked)))
 
     -- the command `check`
-    check-cause : (command : CheckCommand) → Faulty command.route.query.word → (old new : FilesSeen) (r : Result (List ℕ) Status) →
-        IsCheckedAnswer command old new r → Cause Faulty (check_words command) old new r
+    check-cause : (command : CheckCommand) → Faulty command.route.query.word → (old new : Inputs) (r : Result (List ℕ) Status) →
+        IsCheckedAnswer command old new r → Cause Faulty (check_words command) old.files new.files r
     check-cause command may =
-        then-cause Faulty _ _ [] (check_words command)
-        (settles-cause Faulty (first_in command.route.query) (first-inner command.route.query may))
-        (λ asked. then-cause Faulty _ _ (world_words (route_files command.route)) (command.certificate.word ∷ [])
+        then-cause Faulty files_in _ _ [] (check_words command)
+        (settles-cause Faulty files_in (first_in command.route.query) (first-inner command.route.query may))
+        (λ asked. then-cause Faulty files_in _ _ (world_words (route_files command.route)) (command.certificate.word ∷ [])
         (world-cause (route_files command.route))
-        (λ offered. last-cause Faulty _ _ (command.certificate.word ∷ []) (certificate-cause offered.world.map command.certificate)
-        (λ certificate. leaves-cause Faulty (IsAnsweredOver (λ question. IsTested question certificate) offered asked)
+        (λ offered. last-cause Faulty files_in _ _ (command.certificate.word ∷ []) (noting-cause Faulty (TakesCertificate offered.world.map command.certificate) (λ certificate. certificate_note command.certificate)
+        (command.certificate.word ∷ []) (certificate-cause offered.world.map command.certificate))
+        (λ certificate. leaves-cause Faulty files_in (IsAnsweredOver (λ question. IsTested question certificate) offered asked)
         (answered-inner (λ question. IsTested question certificate) (tested-inner certificate)
         (profile_named offered.profiles asked.profile) offered.world asked))))
 
@@ -271,20 +287,20 @@ module _ (Faulty : ℕ → Type 0)
     grid-cause : (files : Option CodeCommand) (command : GridCommand) (old new : FilesSeen) (r : Result (List ℕ) Status) →
         IsGridAnswerBy files command old new r →
         Cause Faulty (profile_words files) old new r
-    grid-cause None command = leaves-cause Faulty (IsShortestAnswer command) (refusal-inner _ _)
+    grid-cause None command = leaves-cause Faulty itself (IsShortestAnswer command) (refusal-inner _ _)
     grid-cause (Some words) command =
-        then-cause Faulty _ _ (words.lookups.word ∷ []) (words.profile.word ∷ []) (table-cause words.lookups)
-        (λ table. last-cause Faulty _ _ (words.profile.word ∷ []) (checked-cause table words.profile)
-        (λ sections. leaves-cause Faulty (IsPricedAnswer (question_by command table sections)) (refusal-inner _ _)))
+        then-cause Faulty itself _ _ (words.lookups.word ∷ []) (words.profile.word ∷ []) (table-cause words.lookups)
+        (λ table. last-cause Faulty itself _ _ (words.profile.word ∷ []) (checked-cause table words.profile)
+        (λ sections. leaves-cause Faulty itself (IsPricedAnswer (question_by command table sections)) (refusal-inner _ _)))
 
     -- each command that has something to write
     pub command-cause : (command : Command) → ((word : ℕ) → IsQueryWord command word → Faulty word) →
-        (old new : FilesSeen) (r : Result (List ℕ) Status) → IsCommandAnswer command old new r →
-        Cause Faulty (file_words (Ok command)) old new r
-    command-cause (Form.TheVariants.Grid command) may old new r is = grid-cause command.files command old new r is
+        (old new : Inputs) (r : Result (List ℕ) Status) → IsCommandAnswer command old new r →
+        Cause Faulty (file_words (Ok command)) old.files new.files r
+    command-cause (Form.TheVariants.Grid command) may old new r is = grid-cause command.files command old.files new.files r is.0
     command-cause (Form.TheVariants.Make command) may old new r is =
-        settles-cause Faulty (Ok (made_by command)) (λ status none. cc) old new r is
-    command-cause (Form.TheVariants.Code command) may old new r is = code-cause command old new r is
+        settles-cause Faulty files_in (Ok (made_by command)) (λ status none. cc) old new r is
+    command-cause (Form.TheVariants.Code command) may old new r is = code-cause command old.files new.files r is.0
     command-cause (Form.TheVariants.Route command) may old new r is =
         query-cause any_in IsReplied command (any-inner command.query) (λ question status is_told. refusal-inner _ _ status is_told) old new r is
     command-cause (Form.TheVariants.Certify command) may old new r is =
@@ -295,12 +311,24 @@ module _ (Faulty : ℕ → Type 0)
     command-cause (Form.TheVariants.Within command) may old new r is =
         query-cause (near_in command.cost) IsNearbyTold command.route (near-inner command.cost command.route.query) (λ question status is_told. refusal-inner _ _ status is_told) old new r is
     command-cause (Form.TheVariants.Hills command) may old new r is =
-        leaves-cause Faulty (IsHillsAnswer command) (refusal-inner _ _) old new r is
+        leaves-cause Faulty files_in (IsHillsAnswer command) (refusal-inner _ _) old new r is
     command-cause (Form.TheVariants.Serve command) may old new r is = absurd is
 
+    -- profiles that are made ready touch no file
+    ready-cause : (files : List Named) (offer : Offer) (old new : Inputs) (r : Result Offer Status) → MakesReady files offer old new r →
+        Cause Faulty [] old.files new.files r
+    ready-cause files offer old new r is =
+        subst (Cause Faulty [] old.files new.files) (sym is.gives) (opens-none old.files new.files is.same)
+
+    -- a hall that is opened touches none
+    opens-cause : (command : ServeCommand) (offered : OfferedValue) (old new : Inputs) (r : Result Offer Status) →
+        Opens command offered old new r → Cause Faulty [] old.files new.files r
+    opens-cause command offered =
+        then-cause Faulty files_in _ _ [] [] (settles-cause Faulty files_in (Ok (offer_over command.labels offered)) (λ status none. cc))
+        (ready-cause command.profiles)
+
     -- what the command `serve` offers
-    pub offers-cause : (command : ServeCommand) (old new : FilesSeen) (r : Result Offer Status) → Offers command old new r →
-        Cause Faulty (file_words (Ok (Form.TheVariants.Serve command))) old new r
+    pub offers-cause : (command : ServeCommand) (old new : Inputs) (r : Result Offer Status) → Offers command old new r →
+        Cause Faulty (file_words (Ok (Form.TheVariants.Serve command))) old.files new.files r
     offers-cause command =
-        last-cause Faulty _ _ (world_words (serve_files command)) (world-cause (serve_files command))
-        (λ offered. settles-cause Faulty (Ok (offer_over command.labels offered)) (λ status none. cc))
+        last-cause Faulty files_in _ _ (world_words (serve_files command)) (world-cause (serve_files command)) (opens-cause command)

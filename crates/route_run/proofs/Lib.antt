@@ -5,5 +5,6 @@ pub mod EdgeLemmas
 pub mod GivenLemmas
 pub mod NameLemmas
 pub mod OfferLemmas
+pub mod ReadyLemmas
 pub mod SaidLemmas
 pub mod SendLemmas

@@ -9,15 +9,16 @@ use Rattle.edge_io.specs.Files.{FilesSeen}
 use Rattle.edge_io.specs.Hub.{HubSeen}
 use Rattle.edge_io.specs.Sink.{SinkSeen}
 use Rattle.item_list.specs.Answer.{Answers, answer_map}
-use Rattle.route_run.proofs.CauseLemmas.{Cause, RefusalCause, opened-none}
+use Rattle.route_run.proofs.CauseLemmas.{Cause, RefusalCause, files_in, opened-none}
 use Rattle.route_run.proofs.CommandLemmas.{command-cause, offers-cause}
 use Rattle.route_run.specs.Ends.{Ends}
 use Rattle.route_run.specs.Offer.{Offer}
 use Rattle.route_run.specs.Outcome.{IsDone as done}
-use Rattle.route_run.specs.Outcome.{HasWriteCause, HasHubCause, HasOpenedAll, HasReadCause, IsAnswer, IsCompleteOf, IsDone, IsOutcome, IsQueryWord, Reach, command_in, file_words}
+use Rattle.route_run.specs.Outcome.{HasWriteCause, HasHubCause, HasOpenedAll, HasReadCause, IsAnswer, IsCompleteOf, IsDone, IsOutcome, IsQueryWord, Reach, begun, command_in, file_words, inputs_in, wants_notes}
 use Rattle.route_run.specs.Serving.{IsServeOutcome as outcome}
 use Rattle.route_run.specs.Serving.{IsServedAt as serves}
 use Rattle.route_run.specs.Serving.{IsServeOutcome, IsServedAt, status_of_end}
+use Rattle.run_files.specs.Notes.{Inputs, NotesSeen, heard, inputs}
 use Rattle.run_files.specs.declared.status.Status.{Status}
 use Rattle.run_files.specs.declared.status.Status.TheVariants.{Done, Usage, Query, TooLong, Lookup, Text, Check, Map, Tile, Certificate, Route, Refuted, NotFound, ReadFault, WriteFault, TurnsSpent, HubFault, NoMemory}
 use Rattle.hall.specs.Served.{EndsBy}
@@ -92,12 +93,13 @@ module _ (named : Result Command ℕ) (old new : Reach)
     answer-said (Ok bytes) NoMemory all ends hub = absurd ends
 
     -- of the end of a server, where the output has the faults that it had
-    served-said : (address : List ℕ) (hangup : Bool) (turns : ℕ) (offer : Offer) (status : Status) →
+    served-said : (address : List ℕ) (hangup : Bool) (turns : ℕ) (offer : Offer) (between : NotesSeen) (status : Status) →
         HasOpenedAll (length (file_words named)) old.files new.files →
-        IsServedAt address hangup turns offer old.hub new.hub status → new.out.faults ≡ old.out.faults → Said named old new status
-    served-said address hangup turns offer _ all (serves.shut fails) out =
+        IsServedAt address hangup turns offer old.hub new.hub between new.notes status → new.out.faults ≡ old.out.faults →
+        Said named old new status
+    served-said address hangup turns offer between _ all (serves.shut fails same) out =
         record { read = all; written = out; hub = fails.rose; complete = λ command is still calm quiet. absurd (quiet fails.rose) }
-    served-said address hangup turns offer _ all (serves.served {opened = opened} {end = how} does to) out = go how to.served.ends
+    served-said address hangup turns offer between _ all (serves.served {opened = opened} {end = how} does noted to) out = go how to.served.ends
       where
         go : (how : ServeEnd) → EndsBy how turns to.served.n to.served.over opened new.hub → Said named old new (status_of_end how)
         go end.Over ends = record { read = all; written = out; hub = ends.2 ∙ does.faults; complete = λ command is still calm quiet. tt }
@@ -113,16 +115,19 @@ module _ (named : Result Command ℕ) (old new : Reach)
             record { read = all; written = out; hub = rose; complete = λ command is still calm quiet. absurd (quiet rose) }
 
 -- of the command `serve`
-serve-said : (command : ServeCommand) (old new : Reach) (status : Status) →
-    IsServeOutcome command old.files new.files old.hub new.hub status →
+serve-said : (command : ServeCommand) (old new : Reach) (begins : Inputs) (status : Status) → begins.files ≡ old.files →
+    IsServeOutcome command begins (inputs_in new) old.hub new.hub status →
     new.out.faults ≡ old.out.faults → Said (Ok (Form.TheVariants.Serve command)) old new status
-serve-said command old new status (outcome.refused offers same) out =
+serve-said command old new begins status is (outcome.refused offers same) out =
     refusal-said (Ok (Form.TheVariants.Serve command)) old new status
-    (offers-cause (Faulty (Ok (Form.TheVariants.Serve command))) command old.files new.files (Err status) offers) out
+    (subst (λ (s : FilesSeen). RefusalCause (Faulty (Ok (Form.TheVariants.Serve command))) (file_words (Ok (Form.TheVariants.Serve command)))
+    s new.files status) is
+    (offers-cause (Faulty (Ok (Form.TheVariants.Serve command))) command begins (inputs_in new) (Err status) offers)) out
     (ap (λ (s : HubSeen). s.faults) same)
-serve-said command old new status (outcome.served {offer = offer} offers to) out =
-    served-said (Ok (Form.TheVariants.Serve command)) old new (address_of command.listen) command.hangup command.turns offer status
-    (offers-cause (Faulty (Ok (Form.TheVariants.Serve command))) command old.files new.files (Ok offer) offers) to out
+serve-said command old new begins status is (outcome.served {offer = offer} {between = between} offers to) out =
+    served-said (Ok (Form.TheVariants.Serve command)) old new (address_of command.listen) command.hangup command.turns offer between status
+    (subst (λ (s : FilesSeen). HasOpenedAll (length (file_words (Ok (Form.TheVariants.Serve command)))) s new.files) is
+    (offers-cause (Faulty (Ok (Form.TheVariants.Serve command))) command begins (inputs new.files between) (Ok offer) offers)) to out
 
 -- of words that are at fault, where nothing is done
 words-said : (named : Result Command ℕ) (old new : Reach) (status : Status) → answer_map (λ (c : Command). c) Usage named ≡ Err status →
@@ -140,7 +145,7 @@ mapped-ok told (Err e) a is = cc
 
 -- of words that are answered over the output, where the hub has the faults that it had
 written-said : (words : List (List ℕ)) (old new : Reach) (answer : Result (List ℕ) Status) (status : Status) →
-    IsAnswer words old.files new.files answer →
+    IsAnswer words (inputs_in old) (inputs_in new) answer →
     Ends answer status old.out new.out → new.hub.faults ≡ old.hub.faults → Said (command_of words) old new status
 written-said words old new answer status (inl stops) ends hub =
     let ended : Ends (Err stops.status) status old.out new.out =
@@ -148,19 +153,19 @@ written-said words old new answer status (inl stops) ends hub =
     let out : new.out.faults ≡ old.out.faults = ap (λ (s : SinkSeen). s.faults) ended.1 in
     let none : Said (command_of words) old new NoMemory =
     refusal-said (command_of words) old new NoMemory
-    (opened-none (length (file_words (command_of words))) old.files new.files stops.refused.same) out hub in
+    (opened-none (length (file_words (command_of words))) old.files new.files (ap files_in stops.refused.same)) out hub in
     subst (Said (command_of words) old new) (sym ended.0)
     (elim stops.refused.gives [
       | inl is ↦ subst (Said (command_of words) old new) (sym is) none
-      | inr is ↦ words-said (command_of words) old new stops.status is stops.refused.same out hub
+      | inr is ↦ words-said (command_of words) old new stops.status is (ap files_in stops.refused.same) out hub
     ])
 written-said words old new answer status (inr goes) ends hub =
     let named : command_of words ≡ Ok goes.value = mapped-ok Usage (command_of words) goes.value goes.given.gives in
     let may : (word : ℕ) → IsQueryWord goes.value word → Faulty (Ok goes.value) word =
     λ word is command same. (let one : goes.value ≡ command = cc in subst (λ (c : Command). IsQueryWord c word) one is) in
     let cause : Cause (Faulty (Ok goes.value)) (file_words (Ok goes.value)) old.files new.files answer =
-    subst (λ (s : FilesSeen). Cause (Faulty (Ok goes.value)) (file_words (Ok goes.value)) s new.files answer) goes.given.same
-    (command-cause (Faulty (Ok goes.value)) goes.value may goes.between new.files answer goes.rest) in
+    subst (λ (s : Inputs). Cause (Faulty (Ok goes.value)) (file_words (Ok goes.value)) s.files new.files answer) goes.given.same
+    (command-cause (Faulty (Ok goes.value)) goes.value may (begun goes.value goes.between) (inputs_in new) answer goes.rest) in
     subst (λ (c : Result Command ℕ). Said c old new status) (sym named) (answer-said (Ok goes.value) old new answer status cause ends hub)
 
 -- of all words
@@ -170,17 +175,28 @@ outcome-said words old new status (inl is) =
     written-said words old new is.answer status is.given is.ends (ap (λ (s : HubSeen). s.faults) is.hub)
 outcome-said words old new status (inr is) =
     subst (λ (c : Result Command ℕ). Said c old new status) (sym is.named)
-    (serve-said is.command old new status is.serves (ap (λ (s : SinkSeen). s.faults) is.out))
+    (serve-said is.command old new (begun (Form.TheVariants.Serve is.command) (inputs_in old)) status refl is.serves
+    (ap (λ (s : SinkSeen). s.faults) is.out))
 
 -- ---- What is done to words
 
+-- where a command begins: notes are written only if it wants them
+abbrev pub begins_at : Command → Reach → Reach
+begins_at command old = record old { notes = heard (wants_notes command) old.notes }
+
 -- words that are a command, which was done
 pub outcome-done : (words : List (List ℕ)) (old new : Reach) (status : Status) (command : Command) →
-    Answers (λ (c : Command). c) (command_in words) NoMemory (Ok command) → IsDone command old new status → IsOutcome words old new status
+    Answers (λ (c : Command). c) (command_in words) NoMemory (Ok command) → IsDone command (begins_at command old) new status →
+    IsOutcome words old new status
 outcome-done words old new status command read (done.writes answer given ends hub) =
     inl (record {
       answer = answer;
-      given = inr (record { value = command; between = old.files; given = record { gives = read; same = refl }; rest = given });
+      given = inr (record {
+        value = command;
+        between = inputs_in old;
+        given = record { gives = read; same = refl };
+        rest = given;
+      });
       ends = ends;
       hub = hub;
     })
@@ -188,7 +204,7 @@ outcome-done words old new status command read (done.serves serve is serves out)
     inr (record {
       command = serve;
       named = mapped-ok Usage (command_of words) (Form.TheVariants.Serve serve) (read ∙ ap Ok is);
-      serves = serves;
+      serves = subst (λ (c : Command). IsServeOutcome serve (begun c (inputs_in old)) (inputs_in new) old.hub new.hub status) is serves;
       out = out;
     })
 

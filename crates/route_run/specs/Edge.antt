@@ -6,6 +6,7 @@ use Rattle.item_list.specs.Answer.{answer_map}
 use Rattle.route_run.specs.Ends.{Ends}
 use Rattle.route_run.specs.Outcome.{Reach, IsOutcome}
 use Rattle.run_files.specs.Chain.{Settles}
+use Rattle.run_files.specs.Notes.{NotesSeen}
 use Rattle.run_files.specs.Status.{number_of_status, line_of}
 use Rattle.command_words.specs.Help.{told_of}
 use Rattle.command_words.specs.Refusals.{texts_of}
@@ -18,12 +19,13 @@ abbrev pub args_in : Result (Vec (String Global) Global) Status → Result (List
 args_in args = answer_map (λ (v : Vec (String Global) Global). texts_of v.items) (λ (s : Status). s) args
 
 -- a text is told: written whole, or a front of it before a write fault, or nothing where memory ran out; the
--- files and the hub are left
+-- files, the hub and the notes are left
 pub record Tells (text : List ℕ) (old new : Reach) (status : Status) : Type 0 where
   pub answer : Result (List ℕ) Status
   pub given : Settles {A = List ℕ} (Ok text) old.files new.files answer
   pub ends : Ends answer status old.out new.out
   pub hub : new.hub ≡ old.hub
+  pub notes : new.notes ≡ old.notes
 
 -- words are told something, or are answered as a command
 abbrev pub IsReplyBy : (words : List (List ℕ)) (told : Option (List ℕ)) (old new : Reach) (status : Status) →
@@ -73,10 +75,10 @@ pub record IsTelling (lines : Status → List ℕ) (status : Status) (old new : 
   pub line : IsPrinted (lines told) old new
   pub number_is : number ≡ number_of_status told
 
--- what the program does with a command line, and the exit status with which it ends, with what stands where
--- it tells that
-pub record IsEnd (args : Result (List (List ℕ)) Status) (old new : Reach) (err_old err_new : SinkSeen)
-    (number : ℕ) : Type 0 where
+-- what the program does with a command line, and the exit status with which it ends: it notes what it does, and
+-- behind the notes it tells how it ended
+pub record IsEnd (args : Result (List (List ℕ)) Status) (old new : Reach) (number : ℕ) : Type 0 where
   pub status : Status
-  pub reply : IsReply args old new status
-  pub telling : IsTelling (told_lines args) status err_old err_new number
+  pub noted : NotesSeen
+  pub reply : IsReply args old (record new { notes = noted }) status
+  pub telling : IsTelling (told_lines args) status noted.sink new.notes.sink number

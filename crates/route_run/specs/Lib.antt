@@ -3,4 +3,5 @@ pub mod Ends
 pub mod Offer
 pub mod Outcome
 pub mod Program
+pub mod Readying
 pub mod Serving

@@ -1,9 +1,13 @@
 -- What a server offers: a world and profiles, taken in from files. This project's own rule.
-use Rattle.std.specs.Prelude.{◌≡◌, ℕ, length, Ok}
+use Rattle.std.specs.Prelude.{◌≡◌, ℕ, List, length, Result, Ok}
+use Rattle.command_words.specs.Given.{Named}
 use Rattle.command_words.specs.declared.command.ServeCommand.{ServeCommand}
 use Rattle.hall.specs.State.{Service, State, empty_hall}
 use Rattle.hall.specs.View.{HallValue, service_of, state_of}
-use Rattle.run_files.specs.Chain.{Settles, Stage, Then}
+use Rattle.route_run.specs.Readying.{ReadiesFirst}
+use Rattle.run_files.specs.Chain.{Settles, Then}
+use Rattle.run_files.specs.Notes.{Inputs, NotedStage}
+use Rattle.run_files.specs.declared.status.Status.{Status}
 use Rattle.run_files.specs.World.{OfferedValue, TakesWorld, WorldFiles}
 
 -- what is offered: what all connections share, and what the hall holds at first
@@ -29,10 +33,23 @@ serve_files command = record {
   tiles = command.tiles;
 }
 
+-- the first of what is offered by the profiles of these files are made ready, and each is noted; the offer stays
+pub record MakesReady (files : List Named) (offer : Offer) (old new : Inputs) (result : Result Offer Status) :
+    Type 0 where
+  pub readied : ReadiesFirst offer.0.world offer.1.stored files old.notes new.notes
+  pub same : new.files ≡ old.files
+  pub gives : result ≡ Ok offer
+
+-- what is opened over what the files hold: a hall, in which the first profiles are made ready
+abbrev pub Opens : ServeCommand → OfferedValue → NotedStage Offer
+Opens command offered =
+    Then (Settles (Ok (offer_over command.labels offered))) (MakesReady command.profiles)
+
 -- what the command `serve` offers: the files of the tag table, of the profiles, of the map and of the tiles
--- are taken in one after the other. The first refusal ends it
-abbrev pub Offers : ServeCommand → Stage Offer
-Offers command = Then (TakesWorld (serve_files command)) (λ offered. Settles (Ok (offer_over command.labels offered)))
+-- are taken in one after the other, and then the first profiles are made ready; each is noted. The first refusal
+-- of a file ends it
+abbrev pub Offers : ServeCommand → NotedStage Offer
+Offers command = Then (TakesWorld (serve_files command)) (Opens command)
 
 -- what a hall is, as an offer
 abbrev pub offer_of : HallValue → Offer

@@ -1,5 +1,5 @@
 -- What the program answers to words over files and an output. This project's own rule.
-use Rattle.std.specs.Prelude.{ℕ, suc, ◌≡◌, ◌≤◌, ◌⊎◌, List, [], ◌∷◌, ◌++◌, length, map, slice_get, Option, Some, None, Result, Ok, Err}
+use Rattle.std.specs.Prelude.{ℕ, suc, ◌≡◌, ◌≤◌, ◌⊎◌, Bool, false, List, [], ◌∷◌, ◌++◌, length, map, slice_get, Option, Some, None, Result, Ok, Err}
 use Rattle.edge_io.specs.Faults.{CountRose, count_after}
 use Rattle.edge_io.specs.Files.{FilesSeen}
 use Rattle.edge_io.specs.Hub.{HubSeen}
@@ -19,7 +19,8 @@ use Rattle.route_run.specs.Serving.{IsServeOutcome}
 use Rattle.route_run.specs.Ends.{Ends}
 use Rattle.route_run.specs.Offer.{serve_files}
 use Rattle.item_list.specs.Answer.{answer_map}
-use Rattle.run_files.specs.Chain.{Leaves, Settles, Stage, Then}
+use Rattle.run_files.specs.Chain.{Leaves, Settles, Then}
+use Rattle.run_files.specs.Notes.{Inputs, NotedStage, NotesSeen, Unnoted, heard, inputs}
 use Rattle.run_files.specs.World.{WorldFiles}
 use Rattle.command_words.specs.Command.{command_of}
 use Rattle.command_words.specs.Given.{Named}
@@ -35,11 +36,22 @@ use Rattle.run_files.specs.declared.status.Status.TheVariants.{Done, Usage, Read
 abbrev pub command_in : List (List ℕ) → Result Command Status
 command_in words = answer_map (λ (c : Command). c) Usage (command_of words)
 
--- what is answered of a command that has something to write; `make` and `hills` leave the files untouched
-abbrev pub IsCommandAnswer : Command → Stage (List ℕ)
-IsCommandAnswer (Form.TheVariants.Grid command) old new answer = IsGridAnswer command old new answer
+-- whether what a command does is to be noted
+abbrev pub wants_notes : Command → Bool
+wants_notes (Form.TheVariants.Route command) = command.notes
+wants_notes (Form.TheVariants.Certify command) = command.route.notes
+wants_notes (Form.TheVariants.Check command) = command.route.notes
+wants_notes (Form.TheVariants.Table command) = command.notes
+wants_notes (Form.TheVariants.Within command) = command.route.notes
+wants_notes (Form.TheVariants.Serve command) = command.notes
+wants_notes command = false
+
+-- what is answered of a command that has something to write; `make` and `hills` leave the files untouched, and they
+-- note nothing, nor do `grid` and `code`
+abbrev pub IsCommandAnswer : Command → NotedStage (List ℕ)
+IsCommandAnswer (Form.TheVariants.Grid command) old new answer = Unnoted (IsGridAnswer command) old new answer
 IsCommandAnswer (Form.TheVariants.Make command) old new answer = Settles (Ok (made_by command)) old new answer
-IsCommandAnswer (Form.TheVariants.Code command) old new answer = IsCodeAnswer command old new answer
+IsCommandAnswer (Form.TheVariants.Code command) old new answer = Unnoted (IsCodeAnswer command) old new answer
 IsCommandAnswer (Form.TheVariants.Route command) old new answer = AnswersQuery any_in IsReplied command old new answer
 IsCommandAnswer (Form.TheVariants.Certify command) old new answer =
     AnswersQuery first_in (IsCertificateWritten command.bound) command.route old new answer
@@ -51,24 +63,34 @@ IsCommandAnswer (Form.TheVariants.Hills command) old new answer =
     Leaves (IsHillsAnswer command) old new answer
 IsCommandAnswer (Form.TheVariants.Serve command) old new answer = ⊥
 
--- what is answered to words over files: the words are read, and then their command is answered
-abbrev pub IsAnswer : List (List ℕ) → Stage (List ℕ)
-IsAnswer words = Then (Settles (command_in words)) IsCommandAnswer
+-- files and notes at which a command begins: notes are written only if it wants them
+abbrev pub begun : Command → Inputs → Inputs
+begun command old = inputs old.files (heard (wants_notes command) old.notes)
 
--- what the program reaches at a moment: the files, its output and the hub
+-- what is answered to words over files: the words are read, and then their command is answered
+abbrev pub IsAnswer : List (List ℕ) → NotedStage (List ℕ)
+IsAnswer words =
+    Then (Settles (command_in words)) (λ command old new answer. IsCommandAnswer command (begun command old) new answer)
+
+-- what the program reaches at a moment: the files, its output, the hub, and where notes go
 pub record Reach : Type 0 where
   pub files : FilesSeen
   pub out : SinkSeen
   pub hub : HubSeen
+  pub notes : NotesSeen
 
--- files, an output and a hub together
-abbrev pub reach : FilesSeen → SinkSeen → HubSeen → Reach
-reach files out hub = record { files = files; out = out; hub = hub }
+-- files, an output, a hub and notes together
+abbrev pub reach : FilesSeen → SinkSeen → HubSeen → NotesSeen → Reach
+reach files out hub notes = record { files = files; out = out; hub = hub; notes = notes }
+
+-- of these the files and the notes
+abbrev pub inputs_in : Reach → Inputs
+inputs_in reach = inputs reach.files reach.notes
 
 -- the words are answered over the files, and the answer ends in this status over the output; the hub is left
 pub record IsWritten (words : List (List ℕ)) (old new : Reach) (status : Status) : Type 0 where
   pub answer : Result (List ℕ) Status
-  pub given : IsAnswer words old.files new.files answer
+  pub given : IsAnswer words (inputs_in old) (inputs_in new) answer
   pub ends : Ends answer status old.out new.out
   pub hub : new.hub ≡ old.hub
 
@@ -76,22 +98,24 @@ pub record IsWritten (words : List (List ℕ)) (old new : Reach) (status : Statu
 pub record IsServed (words : List (List ℕ)) (old new : Reach) (status : Status) : Type 0 where
   pub command : ServeCommand
   pub named : command_of words ≡ Ok (Form.TheVariants.Serve command)
-  pub serves : IsServeOutcome command old.files new.files old.hub new.hub status
+  pub serves :
+      IsServeOutcome command (begun (Form.TheVariants.Serve command) (inputs_in old)) (inputs_in new) old.hub
+      new.hub status
   pub out : new.out ≡ old.out
 
 -- what the program does to words: it writes their answer, or it serves
 abbrev pub IsOutcome : List (List ℕ) → Reach → Reach → Status → Type 0
 IsOutcome words old new status = IsWritten words old new status ⊎ IsServed words old new status
 
--- what the program does to a command
+-- what the program does to a command, from where it begins
 pub data IsDone (command : Command) (old new : Reach) (status : Status) : Type 0 where
   writes :
-      (answer : Result (List ℕ) Status) → IsCommandAnswer command old.files new.files answer →
+      (answer : Result (List ℕ) Status) → IsCommandAnswer command (inputs_in old) (inputs_in new) answer →
       Ends answer status old.out new.out →
       new.hub ≡ old.hub → IsDone command old new status
   serves :
       (serve : ServeCommand) → command ≡ Form.TheVariants.Serve serve →
-      IsServeOutcome serve old.files new.files old.hub new.hub status → new.out ≡ old.out →
+      IsServeOutcome serve (inputs_in old) (inputs_in new) old.hub new.hub status → new.out ≡ old.out →
       IsDone command old new status
 
 -- a write fault comes where the output's count of faults rose, and every other status leaves it

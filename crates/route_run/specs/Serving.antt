@@ -1,12 +1,12 @@
 -- What the command `serve` does: what it offers is served over a hub. This project's own rule.
-use Rattle.std.specs.Prelude.{ℕ, ◌≡◌, Bool, List, [], ◌∷◌, Some, Ok, Err}
+use Rattle.std.specs.Prelude.{ℕ, ◌≡◌, Bool, List, [], ◌∷◌, ◌++◌, Some, Ok, Err, codes}
 use Rattle.command_words.specs.Command.{address_of}
 use Rattle.command_words.specs.declared.command.ServeCommand.{ServeCommand}
 use Rattle.edge_io.specs.Acts.{Act, Listens}
-use Rattle.edge_io.specs.Files.{FilesSeen}
 use Rattle.edge_io.specs.Hub.{Does, Fails, HubSeen}
 use Rattle.hall.specs.State.{State}
 use Rattle.route_run.specs.Offer.{Offer, Offers}
+use Rattle.run_files.specs.Notes.{Inputs, IsNoted, NotesSeen, inputs}
 use Rattle.run_files.specs.declared.status.Status.{Status}
 use Rattle.run_files.specs.declared.status.Status.TheVariants as status
 use Rattle.hall.specs.Allowed.{AreAllowed}
@@ -46,22 +46,30 @@ pub record IsServedTo (turns : ℕ) (offer : Offer) (opened : HubSeen) (end : Se
       GetsOwn offer.0 (EventOf served.run.turns) id served.acts
   pub grows : (before : List Act) → opened.acts ≡ Some before → GrowsByUploads served.run
 
+-- the note that a server listens
+abbrev pub listen_note : List ℕ → List ℕ
+listen_note address = codes "listening on " ++ (address ++ codes "\n")
+
 -- an offer is served: the hub couldn't be opened; or it was, once, at this address and with an end of a peer as
--- the loss of its connection or not, and then turns were taken
-pub data IsServedAt (address : List ℕ) (hangup : Bool) (turns : ℕ) (offer : Offer) (old new : HubSeen) : Status →
-    Type 0 where
-  shut : Fails old new → IsServedAt address hangup turns offer old new status.HubFault
+-- the loss of its connection or not, which is noted, and then turns were taken
+pub data IsServedAt (address : List ℕ) (hangup : Bool) (turns : ℕ) (offer : Offer) (old new : HubSeen) (notes_old
+    notes_new : NotesSeen) : Status → Type 0 where
+  shut :
+      Fails old new → notes_new ≡ notes_old →
+      IsServedAt address hangup turns offer old new notes_old notes_new status.HubFault
   served :
       {opened : HubSeen} {end : ServeEnd} → Does old opened (Listens address hangup ∷ []) →
-      IsServedTo turns offer opened end new → IsServedAt address hangup turns offer old new (status_of_end end)
+      IsNoted (listen_note address) notes_old notes_new → IsServedTo turns offer opened end new →
+      IsServedAt address hangup turns offer old new notes_old notes_new (status_of_end end)
 
 -- what the command `serve` does: what it offers is refused, and the hub is left; or it is served at the
--- command's address, with ends as the command says
-pub data IsServeOutcome (command : ServeCommand) (old new : FilesSeen) (hub_old hub_new : HubSeen) (status :
+-- command's address, with ends as the command says, and the files are left
+pub data IsServeOutcome (command : ServeCommand) (old new : Inputs) (hub_old hub_new : HubSeen) (status :
     Status) : Type 0 where
   refused : Offers command old new (Err status) → hub_new ≡ hub_old →
       IsServeOutcome command old new hub_old hub_new status
   served :
-      {offer : Offer} → Offers command old new (Ok offer) →
-      IsServedAt (address_of command.listen) command.hangup command.turns offer hub_old hub_new status →
+      {offer : Offer} {between : NotesSeen} → Offers command old (inputs new.files between) (Ok offer) →
+      IsServedAt (address_of command.listen) command.hangup command.turns offer hub_old hub_new between new.notes
+      status →
       IsServeOutcome command old new hub_old hub_new status

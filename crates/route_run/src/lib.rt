@@ -3,6 +3,7 @@
 #![tactic(auto)]
 
 mod offer;
+mod readying;
 mod reply;
 mod sending;
 mod server;

@@ -1,4 +1,5 @@
-//! A command line over files, an output, and a place where the program tells how it ended.
+//! A command line over files, an output, and a place where the program notes what it does and tells
+//! how it ended.
 
 ghost use Rattle.std.specs.Prelude.{◌≡◌, ◌≢◌, ◌++◌, IfOk, OnOk, OnErr};
 ghost use Rattle.command_words.specs.Help.{told_of};
@@ -11,29 +12,28 @@ ghost use Rattle.run_files.specs.declared.status.Status.{Status as TheStatus};
 use crate::sending::send;
 use crate::top::run;
 use command_words::{append_usage, told_text};
-use edge_io::{Files, Hub, Sink, send_all};
+use edge_io::{Files, Hub, Sink};
 use item_list::append_bytes;
-use run_files::Status;
+use run_files::{Notes, Status};
 use std::alloc::{AllocError, Global};
 
-/// Does what a command line asks for, tells on `err` how it ended, and gives the exit status. A
-/// command line that could not be read is the status that says why.
+/// Does what a command line asks for, notes that on `err`, tells there how it ended, and gives the
+/// exit status. A command line that could not be read is the status that says why.
 pub fn edge<F: Files, O: Sink, H: Hub, E: Sink>(
     alloc: Global,
     args: Result<Vec<String>, Status>,
     files: &mut F,
     out: &mut O,
     hub: &mut H,
-    err: &mut E,
+    err: &mut Notes<E>,
 ) -> u8
     ensures outcome { IsEnd (args_in args)
-        (reach (F.seen files.old) (O.seen out.old) (H.seen hub.old))
-        (reach (F.seen files.new) (O.seen out.new) (H.seen hub.new)) (E.seen err.old)
-        (E.seen err.new) result }
+        (reach (F.seen files.old) (O.seen out.old) (H.seen hub.old) err.old)
+        (reach (F.seen files.new) (O.seen out.new) (H.seen hub.new) err.new) result }
 {
     match args {
         Ok(words) => {
-            let status = reply(alloc, words.as_slice(), files, out, hub);
+            let status = reply(alloc, words.as_slice(), files, out, hub, err);
             tell(alloc, words.as_slice(), true, status, err)
         }
         Err(refusal) => tell(alloc, &[], false, refusal, err),
@@ -41,37 +41,44 @@ pub fn edge<F: Files, O: Sink, H: Hub, E: Sink>(
 }
 
 /// Answers words, or tells what they ask to be told; the status in which that ends.
-fn reply<F: Files, O: Sink, H: Hub>(
+fn reply<F: Files, O: Sink, H: Hub, E: Sink>(
     alloc: Global,
     words: &[String],
     files: &mut F,
     out: &mut O,
     hub: &mut H,
+    notes: &mut Notes<E>,
 ) -> Status
     ensures exact { IsReplyBy (texts_of words.now) (told_of (texts_of words.now))
-        (reach (F.seen files.old) (O.seen out.old) (H.seen hub.old))
-        (reach (F.seen files.new) (O.seen out.new) (H.seen hub.new)) result }
+        (reach (F.seen files.old) (O.seen out.old) (H.seen hub.old) notes.old)
+        (reach (F.seen files.new) (O.seen out.new) (H.seen hub.new) notes.new) result }
 {
     match told_text(alloc, words) {
         Ok(Some(text)) => send(out, Ok(text)),
-        Ok(None) => run(alloc, words, files, out, hub),
+        Ok(None) => run(alloc, words, files, out, hub, notes),
         Err(_) => Status::NoMemory,
     }
 }
 
 /// Tells a status of these words, if they could be read: the lines on `err`, if it isn't success, and
 /// the exit status.
-fn tell<E: Sink>(alloc: Global, words: &[String], is_read: bool, status: Status, err: &mut E) -> u8
-    ensures exact { IsTelling (told_by is_read (texts_of words.now)) status (E.seen err.old)
-        (E.seen err.new) result }
+fn tell<E: Sink>(
+    alloc: Global,
+    words: &[String],
+    is_read: bool,
+    status: Status,
+    err: &mut Notes<E>,
+) -> u8
+    ensures exact { IsTelling (told_by is_read (texts_of words.now)) status err.old.sink
+        err.new.sink result }
 {
     match lines(alloc, words, is_read, &status) {
         Ok(text) => {
-            let _ = send_all(err, text.as_slice());
+            let _ = err.say(text.as_slice());
             status.number()
         }
         Err(_) => {
-            let _ = send_all(err, b"out of memory\n");
+            let _ = err.say(b"out of memory\n");
             Status::NoMemory.number()
         }
     }

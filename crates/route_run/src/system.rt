@@ -6,7 +6,7 @@ ghost use Rattle.route_run.specs.Program.{fault_of};
 
 use crate::reply::edge;
 use edge_io::{DirFiles, StdSink, TcpHub, WriteSink};
-use run_files::Status;
+use run_files::{Notes, Status};
 use std::io::ErrorKind;
 use std::process::ExitCode;
 use std::{env, io};
@@ -21,7 +21,7 @@ pub fn program(rt: &HostRuntime) -> ExitCode {
     let told = rt.stderr();
     let mut files = DirFiles::new(rt);
     let mut out = StdSink::new(rt);
-    let mut err = WriteSink::over(io::writer(&told));
+    let mut err = Notes::over(WriteSink::over(io::writer(&told)));
     let mut hub = TcpHub::new(rt, rt.alloc());
     ExitCode::from(edge(rt.alloc(), args, &mut files, &mut out, &mut hub, &mut err))
 }

@@ -17,7 +17,9 @@ use std::alloc::{AllocError, Global};
 pub(crate) use world::World;
 
 /// The calls that set the world.
-pub(crate) const SETTINGS: [&str; 6] = ["world", "file", "tile", "reading", "output", "hub"];
+pub(crate) const SETTINGS: [&str; 7] = [
+    "world", "file", "tile", "reading", "output", "noting", "hub",
+];
 
 /// The calls that run command lines.
 pub(crate) const RUNS: [&str; 12] = [
@@ -50,6 +52,10 @@ pub(crate) fn set(alloc: Global, case: &Case, world: &mut World) -> Result<Vec<u
         }
         4 => {
             world.write_by(case.count(1), case.count(2), case.count(3));
+            Vec::from_slice(alloc, b"set")
+        }
+        5 => {
+            world.note_by(case.count(1), case.count(2), case.count(3));
             Vec::from_slice(alloc, b"set")
         }
         _ => {

@@ -3,9 +3,11 @@ use Rattle.std.proofs.Common.{◌≡◌, ◌⊎◌, ℕ, ◌+◌, ◌<◌, ◌�
 use Rattle.std.proofs.Math.Seq.{take-append-add}
 use Rattle.std.proofs.lemmas.List.{take-append-le, take_all, take_min, length-take}
 use Rattle.std.specs.Io.KnownBytes.{Consumes}
-use Rattle.edge_io.specs.Files.{FilesSeen}
+use Rattle.command_words.specs.Given.{Named}
 use Rattle.edge_io.specs.Whole.{IsAllLeft, ReadsBytes}
 use Rattle.run_files.specs.MapReading.{CountsMapFault, IsReadAs, IsReadFrom, IsTextOf, IsTold, OnFault, ReadsMap}
+use Rattle.run_files.specs.NoteLines.{read_notes}
+use Rattle.run_files.specs.Notes.{Inputs, IsNoted}
 use Rattle.run_files.specs.declared.map_error.MapFileError.{MapFileError}
 use Rattle.run_files.specs.declared.map_error.MapFileError.TheVariants.{Fault, TooLong, Map, NoMemory}
 use Rattle.map_tables.specs.declared.error.MapError.{MapError}
@@ -14,9 +16,10 @@ use Rattle.overpass_graph.specs.Builder.{IsFaultOfBeginning, IsFaultOfText, MayB
 use Rattle.overpass_graph.specs.Maps.{MapValue}
 
 -- bytes that were read, with what they come to
-pub reads-map : (limit : ℕ) (old new : FilesSeen) (bytes : List ℕ) (result : Result MapValue MapFileError) →
-    ReadsBytes limit old new bytes → IsReadAs limit bytes result → ReadsMap limit old new result
-reads-map limit old new bytes result how is = record { bytes = bytes; how = how; is = is }
+pub reads-map : (file : Named) (limit : ℕ) (old new : Inputs) (bytes : List ℕ) (result : Result MapValue MapFileError) →
+    ReadsBytes limit old.files new.files bytes → IsReadAs limit bytes result →
+    IsNoted (read_notes file (length bytes)) old.notes new.notes → ReadsMap file limit old new result
+reads-map file limit old new bytes result how is noted = record { bytes = bytes; how = how; is = is; noted = noted }
 
 -- a fault of reading says nothing of the bytes
 pub read-failed : (limit : ℕ) (left : Option (List ℕ)) (result : Result MapValue MapFileError) → result ≡ Err Fault →

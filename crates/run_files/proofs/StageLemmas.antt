@@ -4,7 +4,7 @@ use Rattle.command_words.specs.Given.{Named}
 use Rattle.edge_io.specs.Files.{FailsToOpen, FilesSeen, Opens}
 use Rattle.edge_io.specs.Whole.{ReadsBytes}
 use Rattle.item_list.specs.Answer.{Answers}
-use Rattle.run_files.specs.Chain.{GoesOn, seen_as, Settles, Stage, Then}
+use Rattle.run_files.specs.Chain.{GoesOn, seen_as, Settles, Stage, StageOver, Then}
 use Rattle.run_files.specs.File.{Asks}
 use Rattle.run_files.specs.File.{Asks as asks}
 use Rattle.run_files.specs.declared.status.Status.{Status}
@@ -38,26 +38,26 @@ module _ {A : Type 0} (file : Named) (limit : ℕ) (Is : List ℕ → Stage A) (
 -- ---- Two stages
 
 -- a refusal of the first of two stages is the answer
-pub then-stops : {A B : Type 0} (first : Stage A) (second : A → Stage B)
-    (old new : FilesSeen) (result : Result B Status) (status : Status) → first old new (Err status) → result ≡ Err status →
+pub then-stops : {S A B : Type 0} (first : StageOver S A) (second : A → StageOver S B)
+    (old new : S) (result : Result B Status) (status : Status) → first old new (Err status) → result ≡ Err status →
     Then first second old new result
 then-stops first second old new result status refused is = inl (record { status = status; refused = refused; answer = is })
 
 -- the second of two stages goes on where the first gave a value
-pub then-goes : {A B : Type 0} (first : Stage A) (second : A → Stage B)
-    (old mid new : FilesSeen) (result : Result B Status) (value : A) → first old mid (Ok value) → second value mid new result →
+pub then-goes : {S A B : Type 0} (first : StageOver S A) (second : A → StageOver S B)
+    (old mid new : S) (result : Result B Status) (value : A) → first old mid (Ok value) → second value mid new result →
     Then first second old new result
 then-goes first second old mid new result value given rest = inr (record { value = value; between = mid; given = given; rest = rest })
 
 -- two stages that gave a value: the first gave one, with which the second went on
-pub then-given : {A B : Type 0} (first : Stage A) (second : A → Stage B) (old new : FilesSeen) (value : B) →
+pub then-given : {S A B : Type 0} (first : StageOver S A) (second : A → StageOver S B) (old new : S) (value : B) →
     Then first second old new (Ok value) →
     GoesOn first second old new (Ok value)
 then-given first second old new value (inl stops) = let is = stops.answer in cc
 then-given first second old new value (inr goes) = goes
 
 -- a call that touches no file settles the answer, seen so
-pub settles : {A B : Type 0} (view : A → B) (answer : Result B Status) (seen : FilesSeen) (result : Result A Status) →
+pub settles : {S A B : Type 0} (view : A → B) (answer : Result B Status) (seen : S) (result : Result A Status) →
     Answers view answer NoMemory result → Settles answer seen seen (seen_as view result)
 settles view answer seen (Ok a) gives = record { gives = gives; same = refl }
 settles view answer seen (Err status) gives = record { gives = gives; same = refl }

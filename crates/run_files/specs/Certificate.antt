@@ -9,6 +9,8 @@ use Rattle.overpass_graph.specs.Maps.{MapValue}
 use Rattle.run_files.specs.Chain.{Leaves, Stage, Then}
 use Rattle.run_files.specs.File.{TakesFile}
 use Rattle.run_files.specs.Limits.{most_certificate}
+use Rattle.run_files.specs.NoteLines.{certificate_note}
+use Rattle.run_files.specs.Notes.{NotedStage, Noting}
 use Rattle.run_files.specs.declared.status.Status.{Status}
 use Rattle.run_files.specs.declared.status.Status.TheVariants as told
 
@@ -24,3 +26,7 @@ IsCertificateIn map word text (Err status) = ⊥
 abbrev pub TakesCertificate : MapValue → Named → Stage Certificate
 TakesCertificate map file =
     Then (TakesFile file most_certificate) (λ text. Leaves (IsCertificateIn map file.word text))
+
+-- so it is, and then noted
+abbrev pub NotesCertificate : MapValue → Named → NotedStage Certificate
+NotesCertificate map file = Noting (TakesCertificate map file) (λ certificate. certificate_note file)

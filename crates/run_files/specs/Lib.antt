@@ -6,6 +6,8 @@ pub mod Limits
 pub mod Lines
 pub mod Map
 pub mod MapReading
+pub mod NoteLines
+pub mod Notes
 pub mod Profile
 pub mod Profiles
 pub mod Query

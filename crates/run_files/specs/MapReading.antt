@@ -1,8 +1,10 @@
 -- What the bytes of a map's file come to, of which so many are taken (this project's own rule).
 use Rattle.std.specs.Prelude.{◌≡◌, ◌⊎◌, ℕ, ◌<◌, ◌≤◌, List, length, take, Option, Some, None, Result, Ok, Err}
 use Rattle.edge_io.specs.Faults.{CountRose}
-use Rattle.edge_io.specs.Files.{FilesSeen}
 use Rattle.edge_io.specs.Whole.{ReadsBytes}
+use Rattle.command_words.specs.Given.{Named}
+use Rattle.run_files.specs.NoteLines.{read_notes}
+use Rattle.run_files.specs.Notes.{Inputs, IsNoted}
 use Rattle.run_files.specs.declared.map_error.MapFileError.{MapFileError}
 use Rattle.run_files.specs.declared.map_error.MapFileError.TheVariants.{Fault, TooLong, Map, NoMemory}
 use Rattle.map_tables.specs.declared.error.MapError.{MapError}
@@ -33,11 +35,13 @@ abbrev pub IsReadFrom : ℕ → Option (List ℕ) → Result MapValue MapFileErr
 IsReadFrom limit None result = Unit {0}
 IsReadFrom limit (Some bytes) result = IsReadAs limit bytes result
 
--- some bytes of the open file were read, with what they come to
-pub record ReadsMap (limit : ℕ) (old new : FilesSeen) (result : Result MapValue MapFileError) : Type 0 where
+-- some bytes of the open file were read, with what they come to, and noted
+pub record ReadsMap (file : Named) (limit : ℕ) (old new : Inputs) (result : Result MapValue MapFileError) :
+    Type 0 where
   pub bytes : List ℕ
-  pub how : ReadsBytes limit old new bytes
+  pub how : ReadsBytes limit old.files new.files bytes
   pub is : IsReadAs limit bytes result
+  pub noted : IsNoted (read_notes file (length bytes)) old.notes new.notes
 
 -- a fault of reading is answered where the count of faults rose, and every other answer leaves it
 abbrev pub CountsMapFault : ℕ → ℕ → Result MapValue MapFileError → Type 0

@@ -8,6 +8,8 @@ use Rattle.profile_text.specs.Tree.{Sections}
 use Rattle.route_ready.specs.Entries.{names_of, profiles_of}
 use Rattle.run_files.specs.Chain.{Settles, Stage, TakesEach, Then}
 use Rattle.run_files.specs.Checked.{TakesChecked}
+use Rattle.run_files.specs.NoteLines.{profile_note}
+use Rattle.run_files.specs.Notes.{NotedStage, Noting}
 
 -- a profile with its name
 abbrev pub NamedProfile : Type 0
@@ -21,9 +23,13 @@ named_by file sections = (profile_name file.name, sections)
 abbrev pub TakesNamed : TagTable → Named → Stage NamedProfile
 TakesNamed table file = Then (TakesChecked table file) (λ sections. Settles (Ok (named_by file sections)))
 
--- the profiles of these files are taken in so, one after the other
-abbrev pub TakesProfiles : TagTable → List Named → Stage (List NamedProfile)
-TakesProfiles table files = TakesEach (TakesNamed table) files
+-- so it is, and then noted
+abbrev pub NotesNamed : TagTable → Named → NotedStage NamedProfile
+NotesNamed table file = Noting (TakesNamed table file) (λ named. profile_note file)
+
+-- the profiles of these files are taken in and noted so, one after the other
+abbrev pub TakesProfiles : TagTable → List Named → NotedStage (List NamedProfile)
+TakesProfiles table files = TakesEach (NotesNamed table) files
 
 -- the profile at a place, where there is one
 abbrev pub profile_at : List NamedProfile → Option ℕ → Option Sections

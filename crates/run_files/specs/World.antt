@@ -4,8 +4,10 @@ use Rattle.command_words.specs.Given.{Named}
 use Rattle.route_ready.specs.Shelves.{shelf_of}
 use Rattle.route_ready.specs.World.{world_of}
 use Rattle.route_ready.specs.Worlds.{WorldValue}
-use Rattle.run_files.specs.Chain.{Settles, Stage, Then}
+use Rattle.run_files.specs.Chain.{Settles, Then}
 use Rattle.run_files.specs.Map.{TakesMap}
+use Rattle.run_files.specs.NoteLines.{table_note}
+use Rattle.run_files.specs.Notes.{NotedStage, Noting}
 use Rattle.run_files.specs.Profiles.{NamedProfile, TakesProfiles}
 use Rattle.run_files.specs.TagTable.{TakesTable}
 use Rattle.run_files.specs.Tiles.{TakesTiles}
@@ -23,11 +25,11 @@ pub record OfferedValue : Type 0 where
   pub world : WorldValue
   pub profiles : List NamedProfile
 
--- the files of the tag table, of the profiles, of the map and of the tiles are taken in one after the other;
--- the first refusal is the answer
-abbrev pub TakesWorld : WorldFiles → Stage OfferedValue
+-- the files of the tag table, of the profiles, of the map and of the tiles are taken in one after the other,
+-- and each is noted before the next; the first refusal is the answer
+abbrev pub TakesWorld : WorldFiles → NotedStage OfferedValue
 TakesWorld files =
-    Then (TakesTable files.lookups) (λ table.
+    Then (Noting (TakesTable files.lookups) (λ table. table_note files.lookups)) (λ table.
     Then (TakesProfiles table files.profiles) (λ profiles.
     Then (TakesMap files.map) (λ map.
     Then (TakesTiles files.tiles) (λ tiles.

@@ -2,21 +2,33 @@
 
 ghost use Rattle.std.specs.Prelude.{◌≡◌, ◌<◌, ◌+◌, ◌++◌, ◌^◌, ℕ, true, List, length, take, OnOk};
 ghost use Rattle.run_files.specs.MapReading.{CountsMapFault, IsReadFrom, IsTextOf, IsTold, OnFault, ReadsMap};
+ghost use Rattle.run_files.specs.Notes.{inputs};
 ghost use Rattle.overpass_graph.specs.Builder.{IsFaultOfBeginning, MayBecomeMap, StandsForText, fed};
 
 use crate::map_error::MapFileError;
-use edge_io::Files;
+use crate::note_lines::note_part;
+use crate::notes::Notes;
+use command_words::FileWord;
+use edge_io::{Files, Sink};
 use overpass_graph::{Map, MapBuilder, MapError};
 use std::alloc::Global;
 
 /// The map of what is left of the open file, of which at most `limit` bytes are taken. Each piece
 /// is fed as soon as it is read, so the first fault of the text ends the reading. It takes at most
-/// one read more than the limit has bytes.
-pub fn read_map<F: Files>(alloc: Global, files: &mut F, limit: u64) -> Result<Map, MapFileError>
+/// one read more than the limit has bytes. Each part that was read of the file, which this word
+/// names, is noted.
+pub fn read_map<F: Files, N: Sink>(
+    alloc: Global,
+    file: &FileWord,
+    files: &mut F,
+    limit: u64,
+    notes: &mut Notes<N>,
+) -> Result<Map, MapFileError>
     requires ready { (F.seen files.old).is_open ≡ true }
     requires few { limit < 2 ^ 63 }
     ensures exact { IsReadFrom limit (F.seen files.old).left result }
-    ensures kept { ReadsMap limit (F.seen files.old) (F.seen files.new) result }
+    ensures kept { ReadsMap file.now limit (inputs (F.seen files.old) notes.old)
+        (inputs (F.seen files.new) notes.new) result }
     ensures cause { CountsMapFault (F.seen files.old).faults (F.seen files.new).faults result }
 {
     let mut builder = MapBuilder::new(alloc);
@@ -27,6 +39,7 @@ pub fn read_map<F: Files>(alloc: Global, files: &mut F, limit: u64) -> Result<Ma
         if given == 0 {
             return finish(builder);
         }
+        note_part(alloc, file, limit - room, given as u64, notes);
         match feed(&mut builder, within(&piece[..given], room)) {
             Ok(()) => {}
             Err(error) => return Err(error),

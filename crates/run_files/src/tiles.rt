@@ -2,31 +2,37 @@
 
 ghost use Rattle.hgt_tiles.specs.Relief.{Relief};
 ghost use Rattle.item_list.specs.Answer.{Answers};
+ghost use Rattle.run_files.specs.Notes.{inputs};
 ghost use Rattle.run_files.specs.TileSets.{AddsFile};
 ghost use Rattle.run_files.specs.Tiles.{TakesTile, TakesTiles, tile_in};
 
 use crate::file::take_file;
+use crate::note_lines::note_file;
+use crate::notes::Notes;
 use crate::status::Status;
 use command_words::FileWord;
-use edge_io::Files;
+use edge_io::{Files, Sink};
 use hgt_tiles::{Tile, TileError, Tiles};
 use std::alloc::Global;
 
 /// The most bytes of a tile's file.
 const MOST_TILE: usize = 25_934_402;
 
-/// The tiles of files that words name, of each corner the first; a refusal names the word.
-pub fn take_tiles<F: Files>(
+/// The tiles of files that words name, of each corner the first, each noted; a refusal names the
+/// word.
+pub fn take_tiles<F: Files, N: Sink>(
     alloc: Global,
     tiles: &[FileWord],
     files: &mut F,
+    notes: &mut Notes<N>,
 ) -> Result<Tiles, Status>
-    ensures taken { TakesTiles tiles.now (F.seen files.old) (F.seen files.new) result }
+    ensures taken { TakesTiles tiles.now (inputs (F.seen files.old) notes.old)
+        (inputs (F.seen files.new) notes.new) result }
 {
     let mut set = Tiles::new(alloc);
     'tiles: for file in tiles {
         match add_tile(alloc, file, files, &mut set) {
-            Ok(()) => {}
+            Ok(()) => note_file(alloc, file, b"heights", notes),
             Err(status) => return Err(status),
         }
     }

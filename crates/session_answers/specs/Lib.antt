@@ -11,3 +11,4 @@ pub mod Searches
 pub mod Sites
 pub mod Stored
 pub mod Verdicts
+pub mod Warming

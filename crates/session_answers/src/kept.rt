@@ -22,7 +22,7 @@ use std::num::NonZeroUsize;
 use std::rc::Rc;
 
 /// How many profiles are kept at most.
-pub(crate) const MOST_KEPT: usize = 8;
+pub const MOST_KEPT: usize = 8;
 
 /// Profiles that were made ready for a world, the last eight that requests used; and those that are
 /// being made ready for the sessions that wait for them.

@@ -19,7 +19,7 @@ mod warming;
 
 pub use beginning::{Begun, begin};
 pub use frames::{line_frame, refusal_frame};
-pub use kept::KeptProfiles;
+pub use kept::{KeptProfiles, MOST_KEPT};
 pub use profiles::Profiles;
 pub use received::Received;
 pub use refusal::Refusal;

@@ -108,7 +108,7 @@ pub(crate) fn append_edge(
     let mut over = world.outside()?;
     let exit = world.exit(case, &mut over)?;
     append_number(told, u64::from(exit))?;
-    append_in_brackets(told, over.err.bytes())?;
+    append_in_brackets(told, over.err.sink().bytes())?;
     append_in_brackets(told, over.out.bytes())
 }
 
@@ -123,7 +123,7 @@ pub(crate) fn append_fault(
     let exit = world.exit(case, &mut over)?;
     append_number(told, u64::from(exit))?;
     append_bytes(told, b" ")?;
-    append_bytes(told, second_line(over.err.bytes()).as_bytes())
+    append_bytes(told, second_line(over.err.sink().bytes()).as_bytes())
 }
 
 /// The second line of a text; nothing where there is none.

@@ -10,7 +10,7 @@ use case_inputs::Case;
 use edge_memory::{MemFiles, MemHub, MemSink, Script, can_play};
 use item_list::{Items, Name, bytes_of};
 use route_run::{edge, run};
-use run_files::Status;
+use run_files::{Notes, Status};
 use std::alloc::{AllocError, Global};
 
 /// The number of a call that no row makes.
@@ -23,8 +23,8 @@ const HUB_ROOM: usize = 1_000_000;
 const MOST_ROOM: usize = 3_000_000;
 
 /// The files, the most bytes of a read and the reading call that fails; the room of the output, the
-/// most bytes of a write and the writing call that fails; what peers do, the most bytes of a piece
-/// and the call of the hub that fails.
+/// most bytes of a write and the writing call that fails, and the same of the notes; what peers do,
+/// the most bytes of a piece and the call of the hub that fails.
 pub(crate) struct World {
     files: Vec<(Vec<u8>, Vec<u8>)>,
     script: Vec<Script>,
@@ -34,10 +34,14 @@ pub(crate) struct World {
     room: usize,
     writes: usize,
     failing_write: u64,
+    note_room: usize,
+    notes: usize,
+    failing_note: u64,
     piece: usize,
     failing_call: u64,
     ghost reads_some: { 1 ≤ reads },
     ghost writes_some: { 1 ≤ writes },
+    ghost notes_some: { 1 ≤ notes },
     ghost piece_some: { 1 ≤ piece },
 }
 
@@ -52,6 +56,9 @@ impl Drop for World {
             room: _,
             writes: _,
             failing_write: _,
+            note_room: _,
+            notes: _,
+            failing_note: _,
             piece: _,
             failing_call: _,
         } = self;
@@ -70,6 +77,9 @@ impl World {
             room: MOST_ROOM,
             writes: 4096,
             failing_write: NEVER,
+            note_room: 10_000,
+            notes: 1000,
+            failing_note: NEVER,
             piece: 4096,
             failing_call: NEVER,
         }
@@ -98,6 +108,13 @@ impl World {
         self.room = room.min(MOST_ROOM as u64) as usize;
         self.writes = piece.clamp(1, 65_536) as usize;
         self.failing_write = failing;
+    }
+
+    /// Sets the room of the notes, the most bytes of a write there, and the call that fails.
+    pub(crate) fn note_by(&mut self, room: u64, piece: u64, failing: u64) {
+        self.note_room = room.min(10_000) as usize;
+        self.notes = piece.clamp(1, 65_536) as usize;
+        self.failing_note = failing;
     }
 
     /// Sets the reading call that fails.
@@ -150,11 +167,17 @@ impl World {
         MemSink::new(self.alloc, self.room, self.writes, failing)
     }
 
+    /// Where notes go, to which nothing was written.
+    fn note_sink(&self) -> Result<MemSink, AllocError> {
+        let failing = vec![in self.alloc; self.failing_note]?;
+        MemSink::new(self.alloc, self.note_room, self.notes, failing)
+    }
+
     /// The files, of which none was opened, and outputs, to which nothing was written.
     pub(crate) fn outside(&self) -> Result<Outside, AllocError> {
         let files = self.mem_files()?;
         let out = self.mem_sink()?;
-        let err = MemSink::new(self.alloc, 10_000, 1000, Vec::new(self.alloc))?;
+        let err = Notes::over(self.note_sink()?);
         Ok(Outside { files, out, err })
     }
 
@@ -222,6 +245,7 @@ impl World {
             &mut over.files,
             &mut over.out,
             hub,
+            &mut over.err,
         );
         Ok(status)
     }

@@ -7,7 +7,7 @@ use Rattle.route_run.proofs.reply.tell.Goals as goal
 
 pub returns : goal.returns
 returns g c = record {
-  exact = telling c.send_all-in-Err.result (told_by c.args.is_read (texts_of c.args.words.now)) c.args.status NoMemory (codes "out of memory\n") (g.E.Sink.seen c.args.err.now)
-      (g.E.Sink.seen c.send_all-in-Err.new.out) c.number-in-Err.result
-      (inr (refl, c.in-Err.ensures.only)) refl c.send_all-in-Err.ensures.value c.send_all-in-Err.ensures.kept c.number-in-Err.ensures.value;
+  exact = telling c.say-in-Err.result (told_by c.args.is_read (texts_of c.args.words.now)) c.args.status NoMemory (codes "out of memory\n") c.args.err.now.sink
+      c.say-in-Err.new.self.sink c.number-in-Err.result
+      (inr (refl, c.in-Err.ensures.only)) refl c.say-in-Err.ensures.value c.say-in-Err.ensures.kept c.number-in-Err.ensures.value;
 }

@@ -1,7 +1,7 @@
 use Rattle.std.proofs.Common.{◌≡◌, List, ℕ, Result, refl, subst, sym}
 use Rattle.command_words.specs.declared.command.Command.{Command}
 use Rattle.route_run.specs.Ends.{Ends}
-use Rattle.route_run.specs.Outcome.{IsCommandAnswer, IsDone, Reach}
+use Rattle.route_run.specs.Outcome.{IsCommandAnswer, IsDone, Reach, inputs_in}
 use Rattle.route_run.specs.Outcome.{IsDone as done}
 use Rattle.run_answers.specs.Outputs.{output_in}
 use Rattle.run_files.specs.Chain.{bytes_in}
@@ -10,14 +10,14 @@ use Rattle.route_run.proofs.top.command_run.Goals as goal
 
 -- a command that is this one is done where its answer ends over the output
 written : (command this : Command) (old new : Reach) (answer : Result (List ℕ) Status) (status : Status) → command ≡ this →
-    IsCommandAnswer this old.files new.files answer → Ends answer status old.out new.out → new.hub ≡ old.hub → IsDone command old new status
+    IsCommandAnswer this (inputs_in old) (inputs_in new) answer → Ends answer status old.out new.out → new.hub ≡ old.hub → IsDone command old new status
 written command this old new answer status is given ends hub =
-    done.writes answer (subst (λ (c : Command). IsCommandAnswer c old.files new.files answer) (sym is) given) ends hub
+    done.writes answer (subst (λ (c : Command). IsCommandAnswer c (inputs_in old) (inputs_in new) answer) (sym is) given) ends hub
 
 pub returns-in-Grid : goal.returns-in-Grid
 returns-in-Grid g c = record {
   exact =
-      written _ _ _ _ (bytes_in c.grid_answer.result) _ c.in-Grid.is c.grid_answer.ensures.exact c.send.ensures.ends refl;
+      written _ _ _ _ (bytes_in c.grid_answer.result) _ c.in-Grid.is (c.grid_answer.ensures.exact, refl) c.send.ensures.ends refl;
 }
 
 pub returns-in-Make : goal.returns-in-Make
@@ -29,7 +29,7 @@ returns-in-Make g c = record {
 pub returns-in-Code : goal.returns-in-Code
 returns-in-Code g c = record {
   exact =
-      written _ _ _ _ (bytes_in c.code_answer.result) _ c.in-Code.is c.code_answer.ensures.exact c.send-in-Code.ensures.ends refl;
+      written _ _ _ _ (bytes_in c.code_answer.result) _ c.in-Code.is (c.code_answer.ensures.exact, refl) c.send-in-Code.ensures.ends refl;
 }
 
 pub returns-in-Route : goal.returns-in-Route

@@ -8,11 +8,6 @@ use Rattle.route_ready.specs.World.{world_of}
 use Rattle.session_answers.specs.Profiles.{stored_of}
 use Rattle.hall.proofs.hall.Hall.new.Goals as goal
 
-pub make_ready-requires : goal.make_ready-requires
-make_ready-requires c = record {
-  kept = c.in_ok-kept.ensures.kept (world_of c.args.world) (profiles_of (stored_of c.new-profiles.result));
-}
-
 pub invariant_of-result : goal.invariant_of-result
 invariant_of-result c =
     let desk : Desk = record {
@@ -20,11 +15,12 @@ invariant_of-result c =
       world = c.args.world;
       labels = c.args.labels;
       profiles = c.new-profiles.result;
-      kept = c.make_ready.new.kept;
+      kept = c.in_ok-kept.kept;
       queue = c.in_ok-queue.queue;
     } in
     let room : Room = record { peers = c.in_ok-peers.peers; desk = desk } in
-    held_empty room c.in_ok-peers.ensures.items c.in_ok-queue.ensures.items c.in_ok-peers.ensures.capacity c.make_ready.ensures.kept
+    held_empty room c.in_ok-peers.ensures.items c.in_ok-queue.ensures.items c.in_ok-peers.ensures.capacity
+    (c.in_ok-kept.ensures.kept (world_of c.args.world) (profiles_of (stored_of c.new-profiles.result)))
 
 pub returns-clause-empty : goal.returns-clause-empty
 unfolding state_of
@@ -34,7 +30,7 @@ returns-clause-empty c =
       world = c.args.world;
       labels = c.args.labels;
       profiles = c.new-profiles.result;
-      kept = c.make_ready.new.kept;
+      kept = c.in_ok-kept.kept;
       queue = c.in_ok-queue.queue;
     } in
     let room : Room = record { peers = c.in_ok-peers.peers; desk = desk } in

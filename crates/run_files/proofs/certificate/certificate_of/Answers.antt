@@ -1,7 +1,7 @@
 use Rattle.std.proofs.Common.{ℕ, List, refl, subst}
 use Rattle.run_files.proofs.StageLemmas.{then-goes, then-stops}
 use Rattle.run_files.specs.Certificate.{IsCertificateIn}
-use Rattle.run_files.proofs.certificate.take_certificate.Goals as goal
+use Rattle.run_files.proofs.certificate.certificate_of.Goals as goal
 
 pub returns-in-Ok : goal.returns-in-Ok
 returns-in-Ok g c =
