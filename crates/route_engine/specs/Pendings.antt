@@ -9,7 +9,7 @@ use Rattle.route_engine.specs.Labels.{most_labels}
 use Rattle.route_engine.specs.NearbyAnswers.{IsNearbyFor, RefusesNearby, most_for_nearby, nearby_reply}
 use Rattle.route_engine.specs.NearbyJobs.{IsNearbyOn, nearby_plan, work_of_nearby}
 use Rattle.route_engine.specs.NearbyTexts.{IsNearbyText, nearby_comes_to, text_left}
-use Rattle.route_engine.specs.Pieces.{IsInOnePiece, nothing_comes, nothing_left}
+use Rattle.route_engine.specs.Pieces.{IsInOnePiece, all_of, nothing_left}
 use Rattle.route_engine.specs.Plans.{IsRefusal, IsTrackFor}
 use Rattle.route_engine.specs.Replies.{reply_of}
 use Rattle.route_engine.specs.Searches.{work_of_job}
@@ -33,10 +33,10 @@ IsPendingOver world (Within t) =
 
 -- it may end so
 abbrev pub EndsAs : WorldValue → Pending → Result (Vec ℕ Global) RouteError → Type 0
-EndsAs world (Track t) end = TurnsAs IsTrackFor IsRefusal reply_of (plan_in world) nothing_comes world t end
-EndsAs world (Table t) end = TurnsAs IsTable IsTableRefusal table_text (table_plan world) nothing_comes world t end
+EndsAs world (Track t) end = TurnsAs IsTrackFor IsRefusal reply_of (plan_in world) all_of world t end
+EndsAs world (Table t) end = TurnsAs IsTable IsTableRefusal table_text (table_plan world) all_of world t end
 EndsAs world (Certificate t) end =
-    TurnsAs IsCertificateFor IsCertificateRefusal certificate_reply (certificate_plan world) nothing_comes world t end
+    TurnsAs IsCertificateFor IsCertificateRefusal certificate_reply (certificate_plan world) all_of world t end
 EndsAs world (Within t) end =
     TurnsAs IsNearbyFor RefusesNearby nearby_reply (nearby_plan world) (nearby_comes_to world) world t end
 

@@ -1,17 +1,17 @@
--- Texts that are made in one piece: none of them is ever being written. This project's own rule.
-use Rattle.std.specs.Prelude.{ℕ, List, []}
-use Rattle.std.specs.declared.convert.Infallible.{Infallible}
+-- A reply whose bytes are made in one piece, as a text of which nothing is left to write. This project's own rule.
+use Rattle.std.specs.Prelude.{ℕ, List, Vec}
+use Rattle.std.specs.declared.alloc.Global.{Global}
 use Rattle.route_engine.specs.declared.told.Told.{Told}
 use Rattle.route_ready.specs.declared.ready.Ready.{Ready}
 
--- none is being written
-abbrev pub IsInOnePiece : Ready → Told → Infallible → Type 0
-IsInOnePiece ready told none = ⊥
+-- any bytes are one
+abbrev pub IsInOnePiece : Ready → Told → Vec ℕ Global → Type 0
+IsInOnePiece ready told whole = Unit {0}
 
--- so it comes to nothing
-abbrev pub nothing_comes : Ready → Told → Infallible → List ℕ
-nothing_comes ready told none = []
+-- it comes to its bytes
+abbrev pub all_of : Ready → Told → Vec ℕ Global → List ℕ
+all_of ready told whole = whole.items
 
--- and nothing is left to spend on it
-abbrev pub nothing_left : Infallible → ℕ
-nothing_left none = 0
+-- nothing is left to spend on it
+abbrev pub nothing_left : Vec ℕ Global → ℕ
+nothing_left whole = 0

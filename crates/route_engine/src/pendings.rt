@@ -24,16 +24,15 @@ use item_list::Turn;
 use route_http::Request;
 use route_ready::{Ready, RouteError, World};
 use std::alloc::{AllocError, Global};
-use std::convert::Infallible;
 use std::rc::Rc;
 use tasks::{Chain, Task};
 
 /// A request of any kind that is answered in turns.
 #[derive(Drop)]
 pub enum Pending {
-    Track(Chain<Placing, Asking<Job, Infallible>, Rc<Request>>),
-    Table(Chain<Placing, Asking<TableJob, Infallible>, Rc<Request>>),
-    Certificate(Chain<Placing, Asking<CertificateJob, Infallible>, Rc<Request>>),
+    Track(Chain<Placing, Asking<Job, Vec<u8>>, Rc<Request>>),
+    Table(Chain<Placing, Asking<TableJob, Vec<u8>>, Rc<Request>>),
+    Certificate(Chain<Placing, Asking<CertificateJob, Vec<u8>>, Rc<Request>>),
     Within(Chain<Placing, Asking<WithinJob, NearbyText>, Rc<Request>>),
 }
 
