@@ -4,6 +4,8 @@ pub mod CountLemmas
 pub mod EdgeLemmas
 pub mod GivenLemmas
 pub mod NameLemmas
+pub mod NotedLemmas
+pub mod NotesLemmas
 pub mod OfferLemmas
 pub mod ReadyLemmas
 pub mod SaidLemmas

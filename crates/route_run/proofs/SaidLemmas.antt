@@ -139,7 +139,7 @@ words-said (Err fault) old new status is files out hub =
     (record { read = opened-none 0 old.files new.files files; written = out; hub = hub; complete = λ command named still calm quiet. cc })
 
 -- a value of the words is their command
-mapped-ok : {A E : Type 0} (told : E → Status) (r : Result A E) (a : A) → answer_map (λ (x : A). x) told r ≡ Ok a → r ≡ Ok a
+pub mapped-ok : {A E : Type 0} (told : E → Status) (r : Result A E) (a : A) → answer_map (λ (x : A). x) told r ≡ Ok a → r ≡ Ok a
 mapped-ok told (Ok x) a is = let same : x ≡ a = cc in ap Ok same
 mapped-ok told (Err e) a is = cc
 

@@ -1,5 +1,6 @@
 pub mod Edge
 pub mod Ends
+pub mod Noted
 pub mod Offer
 pub mod Outcome
 pub mod Program

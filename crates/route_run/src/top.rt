@@ -7,6 +7,7 @@ ghost use Rattle.command_words.specs.Refusals.{texts_of};
 ghost use Rattle.command_words.specs.declared.command.Command.{Command as TheCommand};
 ghost use Rattle.edge_io.specs.Faults.{CountRose};
 ghost use Rattle.item_list.specs.Answer.{Answers};
+ghost use Rattle.route_run.specs.Noted.{WritesNotes};
 ghost use Rattle.route_run.specs.Outcome.{HasWriteCause, HasHubCause, HasReadCause, IsCompleteOf, IsDone, IsOutcome, command_in, file_words, reach, wants_notes};
 
 use crate::sending::{send, send_output};
@@ -33,6 +34,7 @@ pub fn run<F: Files, O: Sink, H: Hub, N: Sink>(
     ensures outcome { IsOutcome (texts_of words.now)
         (reach (F.seen files.old) (O.seen out.old) (H.seen hub.old) notes.old)
         (reach (F.seen files.new) (O.seen out.new) (H.seen hub.new) notes.new) result }
+    ensures notes { WritesNotes (command_of (texts_of words.now)) notes.old notes.new }
     ensures cause { HasWriteCause result (O.seen out.old).faults (O.seen out.new).faults }
     ensures read_cause { HasReadCause (file_words (command_of (texts_of words.now))) result
         (F.seen files.old) (F.seen files.new) }

@@ -1,5 +1,6 @@
 use Rattle.std.proofs.Common.{◌≡◌, ◌∙◌, Bool, ap, subst}
 use Rattle.command_words.specs.Refusals.{texts_of}
+use Rattle.route_run.proofs.NotesLemmas.{outcome-noted}
 use Rattle.route_run.proofs.SaidLemmas.{outcome-done, outcome-refused, outcome-said}
 use Rattle.route_run.specs.Outcome.{IsDone, IsOutcome, reach, wants_notes}
 use Rattle.run_files.specs.Notes.{NotesSeen, heard}
@@ -17,7 +18,7 @@ returns-in-Ok g c =
     outcome-done words old new c.command_run.result command c.in-Ok.ensures.exact
     (subst (λ (n : NotesSeen). IsDone command (record old { notes = n }) new c.command_run.result) begins c.command_run.ensures.exact) in
     let said = outcome-said words old new c.command_run.result is in
-    record { outcome = is; cause = said.written; read_cause = said.read; hub_cause = said.hub; complete = said.complete }
+    record { outcome = is; notes = outcome-noted words old new c.command_run.result is; cause = said.written; read_cause = said.read; hub_cause = said.hub; complete = said.complete }
 
 pub returns-in-Err : goal.returns-in-Err
 returns-in-Err g c =
@@ -25,4 +26,4 @@ returns-in-Err g c =
     let at = reach (g.F.Files.seen c.args.files.now) (g.O.Sink.seen c.args.out.now) (g.H.Hub.seen c.args.hub.now) c.args.notes.now in
     let is : IsOutcome words at at c.in-Err.status = outcome-refused words at c.in-Err.status c.in-Err.ensures.exact in
     let said = outcome-said words at at c.in-Err.status is in
-    record { outcome = is; cause = said.written; read_cause = said.read; hub_cause = said.hub; complete = said.complete }
+    record { outcome = is; notes = outcome-noted words at at c.in-Err.status is; cause = said.written; read_cause = said.read; hub_cause = said.hub; complete = said.complete }
