@@ -1,16 +1,17 @@
 //! A walk of least rank, found by a whole search.
 
-ghost use Rattle.std.specs.Prelude.{◌≡◌, ◌≢◌, ℕ, IsTrue, ◌*◌, ◌<◌, ◌≤◌, ◌^◌, IfOk, length};
+ghost use Rattle.std.specs.Prelude.{◌≡◌, ◌≢◌, ℕ, IsTrue, ◌*◌, ◌<◌, ◌≤◌, ◌^◌, IfOk, length, refl};
 ghost use Rattle.bike_space.specs.Answers.{AnswersLeg};
 ghost use Rattle.bike_space.specs.Enough.{IsFlat, held_pairs};
 ghost use Rattle.bike_space.specs.Kept.{task_of};
-ghost use Rattle.bike_space.specs.declared.finding.Walk.{Walk};
+ghost use Rattle.bike_space.specs.Lawful.{IsTask};
+ghost use Rattle.bike_space.specs.Runs.{IsSomeRun};
+ghost use Rattle.bike_space.specs.Tasks.{Task, rules_of, walk_by};
 ghost use Rattle.space_search.specs.Limits.{IsUnspent};
 ghost use Rattle.space_search.specs.Outcome.{Answers};
-ghost use Rattle.space_search.specs.declared.outcome.Outcome.{Outcome};
 
 use crate::space::BikeSpace;
-use cost_model::TerrainOf;
+use cost_model::{Carry, TerrainOf};
 use item_list::Items;
 use space_search::{Outcome, Run, Space, least};
 use std::alloc::{AllocError, Global};
@@ -32,38 +33,58 @@ pub trait TellsRests: Space {
         ensures value { result ≡ (Self.rules self.now).low state.now };
 }
 
-/// A space whose runs are walks of a leg.
-pub trait TellsWalks: Space {
-    // What a search that settles at most so many labels answers, in the words of walks.
-    ghost answers: { Self → ℕ → Outcome Walk → Type 0 };
+/// A space of the walks of a leg: it answers as the search on a leg does, whatever its lower bound.
+pub trait LegSpace: Space<State = Carry> {
+    /// The search on the leg.
+    ghost task: { Self → Task };
 
-    /// The end of a search over the space, with the walk of the run that was found.
-    fn told(&self, alloc: Global, outcome: Outcome<Run>) -> Result<Outcome<Walk>, AllocError>
-        requires answers { (limit : ℕ) × Answers (Self.rules self.now) limit outcome }
-        ensures told { IfOk result (λ told. (limit : ℕ) → limit < 2 ^ 32 →
-            Answers (Self.rules self.now) limit outcome → answers self.now limit told) }
-        ensures unspent { IsUnspent outcome → IfOk result IsUnspent };
+    /// It is lawful.
+    ghost lawful: { (space : Self) → IsTask (task space) };
+
+    /// What the space answers is what the search on the leg asks for.
+    ghost searches: { (space : Self) → Self.rules space ≡ rules_of (task space) };
+
+    /// The links of the walk of these choices, which are a run of the space.
+    fn walk_of(&self, alloc: Global, choices: &[u32]) -> Result<Items<u32>, AllocError>
+        requires run { IsSomeRun (task self.now) choices.now }
+        ensures walk { IfOk result (λ walk. walk ≡ walk_by (task self.now).leg choices.now) };
 }
 
-impl<G: TerrainOf> TellsWalks for BikeSpace<G> {
-    ghost use Rattle.std.specs.Prelude.{◌≢◌};
-    ghost use Rattle.bike_space.specs.Answers.{AnswersLeg};
+impl<G: TerrainOf> LegSpace for BikeSpace<G> {
     ghost use Rattle.bike_space.specs.Kept.{task_of};
 
-    ghost answers = { λ space limit outcome. space.kept.start ≢ space.kept.target →
-        (let task = task_of (G.terrain space.terrain) space.kept in
-        AnswersLeg task.leg task.used task.radius limit outcome) };
+    ghost task = { λ space. task_of (G.terrain space.terrain) space.kept };
 
-    fn told(&self, alloc: Global, outcome: Outcome<Run>) -> Result<Outcome<Walk>, AllocError> {
-        match outcome {
-            Outcome::Found(run) => {
-                let links = self.link_of(alloc, run.choices.as_slice())?;
-                let rank = run.cost;
-                Ok(Outcome::Found(Walk { links, rank }))
-            }
-            Outcome::NoWay => Ok(Outcome::NoWay),
-            Outcome::Budget => Ok(Outcome::Budget),
+    ghost lawful = { λ space. space.wakes.lawful };
+
+    ghost searches = { λ space. refl };
+
+    fn walk_of(&self, alloc: Global, choices: &[u32]) -> Result<Items<u32>, AllocError> {
+        self.link_of(alloc, choices)
+    }
+}
+
+/// The end of a search over a space of walks, with the walk of the run that was found.
+pub fn walk_outcome<S: LegSpace>(
+    alloc: Global,
+    space: &S,
+    outcome: Outcome<Run>,
+) -> Result<Outcome<Walk>, AllocError>
+    requires answers { (limit : ℕ) × Answers (S.rules space.now) limit outcome }
+    ensures told { IfOk result (λ told. (limit : ℕ) → limit < 2 ^ 32 →
+        Answers (S.rules space.now) limit outcome →
+        (let task = S.task space.now in task.leg.start ≢ task.leg.target →
+        AnswersLeg task.leg task.used task.radius limit told)) }
+    ensures unspent { IsUnspent outcome → IfOk result IsUnspent }
+{
+    match outcome {
+        Outcome::Found(run) => {
+            let links = space.walk_of(alloc, run.choices.as_slice())?;
+            let rank = run.cost;
+            Ok(Outcome::Found(Walk { links, rank }))
         }
+        Outcome::NoWay => Ok(Outcome::NoWay),
+        Outcome::Budget => Ok(Outcome::Budget),
     }
 }
 
@@ -87,6 +108,6 @@ pub fn least_walk<G: TerrainOf>(
     ensures always { length (G.terrain space.now.terrain).map.links *
         held_pairs (G.terrain space.now.terrain).prices ≤ limit → IfOk result IsUnspent }
 {
-    let outcome = least(alloc, space, limit)?;
-    space.told(alloc, outcome)
+    let outcome = least(alloc, space, &mut (), limit)?;
+    walk_outcome(alloc, space, outcome)
 }

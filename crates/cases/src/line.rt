@@ -4,7 +4,7 @@ ghost use Rattle.std.specs.Prelude.{◌≡◌, ◌<◌, ◌^◌};
 ghost use Rattle.cases.specs.Line.{neighbour};
 
 use space_search::{Point, Space};
-use std::alloc::{AllocError, Global};
+use std::alloc::AllocError;
 use std::cell::Cell;
 
 /// Cells one behind the other, each with so many steps: 0 leads a cell ahead, any other a cell
@@ -135,10 +135,6 @@ impl Space for Line {
 
     fn supersedes(&self, a: &(u32, u32), _ca: u128, b: &(u32, u32), _cb: u128) -> bool {
         self.superseding && a.0 == b.0 && a.1 <= b.1
-    }
-
-    fn bounds(&self, _alloc: Global) -> Result<(), AllocError> {
-        Ok(())
     }
 
     fn low(&self, _bounds: &mut (), _state: &(u32, u32)) -> Result<Option<u128>, AllocError> {

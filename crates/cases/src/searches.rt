@@ -52,7 +52,7 @@ fn number(case: &Case, place: usize) -> u32
 /// run, or `none`, or `spent`.
 fn whole(alloc: Global, case: &Case) -> Result<String, AllocError> {
     let line = Line::new(number(case, 1), number(case, 2));
-    match least(alloc, &line, u64::from(number(case, 3)))? {
+    match least(alloc, &line, &mut (), u64::from(number(case, 3)))? {
         Outcome::Found(run) => {
             let cost = run.cost;
             format!(in alloc; "{:?} {cost}", run.choices.as_slice())

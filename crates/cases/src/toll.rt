@@ -1,7 +1,7 @@
 //! A space that is searched: a state is a place and what is due at its next step.
 
 use space_search::{Point, Space};
-use std::alloc::{AllocError, Global};
+use std::alloc::AllocError;
 
 /// Three steps lead from the place 0 to the place 1, and leave more or less due there; one leads on
 /// to the goal 2. With a bound the space says what is still to pay at the place 1.
@@ -81,10 +81,6 @@ impl Space for Toll {
             y: cost as i128,
             z: 0,
         }
-    }
-
-    fn bounds(&self, _alloc: Global) -> Result<(), AllocError> {
-        Ok(())
     }
 
     fn low(&self, _bounds: &mut (), state: &(u32, u32)) -> Result<Option<u128>, AllocError> {

@@ -5,7 +5,7 @@ ghost use Rattle.space_search.specs.Laws.{IsSpace};
 ghost use Rattle.cost_table.specs.Endless.{endless};
 
 use space_search::{Known, Point, Space, Steps};
-use std::alloc::{AllocError, Global};
+use std::alloc::AllocError;
 
 /// A space as one without goals, in which ranks are costs: a search over it settles whatever is
 /// reached, the cheaper first. Whichever target the space was made with, it has no effect. It takes
@@ -86,10 +86,6 @@ impl<'a, S: Space> Space for Endless<'a, S> {
 
     fn supersedes(&self, a: &S::State, ca: u128, b: &S::State, cb: u128) -> bool {
         self.space.supersedes(a, ca, b, cb)
-    }
-
-    fn bounds(&self, _alloc: Global) -> Result<(), AllocError> {
-        Ok(())
     }
 
     fn low(&self, _bounds: &mut (), _state: &S::State) -> Result<Option<u128>, AllocError> {

@@ -46,7 +46,7 @@ pub fn least_walk(
 {
     let space = GridSpace::new(grid, forward, backward, from, to);
     let limit = grid.cells() as u64;
-    match least(alloc, &space, limit)? {
+    match least(alloc, &space, &mut (), limit)? {
         Outcome::Found(run) => {
             let cells = space.walk(alloc, run.choices.as_slice())?;
             let cost = run.cost;

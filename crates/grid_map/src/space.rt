@@ -9,7 +9,7 @@ ghost use Rattle.grid_map.specs.Space.{grid_rules, step_forward, step_backward};
 
 use crate::grid::Grid;
 use space_search::{Point, Space};
-use std::alloc::{AllocError, Global};
+use std::alloc::AllocError;
 
 /// The cells of a grid, each a state with a cell and a slot of its own, and a step to each neighbour
 /// that a segment joins.
@@ -148,10 +148,6 @@ impl<'a> Space for GridSpace<'a> {
 
     fn point(&self, _state: &u32, _cost: u128) -> Point {
         Point { x: 0, y: 0, z: 0 }
-    }
-
-    fn bounds(&self, _alloc: Global) -> Result<(), AllocError> {
-        Ok(())
     }
 
     fn low(&self, _bounds: &mut (), _state: &u32) -> Result<Option<u128>, AllocError> {

@@ -1,14 +1,15 @@
 -- What the end of a search on a leg says of its quest, over its links and from junction to junction.
-use Rattle.std.proofs.Common.{ℕ, true, false, IsTrue}
+use Rattle.std.proofs.Common.{◌≡◌, ℕ, Bool, true, false, IsTrue, ap, sym}
 use Rattle.bike_space.specs.Answers.{AnswersLeg}
-use Rattle.bike_space.specs.Tasks.{Task}
+use Rattle.bike_space.specs.Tasks.{Task, rules_of}
 use Rattle.bike_space.specs.declared.finding.Walk.{Walk}
-use Rattle.item_list.proofs.SaysLemmas.{says-map}
-use Rattle.item_list.specs.Turns.{Says}
-use Rattle.item_list.specs.declared.turn.Turn.{Turn}
 use Rattle.junction_runs.specs.RunAnswers.{AnswersByRuns}
 use Rattle.space_search.specs.declared.outcome.Outcome.{Outcome}
 use Rattle.space_search.specs.declared.outcome.Outcome.TheVariants.{Found, NoWay, Budget}
+use Rattle.cost_model.specs.declared.parts.Carry.{Carry}
+use Rattle.junction_runs.specs.RunRules.{run_rules}
+use Rattle.space_search.specs.Rules.{Rules}
+use Rattle.leg_search.specs.Quests.{searched}
 use Rattle.leg_search.specs.Steps.{AnswersEnd}
 
 -- junction runs are not asked for
@@ -30,13 +31,16 @@ module _ (task : Task) (limit : ℕ) where
   by-runs NoWay is = is
   by-runs Budget is = λ all. let shown = is all in (shown.0, record { spent = shown.1.spent; runs = λ h. shown.1.runs })
 
-  module _ {D : Type 0} (differ : D) (turn : Turn (Unit {0}) (Outcome Walk)) where
-    -- so says a turn over the links
-    pub told-links : Says (λ _. Unit {0}) (λ outcome. D → AnswersLeg task.leg task.used task.radius limit outcome) turn →
-        Says (λ _. Unit {0}) (AnswersEnd task limit false) turn
-    told-links = says-map (λ next said. said) (λ outcome said. by-links outcome (said differ)) turn
+-- ---- Which space is searched
 
-    -- and one from junction to junction
-    pub told-runs : Says (λ _. Unit {0}) (λ outcome. D → AnswersByRuns task.leg task.used task.radius limit outcome) turn →
-        Says (λ _. Unit {0}) (AnswersEnd task limit true) turn
-    told-runs = says-map (λ next said. said) (λ outcome said. by-runs outcome (said differ)) turn
+-- junction runs over a space of the leg
+pub runs-is : (rules : Rules Carry) (task : Task) → rules ≡ rules_of task → (runs : Bool) → runs ≡ true →
+    searched runs task ≡ run_rules rules
+runs-is rules task same true is = ap run_rules (sym same)
+runs-is rules task same false is = absurd (cc)
+
+-- or that space
+pub links-is : (rules : Rules Carry) (task : Task) → rules ≡ rules_of task → (runs : Bool) → runs ≡ false →
+    searched runs task ≡ rules
+links-is rules task same true is = absurd (cc)
+links-is rules task same false is = sym same

@@ -1,3 +1,4 @@
 pub mod StepLemmas
 pub mod AnswerLemmas
 pub mod TurnLemmas
+pub mod AnewLemmas

@@ -19,7 +19,7 @@ use Rattle.space_search.specs.declared.outcome.Outcome.{Outcome}
 use Rattle.space_search.specs.declared.outcome.Outcome.TheVariants.{Found, NoWay, Budget}
 use Rattle.space_search.specs.declared.search.Search.{Search}
 use Rattle.leg_search.specs.Quests.{AnswersLegTurn, AnswersQuest, GoesOnAs, IsFoundFor, IsSearchOn, IsSpentFor, Quest, counted_anew, counted_of, most_counted, most_labels, quest_at, quest_in, quest_of, searched}
-use Rattle.leg_search.specs.Steps.{AnswersEnd, AnswersStep, CountsLegStep, CountsStep, Step, StepsOn, counting, is_spent, spends, stages_left, told_by, told_of}
+use Rattle.leg_search.specs.Steps.{AnswersEnd, AnswersStep, CountsLegStep, CountsStep, IsLimited, Step, StepsOn, counting, is_spent, spends, stages_left, told_by, told_of}
 use Rattle.leg_search.specs.declared.search.Aim.{Aim}
 use Rattle.leg_search.specs.declared.search.LegSearch.{LegSearch}
 use Rattle.leg_search.specs.declared.search.Stage.TheVariants.{Opening, Settling}
@@ -81,17 +81,7 @@ step-goes quota counted before next (More more) some counts same is =
     record { fits = omega (arith, is); next = counts; nearer = omega (arith, same, is, some) }
 step-goes quota counted before next (Done end) some counts same is = is
 
--- a search in which labels are settled has as many stages left as another of the same aim
-stages-settling : (first : Bool) (kept other : Rested) (a b : Search Carry) →
-    stages_left first (Settling kept a) ≡ stages_left first (Settling other b)
-stages-settling true kept other a b = refl
-stages-settling false kept other a b = refl
-
-stages-opening : (first : Bool) (a b : Opened) → stages_left first (Opening a) ≡ stages_left first (Opening b)
-stages-opening true a b = refl
-stages-opening false a b = refl
-
--- and fewer than before
+-- labels are settled in fewer stages than are left while what still has to be paid is found
 stages-fall : (first : Bool) (opening : Opened) (kept : Rested) (search : Search Carry) →
     stages_left first (Settling kept search) < stages_left first (Opening opening)
 stages-fall true opening kept search = omega arith
@@ -120,7 +110,8 @@ module _ (terrain : Terrain) (kept : Rested) (old search : Search Carry) (aim : 
 
   -- what was counted stays within the most
   pub settled-counts : aim.counted + step.0 +
-      (most_labels aim.first aim.limit - length (view search).settled) + counted_anew aim.first (length terrain.map.links) aim.limit
+      (most_labels aim.first aim.limit - length (view search).settled)
+      + counted_anew aim.first (length terrain.map.links) aim.limit (Settling kept search)
       ≤ most_counted (length terrain.map.links) aim.limit
   settled-counts =
       let was = on.counts in
@@ -143,6 +134,7 @@ module _ (terrain : Terrain) (kept : Rested) (old search : Search Carry) (aim : 
     counts = settled-counts;
     links = on.links;
     small = on.small;
+    guided = on.guided;
   }
 
   -- what the step is told as answers the quest
@@ -156,15 +148,9 @@ module _ (terrain : Terrain) (kept : Rested) (old search : Search Carry) (aim : 
   -- and counts what was settled
   pub settled-steps : 1 ≤ quota → CountsLegStep (length terrain.map.links) quota before (told_of next step)
   settled-steps some = record {
-    goes = step-goes quota step.0 before next step.1 some refl (stages-settling aim.first kept kept search old) counts.settles;
+    goes = step-goes quota step.0 before next step.1 some refl refl counts.settles;
     within = let most = settled-counts in omega (arith, most);
   }
-
--- a number of labels that a search begins with
-pub record IsLimited (aim : Aim) (limit : ℕ) : Type 0 where
-  pub few : aim.first ≡ true → limit ≤ FIRST_LABELS
-  pub all : aim.first ≡ false → limit ≡ aim.limit
-  pub within : limit ≤ aim.limit
 
 -- what is said over the space that was woken is said over the one that rests
 pub woken : (terrain seen : Terrain) (kept other : Rested) → seen ≡ terrain → other ≡ kept → (P : Terrain → Rested → Type 0) →
@@ -198,6 +184,7 @@ module _ (terrain : Terrain) (opening : Opened) (aim : Aim)
         counts = let was = on.counts in let fewer = opens.fewer in omega (arith, was, fewer);
         links = on.links;
         small = on.small;
+        guided = on.guided;
       };
       same = quest-same (leg_of terrain after) (leg_of terrain opening) (used_of after) (used_of opening) aim.limit aim.runs
           opens.leg opens.used;
@@ -210,15 +197,14 @@ module _ (terrain : Terrain) (opening : Opened) (aim : Aim)
       goes = record {
         fits = some;
         next = refl;
-        nearer = let same = stages-opening aim.first after opening in omega (arith, same);
+        nearer = omega arith;
       };
       within = let was = on.counts in omega (arith, was);
     }
 
   module _ (kept : Rested) (opened : IsOpened terrain opening kept) (search : Search Carry)
       (of : IsSearchOf (searched aim.runs (task_of terrain kept)) search) (none : length (view search).settled ≡ 0)
-      (few : aim.first ≡ true → (view search).limit ≤ FIRST_LABELS)
-      (limit : aim.first ≡ false → (view search).limit ≡ aim.limit) (within : (view search).limit ≤ aim.limit) where
+      (limited : IsLimited aim (view search).limit) where
     abbrev pub next-settling : LegSearch
     next-settling = record { stage = Settling kept search; aim = counting aim 1 }
 
@@ -230,14 +216,15 @@ module _ (terrain : Terrain) (opening : Opened) (aim : Aim)
           wakes = opened.wakes;
           differ = legs-differ (task_of terrain kept).leg (leg_of terrain opening) opened.leg on.stage.differ;
           of = of;
-          few = few;
-          limit = limit;
+          few = limited.few;
+          limit = limited.all;
           whole = λ later. opened.whole (on.stage.whole later);
-          within = within;
+          within = limited.within;
         };
         counts = let was = on.counts in omega (arith, was, none);
         links = on.links;
         small = on.small;
+        guided = on.guided;
       };
       same = quest-same (task_of terrain kept).leg (leg_of terrain opening) (task_of terrain kept).used (used_of opening) aim.limit
           aim.runs opened.leg opened.used;
@@ -253,87 +240,3 @@ module _ (terrain : Terrain) (opening : Opened) (aim : Aim)
       };
       within = let was = on.counts in omega (arith, was);
     }
-
--- ---- A search begins anew
-
--- the aim of a search that has begun anew behind a step that settled so much
-abbrev pub anew_of : Aim → ℕ → Aim
-anew_of aim settled = record { limit = aim.limit; runs = aim.runs; first = false; counted = aim.counted + settled }
-
--- a step that spends a limit settles less than its quota
-spent-fewer : (quota settled : ℕ) (turn : Turn (Unit {0}) (Outcome Walk)) → Settles quota settled turn → is_spent turn ≡ true →
-    settled < quota
-spent-fewer quota settled (More more) is spent = cc
-spent-fewer quota settled (Done end) is spent = is
-
--- what is counted behind a beginning anew, where it is still to come
-anew-first : (first : Bool) (links limit : ℕ) → first ≡ true → counted_anew first links limit ≡ most_found links + limit
-anew-first true links limit is = refl
-anew-first false links limit is = absurd (cc)
-
-stages-first : (first : Bool) (kept : Rested) (search : Search Carry) → first ≡ true → stages_left first (Settling kept search) ≡ 2
-stages-first true kept search is = refl
-stages-first false kept search is = absurd (cc)
-
-module _ (terrain : Terrain) (kept : Rested) (old search : Search Carry) (aim : Aim) (quota : ℕ) (step : Step)
-    (on : IsSearchOn terrain (record { stage = Settling kept old; aim = aim }))
-    (of : IsSearchOf (searched aim.runs (task_of terrain kept)) search)
-    (limited : (view search).limit ≡ (view old).limit)
-    (counts : CountsStep quota (length (view old).settled) (length (view search).settled) step)
-    (first : aim.first ≡ true) (opening : Opened) (opens : IsOpening terrain opening)
-    (leg : leg_of terrain opening ≡ (task_of terrain kept).leg) (used : used_of opening ≡ (task_of terrain kept).used)
-    (near : near_of opening ≡ None) (left : left_of opening ≡ most_found (length terrain.map.links)) where
-  abbrev pub next-anew : LegSearch
-  next-anew = record { stage = Opening opening; aim = anew_of aim step.0 }
-
-  -- it goes on with the same quest
-  pub anew-as : GoesOnAs terrain (quest_at terrain aim (Settling kept old)) next-anew
-  anew-as = record {
-    on = record {
-      stage = record {
-        opens = opens;
-        differ = legs-differ (leg_of terrain opening) (task_of terrain kept).leg leg on.stage.differ;
-        whole = λ later. near;
-      };
-      counts =
-          let was = settled-counts terrain kept old search aim quota step on of limited counts in
-          let behind = anew-first aim.first (length terrain.map.links) aim.limit first in
-          omega (arith, was, behind, left);
-      links = on.links;
-      small = on.small;
-    };
-    same = quest-same (leg_of terrain opening) (task_of terrain kept).leg (used_of opening) (task_of terrain kept).used aim.limit
-        aim.runs leg used;
-  }
-
-  -- and counts what was settled
-  pub anew-steps :
-      is_spent step.1 ≡ true →
-      CountsLegStep (length terrain.map.links) quota (record { stage = Settling kept old; aim = aim })
-      (record { counted = step.0; turn = More next-anew })
-  anew-steps spent = record {
-    goes = record {
-      fits = let fewer = spent-fewer quota step.0 step.1 counts.settles spent in omega (arith, fewer);
-      next = refl;
-      nearer = let two = stages-first aim.first kept old first in omega (arith, two);
-    };
-    within = let most = settled-counts terrain kept old search aim quota step on of limited counts in omega (arith, most);
-  }
-
--- ---- Whether a search begins anew
-
--- where a search doesn't begin anew at a spent limit, it has
-pub else-anew : (first spent : Bool) → (first && spent) ≡ false → spent ≡ true → first ≡ false
-else-anew true true is yes_ = cc
-else-anew true false is yes_ = cc
-else-anew false spent is yes_ = refl
-
--- where it does, it hadn't
-pub then-first : (first spent : Bool) → (first && spent) ≡ true → first ≡ true
-then-first true spent is = refl
-then-first false spent is = cc
-
--- and its limit is spent
-pub then-spent : (first spent : Bool) → (first && spent) ≡ true → spent ≡ true
-then-spent true spent is = is
-then-spent false spent is = cc

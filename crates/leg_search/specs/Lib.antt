@@ -1,2 +1,3 @@
 pub mod Quests
 pub mod Steps
+pub mod Anew

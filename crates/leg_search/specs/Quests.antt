@@ -22,10 +22,13 @@ use Rattle.space_search.specs.View.{view}
 use Rattle.space_search.specs.declared.outcome.Outcome.{Outcome}
 use Rattle.space_search.specs.declared.search.Search.{Search}
 use Rattle.least_sums.specs.Findings.{most_found}
+use Rattle.guided_space.specs.Guided.{IsGuidedTo, guided_task}
+use Rattle.ride_bounds.specs.Guides.{IsGuided}
 use Rattle.leg_search.specs.declared.search.Aim.{Aim}
+use Rattle.leg_search.specs.declared.search.Guiding.{Guiding}
 use Rattle.leg_search.specs.declared.search.LegSearch.{LegSearch}
 use Rattle.leg_search.specs.declared.search.Stage.{Stage}
-use Rattle.leg_search.specs.declared.search.Stage.TheVariants.{Opening, Settling}
+use Rattle.leg_search.specs.declared.search.Stage.TheVariants.{Opening, Settling, Guided}
 use Rattle.leg_search.specs.declared.search.TheConstants.{FIRST_LABELS}
 use Rattle.leg_search.specs.declared.turn.LegTurn.{LegTurn}
 
@@ -73,6 +76,7 @@ quest_at terrain aim (Opening opening) = record {
   runs = aim.runs;
 }
 quest_at terrain aim (Settling kept search) = quest_in (task_of terrain kept) aim.limit aim.runs
+quest_at terrain aim (Guided it) = quest_in (task_of terrain it.kept) aim.limit aim.runs
 
 abbrev pub quest_of : Terrain → LegSearch → Quest
 quest_of terrain s = quest_at terrain s.aim s.stage
@@ -84,29 +88,33 @@ abbrev pub counted_of : LegSearch → ℕ
 counted_of s = s.aim.counted
 
 -- the most that a search with so many labels counts in all on a map of so many links: what still has to be paid is
--- found twice at most, and labels are settled twice
+-- found twice at most, and labels are settled near the target, by the bound of a guide, and by what was found for all
+-- nodes
 abbrev pub most_counted : (links limit : ℕ) → ℕ
-most_counted links limit = 2 * most_found links + (first_labels + limit)
+most_counted links limit = 2 * most_found links + (first_labels + 2 * limit)
 
 -- the most labels that are settled before it begins anew, or behind that
 abbrev pub most_labels : Bool → ℕ → ℕ
 most_labels true limit = first_labels
 most_labels false limit = limit
 
--- what is counted at most behind its beginning anew
-abbrev pub counted_anew : Bool → (links limit : ℕ) → ℕ
-counted_anew true links limit = most_found links + limit
-counted_anew false links limit = 0
+-- what is counted at most behind the stage in which it is: before it begins anew, by the bound of a guide, or with what
+-- was found for all nodes
+abbrev pub counted_anew : Bool → (links limit : ℕ) → Stage → ℕ
+counted_anew first links limit (Opening opening) = if first then limit + (most_found links + limit) else 0
+counted_anew first links limit (Settling kept search) = if first then limit + (most_found links + limit) else 0
+counted_anew first links limit (Guided it) = most_found links + limit
 
 -- what is counted at most before it begins anew, or behind that, by its stage
 abbrev pub counted_yet : (labels : ℕ) → Stage → ℕ
 counted_yet labels (Opening opening) = left_of opening + labels
 counted_yet labels (Settling kept search) = labels - length (view search).settled
+counted_yet labels (Guided it) = labels - length (view it.search).settled
 
 -- it has counted so little that with what may follow it stays within the most
 abbrev pub CountsWithin : ℕ → LegSearch → Type 0
 CountsWithin links s =
-    s.aim.counted + counted_yet (most_labels s.aim.first s.aim.limit) s.stage + counted_anew s.aim.first links s.aim.limit
+    s.aim.counted + counted_yet (most_labels s.aim.first s.aim.limit) s.stage + counted_anew s.aim.first links s.aim.limit s.stage
     ≤ most_counted links s.aim.limit
 
 -- ---- What it is
@@ -128,9 +136,19 @@ pub record IsSettling (terrain : Terrain) (aim : Aim) (kept : Rested) (search : 
   pub whole : aim.first ≡ false → (task_of terrain kept).radius ≡ None
   pub within : (view search).limit ≤ aim.limit
 
+-- labels are settled by the bound of a guide, as many as the quest says; the search has begun anew
+pub record IsGuiding (terrain : Terrain) (aim : Aim) (it : Guiding) : Type 0 where
+  pub wakes : Wakes terrain it.kept
+  pub differ : it.kept.start ≢ it.kept.target
+  pub of : IsSearchOf (searched aim.runs (guided_task terrain it.kept it.guide.value)) it.search
+  pub bounds : IsGuidedTo terrain it.guide.value it.kept.target it.bound
+  pub limit : (view it.search).limit ≡ aim.limit
+  pub later : aim.first ≡ false
+
 abbrev pub IsStage : Terrain → Aim → Stage → Type 0
 IsStage terrain aim (Opening opening) = IsOpeningOn terrain aim opening
 IsStage terrain aim (Settling kept search) = IsSettling terrain aim kept search
+IsStage terrain aim (Guided it) = IsGuiding terrain aim it
 
 -- it is a search on a leg over these, whose nodes differ
 pub record IsSearchOn (terrain : Terrain) (s : LegSearch) : Type 0 where
@@ -138,6 +156,7 @@ pub record IsSearchOn (terrain : Terrain) (s : LegSearch) : Type 0 where
   pub counts : CountsWithin (length terrain.map.links) s
   pub links : length terrain.map.links < 2 ^ 32
   pub small : s.aim.limit < 2 ^ 32
+  pub guided : IsGuided terrain s.aim.guide
 
 -- ---- What a turn answers
 

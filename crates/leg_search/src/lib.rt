@@ -2,10 +2,13 @@
 //! between them.
 #![tactic(auto)]
 
+mod anew;
+mod guided;
 mod opening;
 mod raw;
 mod search;
 mod step;
+mod told;
 mod turn;
 
 pub use search::{FIRST_LABELS, LegSearch};

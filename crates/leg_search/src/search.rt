@@ -2,15 +2,24 @@
 
 use bike_space::{Opening, Rested};
 use cost_model::Carry;
+use ride_bounds::{Guide, LegBound};
 use space_search::Search;
+use std::rc::Rc;
 
 /// The most labels that a search settles before it begins anew.
 pub const FIRST_LABELS: u64 = 131072;
 
+/// The same where it begins anew by the bound of a guide: a ride that settles more is served sooner by
+/// that.
+pub(crate) const NEAR_LABELS: u64 = 300;
+
+/// How far what still has to be paid is found at first where there is a guide, in millionths: a
+/// kilometre at a costfactor of 1.
+pub(crate) const NEAR_SUM: u128 = 1_000_000_000;
+
 /// What a search on a leg is for, and whether it has begun anew.
-#[derive(Clone, Copy, Drop)]
 pub(crate) struct Aim {
-    /// The most labels that are settled, where what still has to be paid is found for all nodes.
+    /// The most labels that are settled, once it has begun anew.
     pub(crate) limit: u64,
     /// Whether it goes from junction to junction.
     pub(crate) runs: bool,
@@ -20,6 +29,41 @@ pub(crate) struct Aim {
     /// What it has counted: a label that was settled counts one, and a step of finding what still
     /// has to be paid.
     pub(crate) counted: u64,
+    /// What bounds it when it begins anew, where there is such a guide.
+    pub(crate) guide: Option<Rc<Guide>>,
+}
+
+impl Drop for Aim {
+    fn drop(self) {
+        let Aim {
+            limit: _,
+            runs: _,
+            first: _,
+            counted: _,
+            guide: _,
+        } = self;
+    }
+}
+
+/// Labels are settled by the bound of a guide.
+pub(crate) struct Guiding {
+    /// What the space keeps: its lists.
+    pub(crate) kept: Rested,
+    pub(crate) search: Search<Carry>,
+    pub(crate) guide: Rc<Guide>,
+    /// What is found of the bounds.
+    pub(crate) bound: LegBound,
+}
+
+impl Drop for Guiding {
+    fn drop(self) {
+        let Guiding {
+            kept: _,
+            search: _,
+            guide: _,
+            bound: _,
+        } = self;
+    }
 }
 
 /// How far a search on a leg is.
@@ -33,6 +77,8 @@ pub(crate) enum Stage {
         kept: Rested,
         search: Search<Carry>,
     },
+    /// Labels are settled by the bound of a guide.
+    Guided(Guiding),
 }
 
 /// A search on a leg whose nodes differ, before its end. It borrows nothing: each turn is given the

@@ -1,12 +1,15 @@
 //! The steps of a turn of a search on a leg.
 
-ghost use Rattle.std.specs.Prelude.{◌≡◌, ℕ, ◌+◌, ◌≤◌, ◌<◌, ◌&&◌, ◌^◌, IfOk, length};
+ghost use Rattle.std.specs.Prelude.{◌≡◌, ℕ, ◌≤◌, ◌&&◌, IfOk, length};
 ghost use Rattle.leg_search.specs.Quests.{AnswersLegTurn, IsSearchOn, quest_at, quest_of};
-ghost use Rattle.leg_search.specs.Steps.{CountsLegStep, counting, is_spent, told_of};
+ghost use Rattle.leg_search.specs.Steps.{CountsLegStep, is_spent};
 ghost use Rattle.leg_search.specs.declared.search.Stage.TheVariants as stages;
 
+use crate::anew::begin_anew;
+use crate::guided::guide_on;
 use crate::raw::step_on;
-use crate::search::{Aim, FIRST_LABELS, LegSearch, Stage};
+use crate::search::{Aim, LegSearch, Stage};
+use crate::told::{counting, is_spent, limit_of, told};
 use crate::turn::LegTurn;
 use bike_space::{Opening, Rested, Walk};
 use cost_model::{Carry, TerrainOf};
@@ -35,6 +38,7 @@ impl LegSearch {
             Stage::Settling { kept, search } => {
                 settle_on(alloc, terrain, kept, search, aim, quota)
             }
+            Stage::Guided(it) => guide_on(alloc, terrain, it, aim, quota),
         }
     }
 }
@@ -54,11 +58,7 @@ fn open_on<G: TerrainOf>(
         (length (G.terrain terrain).map.links) quota
         (record { stage = stages.Opening opening; aim = aim })) }
 {
-    let limit = if aim.first {
-        aim.limit.min(FIRST_LABELS)
-    } else {
-        aim.limit
-    };
+    let limit = limit_of(&aim);
     let stage = match opening.step(alloc, &terrain)? {
         Turn::More(opening) => Stage::Opening(opening),
         Turn::Done(kept) => Stage::Settling {
@@ -74,7 +74,7 @@ fn open_on<G: TerrainOf>(
 }
 
 /// A step in which labels are settled. Where the first search spends its limit, the search begins
-/// anew: what still has to be paid is found for all nodes.
+/// anew.
 fn settle_on<G: TerrainOf>(
     alloc: Global,
     terrain: G,
@@ -93,37 +93,19 @@ fn settle_on<G: TerrainOf>(
 {
     let mut search = search;
     let space = kept.wake(terrain);
-    let step = step_on(alloc, &space, &mut search, quota, aim.runs)?;
+    let step = step_on(alloc, &space, &mut (), &mut search, quota, aim.runs)?;
     let kept = space.rest();
-    let counted = counting(aim, step.0);
-    if begins_anew(&aim, &step.1) {
-        let opening = kept.widening(alloc, &terrain)?;
-        let aim = Aim {
-            limit: aim.limit,
-            runs: aim.runs,
-            first: false,
-            counted: counted.counted,
-        };
-        let stage = Stage::Opening(opening);
+    let anew = begins_anew(&aim, &step.1);
+    let aim = counting(aim, step.0);
+    if anew {
+        let next = begin_anew(alloc, terrain, kept, aim)?;
         return Ok(LegTurn {
             counted: step.0,
-            turn: Turn::More(LegSearch { stage, aim }),
+            turn: Turn::More(next),
         });
     }
-    Ok(told(kept, search, counted, step))
-}
-
-/// The same with so much counted besides.
-fn counting(aim: Aim, more: u64) -> Aim
-    requires fits { aim.counted + more < 2 ^ 64 }
-    ensures value { result ≡ counting aim more }
-{
-    Aim {
-        limit: aim.limit,
-        runs: aim.runs,
-        first: aim.first,
-        counted: aim.counted + more,
-    }
+    let stage = Stage::Settling { kept, search };
+    Ok(told(LegSearch { stage, aim }, step))
 }
 
 /// Whether the limit of a search is spent that hasn't begun anew.
@@ -131,41 +113,4 @@ fn begins_anew(aim: &Aim, turn: &Turn<(), Outcome<Walk>>) -> bool
     ensures value { result ≡ (aim.now.first && is_spent turn.now) }
 {
     aim.first && is_spent(turn)
-}
-
-/// Whether the limit is spent.
-fn is_spent(turn: &Turn<(), Outcome<Walk>>) -> bool
-    ensures value { result ≡ is_spent turn.now }
-{
-    match turn {
-        Turn::Done(end) => match end {
-            Outcome::Budget => true,
-            _ => false,
-        },
-        Turn::More(_) => false,
-    }
-}
-
-/// What labels that were settled came to, with the search as it goes on.
-fn told(
-    kept: Rested,
-    search: Search<Carry>,
-    aim: Aim,
-    step: (u64, Turn<(), Outcome<Walk>>),
-) -> LegTurn
-    ensures value { result ≡
-        told_of (record { stage = stages.Settling kept search; aim = aim }) step }
-{
-    let (counted, turn) = step;
-    match turn {
-        Turn::More(_) => {
-            let stage = Stage::Settling { kept, search };
-            let turn = Turn::More(LegSearch { stage, aim });
-            LegTurn { counted, turn }
-        }
-        Turn::Done(end) => {
-            let turn = Turn::Done(end);
-            LegTurn { counted, turn }
-        }
-    }
 }

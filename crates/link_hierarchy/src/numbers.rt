@@ -50,6 +50,13 @@ impl Numbers {
         })
     }
 
+    /// How many numbers there are.
+    pub(crate) fn len(&self) -> usize
+        ensures value { result ≡ length self.now }
+    {
+        self.items.len()
+    }
+
     /// The number at a place.
     pub(crate) fn get(&self, place: usize) -> u32
         requires in_range { place < length self.now }

@@ -58,19 +58,19 @@ costs-same plan a b facts there =
 -- a walk by a profile that is ready is a walk by the profile
 walk-ready : (plan : Plan) (from to : ℕ) (binding : Binding) (ready : Ready) → IsReadyBy binding (ready_of binding) ready →
     IsGridMap plan binding.map → (answer : Option PricedWalk) →
-    IsWalkOver plan (costs_by plan (links_of ready.bound)) from to answer → IsWalkBy plan from to binding answer
+    IsWalkOver plan (costs_by plan (links_of ready.bound.value)) from to answer → IsWalkBy plan from to binding answer
 walk-ready plan from to binding ready is grid answer over = record {
   terms = terms_in ready;
   accepted = is.terms_are;
   over = subst (λ (costs : Costs). IsWalkOver plan costs from to answer)
-      (costs-same plan (links_of ready.bound) (bound_links binding) is.facts (omega (arith, grid.count))) over;
+      (costs-same plan (links_of ready.bound.value) (bound_links binding) is.facts (omega (arith, grid.count))) over;
 }
 
 -- there are two links for each segment
 pub links-there : (plan : Plan) (world : WorldValue) (sections : Sections) (overrides : List (List ℕ × ℤ)) (ready : Ready) →
     IsGridMap plan world.map →
     IsReadyBy (binding_in world sections overrides) (ready_of (binding_in world sections overrides)) ready →
-    2 * length (segments_of plan) ≤ (links_of ready.bound).count
+    2 * length (segments_of plan) ≤ (links_of ready.bound.value).count
 links-there plan world sections overrides ready grid is = omega (arith, grid.count, is.count)
 
 module _ (plan : Plan) (from to : ℕ) (world : WorldValue) (sections : Sections) (overrides : List (List ℕ × ℤ)) (none : overrides ≡ [])
@@ -78,10 +78,10 @@ module _ (plan : Plan) (from to : ℕ) (world : WorldValue) (sections : Sections
   -- what is told of a walk by a profile that is ready is told by the profile
   pub ready-told : (ready : Ready) (result : Result (Option PricedWalk) MadeError) →
       IsReadyBy (binding_in world sections overrides) (ready_of (binding_in world sections overrides)) ready →
-      Makes (IsWalkOver plan (costs_by plan (links_of ready.bound)) from to) RefusesNothing result →
+      Makes (IsWalkOver plan (costs_by plan (links_of ready.bound.value)) from to) RefusesNothing result →
       Makes (IsWalkBy plan from to (binding_in world sections [])) (λ error. ready_of (binding_in world sections []) ≡ Err error) result
   ready-told ready result is told =
-      tells-by (IsWalkOver plan (costs_by plan (links_of ready.bound)) from to) (IsWalkBy plan from to (binding_in world sections []))
+      tells-by (IsWalkOver plan (costs_by plan (links_of ready.bound.value)) from to) (IsWalkBy plan from to (binding_in world sections []))
       RefusesNothing
       (λ (error : RouteError). ready_of (binding_in world sections []) ≡ Err error) result
       (walk-ready plan from to (binding_in world sections []) ready

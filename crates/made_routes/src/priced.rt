@@ -96,8 +96,8 @@ fn walk_by(
 ) -> Result<Option<PricedWalk>, MadeError>
     requires from { from < cells_of grid.now }
     requires to { to < cells_of grid.now }
-    requires links { 2 * length (segments_of grid.now) ≤ (links_of ready.now.bound).count }
-    ensures exact { let costs = costs_by grid.now (links_of ready.now.bound) in
+    requires links { 2 * length (segments_of grid.now) ≤ (links_of ready.now.bound.value).count }
+    ensures exact { let costs = costs_by grid.now (links_of ready.now.bound.value) in
         Makes (IsWalkOver grid.now costs from to) RefusesNothing result }
 {
     match walk_over(alloc, grid, from, to, &ready.bound) {

@@ -1,21 +1,18 @@
 //! Cases on lower bounds by link.
 
 ghost use Rattle.std.specs.Prelude.{◌≡◌, ◌<◌, IfOk, IfSome, length};
-ghost use Rattle.overpass_graph.specs.Maps.{roads_of};
-ghost use Rattle.ride_bounds.specs.Customizing.{AreRideWeights};
-ghost use Rattle.ride_bounds.specs.Hierarchies.{IsMapHierarchy};
-ghost use Rattle.map_cases.specs.Given.{given_links};
+ghost use Rattle.ride_bounds.specs.Guides.{IsGuide};
 
 use crate::answers::OUTSIDE;
-use crate::given::Given;
+use crate::given::{Given, rates_of};
 use crate::track::facts::given_by_words;
 use case_inputs::Case;
-use cost_model::FactsOf;
-use link_hierarchy::Weights;
+use cost_model::{FactsOf, PricedMap, TerrainOf, modes};
 use link_order::LinkOrder;
 use overpass_graph::Map;
-use ride_bounds::{LegBound, MapHierarchy, map_hierarchy, ride_weights};
+use ride_bounds::{Guide, map_hierarchy, ride_weights};
 use std::alloc::{AllocError, Global};
+use std::rc::Rc;
 
 /// More steps than the maps of cases take.
 const STEPS: u64 = 1_000_000;
@@ -77,38 +74,39 @@ fn by_order(
     let Some(hierarchy) = map_hierarchy(alloc, map, order, STEPS)? else {
         return String::from_str(alloc, "too large");
     };
-    match ride_weights(alloc, map, &hierarchy, given, STEPS)? {
-        Some(weights) => told(alloc, map, given, target, &hierarchy, &weights),
-        None => String::from_str(alloc, "no weights"),
-    }
+    let Some(weights) = ride_weights(alloc, map, &hierarchy, given, STEPS)? else {
+        return String::from_str(alloc, "no weights");
+    };
+    let Some(rates) = rates_of(&[0; 7]) else {
+        return String::from_str(alloc, OUTSIDE);
+    };
+    let guide = Guide::new(Rc::new(alloc, hierarchy)?, weights);
+    let terrain = PricedMap::new(map, given, &rates, modes(given));
+    told(alloc, terrain, target, &guide)
 }
 
 /// The bounds of all links in a line, `-` for none.
-fn told(
+fn told<G: TerrainOf>(
     alloc: Global,
-    map: &Map,
-    given: &Given,
+    terrain: G,
     target: u32,
-    hierarchy: &MapHierarchy,
-    weights: &Weights,
+    guide: &Guide,
 ) -> Result<String, AllocError>
-    requires counted { length given.now.facts.items ≡ length map.now.links }
-    requires in_range { target < length map.now.nodes }
-    requires is { IsMapHierarchy (roads_of map.now) hierarchy.now }
-    requires are { AreRideWeights (roads_of map.now) (given_links given.now.facts.items).facts
-        hierarchy.now weights.now }
+    requires fits { IsGuide (G.terrain terrain) guide.now }
+    requires in_range { target < length (G.terrain terrain).map.nodes }
 {
-    let mut leg = LegBound::new(alloc, hierarchy)?;
-    leg.retarget(alloc, map, hierarchy, weights, given, target)?;
+    let mut bound = guide.lend(alloc)?;
+    bound.retarget(alloc, &terrain, guide, target)?;
     let mut line = String::new(alloc);
-    'links: for link in 0..map.links() {
+    'links: for link in 0..terrain.map().links() {
         if link > 0 {
             line.push_str(" ")?;
         }
-        match leg.at(alloc, map, hierarchy, weights, given, target, link)? {
+        match bound.at(alloc, &terrain, guide, target, link)? {
             Some(low) => write!(line, "{low}")?,
             None => line.push_str("-")?,
         }
     }
+    guide.give_back(bound);
     Ok(line)
 }

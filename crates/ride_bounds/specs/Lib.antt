@@ -4,3 +4,4 @@ pub mod Arcs
 pub mod Hierarchies
 pub mod Customizing
 pub mod Bounds
+pub mod Guides

@@ -1,17 +1,15 @@
 //! Lower bounds of what a ride still has to pay, for one leg after another.
 
 ghost use Rattle.std.specs.Prelude.{◌≡◌, ◌<◌, IfOk, OnOk, length};
-ghost use Rattle.overpass_graph.specs.Maps.{roads_of};
 ghost use Rattle.link_hierarchy.specs.Potentials.{HasRoom};
-ghost use Rattle.ride_bounds.specs.Bounds.{IsLegBound, IsLinkBound, bound_of, millionths_of};
-ghost use Rattle.ride_bounds.specs.Customizing.{AreRideWeights};
-ghost use Rattle.ride_bounds.specs.Hierarchies.{IsMapHierarchy};
+ghost use Rattle.ride_bounds.specs.Bounds.{millionths_of};
+ghost use Rattle.ride_bounds.specs.Guides.{IsBoundBy, IsGuide, low_by};
 
+use crate::guide::Guide;
 use crate::hierarchy::MapHierarchy;
 use crate::targets::targets;
-use cost_model::FactsOf;
-use link_hierarchy::{Potentials, Weights};
-use overpass_graph::Map;
+use cost_model::TerrainOf;
+use link_hierarchy::Potentials;
 use std::alloc::{AllocError, Global};
 
 /// What is found of the bounds for one target. The memory is taken once; another target puts back
@@ -37,59 +35,54 @@ impl LegBound {
     }
 
     /// Asks for another target.
-    pub fn retarget<F: FactsOf>(
+    pub fn retarget<G: TerrainOf>(
         &mut self,
         alloc: Global,
-        map: &Map,
-        hierarchy: &MapHierarchy,
-        weights: &Weights,
-        _facts: &F,
+        terrain: &G,
+        guide: &Guide,
         target: u32,
     ) -> Result<(), AllocError>
-        requires is { IsMapHierarchy (roads_of map.now) hierarchy.now }
-        requires counted { (F.links _facts.now).count ≡ length map.now.links }
-        requires weights { AreRideWeights (roads_of map.now) (F.links _facts.now).facts
-            hierarchy.now weights.now }
-        requires room { HasRoom hierarchy.now.topology self.old.found }
-        requires in_range { target < length map.now.nodes }
+        requires fits { IsGuide (G.terrain terrain.now) guide.now }
+        requires room { HasRoom guide.now.hierarchy.value.topology self.old.found }
+        requires in_range { target < length (G.terrain terrain.now).map.nodes }
         ensures on { OnOk result
-            (IsLegBound (roads_of map.now) hierarchy.now weights.now target self.new) }
-        ensures room { HasRoom hierarchy.now.topology self.new.found }
-
-        // What is told then is a lower bound.
-        ensures lawful { IsLinkBound (roads_of map.now) (F.links _facts.now).facts target
-            (bound_of hierarchy.now weights.now (roads_of map.now) target) }
+            (IsBoundBy (G.terrain terrain.now) guide.now target self.new) }
+        ensures room { HasRoom guide.now.hierarchy.value.topology self.new.found }
     {
+        let hierarchy = &*guide.hierarchy;
         let _nodes = hierarchy.topology.nodes();
         let _places = hierarchy.order.len();
-        let targets = targets(alloc, map, &hierarchy.order, target)?;
-        self.found
-            .retarget(alloc, &hierarchy.topology, weights, targets.as_slice())
+        let targets = targets(alloc, terrain.map(), &hierarchy.order, target)?;
+        self.found.retarget(
+            alloc,
+            &hierarchy.topology,
+            &guide.weights,
+            targets.as_slice(),
+        )
     }
 
     /// What a ride still has to pay at least to the target once it has entered a link, in millionths;
     /// none where the target isn't reached from there.
-    pub fn at<F: FactsOf>(
+    pub fn at<G: TerrainOf>(
         &mut self,
         alloc: Global,
-        _map: &Map,
-        hierarchy: &MapHierarchy,
-        weights: &Weights,
-        _facts: &F,
+        _terrain: &G,
+        guide: &Guide,
         _target: u32,
         link: u32,
     ) -> Result<Option<u128>, AllocError>
-        requires is { IsMapHierarchy (roads_of _map.now) hierarchy.now }
-        requires weights { AreRideWeights (roads_of _map.now) (F.links _facts.now).facts
-            hierarchy.now weights.now }
-        requires on { IsLegBound (roads_of _map.now) hierarchy.now weights.now _target self.old }
-        requires in_range { link < length _map.now.links }
+        requires fits { IsGuide (G.terrain _terrain.now) guide.now }
+        requires on { IsBoundBy (G.terrain _terrain.now) guide.now _target self.old }
+        requires in_range { link < length (G.terrain _terrain.now).map.links }
         ensures value { IfOk result (λ rest.
-            rest ≡ bound_of hierarchy.now weights.now (roads_of _map.now) _target link) }
-        ensures kept { IsLegBound (roads_of _map.now) hierarchy.now weights.now _target self.new }
+            rest ≡ low_by (G.terrain _terrain.now) guide.now _target link) }
+        ensures kept { IsBoundBy (G.terrain _terrain.now) guide.now _target self.new }
     {
+        let hierarchy = &*guide.hierarchy;
         let place = hierarchy.order.place(link);
-        let sum = self.found.at(alloc, &hierarchy.topology, weights, place)?;
+        let sum = self
+            .found
+            .at(alloc, &hierarchy.topology, &guide.weights, place)?;
         Ok(millionths(sum))
     }
 }

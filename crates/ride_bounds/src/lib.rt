@@ -4,6 +4,7 @@
 mod collecting;
 mod eliminating;
 mod entry;
+mod guide;
 mod hierarchy;
 mod holding;
 mod leg_bound;
@@ -15,6 +16,7 @@ mod targets;
 mod whole;
 
 pub use entry::least_entry;
+pub use guide::Guide;
 pub use hierarchy::MapHierarchy;
 pub use leg_bound::LegBound;
 pub use map_elimination::MapElimination;

@@ -45,7 +45,7 @@ marks-seen roads (circle ∷ circles) link =
 
 -- what waypoints are moved on by the facts of a profile and by marks
 abbrev pub land_by : WorldValue → Ready → List Bool → OpenMap
-land_by world ready marks = record { map = world.map; is_open = open_by (links_of ready.bound).facts marks }
+land_by world ready marks = record { map = world.map; is_open = open_by (links_of ready.bound.value).facts marks }
 
 module _ (world : WorldValue) (ready : Ready) (marks : List Bool) (circles : List Circle)
     (are : marks ≡ cut_of world.map circles) where
@@ -61,7 +61,7 @@ module _ (world : WorldValue) (ready : Ready) (marks : List Bool) (circles : Lis
   land-same : land_by world ready marks ≡ open_map_of over
   land-same =
       let land : (ℕ → Bool) → OpenMap = λ o. record { map = world.map; is_open = o } in
-      ap land (open-same (links_of ready.bound).facts marks over.cut marks-same)
+      ap land (open-same (links_of ready.bound.value).facts marks over.cut marks-same)
 
   -- the first that has no node is refused
   pub refusal-over : (waypoints : List Place) (e : RouteError) →
@@ -74,7 +74,7 @@ module _ (world : WorldValue) (ready : Ready) (marks : List Bool) (circles : Lis
 -- a request that is made ready is so for its setting
 pub basis-over :
     (world : WorldValue) (basis : Basis) (circles : List Circle) (waypoints : List Place) →
-    (links_of basis.ready.bound).count ≡ length world.map.links → 2 ≤ length waypoints → length waypoints ≤ 100 →
+    (links_of basis.ready.bound.value).count ≡ length world.map.links → 2 ≤ length waypoints → length waypoints ≤ 100 →
     basis.cut.items ≡ cut_of world.map circles →
     AreNodes (land_by world basis.ready basis.cut.items) waypoints basis.nodes.items →
     IsBasisFor world (setting_of world basis.ready (circles_seen circles)) waypoints basis

@@ -12,7 +12,7 @@ use Rattle.way_class.specs.Links.{links_of}
 
 -- it fits a world: it has facts for each link, and at least one and at most 100 nodes of the map
 pub record IsBasisOn (world : WorldValue) (basis : Basis) : Type 0 where
-  pub counted : (links_of basis.ready.bound).count ≡ length world.map.links
+  pub counted : (links_of basis.ready.bound.value).count ≡ length world.map.links
   pub some : 1 ≤ length basis.nodes.items
   pub few : length basis.nodes.items ≤ 100
   pub nodes_in : (k : ℕ) → k < length basis.nodes.items → get_or basis.nodes.items k 0 < length world.map.nodes

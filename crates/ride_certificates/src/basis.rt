@@ -71,7 +71,7 @@ fn basis_by(
     ready: Ready,
     request: &Request,
 ) -> Result<Basis, RouteError>
-    requires counted { (links_of ready.bound).count ≡ length (world_of world.now).map.links }
+    requires counted { (links_of ready.bound.value).count ≡ length (world_of world.now).map.links }
     requires within { IsWithin (asked request.now) }
     ensures exact { let setting =
         setting_of (world_of world.now) ready (asked request.now).circles in
@@ -92,7 +92,7 @@ fn basis_with(
     request: &Request,
     cut: Vec<bool>,
 ) -> Result<Basis, RouteError>
-    requires counted { (links_of ready.bound).count ≡ length (world_of world.now).map.links }
+    requires counted { (links_of ready.bound.value).count ≡ length (world_of world.now).map.links }
     requires within { IsWithin (asked request.now) }
     requires cut { cut.items ≡ cut_of (world_of world.now).map request.now.circles }
     ensures exact { let setting =

@@ -48,7 +48,7 @@ module _ (world : WorldValue) (asked_for : Asked) (plan : JobPlan) (copy : Ready
 
   -- it is someone's
   pub someones-of : IsSomeones world copy found
-  someones-of = someones-made world plan.ready.value copy asked_for found same is.on.counted planned-for
+  someones-of = someones-made world plan.ready.value copy asked_for found same is.on.fits planned-for
 
   -- and that of each request for which the profile is ready
   pub theirs-of : (sections : Sections) (told : Told) (ready : Ready) → plan.ready.value ≡ ready →

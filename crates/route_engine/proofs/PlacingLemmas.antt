@@ -1,4 +1,5 @@
 -- The waypoints of a request are moved to nodes, step after step.
+use Rattle.route_ready.specs.Fits.{FitsMap}
 use Rattle.std.proofs.Common.{◌≡◌, ◌⊎◌, inl, ℕ, ◌+◌, ◌-◌, ◌*◌, ◌<◌, ◌≤◌, min, true, false, Bool, List, [], ◌∷◌, ◌++◌, length, nat_eq, Some, None, Result, Ok, Err, IfOk, IfErr, MatchResult, Vec, refl, sym, ap, ◌∙◌, subst, arith}
 use Rattle.std.proofs.Math.Nat.{le-max_left, le-max_right, min-le_left, min-le_right}
 use Rattle.std.proofs.lemmas.List.{length_push}
@@ -131,10 +132,10 @@ module _ (world : WorldValue) (ready : Ready) (request : Request) where
 
   -- the plan with the nodes of all waypoints is that of the request
   pub planned-by : (plan : JobPlan) (cut : List Bool) (nodes : List ℕ) →
-      (links_of ready.bound).count ≡ length world.map.links → IsWithin (asked request) →
+      FitsMap world.map ready → IsWithin (asked request) →
       AreMoved world ready (asked request) cut nodes → length nodes ≡ length (asked request).waypoints →
       IsPlanWith ready request cut nodes plan → IsPlanBy world ready (asked request) plan
-  planned-by plan cut nodes counted within are all is =
+  planned-by plan cut nodes fits within are all is =
       let places = (asked request).waypoints in
       let moved : AreNodes (open_map_for world ready (asked request)) places plan.nodes =
       subst (AreNodes (open_map_for world ready (asked request)) places) (sym is.nodes_are)
@@ -145,7 +146,7 @@ module _ (world : WorldValue) (ready : Ready) (request : Request) where
       record {
         by = is.ready_is;
         on = record {
-          counted = subst (λ (r : Ready). (links_of r.bound).count ≡ length world.map.links) (sym is.ready_is) counted;
+          fits = subst (λ (r : Ready). FitsMap world.map r) (sym is.ready_is) fits;
           nodes_in = nodes-in (open_map_for world ready (asked request)) world.map places plan.nodes refl moved;
           some = omega (arith, same, within.some);
           few = omega (arith, same, within.few);
@@ -170,11 +171,11 @@ module _ (world : WorldValue) (ready : Ready) (request : Request) where
 
   -- so it is where memory is enough for it
   pub planned : (given : Result JobPlan RouteError) (cut : List Bool) (nodes : List ℕ) →
-      (links_of ready.bound).count ≡ length world.map.links → IsWithin (asked request) →
+      FitsMap world.map ready → IsWithin (asked request) →
       AreMoved world ready (asked request) cut nodes → length nodes ≡ length (asked request).waypoints →
       MatchResult given (IsPlanWith ready request cut nodes) (λ e. e ≡ NoMemory) → IsPlaced world ready (asked request) given
-  planned (Ok plan) cut nodes counted within are all is = planned-by plan cut nodes counted within are all is
-  planned (Err e) cut nodes counted within are all is = inl is
+  planned (Ok plan) cut nodes fits within are all is = planned-by plan cut nodes fits within are all is
+  planned (Err e) cut nodes fits within are all is = inl is
 
 -- what only memory stops may be refused by a waypoint besides
 pub wants-memory : (next : Result PlacingStep RouteError) (Why : RouteError → Type 0) → IfErr next (λ e. e ≡ NoMemory) →
@@ -197,7 +198,7 @@ steps-on world budget before ready request (Ok next) step same_ready same_reques
     subst (Steps (IsPlacingOn world) (PlacesAs world) (work_of_placing world) (λ p. free_stages p.stage) budget before) (sym is) (record {
       fits = places.fits;
       turn = record {
-        over = record { counted = over.counted; within = over.within; stage = places.stage };
+        over = record { fits = over.fits; within = over.within; stage = places.stage };
         same = λ answer same. same;
         less = places.less;
         nearer = places.nearer;

@@ -93,7 +93,7 @@ StepsTo ready request (Err e) step = step ≡ record { spent = 0; turn = Done (E
 
 -- it is work over a world
 pub record IsPlacingOn (world : WorldValue) (p : Placing) : Type 0 where
-  pub counted : (links_of p.ready.value.bound).count ≡ length world.map.links
+  pub fits : FitsMap world.map p.ready.value
   pub within : IsWithin (asked p.request.value)
   pub stage : IsPlacingStage world p.ready.value p.request.value p.stage
 

@@ -9,9 +9,9 @@ ghost use Rattle.route_engine.specs.Searches.{StepsSearch, work_of_job};
 ghost use Rattle.route_engine.specs.Settings.{open_map_of};
 ghost use Rattle.route_engine.specs.Waypoints.{RefusesWaypoint};
 ghost use Rattle.route_http.specs.Seen.{asked};
+ghost use Rattle.route_ready.specs.Fits.{FitsMap};
 ghost use Rattle.route_ready.specs.World.{world_of};
 ghost use Rattle.route_ready.specs.declared.error.RouteError.TheVariants.{NoMemory};
-ghost use Rattle.way_class.specs.Links.{links_of};
 
 use crate::advance::{advance, next_stage};
 use crate::placing::Placing;
@@ -55,8 +55,7 @@ impl Job {
         ready: Rc<Ready>,
         request: Request,
     ) -> Result<Job, RouteError>
-        requires counted { (links_of ready.value.bound).count ≡
-            length (world_of world.now).map.links }
+        requires fits { FitsMap (world_of world.now).map ready.value }
         requires within { IsWithin (asked request) }
         ensures on { IfOk result (IsJobOn (world_of world.now)) }
         ensures plan { let setting =
@@ -131,7 +130,7 @@ pub(crate) fn plan_for(
     ready: Rc<Ready>,
     request: Request,
 ) -> Result<JobPlan, RouteError>
-    requires counted { (links_of ready.value.bound).count ≡ length (world_of world.now).map.links }
+    requires fits { FitsMap (world_of world.now).map ready.value }
     requires within { IsWithin (asked request) }
     ensures placed { IsPlaced (world_of world.now) ready.value (asked request) result }
 {
@@ -146,7 +145,7 @@ pub(crate) fn plan_by(
     ready: Rc<Ready>,
     request: Rc<Request>,
 ) -> Result<JobPlan, RouteError>
-    requires counted { (links_of ready.value.bound).count ≡ length (world_of world.now).map.links }
+    requires fits { FitsMap (world_of world.now).map ready.value }
     requires within { IsWithin (asked request.value) }
     ensures placed { IsPlaced (world_of world.now) ready.value (asked request.value) result }
 {

@@ -8,9 +8,9 @@ ghost use Rattle.route_engine.specs.Jobs.{IsWithin};
 ghost use Rattle.route_engine.specs.Pendings.{EndsAs, IsPendingOver, turns_of};
 ghost use Rattle.route_engine.specs.Replies.{IsReady, bytes_in, question_of};
 ghost use Rattle.route_http.specs.Seen.{asked};
+ghost use Rattle.route_ready.specs.Fits.{FitsMap};
 ghost use Rattle.route_ready.specs.World.{world_of};
 ghost use Rattle.route_ready.specs.declared.error.RouteError.{RouteError as TheRouteError};
-ghost use Rattle.way_class.specs.Links.{links_of};
 
 use crate::aim::Aim;
 use crate::asking::{Asking, turned};
@@ -46,8 +46,7 @@ impl Pending {
         aim: Aim,
         request: Request,
     ) -> Result<Pending, AllocError>
-        requires counted { (links_of ready.value.bound).count ≡
-            length (world_of world.now).map.links }
+        requires fits { FitsMap (world_of world.now).map ready.value }
         requires within { IsWithin (asked request) }
         ensures over { IfOk result (IsPendingOver (world_of world.now)) }
         ensures answers { (sections : Sections) →

@@ -4,9 +4,9 @@ ghost use Rattle.std.specs.Prelude.{◌≡◌, ◌/◌, ◌≤◌, IfOk, MatchRe
 ghost use Rattle.route_engine.specs.Jobs.{IsWithin};
 ghost use Rattle.route_engine.specs.Placings.{IsPlaced, IsPlacingOn, IsPlanWith, StepsTo, free_stages, placing_for, work_of_placing};
 ghost use Rattle.route_http.specs.Seen.{asked};
+ghost use Rattle.route_ready.specs.Fits.{FitsMap};
 ghost use Rattle.route_ready.specs.World.{world_of};
 ghost use Rattle.route_ready.specs.declared.error.RouteError.TheVariants.{NoMemory};
-ghost use Rattle.way_class.specs.Links.{links_of};
 
 use crate::numbers::chosen;
 use crate::placing_stage::{PlacingStage, PlacingStep};
@@ -47,8 +47,7 @@ impl Placing {
         ready: Rc<Ready>,
         request: Rc<Request>,
     ) -> Result<Placing, AllocError>
-        requires counted { (links_of ready.value.bound).count ≡
-            length (world_of world.now).map.links }
+        requires fits { FitsMap (world_of world.now).map ready.value }
         requires within { IsWithin (asked request.value) }
         ensures on { IfOk result (IsPlacingOn (world_of world.now)) }
         ensures ready { IfOk result (λ p. p.ready.value ≡ ready.value) }

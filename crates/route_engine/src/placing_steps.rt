@@ -8,11 +8,11 @@ ghost use Rattle.route_engine.specs.Settings.{cut_links};
 ghost use Rattle.route_engine.specs.Waypoints.{IsMovedOn, RefusesWaypoint, waypoint_at};
 ghost use Rattle.route_engine.specs.declared.placing_stage.PlacingStage.TheVariants as stages;
 ghost use Rattle.route_http.specs.Seen.{asked};
+ghost use Rattle.route_ready.specs.Fits.{FitsMap};
 ghost use Rattle.route_ready.specs.World.{world_of};
 ghost use Rattle.route_ready.specs.Worlds.{WorldValue};
 ghost use Rattle.route_ready.specs.declared.error.RouteError.TheVariants.{NoMemory};
 ghost use Rattle.route_ready.specs.declared.ready.Ready.{Ready as ReadyValue};
-ghost use Rattle.way_class.specs.Links.{links_of};
 
 use crate::placing_stage::{PlacingStage, PlacingStep};
 use crate::waypoints::waypoint_node;
@@ -93,7 +93,7 @@ pub(crate) fn move_next(
     nodes: Vec<u32>,
     budget: u32,
 ) -> Result<PlacingStep, RouteError>
-    requires counted { (links_of ready.now.bound).count ≡ length (world_of world.now).map.links }
+    requires fits { FitsMap (world_of world.now).map ready.now }
     requires within { IsWithin (asked request.now) }
     requires some { 1 ≤ budget }
     requires moved { AreMoved (world_of world.now) ready.now (asked request.now) cut.items
@@ -146,7 +146,7 @@ fn next_node(
     cut: &[bool],
     number: usize,
 ) -> Option<u32>
-    requires counted { (links_of ready.now.bound).count ≡ length (world_of world.now).map.links }
+    requires fits { FitsMap (world_of world.now).map ready.now }
     requires cut { cut.now ≡ cut_links (world_of world.now).map (asked request.now).circles }
     requires there { number < length (asked request.now).waypoints }
     ensures exact { IsMovedOn (open_map_for (world_of world.now) ready.now (asked request.now))

@@ -8,9 +8,9 @@ ghost use Rattle.route_engine.specs.Searches.{StepsSearch};
 ghost use Rattle.route_engine.specs.Tables.{IsTable, IsTableRefusal};
 ghost use Rattle.route_engine.specs.Waypoints.{RefusesWaypoint};
 ghost use Rattle.route_http.specs.Seen.{asked};
+ghost use Rattle.route_ready.specs.Fits.{FitsMap};
 ghost use Rattle.route_ready.specs.World.{world_of};
 ghost use Rattle.route_ready.specs.declared.error.RouteError.TheVariants.{NoMemory};
-ghost use Rattle.way_class.specs.Links.{links_of};
 
 use crate::job::plan_for;
 use crate::plan::JobPlan;
@@ -51,8 +51,7 @@ impl TableJob {
         ready: Rc<Ready>,
         request: Request,
     ) -> Result<TableJob, RouteError>
-        requires counted { (links_of ready.value.bound).count ≡
-            length (world_of world.now).map.links }
+        requires fits { FitsMap (world_of world.now).map ready.value }
         requires within { IsWithin (asked request) }
         ensures on { IfOk result (IsTableOn (world_of world.now)) }
         ensures plan { let setting =

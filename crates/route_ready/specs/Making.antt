@@ -1,5 +1,5 @@
 -- A profile that is being made ready in turns: its links are bound, and then compared (this project's own rule).
-use Rattle.std.specs.Prelude.{◌≡◌, ◌⊎◌, ◌<◌, ◌≤◌, ◌+◌, ◌-◌, ◌/◌, ℕ, suc, length, IfOk, Result, Ok, Err, MatchResult}
+use Rattle.std.specs.Prelude.{◌≡◌, ◌⊎◌, ◌<◌, ◌≤◌, ◌+◌, ◌-◌, ◌/◌, ℕ, suc, length, IfOk, None, Result, Ok, Err, MatchResult}
 use Rattle.cost_model.specs.Modes.{modes_before}
 use Rattle.route_ready.specs.Readiness.{Readies, Terms}
 use Rattle.route_ready.specs.Refusals.{bind_error}
@@ -38,22 +38,23 @@ linking_left world l = work_left world.map l.binder
 
 -- the modes are those by the links before the next one
 pub record IsComparing (c : Comparing) : Type 0 where
-  pub within : c.link ≤ (links_of c.bound).count
-  pub modes_are : c.modes ≡ modes_before (links_of c.bound).facts c.link
+  pub within : c.link ≤ (links_of c.bound.value).count
+  pub modes_are : c.modes ≡ modes_before (links_of c.bound.value).facts c.link
 
 -- how many links are left
 abbrev pub comparing_left : Comparing → ℕ
-comparing_left c = (links_of c.bound).count - c.link
+comparing_left c = (links_of c.bound.value).count - c.link
 
--- a profile is ready by what was bound and by the terms that were kept
+-- a profile is ready by what was bound and by the terms that were kept, without a guide
 pub record IsMade (bound : Bound) (kept : KeptTerms) (ready : Ready) : Type 0 where
-  pub bound_is : ready.bound ≡ bound
+  pub bound_is : ready.bound.value ≡ bound
   pub rates_are : ready.rates ≡ kept.rates
   pub turns_are : ready.turns ≡ kept.turns
+  pub bare : ready.guide ≡ None
 
--- it ends so
+-- it ends so, or in want of memory
 abbrev pub EndsMade : Bound → KeptTerms → Result Ready RouteError → Type 0
-EndsMade bound kept end = MatchResult end (IsMade bound kept) (λ e. ⊥)
+EndsMade bound kept end = MatchResult end (IsMade bound kept) (λ e. e ≡ NoMemory)
 
 -- ---- One after the other
 
@@ -73,7 +74,7 @@ IsPreparing world p = AreOver (IsLinking world) IsComparing (LinkingEnds world) 
 -- what making it ready may end with
 abbrev pub PreparingEnds : WorldValue → Chain Linking Comparing KeptTerms → Result Ready RouteError → Type 0
 PreparingEnds world p end =
-    answers_in (LinkingEnds world) (λ c. EndsMade c.bound c.terms) FollowsBinding p end
+    answers_in (LinkingEnds world) (λ c. EndsMade c.bound.value c.terms) FollowsBinding p end
 
 -- how many turns of a budget are left
 abbrev pub preparing_left : WorldValue → (budget : ℕ) → Chain Linking Comparing KeptTerms → ℕ

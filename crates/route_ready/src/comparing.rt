@@ -17,13 +17,14 @@ use cost_model::FactsOf;
 use elev_buffer::{Mode, Modes};
 use item_list::Turn;
 use std::alloc::Global;
+use std::rc::Rc;
 use tasks::{Follows, Step, Stepped, Task, turn_of_steps};
 use way_class::{BindError, Bound};
 
 /// A profile that is bound, whose links are looked at: the modes are those by the links before the
 /// next one.
 pub struct Comparing {
-    pub(crate) bound: Bound,
+    pub(crate) bound: Rc<Bound>,
     pub(crate) terms: KeptTerms,
     pub(crate) modes: Modes,
     pub(crate) link: u32,
@@ -42,7 +43,7 @@ impl Drop for Comparing {
 
 impl Comparing {
     /// No link was looked at.
-    fn new(bound: Bound, terms: KeptTerms) -> Comparing
+    fn new(bound: Rc<Bound>, terms: KeptTerms) -> Comparing
         ensures begins { IsComparing result }
         ensures bound { result.bound ≡ bound }
         ensures terms { result.terms ≡ terms }
@@ -63,7 +64,7 @@ impl Comparing {
     fn look_on(self, budget: u32) -> Stepped<Comparing, Result<Ready, RouteError>>
         requires over { IsComparing self }
         requires some { 1 ≤ budget }
-        ensures steps { Steps IsComparing (λ c. EndsMade c.bound c.terms) comparing_left (λ _. 0)
+        ensures steps { Steps IsComparing (λ c. EndsMade c.bound.value c.terms) comparing_left (λ _. 0)
             budget self result }
     {
         let Comparing {
@@ -92,6 +93,7 @@ impl Comparing {
                     bound,
                     rates: terms.rates,
                     turns: terms.turns,
+                    guide: None,
                     modes,
                 })),
             }
@@ -106,7 +108,7 @@ impl Step for Comparing {
 
     ghost IsOver = { λ _ c. IsComparing c };
 
-    ghost answers = { λ _ c end. EndsMade c.bound c.terms end };
+    ghost answers = { λ _ c end. EndsMade c.bound.value c.terms end };
 
     ghost work_left = { λ _ c. comparing_left c };
 
@@ -129,7 +131,7 @@ impl Task for Comparing {
 
     ghost IsOver = { λ _ c. IsComparing c };
 
-    ghost answers = { λ _ c end. EndsMade c.bound c.terms end };
+    ghost answers = { λ _ c end. EndsMade c.bound.value c.terms end };
 
     ghost turns_left = { λ _ budget c. comparing_left c / budget };
 
@@ -155,13 +157,16 @@ impl Follows for Comparing {
     ghost most_turns = { λ world budget _. length (world_of world).map.links / budget };
 
     fn begin(
-        _alloc: Global,
+        alloc: Global,
         _dataset: &World,
         kept: KeptTerms,
         given: Result<Bound, BindError>,
     ) -> Turn<Comparing, Result<Ready, RouteError>> {
         match given {
-            Ok(bound) => Turn::More(Comparing::new(bound, kept)),
+            Ok(bound) => match Rc::new(alloc, bound) {
+                Ok(bound) => Turn::More(Comparing::new(bound, kept)),
+                Err(_) => Turn::Done(Err(RouteError::NoMemory)),
+            },
             Err(e) => Turn::Done(Err(of_bind(e))),
         }
     }

@@ -52,5 +52,5 @@ IsWanted world binding place overrides kept (Err e) = GivesReady binding (Err e)
 
 -- a profile that is ready has the facts of all links of a world
 abbrev pub IsCounted : WorldValue → Wanted → Type 0
-IsCounted world (Ready shared) = (links_of shared.value.bound).count ≡ length world.map.links
+IsCounted world (Ready shared) = (links_of shared.value.bound.value).count ≡ length world.map.links
 IsCounted world (Making k) = Unit {0}

@@ -9,7 +9,7 @@ ghost use Rattle.space_search.specs.Laws.{IsSpace, Supersedes, SupersedesByCost}
 use crate::known::Known;
 use crate::point::Point;
 use crate::step::{Step, Steps};
-use std::alloc::{AllocError, Global};
+use std::alloc::AllocError;
 
 /// A space of states with starts, steps and goals, all by number. No call takes memory but
 /// `list_steps`, which takes it for its list alone, and those that find lower bounds.
@@ -127,10 +127,6 @@ pub trait Space {
     {
         false
     }
-
-    /// What is kept of lower bounds before any was asked for.
-    fn bounds(&self, alloc: Global) -> Result<Self::Bounds, AllocError>
-        ensures are { IfOk result (AreBounds self.now) };
 
     /// A lower bound of what is still to pay from a state to a goal; `None` where none is reached.
     fn low(

@@ -3,7 +3,7 @@
 
 ghost use Rattle.std.specs.Prelude.{◌≡◌, ◌<◌, ◌^◌};
 
-use bike_space::{BikeSpace, TellsWalks, Walk};
+use bike_space::{BikeSpace, Walk, walk_outcome};
 use cost_model::{Carry, TerrainOf};
 use item_list::Turn;
 use space_search::{Outcome, Search};
@@ -29,7 +29,7 @@ pub(crate) fn least_walk_woken<G: TerrainOf>(
             Turn::More(_) => {}
             Turn::Done(end) => {
                 let outcome = search.outcome(alloc, end)?;
-                return space.told(alloc, outcome);
+                return walk_outcome(alloc, &space, outcome);
             }
         }
         space = space.rest().wake(terrain);

@@ -84,9 +84,15 @@ impl<'a> Ground<'a> {
         plan: Plan,
     ) -> Result<Ended, AllocError> {
         if plan.by_runs {
-            settle(rt.alloc(), &RunSpace::new(space), QUOTA, plan.limit)
+            settle(
+                rt.alloc(),
+                &RunSpace::new(space),
+                &mut (),
+                QUOTA,
+                plan.limit,
+            )
         } else {
-            settle(rt.alloc(), space, QUOTA, plan.limit)
+            settle(rt.alloc(), space, &mut (), QUOTA, plan.limit)
         }
     }
 

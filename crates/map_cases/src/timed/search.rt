@@ -22,6 +22,6 @@ fn strip_of(words: &[String]) -> Strip {
 /// Searches the strip that the words say, and prints how many labels were settled.
 pub(crate) fn run(rt: &HostRuntime, words: &[String]) -> io::Result<()> {
     let strip = strip_of(words);
-    let ended = settle(rt.alloc(), &strip, QUOTA, u32::MAX)?;
+    let ended = settle(rt.alloc(), &strip, &mut (), QUOTA, u32::MAX)?;
     println!(rt; "{} labels, {}", ended.labels, word_of(ended.last))
 }

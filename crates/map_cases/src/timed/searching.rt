@@ -25,18 +25,19 @@ pub(crate) struct Ended {
 pub(crate) fn settle<S: Space>(
     alloc: Global,
     space: &S,
+    bounds: &mut S::Bounds,
     quota: u32,
     limit: u32,
 ) -> Result<Ended, AllocError>
     requires some { 1 ≤ quota }
+    requires bounds { S.AreBounds space.now bounds.old }
     ensures last { IfOk result (λ ended. (after : View S.State) ×
         EndsSearch (S.rules space.now) after ended.last) }
 {
     let limit = limit as u64;
-    let mut bounds = space.bounds(alloc)?;
     let mut search: Search<S::State> = Search::new(alloc, limit);
     'search: loop {
-        match search.turn(space, &mut bounds, quota)? {
+        match search.turn(space, bounds, quota)? {
             Turn::More(_) => {}
             Turn::Done(last) => return Ok(end_of(&search, last)),
         }

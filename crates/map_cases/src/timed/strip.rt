@@ -4,7 +4,7 @@ ghost use Rattle.std.specs.Prelude.{◌≡◌, ◌<◌, ◌≤◌, ◌^◌};
 ghost use Rattle.map_cases.specs.Strip.{ahead, back, neighbour};
 
 use space_search::{Point, Space};
-use std::alloc::{AllocError, Global};
+use std::alloc::AllocError;
 
 /// Cells in rows of one width, one row behind the other. So many starts lie in the first cell, each
 /// with more due and at less cost than the one before, and each cell has so many steps: 0 goes a
@@ -132,10 +132,6 @@ impl Space for Strip {
 
     fn supersedes(&self, a: &(u32, u32), _ca: u128, b: &(u32, u32), _cb: u128) -> bool {
         self.superseding && a.0 == b.0 && a.1 <= b.1
-    }
-
-    fn bounds(&self, _alloc: Global) -> Result<(), AllocError> {
-        Ok(())
     }
 
     fn low(&self, _bounds: &mut (), _state: &(u32, u32)) -> Result<Option<u128>, AllocError> {

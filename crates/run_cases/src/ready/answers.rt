@@ -1,8 +1,8 @@
 //! The answers to cases.
 
+ghost use Rattle.route_ready.specs.Fits.{FitsMap};
 ghost use Rattle.std.specs.Prelude.{◌≡◌, length};
 ghost use Rattle.route_ready.specs.World.{world_of};
-ghost use Rattle.way_class.specs.Links.{links_of};
 
 use crate::ready::call_of;
 use crate::ready::inputs::overrides_from;
@@ -91,7 +91,7 @@ fn under(
 
 /// What a case asks of a profile that is ready.
 fn told(alloc: Global, case: &Case, world: &World, ready: &Ready) -> Result<Vec<u8>, AllocError>
-    requires counted { (links_of ready.now.bound).count ≡ length (world_of world.now).map.links }
+    requires fits { FitsMap (world_of world.now).map ready.now }
 {
     match call_of(case) {
         0 => terms_told(alloc, ready),

@@ -4,8 +4,8 @@ ghost use Rattle.std.specs.Prelude.{◌≡◌, ◌≤◌, length};
 ghost use Rattle.route_engine.specs.Jobs.{IsWithin};
 ghost use Rattle.route_engine.specs.Pendings.{IsPendingOver};
 ghost use Rattle.route_http.specs.Seen.{asked};
+ghost use Rattle.route_ready.specs.Fits.{FitsMap};
 ghost use Rattle.route_ready.specs.World.{world_of};
-ghost use Rattle.way_class.specs.Links.{links_of};
 
 use crate::route::call_of;
 use crate::route::inputs::quota;
@@ -29,7 +29,7 @@ pub(crate) fn in_replies(
     ready: Rc<Ready>,
     request: Request,
 ) -> Result<Vec<u8>, AllocError>
-    requires counted { (links_of ready.value.bound).count ≡ length (world_of world.now).map.links }
+    requires fits { FitsMap (world_of world.now).map ready.value }
     requires within { IsWithin (asked request) }
 {
     let pending = Pending::new(alloc, world, ready, aim_of(case), request)?;

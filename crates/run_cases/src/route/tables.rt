@@ -4,8 +4,8 @@ ghost use Rattle.std.specs.Prelude.{◌≡◌, ◌≤◌, length};
 ghost use Rattle.route_engine.specs.Jobs.{IsWithin};
 ghost use Rattle.route_engine.specs.TableJobs.{IsTableOn};
 ghost use Rattle.route_http.specs.Seen.{asked};
+ghost use Rattle.route_ready.specs.Fits.{FitsMap};
 ghost use Rattle.route_ready.specs.World.{world_of};
-ghost use Rattle.way_class.specs.Links.{links_of};
 
 use crate::route::inputs::quota;
 use crate::route::steps::{Ended, append_counts, stepped};
@@ -27,7 +27,7 @@ pub(crate) fn in_table(
     ready: Rc<Ready>,
     request: Request,
 ) -> Result<Vec<u8>, AllocError>
-    requires counted { (links_of ready.value.bound).count ≡ length (world_of world.now).map.links }
+    requires fits { FitsMap (world_of world.now).map ready.value }
     requires within { IsWithin (asked request) }
 {
     match TableJob::new(alloc, world, ready, request) {

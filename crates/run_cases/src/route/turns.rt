@@ -3,8 +3,8 @@
 ghost use Rattle.std.specs.Prelude.{◌≡◌, ◌≤◌, length};
 ghost use Rattle.route_engine.specs.Jobs.{IsJobOn, IsWithin};
 ghost use Rattle.route_http.specs.Seen.{asked};
+ghost use Rattle.route_ready.specs.Fits.{FitsMap};
 ghost use Rattle.route_ready.specs.World.{world_of};
-ghost use Rattle.way_class.specs.Links.{links_of};
 
 use crate::route::call_of;
 use crate::route::inputs::quota;
@@ -48,7 +48,7 @@ fn by_ready(
     ready: Ready,
     request: Request,
 ) -> Result<Vec<u8>, AllocError>
-    requires counted { (links_of ready.bound).count ≡ length (world_of world.now).map.links }
+    requires fits { FitsMap (world_of world.now).map ready }
     requires within { IsWithin (asked request) }
 {
     let ready = Rc::new(alloc, ready)?;
@@ -67,7 +67,7 @@ fn in_job(
     ready: Rc<Ready>,
     request: Request,
 ) -> Result<Vec<u8>, AllocError>
-    requires counted { (links_of ready.value.bound).count ≡ length (world_of world.now).map.links }
+    requires fits { FitsMap (world_of world.now).map ready.value }
     requires within { IsWithin (asked request) }
 {
     match Job::new(alloc, world, ready, request) {

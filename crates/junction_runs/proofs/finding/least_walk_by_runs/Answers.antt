@@ -16,20 +16,20 @@ new-runs-requires g c =
     let task = task_of (g.G.TerrainOf.terrain space.terrain) space.kept in
     record { over = leg-for-runs task space.wakes.lawful }
 
-pub told-requires : goal.told-requires
-told-requires g c = record { answers = (c.args.limit, c.in_ok-outcome.ensures.answers) }
+pub walk_outcome-requires : goal.walk_outcome-requires
+walk_outcome-requires g c = record { answers = (c.args.limit, c.in_ok-outcome.ensures.answers) }
 
 pub returns-clause-answers : goal.returns-clause-answers
 returns-clause-answers g c =
     let space = c.args.space.now in
     let task = task_of (g.G.TerrainOf.terrain space.terrain) space.kept in
-    IfOk-weaker c.told.result _ (AnswersByRuns task.leg task.used task.radius c.args.limit)
+    IfOk-weaker c.walk_outcome.result _ (AnswersByRuns task.leg task.used task.radius c.args.limit)
     (λ outcome told.
     moved c.new-runs.ensures.space
     (λ s. s.kept.start ≢ s.kept.target →
     (let t = task_of (g.G.TerrainOf.terrain s.terrain) s.kept in AnswersByRuns t.leg t.used t.radius c.args.limit outcome))
     (told c.args.limit c.requires.small c.in_ok-outcome.ensures.answers) c.requires.differ)
-    c.told.ensures.told
+    c.walk_outcome.ensures.told
 
 pub returns-clause-enough : goal.returns-clause-enough
 returns-clause-enough g c flat within =
@@ -41,7 +41,7 @@ returns-clause-enough g c flat within =
     (task_of (g.G.TerrainOf.terrain s.terrain) s.kept).leg.ride.roads.links * most ≤ c.args.limit →
     IsUnspent c.in_ok-outcome.outcome)
     c.in_ok-outcome.ensures.enough in
-    c.told.ensures.unspent (enough 1 (few-along (rules_of task) 1 (few-flat task flat)) (omega (arith, within)))
+    c.walk_outcome.ensures.unspent (enough 1 (few-along (rules_of task) 1 (few-flat task flat)) (omega (arith, within)))
 
 pub returns-clause-always : goal.returns-clause-always
 returns-clause-always g c within =
@@ -53,4 +53,4 @@ returns-clause-always g c within =
     (task_of (g.G.TerrainOf.terrain s.terrain) s.kept).leg.ride.roads.links * most ≤ c.args.limit →
     IsUnspent c.in_ok-outcome.outcome)
     c.in_ok-outcome.ensures.enough in
-    c.told.ensures.unspent (enough _ (few-along (rules_of task) _ (few-held task space.wakes.lawful)) within)
+    c.walk_outcome.ensures.unspent (enough _ (few-along (rules_of task) _ (few-held task space.wakes.lawful)) within)

@@ -9,7 +9,7 @@ use Rattle.space_search.proofs.finding.least.Goals as goal
 
 pub search-init : goal.search-init
 search-init g c =
-    record { of = c.new-search.ensures.of (g.S.Space.rules c.args.space.now); bounds = c.in_ok-bounds.ensures.are; limit = c.new-search.ensures.limit }
+    record { of = c.new-search.ensures.of (g.S.Space.rules c.args.space.now); bounds = c.requires.bounds; limit = c.new-search.ensures.limit }
 
 pub outcome-requires : goal.outcome-requires
 outcome-requires g c =

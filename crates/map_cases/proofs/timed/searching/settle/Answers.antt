@@ -6,7 +6,7 @@ use Rattle.map_cases.proofs.timed.searching.settle.Goals as goal
 
 pub search-init : goal.search-init
 search-init g c =
-    record { of = c.new-search.ensures.of (g.S.Space.rules c.args.space.now); bounds = c.in_ok-bounds.ensures.are; limit = c.new-search.ensures.limit }
+    record { of = c.new-search.ensures.of (g.S.Space.rules c.args.space.now); bounds = c.requires.bounds; limit = c.new-search.ensures.limit }
 
 pub end_of-requires : goal.end_of-requires
 end_of-requires g c =

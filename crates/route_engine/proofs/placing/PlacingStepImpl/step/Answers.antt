@@ -40,7 +40,7 @@ returns-in-Placed c =
     record {
       steps = record {
         fits = omega arith;
-        turn = planned world ready request c.plan_with.result cut.items nodes.items c.requires.over.counted c.requires.over.within
+        turn = planned world ready request c.plan_with.result cut.items nodes.items c.requires.over.fits c.requires.over.within
             stage.0 stage.1 given;
       };
     }
