@@ -1,5 +1,5 @@
 use Rattle.std.proofs.Common.{Some, sym, subst}
-use Rattle.std.proofs.lemmas.Result.{OnOk-weaker}
+use Rattle.std.proofs.lemmas.Result.{on_ok_weaker}
 use Rattle.std.specs.Prelude.{OnOk}
 use Rattle.bike_space.specs.Kept.{task_of}
 use Rattle.bike_space.specs.Tasks.{rules_of}
@@ -20,4 +20,19 @@ list_steps-requires-clause-known g c =
     (subst (λ r. AreKnown r c.args.known.now) (bounded-rules (task_of terrain space.kept) low (Some 0)) c.requires.known)
 
 pub returns : goal.returns
-returns g c = ?
+returns g c =
+    let it = c.args.self.now in
+    let space = it.space.now in
+    let terrain = g.G.TerrainOf.terrain space.terrain in
+    let task = task_of terrain space.kept in
+    let low = low_by terrain it.guide.now space.kept.target in
+    let known = c.args.known.now in
+    let state = c.args.state.now in
+    let found = c.list_steps.new.found in
+    record {
+      lists =
+          subst (λ r. OnOk c.list_steps.result (LeavesKnown r known c.args.cost (steps_of r state) found)) (sym (bounded-rules task low (Some 0)))
+          (on_ok_weaker c.list_steps.result
+          (leaves-bounded (rules_of task) (λ (carry : Carry). low carry.link) known c.args.cost (steps_of (rules_of task) state) found)
+          c.list_steps.ensures.lists);
+    }
