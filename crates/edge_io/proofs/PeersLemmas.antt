@@ -6,19 +6,19 @@ use Rattle.edge_io.specs.declared.follow.Following.{Following}
 use Rattle.edge_io.specs.declared.peers.Peer.{Peer}
 
 -- a connection that stays held was read
-pub Hears-left : {S : Type 0} (remaining : S → Option (List ℕ)) (hangup : Bool) (a b : Option (Peer S)) (id : ℕ) (buffer : List ℕ)
+pub Hears-left : {S : Type 0} (remaining : S → Option (List ℕ)) (hangup : Bool) (uses : ℕ) (a b : Option (Peer S)) (id : ℕ) (buffer : List ℕ)
     (line after : Line) (told : Following) (old left : Peer S) → a ≡ Some old → b ≡ Some left → told.gone ≡ false →
-    HearsPeer remaining hangup old left id buffer line after told → Hears remaining hangup a b id buffer line after told.event
-Hears-left {S} remaining hangup a b id buffer line after told old left was is stays heard =
-    subst (λ (x : Option (Peer S)). Hears remaining hangup x b id buffer line after told.event) (sym was)
+    HearsPeer remaining hangup uses old left id buffer line after told → Hears remaining hangup uses a b id buffer line after told.event
+Hears-left {S} remaining hangup uses a b id buffer line after told old left was is stays heard =
+    subst (λ (x : Option (Peer S)). Hears remaining hangup uses x b id buffer line after told.event) (sym was)
     (told, left, heard, refl, is ∙ ap (λ (g : Bool). cond g None (Some left)) (sym stays))
 
 -- a connection was read that is held no more
-pub Hears-gone : {S : Type 0} (remaining : S → Option (List ℕ)) (hangup : Bool) (a b : Option (Peer S)) (id : ℕ) (buffer : List ℕ)
+pub Hears-gone : {S : Type 0} (remaining : S → Option (List ℕ)) (hangup : Bool) (uses : ℕ) (a b : Option (Peer S)) (id : ℕ) (buffer : List ℕ)
     (line after : Line) (told : Following) (old left : Peer S) → a ≡ Some old → b ≡ None → told.gone ≡ true →
-    HearsPeer remaining hangup old left id buffer line after told → Hears remaining hangup a b id buffer line after told.event
-Hears-gone {S} remaining hangup a b id buffer line after told old left was is goes heard =
-    subst (λ (x : Option (Peer S)). Hears remaining hangup x b id buffer line after told.event) (sym was)
+    HearsPeer remaining hangup uses old left id buffer line after told → Hears remaining hangup uses a b id buffer line after told.event
+Hears-gone {S} remaining hangup uses a b id buffer line after told old left was is goes heard =
+    subst (λ (x : Option (Peer S)). Hears remaining hangup uses x b id buffer line after told.event) (sym was)
     (told, left, heard, refl, is ∙ ap (λ (g : Bool). cond g None (Some left)) (sym goes))
 
 -- the others are those that a test for another number keeps
