@@ -9,7 +9,7 @@ use Rattle.std.proofs.lemmas.Map.Entries.{btree_map_get_place, place_from_lookup
 use Rattle.std.proofs.lemmas.Map.Lookups.{exact_unsigned}
 use Rattle.std.proofs.lemmas.Option.{slice_get_within}
 use borrow.Author.Count.{below_more}
-use Rattle.edge_io.specs.Idle.{IsIdle, IsIdleLongest, after_one, is_idle, longer}
+use Rattle.edge_io.specs.Idle.{IsIdleLongest, after_one, is_idle, longer}
 use Rattle.edge_io.specs.declared.idle.Idle.{Idle}
 use Rattle.edge_io.specs.declared.peers.Peer.{Peer}
 
@@ -43,7 +43,7 @@ module _ {S : Type 0} (waiting : List ℕ) (entries : List (ℕ × Peer S)) wher
   not_idle : (n id : ℕ) (peer : Peer S) → slice_get entries n ≡ Some (id, peer) → is_idle waiting id peer ≡ false → NotIdle n
   not_idle n id peer at busy other q gets idle =
       let e : is_idle waiting id peer ≡ is_idle waiting other q =
-          ap (λ (e : ℕ × Peer S). is_idle waiting e.0 e.1) (one_entry n id other peer q at gets) in
+      ap (λ (e : ℕ × Peer S). is_idle waiting e.0 e.1) (one_entry n id other peer q at gets) in
       false≢true (sym busy ∙ e ∙ idle)
 
   -- none was idle so far, and one more
@@ -52,9 +52,16 @@ module _ {S : Type 0} (waiting : List ℕ) (entries : List (ℕ × Peer S)) wher
   after_none n id peer at none =
       elim (is_idle waiting id peer) as (λ (r : Bool). is_idle waiting id peer ≡ r →
       IsBestOf (n + 1) (cond r (Some (longer None (record { id = id; used = peer.used }))) None)) [
-        | true ↦ λ idle. (n, peer, omega arith, at, idle, refl,
-            below_more (NoEarlier peer.used) n (λ k less other q gets is. absurd (none k less other q gets is))
-            (no_earlier n id peer.used peer at (omega arith)))
+        | true ↦ λ idle. (
+          n,
+          peer,
+          omega arith,
+          at,
+          idle,
+          refl,
+          below_more (NoEarlier peer.used) n (λ k less other q gets is. absurd (none k less other q gets is))
+              (no_earlier n id peer.used peer at (omega arith)),
+        )
         | false ↦ λ busy. below_more NotIdle n none (not_idle n id peer at busy)
       ] refl
 
@@ -68,17 +75,38 @@ module _ {S : Type 0} (waiting : List ℕ) (entries : List (ℕ × Peer S)) wher
         | true ↦ λ now.
             elim (ltb peer.used best.used) as (λ (r : Bool). ltb peer.used best.used ≡ r →
             IsBestOf (n + 1) (Some (cond r one best))) [
-              | true ↦ λ earlier. (n, peer, omega arith, at, now, refl,
-                  below_more (NoEarlier peer.used) n
-                  (λ j below other q is has. omega (arith, least j below other q is has, ltb-true peer.used best.used earlier))
-                  (no_earlier n id peer.used peer at (omega arith)))
-              | false ↦ λ later. (k, old, omega arith, gets, idle, used,
-                  below_more (NoEarlier best.used) n least
-                  (no_earlier n id best.used peer at (omega (arith, ltb-false peer.used best.used later))))
+              | true ↦ λ earlier. (
+                n,
+                peer,
+                omega arith,
+                at,
+                now,
+                refl,
+                below_more (NoEarlier peer.used) n
+                    (λ j below other q is has. omega (arith, least j below other q is has, ltb-true peer.used best.used earlier))
+                    (no_earlier n id peer.used peer at (omega arith)),
+              )
+              | false ↦ λ later. (
+                k,
+                old,
+                omega arith,
+                gets,
+                idle,
+                used,
+                below_more (NoEarlier best.used) n least
+                    (no_earlier n id best.used peer at (omega (arith, ltb-false peer.used best.used later))),
+              )
             ] refl
-        | false ↦ λ busy. (k, old, omega arith, gets, idle, used,
-            below_more (NoEarlier best.used) n least
-            (λ other q is has. absurd (not_idle n id peer at busy other q is has)))
+        | false ↦ λ busy. (
+          k,
+          old,
+          omega arith,
+          gets,
+          idle,
+          used,
+          below_more (NoEarlier best.used) n least
+              (λ other q is has. absurd (not_idle n id peer at busy other q is has)),
+        )
       ] refl
 
   -- one more entry
@@ -105,9 +133,11 @@ none_is_idle held waiting none id peer idle =
 -- of all that are held this one was idle longest
 pub one_is_idle : {S : Type 0} (held : BTreeMap ℕ (Peer S)) (waiting : List ℕ) (best : Idle) → IsOrdered nat_cmp held →
     IsBestOf waiting held.entries (length held.entries) (Some best) → IsIdleLongest held waiting (Some best.id)
-one_is_idle held waiting best ordered (k, peer, less, gets, idle, used, least) =
-    (peer, record { is = btree_map_get_place nat_cmp_total held k best.id peer ordered gets; idle = idle },
-      λ other q is.
+one_is_idle held waiting best ordered (k, peer, less, gets, idle, used, least) = (
+  peer,
+  record { is = btree_map_get_place nat_cmp_total held k best.id peer ordered gets; idle = idle },
+  λ other q is.
       let p = place_of_held held other q is.is in
       let low : best.used ≤ q.used = least p.0 p.1 other q p.2 is.idle in
-      omega (arith, used))
+      omega (arith, used),
+)

@@ -78,8 +78,12 @@ impl Sockets {
         ensures counts { OnSome result (self.old.peers.last < self.new.peers.last) }
         ensures held { OnSome result (Updates nat_cmp self.old.peers.held self.new.peers.held
             self.new.peers.last
-            (Some (record { stream = stream; ended = false; in_line = false;
-            used = next_count self.old.peers.uses }))) }
+            (Some (record {
+              stream = stream;
+              ended = false;
+              in_line = false;
+              used = next_count self.old.peers.uses;
+            }))) }
         ensures none { result ≡ None → (q : ℕ) →
             get nat_cmp self.new.peers.held q ≡ get nat_cmp self.old.peers.held q }
         ensures same { self.new.hangup ≡ self.old.hangup }

@@ -26,12 +26,7 @@ pub trait Hub {
     /// connections wait for an answer that is still worked on, and whether it is busy with other
     /// work: then the hub waits for nothing; else it may wait a while. Where no more connection can
     /// be taken in, one that is idle may be lost, and none of those that wait.
-    fn next(
-        &mut self,
-        buf: &mut [u8],
-        waiting: &VecDeque<u64>,
-        busy: bool,
-    ) -> Result<Event, Failed>
+    fn next(&mut self, buf: &mut [u8], waiting: &VecDeque<u64>, busy: bool) -> Result<Event, Failed>
         requires some { 0 < length buf.old }
         ensures fits { IfOk result (FitsBuffer buf.new) }
         ensures fresh { IfOk result (IsFresh (seen self.old).acts) }

@@ -109,8 +109,12 @@ impl<S> Peers<S> {
         ensures own { IfSome result (λ e. e ≡ events.Opened self.new.last) }
         ensures counts { OnSome result (self.new.last ≡ self.old.last + 1) }
         ensures held { OnSome result (Updates nat_cmp self.old.held self.new.held self.new.last
-            (Some (record { stream = stream; ended = false; in_line = false;
-            used = next_count self.old.uses }))) }
+            (Some (record {
+              stream = stream;
+              ended = false;
+              in_line = false;
+              used = next_count self.old.uses;
+            }))) }
         ensures uses { OnSome result (self.new.uses ≡ next_count self.old.uses) }
         ensures none { result ≡ None → self.new.last ≡ self.old.last }
         ensures none_held { result ≡ None → (id : ℕ) →
