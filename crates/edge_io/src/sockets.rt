@@ -109,7 +109,7 @@ impl Sockets {
         ensures only { IfOk result (TellsEnd self.old.hangup) }
         ensures same { self.new.hangup ≡ self.old.hangup }
     {
-        let time = self.patience(waiting.len(), busy);
+        let time = self.patience(waiting, busy);
         self.look(time)?;
         self.leave_over(clock);
         'turns: for _ in 0..self.peers.turns.len() {
@@ -123,17 +123,23 @@ impl Sockets {
         Ok(Event::Quiet)
     }
 
-    /// How long to wait now, where so many wait for an answer; what was sent before no longer hurries
+    /// How long to wait now, where these wait for an answer; what was sent before no longer hurries
     /// the wait after this one.
-    fn patience(&mut self, awaited: usize, busy: bool) -> Duration
+    fn patience(&mut self, waiting: &VecDeque<u64>, busy: bool) -> Duration
         ensures exact { as_nanos result ≡
-            nap_of (length self.old.peers.turns.waiting) awaited self.old.peers.moved busy }
+            nap_of (length self.old.peers.turns.waiting) (length waiting.now.items)
+            self.old.peers.moved busy }
         ensures still { self.new.peers.moved ≡ false }
         ensures held { self.new.peers.held ≡ self.old.peers.held }
         ensures line { self.new.peers.turns ≡ self.old.peers.turns }
         ensures same { self.new.hangup ≡ self.old.hangup }
     {
-        let time = nap(self.peers.turns.len(), awaited, self.peers.moved, busy);
+        let time = nap(
+            self.peers.turns.len(),
+            waiting.len(),
+            self.peers.moved,
+            busy,
+        );
         self.peers.moved = false;
         time
     }
