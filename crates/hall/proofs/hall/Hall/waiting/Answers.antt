@@ -5,4 +5,4 @@ use Rattle.hall.proofs.hall.Hall.waiting.Goals as goal
 
 pub returns : goal.returns
 unfolding state_of
-returns c = record { exact = ap (λ (v : HallValue). v.waiting) c.self.view_is; }
+returns c = record { exact = ap (λ (v : HallValue). v.waiting) c.self.view_is }
