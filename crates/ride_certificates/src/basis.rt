@@ -103,7 +103,7 @@ fn basis_with(
         RefusesWaypoint (open_map_of setting) (asked request.now).waypoints e) }
 {
     let passages = Passages {
-        facts: &ready.bound,
+        facts: &*ready.bound,
         cut: cut.as_slice(),
     };
     match waypoint_nodes(alloc, world, &passages, request.waypoints.as_slice()) {

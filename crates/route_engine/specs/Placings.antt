@@ -8,6 +8,7 @@ use Rattle.nogo_areas.specs.Cuttings.{IsCutting, judged}
 use Rattle.route_http.specs.Asked.{Asked}
 use Rattle.route_http.specs.Seen.{asked}
 use Rattle.route_http.specs.declared.asked.Request.{Request}
+use Rattle.route_ready.specs.Fits.{FitsMap}
 use Rattle.route_ready.specs.Worlds.{WorldValue}
 use Rattle.route_ready.specs.declared.error.RouteError.{RouteError}
 use Rattle.route_ready.specs.declared.error.RouteError.TheVariants.{NoMemory}

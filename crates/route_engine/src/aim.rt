@@ -68,7 +68,7 @@ fn searching_for(world: &World, aim: Aim, request: &Request) -> u64
     match aim {
         Aim::Track => {
             let walks = (waypoints - 1) * (request.alternative as u64 + 1);
-            walks * (2 * most_found(world) + FIRST_LABELS + labels + BEGINNING as u64)
+            walks * (2 * most_found(world) + FIRST_LABELS + 2 * labels + BEGINNING as u64)
         }
         Aim::Table => rows_for(request) * labels,
         Aim::Within => {

@@ -153,7 +153,7 @@ fn next_node(
         (waypoint_at (asked request.now).waypoints number) result }
 {
     let passages = Passages {
-        facts: &ready.bound,
+        facts: &*ready.bound,
         cut,
     };
     waypoint_node(world, &passages, request.waypoints.as_slice(), number)
