@@ -13,7 +13,7 @@ use Rattle.route_ready.specs.declared.error.RouteError.{RouteError}
 use Rattle.route_ready.specs.declared.linking.KeptTerms.{KeptTerms}
 use Rattle.route_ready.specs.declared.linking.Linking.{Linking}
 use Rattle.route_ready.specs.declared.ready.Ready.{Ready}
-use Rattle.session_answers.specs.Kept.{IsCounted, IsKept, IsMadeFrom, IsWanted, StayAwaited}
+use Rattle.session_answers.specs.Kept.{IsFitting, IsKept, IsMadeFrom, IsWanted, StayAwaited}
 use Rattle.session_answers.proofs.OnceLemmas.{once-added, once-dropped, once-turned, one-there}
 use Rattle.session_answers.specs.declared.kept.Wanted.{Wanted}
 use Rattle.session_answers.specs.declared.kept.Wanted.TheVariants as wants
@@ -267,11 +267,11 @@ turned-made world stored making end shared from gives is = record {
       subst (GivesReady binding) is (gives binding from.is);
 }
 
--- a profile that is wanted has the facts of all links where it is ready
-pub wanted-counted : (world : WorldValue) (sections : Sections) (place : ℕ) (overrides : List (List ℕ × ℤ)) (kept : KeptProfiles)
-    (wanted : Wanted) → IsWanted world (binding_in world sections overrides) place overrides kept (Ok wanted) → IsCounted world wanted
-wanted-counted world sections place overrides kept (wants.Ready shared) is = is.count
-wanted-counted world sections place overrides kept (wants.Making k) is = tt
+-- a profile that is wanted fits the world where it is ready
+pub wanted-fits : (world : WorldValue) (sections : Sections) (place : ℕ) (overrides : List (List ℕ × ℤ)) (kept : KeptProfiles)
+    (wanted : Wanted) → IsWanted world (binding_in world sections overrides) place overrides kept (Ok wanted) → IsFitting world wanted
+wanted-fits world sections place overrides kept (wants.Ready shared) is = is.fits
+wanted-fits world sections place overrides kept (wants.Making k) is = tt
 
 -- ---- A making is dropped
 

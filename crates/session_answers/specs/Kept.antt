@@ -12,7 +12,7 @@ use Rattle.route_ready.specs.Worlds.{WorldValue, binding_in}
 use Rattle.route_ready.specs.declared.error.RouteError.{RouteError}
 use Rattle.route_ready.specs.declared.ready.Ready.{Ready as TheReady}
 use Rattle.way_class.specs.Facts.{Binding}
-use Rattle.way_class.specs.Links.{links_of}
+use Rattle.route_ready.specs.Fits.{FitsMap}
 
 -- a profile that is ready was made, for this world, from the stored profile that a key names, under the
 -- overrides of the key
@@ -50,7 +50,7 @@ IsWanted world binding place overrides kept (Ok (Making k)) =
     IsAwaited world kept.makings.slots.items place overrides (making_turns world) k
 IsWanted world binding place overrides kept (Err e) = GivesReady binding (Err e)
 
--- a profile that is ready has the facts of all links of a world
-abbrev pub IsCounted : WorldValue → Wanted → Type 0
-IsCounted world (Ready shared) = (links_of shared.value.bound.value).count ≡ length world.map.links
-IsCounted world (Making k) = Unit {0}
+-- a profile that is ready fits a world
+abbrev pub IsFitting : WorldValue → Wanted → Type 0
+IsFitting world (Ready shared) = FitsMap world.map shared.value
+IsFitting world (Making k) = Unit {0}

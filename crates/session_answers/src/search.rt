@@ -11,7 +11,7 @@ ghost use Rattle.route_ready.specs.World.{world_of};
 ghost use Rattle.route_ready.specs.Worlds.{binding_in};
 ghost use Rattle.session_answers.specs.Aims.{kind_for};
 ghost use Rattle.session_answers.specs.Jobs.{AnswersTurn, AreKept, CountsDown};
-ghost use Rattle.session_answers.specs.Kept.{IsCounted, IsKept, IsWanted, StayAwaited};
+ghost use Rattle.session_answers.specs.Kept.{IsFitting, IsKept, IsWanted, StayAwaited};
 ghost use Rattle.session_answers.specs.Profiles.{stored_of};
 ghost use Rattle.session_answers.specs.Searches.{EndsFor, GoesOnWith, IsOver, IsSearchFor, IsStageFor, IsStageOver, TellsEnd, turns_for, waits_for};
 ghost use Rattle.session_answers.specs.declared.kept.KeptProfiles.{KeptProfiles};
@@ -180,7 +180,7 @@ pub(crate) fn search_for(
     aim: Aim,
     request: Request,
 ) -> Result<Search, AllocError>
-    requires counted { IsCounted (world_of world.now) wanted }
+    requires fits { IsFitting (world_of world.now) wanted }
     requires within { IsWithin (asked request) }
     ensures begins { let request = asked request in (kept : KeptProfiles) (sections : Sections) →
         IsWanted (world_of world.now)
@@ -220,7 +220,7 @@ fn stage_for(
     aim: Aim,
     request: Request,
 ) -> Result<Stage, AllocError>
-    requires counted { IsCounted (world_of world.now) wanted }
+    requires fits { IsFitting (world_of world.now) wanted }
     requires within { IsWithin (asked request) }
     ensures begins { let request = asked request in
         (kept : KeptProfiles) (sections : Sections) (place : ℕ) →

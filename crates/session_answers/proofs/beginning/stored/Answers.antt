@@ -5,7 +5,7 @@ use Rattle.route_ready.specs.Entries.{profiles_of}
 use Rattle.route_http.specs.Seen.{asked}
 use Rattle.route_ready.specs.World.{world_of}
 use Rattle.session_answers.proofs.JobLemmas.{begun-job}
-use Rattle.session_answers.proofs.MakingLemmas.{wanted-counted}
+use Rattle.session_answers.proofs.MakingLemmas.{wanted-fits}
 use Rattle.session_answers.proofs.QueryLemmas.{profile-frame}
 use Rattle.session_answers.proofs.StoredLemmas.{found_at}
 use Rattle.session_answers.specs.Profiles.{stored_of}
@@ -20,7 +20,7 @@ search_for-requires c =
     let stored = stored_of c.args.profiles.now in
     let wanted = (c.in-Ok.ensures.exact (profiles_of stored) c.requires.kept c.profile-profile.ensures.value).1 in
     record {
-      counted = wanted-counted world (sections_in c.profile-profile.result.now) c.args.place (asked c.args.request).overrides c.want.new.self
+      fits = wanted-fits world (sections_in c.profile-profile.result.now) c.args.place (asked c.args.request).overrides c.want.new.self
           c.in-Ok.wanted wanted;
       within = c.requires.within;
     }

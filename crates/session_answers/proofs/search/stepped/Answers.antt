@@ -24,8 +24,8 @@ turn-requires c =
           c.requires.kept.1;
     }
 
-pub new-requires-clause-counted : goal.new-requires-clause-counted
-new-requires-clause-counted c =
+pub new-requires-clause-fits : goal.new-requires-clause-fits
+new-requires-clause-fits c =
     let world = world_of c.args.world.now in
     let kept = c.args.kept.now in
     let over = c.requires.over in
@@ -35,7 +35,7 @@ new-requires-clause-counted c =
     let any = turned-any world kept over.0 c.args.aim over.1 c.in-Making.k (asked c.in-Making.request) waits c.turn.new.self
     (Some c.in-Some-Ok.field-0) turned c.requires.kept.0 c.requires.kept.1 in
     let binding = binding_in world any.0 (asked c.in-Making.request).overrides in
-    (subst (GivesReady binding) c.in-Some-Ok.field-0-is (turned.gives binding any.1)).count
+    (subst (GivesReady binding) c.in-Some-Ok.field-0-is (turned.gives binding any.1)).fits
 
 pub returns-in-None-clause-stay : goal.returns-in-None-clause-stay
 returns-in-None-clause-stay c =
