@@ -12,6 +12,7 @@ returns-in-Ok c = record {
         (subst (IsMadeFrom world stored c.args.key) (sym c.in-Ok.ensures.cases) made);
     makings = kept.makings;
     once = kept.once;
+    guides = kept.guides;
   };
   makings = refl;
 }
