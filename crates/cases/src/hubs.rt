@@ -6,6 +6,7 @@ use edge_io::{Event, Failed, Hub};
 use edge_memory::{MemHub, Script, can_play};
 use item_list::{Items, bytes_of};
 use std::alloc::{AllocError, Global};
+use std::collections::VecDeque;
 
 /// The one call on a hub.
 pub(crate) const CALLS: [&str; 1] = ["hub"];
@@ -143,13 +144,14 @@ fn opened(
     }
 }
 
-/// The next event, with a buffer of so many bytes.
+/// The next event, with a buffer of so many bytes, while nobody waits for an answer.
 fn given(alloc: Global, hub: &mut MemHub, room: usize) -> Result<String, AllocError> {
     let mut buf = [0u8; 9];
     if room == 0 || room > 9 {
         return String::from_str(alloc, OUTSIDE);
     }
-    let event = hub.next(&mut buf[..room], false);
+    let nobody = VecDeque::new(alloc);
+    let event = hub.next(&mut buf[..room], &nobody, false);
     told_event(alloc, event, &buf)
 }
 

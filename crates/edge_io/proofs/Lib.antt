@@ -1,5 +1,6 @@
 pub mod ActLemmas
 pub mod CallerLemmas
+pub mod IdleLemmas
 pub mod LeavingLemmas
 pub mod PeersLemmas
 pub mod SinkLemmas

@@ -1,25 +1,25 @@
 -- What a read of a connection comes to, by whether it is held afterwards.
-use Rattle.std.proofs.Common.{◌≡◌, ◌==◌, ℕ, Bool, true, false, not, List, [], ◌∷◌, Option, Some, None, refl, sym, ◌∙◌, ap, subst, cond}
+use Rattle.std.proofs.Common.{◌≡◌, ◌≤◌, ◌==◌, ℕ, Bool, true, false, not, List, [], ◌∷◌, length, Option, Some, None, refl, sym, ◌∙◌, ap, arith, subst, cond}
 use Rattle.std.specs.List.{filter}
 use Rattle.edge_io.specs.Peers.{Line, Hears, HearsPeer, without}
 use Rattle.edge_io.specs.declared.follow.Following.{Following}
 use Rattle.edge_io.specs.declared.peers.Peer.{Peer}
 
 -- a connection that stays held was read
-pub Hears-left : {S : Type 0} (remaining : S → Option (List ℕ)) (hangup : Bool) (a b : Option (Peer S)) (id : ℕ) (buffer : List ℕ)
+pub Hears-left : {S : Type 0} (remaining : S → Option (List ℕ)) (hangup : Bool) (uses now : ℕ) (a b : Option (Peer S)) (id : ℕ) (buffer : List ℕ)
     (line after : Line) (told : Following) (old left : Peer S) → a ≡ Some old → b ≡ Some left → told.gone ≡ false →
-    HearsPeer remaining hangup old left id buffer line after told → Hears remaining hangup a b id buffer line after told.event
-Hears-left {S} remaining hangup a b id buffer line after told old left was is stays heard =
-    subst (λ (x : Option (Peer S)). Hears remaining hangup x b id buffer line after told.event) (sym was)
-    (told, left, heard, refl, is ∙ ap (λ (g : Bool). cond g None (Some left)) (sym stays))
+    now ≡ uses → HearsPeer remaining hangup now old left id buffer line after told → Hears remaining hangup uses a b id buffer line after told.event
+Hears-left {S} remaining hangup uses now a b id buffer line after told old left was is stays same heard =
+    subst (λ (x : Option (Peer S)). Hears remaining hangup uses x b id buffer line after told.event) (sym was)
+    (told, left, subst (λ (u : ℕ). HearsPeer remaining hangup u old left id buffer line after told) same heard, refl, is ∙ ap (λ (g : Bool). cond g None (Some left)) (sym stays))
 
 -- a connection was read that is held no more
-pub Hears-gone : {S : Type 0} (remaining : S → Option (List ℕ)) (hangup : Bool) (a b : Option (Peer S)) (id : ℕ) (buffer : List ℕ)
+pub Hears-gone : {S : Type 0} (remaining : S → Option (List ℕ)) (hangup : Bool) (uses now : ℕ) (a b : Option (Peer S)) (id : ℕ) (buffer : List ℕ)
     (line after : Line) (told : Following) (old left : Peer S) → a ≡ Some old → b ≡ None → told.gone ≡ true →
-    HearsPeer remaining hangup old left id buffer line after told → Hears remaining hangup a b id buffer line after told.event
-Hears-gone {S} remaining hangup a b id buffer line after told old left was is goes heard =
-    subst (λ (x : Option (Peer S)). Hears remaining hangup x b id buffer line after told.event) (sym was)
-    (told, left, heard, refl, is ∙ ap (λ (g : Bool). cond g None (Some left)) (sym goes))
+    now ≡ uses → HearsPeer remaining hangup now old left id buffer line after told → Hears remaining hangup uses a b id buffer line after told.event
+Hears-gone {S} remaining hangup uses now a b id buffer line after told old left was is goes same heard =
+    subst (λ (x : Option (Peer S)). Hears remaining hangup uses x b id buffer line after told.event) (sym was)
+    (told, left, subst (λ (u : ℕ). HearsPeer remaining hangup u old left id buffer line after told) same heard, refl, is ∙ ap (λ (g : Bool). cond g None (Some left)) (sym goes))
 
 -- the others are those that a test for another number keeps
 pub filter_without : (id : ℕ) (ids : List ℕ) → filter (λ (j : ℕ). not (j == id)) ids ≡ without id ids
@@ -29,4 +29,14 @@ filter_without id (x ∷ ids) =
     ≡ cond b (without id ids) (x ∷ without id ids)) [
       | true ↦ filter_without id ids
       | false ↦ ap (λ (rest : List ℕ). x ∷ rest) (filter_without id ids)
+    ]
+
+-- a list is no longer without a number
+pub length_without : (id : ℕ) (ids : List ℕ) → length (without id ids) ≤ length ids
+length_without id [] = omega arith
+length_without id (x ∷ ids) =
+    let rest = length_without id ids in
+    elim (x == id) as (λ (b : Bool). length (cond b (without id ids) (x ∷ without id ids)) ≤ length (x ∷ ids)) [
+      | true ↦ omega arith
+      | false ↦ omega arith
     ]

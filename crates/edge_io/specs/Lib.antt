@@ -2,6 +2,7 @@ pub mod Acts
 pub mod Faults
 pub mod Files
 pub mod Hub
+pub mod Idle
 pub mod Leaving
 pub mod Peers
 pub mod Sink

@@ -1,6 +1,6 @@
 -- This project's own rule: which connections of the system are held, who of them is in line, and what follows
 -- from an answer of the system for one of them.
-use Rattle.std.specs.Prelude.{◌≡◌, ◌≤◌, ◌<◌, ◌||◌, ◌==◌, ◌++◌, [], ◌∷◌, ℕ, Bool, true, false, List, length, take, Option, Some, None, Result, Ok, Err, if◌then◌else◌}
+use Rattle.std.specs.Prelude.{◌≡◌, ◌≤◌, ◌<◌, ◌||◌, ◌==◌, ◌++◌, [], ◌∷◌, ℕ, Bool, true, false, List, length, take, Option, Some, None, Result, Ok, Err, if◌then◌else◌, nat_lt}
 use Rattle.std.specs.Io.KnownBytes.{Appends, Consumes, Keeps, IsAtEnd}
 use Rattle.edge_io.specs.declared.event.Event.{Event}
 use Rattle.edge_io.specs.declared.event.Event.TheVariants as events
@@ -55,8 +55,9 @@ reading_as hangup reads.Lost = reads.Lost
 -- ---- The connections that are held
 
 -- a connection that was read is what follows from the reading, as that is taken: its stream gave the bytes that
--- are told, its peer ended where the reading says so, and it is in line where it is put there again
-pub record HearsPeer {S : Type 0} (remaining : S → Option (List ℕ)) (hangup : Bool) (old new : Peer S) (id : ℕ)
+-- are told, its peer ended where the reading says so, it is in line where it is put there again, and it was used
+-- just now
+pub record HearsPeer {S : Type 0} (remaining : S → Option (List ℕ)) (hangup : Bool) (uses : ℕ) (old new : Peer S) (id : ℕ)
     (buffer : List ℕ) (line after : Line) (told : Following) : Type 0 where
   pub reading : Reading
   pub bytes : ReadsStream (remaining old.stream) (remaining new.stream) buffer reading
@@ -65,25 +66,30 @@ pub record HearsPeer {S : Type 0} (remaining : S → Option (List ℕ)) (hangup 
   pub again : told.again ≡ true → length line.waiting < line.room → new.in_line ≡ true
   pub waits : after.waiting ≡ (if new.in_line then line.waiting ++ id ∷ [] else line.waiting)
   pub only : told.again ≡ false → new.in_line ≡ false
+  pub used : new.used ≡ uses
 
 -- a connection was read: the event is what follows, and it is held no more where that says so; where none is
 -- held, nothing is told
-abbrev pub Hears : {S : Type 0} → (S → Option (List ℕ)) → Bool → (old new : Option (Peer S)) → ℕ → List ℕ → (line
+abbrev pub Hears : {S : Type 0} → (S → Option (List ℕ)) → Bool → (uses : ℕ) → (old new : Option (Peer S)) → ℕ → List ℕ → (line
     after : Line) → Option Event → Type 0
-Hears remaining hangup None new id buffer line after event = (new ≡ None) × (event ≡ None) × (after.waiting ≡ line.waiting)
-Hears {S} remaining hangup (Some old) new id buffer line after event =
-    (follows : Following) × (left : Peer S) × HearsPeer remaining hangup old left id buffer line after follows ×
+Hears remaining hangup uses None new id buffer line after event = (new ≡ None) × (event ≡ None) × (after.waiting ≡ line.waiting)
+Hears {S} remaining hangup uses (Some old) new id buffer line after event =
+    (follows : Following) × (left : Peer S) × HearsPeer remaining hangup uses old left id buffer line after follows ×
     (event ≡ follows.event) × (new ≡ (if follows.gone then None else Some left))
+
+-- when a connection was used last that took so many bytes of a send: now, where it took some
+abbrev pub used_after : (taken uses used : ℕ) → ℕ
+used_after taken uses used = if nat_lt 0 taken then uses else used
 
 -- a send was offered to a connection: so many bytes were taken by its own stream, or it failed and the
 -- connection is held no more; where none is held, it fails
-abbrev pub SendsTo : {S : Type 0} → (S → Option (List ℕ)) → (old new : Option (Peer S)) → List ℕ → Result ℕ Failed →
-    Type 0
-SendsTo contents None new piece result = (new ≡ None) × ((n : ℕ) → result ≡ Ok n → ⊥)
-SendsTo {S} contents (Some old) new piece (Ok n) =
-    (stream : S) × (new ≡ Some (record old { stream = stream })) ×
+abbrev pub SendsTo : {S : Type 0} → (S → Option (List ℕ)) → (uses : ℕ) → (old new : Option (Peer S)) → List ℕ →
+    Result ℕ Failed → Type 0
+SendsTo contents uses None new piece result = (new ≡ None) × ((n : ℕ) → result ≡ Ok n → ⊥)
+SendsTo {S} contents uses (Some old) new piece (Ok n) =
+    (stream : S) × (new ≡ Some (record old { stream = stream; used = used_after n uses old.used })) ×
     WritesStream (contents old.stream) (contents stream) piece (Ok n)
-SendsTo contents (Some old) new piece (Err e) = new ≡ None
+SendsTo contents uses (Some old) new piece (Err e) = new ≡ None
 
 -- a connection that may have something to read is in line, where its peer hasn't ended and there is memory
 abbrev pub Wakes : {S : Type 0} → (old new : Option (Peer S)) → ℕ → (line after : Line) → Type 0

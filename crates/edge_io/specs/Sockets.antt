@@ -71,10 +71,11 @@ TellsWaiting (Ok u) (Err failed) = ⊥
 TellsWaiting (Err error) (Ok v) = ⊥
 TellsWaiting (Err error) (Err failed) = Unit {0}
 
--- how many nanoseconds to wait for an event: none where somebody waits in line, a send took all that it was
--- offered since the last wait, or the caller has work of its own
-abbrev pub nap_of : ℕ → Bool → Bool → ℕ
-nap_of in_line moved busy = if (in_line == 0) && (not moved && not busy) then 80000000 else 0
+-- how many nanoseconds to wait for an event: none where somebody waits in line or for an answer, a send took all
+-- that it was offered since the last wait, or the caller has work of its own
+abbrev pub nap_of : (in_line awaited : ℕ) → (moved busy : Bool) → ℕ
+nap_of in_line awaited moved busy =
+    if (in_line == 0) && ((awaited == 0) && (not moved && not busy)) then 80000000 else 0
 
 -- an event is not the last of the hub
 abbrev pub IsOn : Event → Type 0

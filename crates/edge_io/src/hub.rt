@@ -6,6 +6,7 @@ ghost use Rattle.edge_io.specs.Hub.{HubSeen, FitsBuffer, IsFresh, TellsEndAfter,
 
 use crate::event::Event;
 use crate::failed::Failed;
+use std::collections::VecDeque;
 
 /// Connections that peers open, whose events come one at a time.
 pub trait Hub {
@@ -21,9 +22,11 @@ pub trait Hub {
             (Listens address.now hangup ∷ [])) }
         ensures kept { OnErr result (Fails (seen self.old) (seen self.new)) };
 
-    /// The next event. New bytes are put at the front of the buffer. A caller that is busy has work
-    /// of its own, so that the hub waits for nothing; for another it may wait a while.
-    fn next(&mut self, buf: &mut [u8], busy: bool) -> Result<Event, Failed>
+    /// The next event. New bytes are put at the front of the buffer. The caller tells which
+    /// connections wait for an answer that is still worked on, and whether it is busy with other
+    /// work: then the hub waits for nothing; else it may wait a while. Where no more connection can
+    /// be taken in, one that is idle may be lost, and none of those that wait.
+    fn next(&mut self, buf: &mut [u8], waiting: &VecDeque<u64>, busy: bool) -> Result<Event, Failed>
         requires some { 0 < length buf.old }
         ensures fits { IfOk result (FitsBuffer buf.new) }
         ensures fresh { IfOk result (IsFresh (seen self.old).acts) }

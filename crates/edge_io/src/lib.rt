@@ -1,12 +1,14 @@
 //! What the program needs of the outside, as traits whose calls fail only where they count it.
 #![tactic(auto)]
 
+mod admitting;
 mod door;
 mod event;
 mod failed;
 mod files;
 mod follow;
 mod hub;
+mod idle;
 mod leaving;
 mod peers;
 mod replies;

@@ -3,13 +3,14 @@
 ghost use Rattle.std.specs.Prelude.{◌≡◌, ◌<◌, ◌≤◌, ◌+◌, ◌==◌, ◌||◌, ℕ, true, false, None, Some, [], ◌∷◌, ◌++◌, length, IfSome, OnOk, OnSome, if◌then◌else◌};
 ghost use Rattle.std.specs.BTreeMap.{get, Updates, btree_map_len};
 ghost use Rattle.std.specs.Ordering.{nat_cmp};
+ghost use Rattle.edge_io.specs.Faults.{next_count};
 ghost use Rattle.edge_io.specs.Hub.{FitsBuffer, TellsEnd};
 ghost use Rattle.edge_io.specs.Acts.{is_event_of};
-ghost use Rattle.edge_io.specs.Peers.{Hears, HearsPeer, SendsTo, Wakes, is_whole, without};
+ghost use Rattle.edge_io.specs.Peers.{Hears, HearsPeer, SendsTo, Wakes, is_whole, used_after, without};
 ghost use Rattle.edge_io.specs.declared.event.Event.TheVariants as events;
 
 use crate::event::Event;
-use crate::failed::Failed;
+use crate::failed::{Failed, next_count};
 use crate::follow::{Following, follow, reading_as, reading_of, sending_of};
 use crate::turns::Turns;
 use std::alloc::Global;
@@ -23,6 +24,8 @@ pub(crate) struct Peer<S> {
     /// Its peer sends no more.
     pub(crate) ended: bool,
     pub(crate) in_line: bool,
+    /// What the count of uses was when it was held, read or took bytes last.
+    pub(crate) used: u64,
 }
 
 /// The connections that are held, by their numbers, and who of them is in line.
@@ -33,6 +36,8 @@ pub(crate) struct Peers<S> {
     pub(crate) last: u64,
     /// A send took all that it was offered, since the last wait.
     pub(crate) moved: bool,
+    /// How often a connection was held, read or offered bytes.
+    pub(crate) uses: u64,
 }
 
 impl<S: Drop> Drop for Peers<S> {
@@ -42,6 +47,7 @@ impl<S: Drop> Drop for Peers<S> {
             turns: _,
             last: _,
             moved: _,
+            uses: _,
         } = self;
     }
 }
@@ -58,6 +64,7 @@ impl<S> Peers<S> {
             turns: Turns::new(alloc),
             last: 0,
             moved: false,
+            uses: 0,
         }
     }
 
@@ -102,7 +109,13 @@ impl<S> Peers<S> {
         ensures own { IfSome result (λ e. e ≡ events.Opened self.new.last) }
         ensures counts { OnSome result (self.new.last ≡ self.old.last + 1) }
         ensures held { OnSome result (Updates nat_cmp self.old.held self.new.held self.new.last
-            (Some (record { stream = stream; ended = false; in_line = false }))) }
+            (Some (record {
+              stream = stream;
+              ended = false;
+              in_line = false;
+              used = next_count self.old.uses;
+            }))) }
+        ensures uses { OnSome result (self.new.uses ≡ next_count self.old.uses) }
         ensures none { result ≡ None → self.new.last ≡ self.old.last }
         ensures none_held { result ≡ None → (id : ℕ) →
             get nat_cmp self.new.held id ≡ get nat_cmp self.old.held id }
@@ -111,15 +124,18 @@ impl<S> Peers<S> {
         let Some(id) = self.next_number() else {
             return None;
         };
+        let used = next_count(self.uses);
         let peer = Peer {
             stream,
             ended: false,
             in_line: false,
+            used,
         };
         if self.held.insert(id, peer).is_err() {
             return None;
         }
         self.last = id;
+        self.uses = used;
         Some(Event::Opened { id })
     }
 
@@ -146,16 +162,19 @@ impl<S> Peers<S> {
         ensures fits { IfSome result (FitsBuffer buf.new) }
         ensures own { IfSome result (λ e. is_event_of id e ≡ true) }
         ensures only { IfSome result (TellsEnd hangup) }
-        ensures heard { Hears S.remaining hangup (get nat_cmp self.old.held id)
-            (get nat_cmp self.new.held id) id buf.new self.old.turns self.new.turns result }
+        ensures heard { Hears S.remaining hangup (next_count self.old.uses)
+            (get nat_cmp self.old.held id) (get nat_cmp self.new.held id) id buf.new
+            self.old.turns self.new.turns result }
+        ensures uses { self.new.uses ≡ next_count self.old.uses }
         ensures others { (q : ℕ) → (q == id) ≡ false →
             get nat_cmp self.new.held q ≡ get nat_cmp self.old.held q }
         ensures last { self.new.last ≡ self.old.last }
     {
+        self.uses = next_count(self.uses);
         let Some(peer) = self.held.get_mut(&id) else {
             return None;
         };
-        let follows = heard(peer, &mut self.turns, id, buf, hangup);
+        let follows = heard(peer, &mut self.turns, self.uses, id, buf, hangup);
         if follows.gone {
             let _lost = self.held.remove(&id);
         }
@@ -166,20 +185,23 @@ impl<S> Peers<S> {
     pub(crate) fn send(&mut self, id: u64, piece: &[u8]) -> Result<usize, Failed>
     where
         S: Write + Drop,
-        ensures sent { SendsTo S.contents (get nat_cmp self.old.held id)
-            (get nat_cmp self.new.held id) piece.now result }
+        ensures sent { SendsTo S.contents (next_count self.old.uses)
+            (get nat_cmp self.old.held id) (get nat_cmp self.new.held id) piece.now result }
+        ensures uses { self.new.uses ≡ next_count self.old.uses }
         ensures others { (q : ℕ) → (q == id) ≡ false →
             get nat_cmp self.new.held q ≡ get nat_cmp self.old.held q }
         ensures moved { self.new.moved ≡ (self.old.moved || is_whole result (length piece.now)) }
         ensures line { self.new.turns ≡ self.old.turns }
         ensures last { self.new.last ≡ self.old.last }
     {
+        self.uses = next_count(self.uses);
         let Some(peer) = self.held.get_mut(&id) else {
             return Err(Failed);
         };
         match sending_of(&mut peer.stream, piece) {
             Ok(n) => {
                 self.moved = self.moved || n == piece.len();
+                peer.used = used_after(n, self.uses, peer.used);
                 Ok(n)
             }
             Err(failed) => {
@@ -194,8 +216,10 @@ impl<S> Peers<S> {
         ensures gone { Updates nat_cmp self.old.held self.new.held id None }
         ensures value { result ≡ get nat_cmp self.old.held id }
         ensures line { self.new.turns.waiting ≡ without id self.old.turns.waiting }
+        ensures room { self.new.turns.room ≡ self.old.turns.room }
         ensures last { self.new.last ≡ self.old.last }
         ensures moved { self.new.moved ≡ self.old.moved }
+        ensures uses { self.new.uses ≡ self.old.uses }
     {
         self.turns.leave(id);
         self.held.remove(&id)
@@ -206,17 +230,26 @@ impl<S> Peers<S> {
 fn heard<S: Read>(
     peer: &mut Peer<S>,
     turns: &mut Turns,
+    uses: u64,
     id: u64,
     buf: &mut [u8],
     hangup: bool,
 ) -> Following
     requires some { 0 < length buf.old }
-    ensures heard { HearsPeer S.remaining hangup peer.old peer.new id buf.new
+    ensures heard { HearsPeer S.remaining hangup uses peer.old peer.new id buf.new
         turns.old turns.new result }
 {
     let reading = reading_of(&mut peer.stream, buf);
     let follows = follow(id, reading_as(hangup, reading));
     peer.ended = peer.ended || follows.ended;
     peer.in_line = follows.again && turns.join(id);
+    peer.used = uses;
     follows
+}
+
+/// When a connection was used last that took so many bytes of a send: now, where it took some.
+fn used_after(n: usize, uses: u64, used: u64) -> u64
+    ensures exact { result ≡ used_after n uses used }
+{
+    if n > 0 { uses } else { used }
 }

@@ -123,12 +123,13 @@ pub fn waited(answer: io::Result<()>) -> Result<(), Failed>
     }
 }
 
-/// How long to wait for an event, where so many wait in line. It is no time at all where the caller
-/// is busy, or a send took all that it was offered, so that more may be sent.
-pub fn nap(in_line: usize, moved: bool, busy: bool) -> Duration
-    ensures exact { as_nanos result ≡ nap_of in_line moved busy }
+/// How long to wait for an event, where so many wait in line, and so many for an answer. It is no
+/// time at all where one does, where the caller is busy, or a send took all that it was offered, so
+/// that more may be sent.
+pub fn nap(in_line: usize, awaited: usize, moved: bool, busy: bool) -> Duration
+    ensures exact { as_nanos result ≡ nap_of in_line awaited moved busy }
 {
-    if in_line == 0 && !moved && !busy {
+    if in_line == 0 && awaited == 0 && !moved && !busy {
         Duration::from_millis(80)
     } else {
         Duration::from_millis(0)

@@ -7,25 +7,26 @@ ghost use Rattle.std.specs.Duration.{as_nanos};
 ghost use Rattle.std.specs.Ordering.{nat_cmp};
 ghost use Rattle.edge_io.specs.Acts.{is_event_of};
 ghost use Rattle.edge_io.specs.Hub.{FitsBuffer, TellsEnd};
+ghost use Rattle.edge_io.specs.Idle.{TellsDoor};
 ghost use Rattle.edge_io.specs.Peers.{SendsTo, is_whole};
 ghost use Rattle.edge_io.specs.Sockets.{IsOn, nap_of};
-ghost use Rattle.edge_io.specs.declared.event.Event.TheVariants as events;
 
 use crate::door::{DOOR, Door, hang_up, listen, time_now};
 use crate::event::Event;
 use crate::failed::Failed;
 use crate::leaving::{Leaving, MOST_LEAVING};
 use crate::peers::{Peer, Peers};
-use crate::replies::{Arrival, address_of, may_wait, nap};
+use crate::replies::{address_of, nap};
 use mio::Token;
 use mio::net::TcpStream;
 use std::alloc::Global;
+use std::collections::VecDeque;
 use std::net::Net;
 use std::time::{Clock, Duration};
 
 /// For how many more in line memory is kept than are held: for all that are left, one connection
 /// more, and the listening socket.
-const SPARE: usize = MOST_LEAVING + 2;
+pub(crate) const SPARE: usize = MOST_LEAVING + 2;
 
 /// How often in a row no connection may be taken in for want of descriptors while none is held.
 const MOST_VAIN: u32 = 100;
@@ -33,11 +34,11 @@ const MOST_VAIN: u32 = 100;
 /// The listening socket, the connections that are held by their numbers, and those that are left.
 pub struct Sockets {
     alloc: Global,
-    door: Option<Door>,
-    peers: Peers<TcpStream>,
-    leaving: Leaving<TcpStream>,
+    pub(crate) door: Option<Door>,
+    pub(crate) peers: Peers<TcpStream>,
+    pub(crate) leaving: Leaving<TcpStream>,
     /// An end of a peer is the loss of its connection.
-    hangup: bool,
+    pub(crate) hangup: bool,
 }
 
 impl Drop for Sockets {
@@ -93,38 +94,52 @@ impl Sockets {
         }
     }
 
-    /// What happens next, as far as it is known now.
-    pub fn next<C: Clock>(&mut self, clock: &C, buf: &mut [u8], busy: bool) -> Result<Event, Failed>
+    /// What happens next, as far as it is known now. Of those that wait for an answer none is let go
+    /// to make room.
+    pub fn next<C: Clock>(
+        &mut self,
+        clock: &C,
+        buf: &mut [u8],
+        waiting: &VecDeque<u64>,
+        busy: bool,
+    ) -> Result<Event, Failed>
         requires some { 0 < length buf.old }
         ensures fits { IfOk result (FitsBuffer buf.new) }
         ensures on { IfOk result IsOn }
         ensures only { IfOk result (TellsEnd self.old.hangup) }
         ensures same { self.new.hangup ≡ self.old.hangup }
     {
-        let time = self.patience(busy);
+        let time = self.patience(waiting, busy);
         self.look(time)?;
         self.leave_over(clock);
         'turns: for _ in 0..self.peers.turns.len() {
             let Some(id) = self.peers.turns.take() else {
                 return Ok(Event::Quiet);
             };
-            if let Some(event) = self.serve(id, buf) {
+            if let Some(event) = self.serve(id, buf, waiting) {
                 return Ok(event);
             }
         }
         Ok(Event::Quiet)
     }
 
-    /// How long to wait now; what was sent before no longer hurries the wait after this one.
-    fn patience(&mut self, busy: bool) -> Duration
+    /// How long to wait now, where these wait for an answer; what was sent before no longer hurries
+    /// the wait after this one.
+    fn patience(&mut self, waiting: &VecDeque<u64>, busy: bool) -> Duration
         ensures exact { as_nanos result ≡
-            nap_of (length self.old.peers.turns.waiting) self.old.peers.moved busy }
+            nap_of (length self.old.peers.turns.waiting) (length waiting.now.items)
+            self.old.peers.moved busy }
         ensures still { self.new.peers.moved ≡ false }
         ensures held { self.new.peers.held ≡ self.old.peers.held }
         ensures line { self.new.peers.turns ≡ self.old.peers.turns }
         ensures same { self.new.hangup ≡ self.old.hangup }
     {
-        let time = nap(self.peers.turns.len(), self.peers.moved, busy);
+        let time = nap(
+            self.peers.turns.len(),
+            waiting.len(),
+            self.peers.moved,
+            busy,
+        );
         self.peers.moved = false;
         time
     }
@@ -169,69 +184,21 @@ impl Sockets {
     }
 
     /// What whoever is in turn has to tell.
-    fn serve(&mut self, id: u64, buf: &mut [u8]) -> Option<Event>
+    fn serve(&mut self, id: u64, buf: &mut [u8], waiting: &VecDeque<u64>) -> Option<Event>
         requires some { 0 < length buf.old }
         ensures fits { IfSome result (FitsBuffer buf.new) }
         ensures on { IfSome result IsOn }
         ensures own { id ≢ 0 → IfSome result (λ e. is_event_of id e ≡ true) }
-        ensures door { id ≡ 0 → IfSome result (λ e. e ≡ events.Opened self.new.peers.last) }
+        ensures door { id ≡ 0 → IfSome result (TellsDoor self.old.peers.held waiting.now.items
+            self.new.peers.held self.new.peers.last) }
         ensures only { IfSome result (TellsEnd self.old.hangup) }
         ensures same { self.new.hangup ≡ self.old.hangup }
     {
         if id == DOOR {
-            return self.admit();
+            return self.admit(waiting);
         }
         self.leaving.drain(&mut self.peers.turns, id);
         self.peers.hear(id, buf, self.hangup)
-    }
-
-    /// Takes in a connection that waits at the door, which stays in line while more may wait. Where
-    /// no descriptor is left, the connection that was left first makes room.
-    fn admit(&mut self) -> Option<Event>
-        ensures own { IfSome result (λ e. e ≡ events.Opened self.new.peers.last) }
-        ensures same { self.new.hangup ≡ self.old.hangup }
-    {
-        let Some(door) = &mut self.door else {
-            return None;
-        };
-        let arrival = door.accept();
-        door.in_line = may_wait(&arrival) && self.peers.turns.join(DOOR);
-        match arrival {
-            Arrival::Came((stream, _)) => self.welcome(stream),
-            Arrival::Full => {
-                self.leaving.drop_first(&mut self.peers.turns);
-                None
-            }
-            Arrival::NoneNow | Arrival::Again => None,
-        }
-    }
-
-    /// Holds a connection from now on. Where it can't, the connection is dropped and nothing is
-    /// told.
-    fn welcome(&mut self, stream: TcpStream) -> Option<Event>
-        ensures own { IfSome result (λ e. e ≡ events.Opened self.new.peers.last) }
-        ensures counts { OnSome result (self.old.peers.last < self.new.peers.last) }
-        ensures held { OnSome result (Updates nat_cmp self.old.peers.held self.new.peers.held
-            self.new.peers.last
-            (Some (record { stream = stream; ended = false; in_line = false }))) }
-        ensures none { result ≡ None → (q : ℕ) →
-            get nat_cmp self.new.peers.held q ≡ get nat_cmp self.old.peers.held q }
-        ensures same { self.new.hangup ≡ self.old.hangup }
-    {
-        let Some(id) = self.peers.next_number() else {
-            return None;
-        };
-        if self.peers.make_room(SPARE).is_err() {
-            return None;
-        }
-        let Some(door) = &self.door else {
-            return None;
-        };
-        let mut stream = stream;
-        if door.watch(&mut stream, id).is_err() {
-            return None;
-        }
-        self.peers.hold(stream)
     }
 
     /// Offers bytes to a connection, which is let go where that fails.

@@ -8,11 +8,13 @@ use crate::failed::{Failed, counted};
 use crate::hub::Hub;
 use crate::sockets::Sockets;
 use std::alloc::Global;
+use std::collections::VecDeque;
 use std::marker::Model;
 use std::net::Net;
 use std::time::Clock;
 
-/// Connections over TCP, of one thread. It waits only for a caller that isn't busy.
+/// Connections over TCP, of one thread. It waits only for a caller that isn't busy and has no
+/// answer in work.
 #[derive(Drop)]
 pub struct TcpHub<'a, R: Net> {
     rt: &'a R,
@@ -54,8 +56,16 @@ impl<R: Net + Clock> Hub for TcpHub<'_, R> {
         )
     }
 
-    fn next(&mut self, buf: &mut [u8], busy: bool) -> Result<Event, Failed> {
-        counted(self.sockets.next(self.rt, buf, busy), &mut self.faults)
+    fn next(
+        &mut self,
+        buf: &mut [u8],
+        waiting: &VecDeque<u64>,
+        busy: bool,
+    ) -> Result<Event, Failed> {
+        counted(
+            self.sockets.next(self.rt, buf, waiting, busy),
+            &mut self.faults,
+        )
     }
 
     fn send(&mut self, id: u64, piece: &[u8]) -> Result<usize, Failed> {

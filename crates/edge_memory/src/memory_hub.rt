@@ -10,6 +10,7 @@ use crate::script::Script;
 use crate::stage::Stage;
 use edge_io::{Event, Failed, Hub, next_count};
 use std::alloc::{AllocError, Global};
+use std::collections::VecDeque;
 use std::marker::Model;
 
 /// A hub in memory. It takes its room at once and grows no more.
@@ -119,7 +120,12 @@ impl Hub for MemHub {
         Ok(())
     }
 
-    fn next(&mut self, buf: &mut [u8], _busy: bool) -> Result<Event, Failed>
+    fn next(
+        &mut self,
+        buf: &mut [u8],
+        _waiting: &VecDeque<u64>,
+        _busy: bool,
+    ) -> Result<Event, Failed>
         requires some { 0 < length buf.old }
         ensures refused { IsErr result ↔ FailsNext self.old }
         ensures exact { IfOk result (λ event. event ≡ (scene_of self.old (length buf.old)).event) }

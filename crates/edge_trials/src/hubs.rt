@@ -3,6 +3,7 @@
 use crate::heard::Heard;
 use edge_io::{Event, Failed, Hub, TcpHub};
 use std::alloc::{AllocError, Global};
+use std::collections::VecDeque;
 use std::io;
 use std::io::{Read, Write};
 use std::net::{Ipv4Addr, Net, Shutdown, TcpStream};
@@ -29,10 +30,11 @@ fn opened<H: Hub>(alloc: Global, hub: &mut H, hangup: bool) -> Result<u16, Alloc
     Ok(0)
 }
 
-/// Takes the hub's next event.
-fn hear<H: Hub>(heard: &mut Heard, hub: &mut H) -> Result<(), AllocError> {
+/// Takes the hub's next event, while nobody waits for an answer.
+fn hear<H: Hub>(alloc: Global, heard: &mut Heard, hub: &mut H) -> Result<(), AllocError> {
     let mut buf = [0u8; 16];
-    match hub.next(&mut buf, false) {
+    let nobody = VecDeque::new(alloc);
+    match hub.next(&mut buf, &nobody, false) {
         Ok(event) => heard.take(event, &buf),
         Err(Failed) => Ok(()),
     }
@@ -41,6 +43,7 @@ fn hear<H: Hub>(heard: &mut Heard, hub: &mut H) -> Result<(), AllocError> {
 /// Hears until so many bytes came and so many connections ended or were lost, at most a thousand
 /// events.
 fn hear_until<H: Hub>(
+    alloc: Global,
     heard: &mut Heard,
     hub: &mut H,
     bytes: usize,
@@ -48,17 +51,22 @@ fn hear_until<H: Hub>(
 ) -> Result<(), AllocError> {
     for _ in 0..1000 {
         if !heard.has(bytes, ended) {
-            hear(heard, hub)?;
+            hear(alloc, heard, hub)?;
         }
     }
     Ok(())
 }
 
 /// What the hub told of a peer that sent a head: how many opened, and the bytes.
-fn head_comes<H: Hub>(hub: &mut H, peer: &mut TcpStream, heard: &mut Heard) -> io::Result<bool> {
+fn head_comes<H: Hub>(
+    alloc: Global,
+    hub: &mut H,
+    peer: &mut TcpStream,
+    heard: &mut Heard,
+) -> io::Result<bool> {
     let head = b"GET /brouter HTTP/1.1\r\nHost: here\r\n\r\n".as_slice();
     peer.write_all(head)?;
-    hear_until(heard, hub, head.len(), 0)?;
+    hear_until(alloc, heard, hub, head.len(), 0)?;
     Ok(heard.has_message(head))
 }
 
@@ -73,9 +81,14 @@ fn answer_goes_back<H: Hub>(hub: &mut H, peer: &mut TcpStream, id: u64) -> io::R
 
 /// Whether the end of a peer is told, and whether after a close it reads its end and nothing is
 /// sent to it.
-fn peer_ends<H: Hub>(hub: &mut H, peer: &mut TcpStream, heard: &mut Heard) -> io::Result<bool> {
+fn peer_ends<H: Hub>(
+    alloc: Global,
+    hub: &mut H,
+    peer: &mut TcpStream,
+    heard: &mut Heard,
+) -> io::Result<bool> {
     peer.shutdown(Shutdown::Write)?;
-    hear_until(heard, hub, 0, 1)?;
+    hear_until(alloc, heard, hub, 0, 1)?;
     hub.close(heard.last);
     let more = peer.read(&mut [0u8; 22])?;
     Ok(heard.ended == 1 && more == 0 && hub.send(heard.last, b"late").is_err())
@@ -83,13 +96,14 @@ fn peer_ends<H: Hub>(hub: &mut H, peer: &mut TcpStream, heard: &mut Heard) -> io
 
 /// A peer of the hub, from its head to its end.
 fn a_whole_exchange<H: Hub>(
+    alloc: Global,
     hub: &mut H,
     peer: &mut TcpStream,
     heard: &mut Heard,
 ) -> io::Result<bool> {
-    let came = head_comes(hub, peer, heard)?;
+    let came = head_comes(alloc, hub, peer, heard)?;
     let went = answer_goes_back(hub, peer, heard.last)?;
-    let ends = peer_ends(hub, peer, heard)?;
+    let ends = peer_ends(alloc, hub, peer, heard)?;
     Ok(came && went && ends)
 }
 
@@ -97,14 +111,16 @@ fn a_whole_exchange<H: Hub>(
 fn exchanges<H: Hub>(rt: &HostRuntime, hub: &mut H, port: u16) -> io::Result<bool> {
     let mut peer = TcpStream::connect(rt, (Ipv4Addr::LOCALHOST, port))?;
     let mut heard = Heard::new(rt.alloc());
-    a_whole_exchange(hub, &mut peer, &mut heard)
+    a_whole_exchange(rt.alloc(), hub, &mut peer, &mut heard)
 }
 
 /// Whether a hub without an address is refused, and a fresh one is quiet; then its port.
 fn quiet_at<H: Hub>(alloc: Global, hub: &mut H) -> Result<(bool, u16), AllocError> {
-    let refused = hub.open("nowhere", false).is_err() && hub.next(&mut [0u8; 1], true).is_err();
+    let nobody = VecDeque::new(alloc);
+    let refused = hub.open("nowhere", false).is_err()
+        && hub.next(&mut [0u8; 1], &nobody, true).is_err();
     let port = opened(alloc, hub, false)?;
-    let quiet = hub.next(&mut [0u8; 1], true) == Ok(Event::Quiet);
+    let quiet = hub.next(&mut [0u8; 1], &nobody, true) == Ok(Event::Quiet);
     Ok((refused && quiet, port))
 }
 
@@ -122,9 +138,9 @@ fn tells_the_end<H: Hub>(rt: &HostRuntime, hub: &mut H, hangup: bool) -> io::Res
     let port = opened(rt.alloc(), hub, hangup)?;
     let mut peer = TcpStream::connect(rt, (Ipv4Addr::LOCALHOST, port))?;
     let mut heard = Heard::new(rt.alloc());
-    let came = head_comes(hub, &mut peer, &mut heard)?;
+    let came = head_comes(rt.alloc(), hub, &mut peer, &mut heard)?;
     peer.shutdown(Shutdown::Write)?;
-    hear_until(&mut heard, hub, 0, 1)?;
+    hear_until(rt.alloc(), &mut heard, hub, 0, 1)?;
     let held = hub.send(heard.last, b"late").is_ok();
     Ok(came && heard.ends_as(hangup, held))
 }
@@ -165,7 +181,7 @@ fn add_peers(rt: &HostRuntime, peers: &mut Vec<TcpStream>, port: u16) -> io::Res
 fn hears_all<H: Hub>(alloc: Global, hub: &mut H) -> io::Result<bool> {
     let mut heard = Heard::new(alloc);
     for _ in 0..1500 {
-        hear(&mut heard, hub)?;
+        hear(alloc, &mut heard, hub)?;
     }
     Ok(heard.has_peers(151, 450, b'x', 40_000))
 }

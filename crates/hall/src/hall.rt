@@ -45,7 +45,7 @@ impl Model for Hall {
 }
 
 impl Hall {
-    ghost use Rattle.std.specs.Prelude.{◌≡◌, ◌<◌, Bool, length, nat_lt, IfOk};
+    ghost use Rattle.std.specs.Prelude.{◌≡◌, ◌<◌, Bool, length, IfOk};
     ghost use Rattle.hall.specs.Allowed.{AreAllowed};
     ghost use Rattle.hall.specs.Held.{AreFew};
     ghost use Rattle.hall.specs.Serving.{AreLive, ServedAll};
@@ -111,11 +111,11 @@ impl Hall {
         step(&mut self.room, event, bytes)
     }
 
-    /// Whether a search waits for a turn.
-    pub fn has_work(&self) -> bool
-        ensures exact { result ≡ nat_lt 0 (length (state_of self.now).waiting) }
+    /// The connections whose searches wait for a turn, the one first that waited longest.
+    pub fn waiting(&self) -> &VecDeque<u64>
+        ensures exact { result.now.items ≡ (state_of self.now).waiting }
     {
-        self.room.desk.queue.len() > 0
+        &self.room.desk.queue
     }
 
     /// Gives a turn to the search that waited longest, and drops makings for which nobody waits any

@@ -58,7 +58,7 @@ fn take_turn<H: Hub>(hall: &mut Hall, hub: &mut H, buf: &mut [u8]) -> Option<Ser
     ensures live { AreLive (state_of hall.new) (H.seen hub.new) }
     ensures same { service_of hall.new ≡ service_of hall.old }
 {
-    match hub.next(buf, hall.has_work()) {
+    match hub.next(buf, hall.waiting(), false) {
         Ok(event) => match event {
             Event::Over => Some(ServeEnd::Over),
             _ => {
