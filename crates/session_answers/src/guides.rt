@@ -26,7 +26,7 @@ use std::rc::Rc;
 /// now.
 pub(crate) struct Guides {
     /// How many kept profiles have a guide at most; none are made where it is 0.
-    pub(crate) most: u32,
+    pub(crate) most: u64,
     /// The hierarchy of the map, as far as it is made.
     pub(crate) hierarchy: HierarchyMaking,
     /// The profile whose guide is made now.
@@ -45,7 +45,7 @@ impl Drop for Guides {
 
 impl Guides {
     /// So many at most, of which nothing is made.
-    pub(crate) fn new(most: u32) -> Guides
+    pub(crate) fn new(most: u64) -> Guides
         ensures none { result.target ≡ None }
         ensures hierarchy { (roads : Roads) → IsHierarchyMaking roads result.hierarchy }
     {

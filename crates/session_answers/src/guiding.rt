@@ -31,7 +31,7 @@ pub fn has_guides_to_make(profiles: &Profiles, kept: &KeptProfiles) -> bool
         return true;
     }
     kept.guides.hierarchy.hierarchy().is_some()
-        && kept.guided() < kept.guides.most as usize
+        && kept.guided() < kept.guides.most
         && kept.has_due(profiles.given)
 }
 
@@ -59,8 +59,8 @@ pub fn make_guides(alloc: Global, world: &World, profiles: &Profiles, kept: &mut
 
 impl KeptProfiles {
     /// How many profiles that are kept have a guide.
-    fn guided(&self) -> usize {
-        let mut guided = 0usize;
+    fn guided(&self) -> u64 {
+        let mut guided = 0u64;
         'kept: for entry in self.cache.iter() {
             let (_key, kept) = entry;
             if kept.ready.guide.is_some() {

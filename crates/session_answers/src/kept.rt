@@ -55,7 +55,7 @@ pub(crate) enum Wanted {
 
 impl KeptProfiles {
     /// None yet. Of those that are kept so many have a guide at most.
-    pub fn new(alloc: Global, guided: u32) -> Result<KeptProfiles, AllocError>
+    pub fn new(alloc: Global, guided: u64) -> Result<KeptProfiles, AllocError>
         ensures kept { (world : WorldValue) (stored : List Sections) →
             IfOk result (IsKept world stored) }
     {
