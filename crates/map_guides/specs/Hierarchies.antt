@@ -1,8 +1,9 @@
 -- The hierarchy of a map while it is made in spells (this project's own rule).
-use Rattle.std.specs.Prelude.{◌≡◌, Bool, true, false, Option, Some, None}
+use Rattle.std.specs.Prelude.{◌≡◌, ◌<◌, ◌≤◌, ℕ, Bool, true, false, Option, Some, None}
 use Rattle.std.specs.declared.alloc.Global.{Global}
 use Rattle.std.specs.declared.rc.Rc.{Rc}
-use Rattle.link_order.specs.Orderings.{links_of}
+use Rattle.link_order.specs.Orderings.{left_of, links_of}
+use Rattle.link_order.specs.declared.ordering.Ordering.{Ordering}
 use Rattle.map_guides.specs.declared.hierarchy_making.HierarchyMaking.{HierarchyMaking}
 use Rattle.map_guides.specs.declared.hierarchy_making.HierarchyMaking.TheVariants as making
 use Rattle.overpass_graph.specs.Roads.{Roads}
@@ -32,3 +33,26 @@ made_of (making.Ordering it) = None
 made_of (making.Eliminating it) = None
 made_of (making.Made it) = Some it
 made_of making.GivenUp = None
+
+-- ---- It goes on
+
+-- its stages in their order
+abbrev pub stage_of : HierarchyMaking → ℕ
+stage_of making.Unbegun = 0
+stage_of (making.Ordering it) = 1
+stage_of (making.Eliminating it) = 2
+stage_of (making.Made it) = 3
+stage_of making.GivenUp = 3
+
+-- where an ordering goes on it has fewer steps left
+abbrev pub OrdersFewer : Ordering → HierarchyMaking → Type 0
+OrdersFewer before making.Unbegun = Unit {0}
+OrdersFewer before (making.Ordering after) = left_of after < left_of before
+OrdersFewer before (making.Eliminating it) = Unit {0}
+OrdersFewer before (making.Made it) = Unit {0}
+OrdersFewer before making.GivenUp = Unit {0}
+
+-- it doesn't go back to an earlier stage, and where it stays an ordering, that has fewer steps left
+pub record IsOnward (before after : HierarchyMaking) : Type 0 where
+  pub stage : stage_of before ≤ stage_of after
+  pub fewer : (it : Ordering) → before ≡ making.Ordering it → OrdersFewer it after

@@ -68,6 +68,7 @@ impl GuideMaking {
         alloc: Global,
         map: &Map,
     ) -> Result<Turn<GuideMaking, Guide>, AllocError>
+        requires on { (bound : TheBound) × IsGuideMaking map.now bound self }
         ensures steps { (bound : TheBound) → IsGuideMaking map.now bound self →
             IfOk result (Says (IsGuideMaking map.now bound) (IsGuideOf map.now bound)) }
     {

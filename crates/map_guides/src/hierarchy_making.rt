@@ -1,9 +1,9 @@
 //! The hierarchy of a map, made in spells.
 
-ghost use Rattle.std.specs.Prelude.{◌≡◌, IfSome, false, length, true};
+ghost use Rattle.std.specs.Prelude.{◌≡◌, ◌<◌, ◌≤◌, IfSome, false, length, true};
 ghost use Rattle.std.specs.Option.{option_copied};
 ghost use Rattle.link_order.specs.Orderings.{links_of};
-ghost use Rattle.map_guides.specs.Hierarchies.{IsHierarchyMaking, is_over_of, made_of};
+ghost use Rattle.map_guides.specs.Hierarchies.{IsHierarchyMaking, IsOnward, OrdersFewer, is_over_of, made_of, stage_of};
 ghost use Rattle.overpass_graph.specs.Maps.{roads_of};
 ghost use Rattle.overpass_graph.specs.Roads.{Roads};
 ghost use Rattle.ride_bounds.specs.Hierarchies.{IsMapElimination, IsMapHierarchy};
@@ -57,10 +57,12 @@ impl HierarchyMaking {
         HierarchyMaking::Unbegun
     }
 
-    /// Goes on for a spell. What is over stays as it is.
+    /// Goes on for a spell: it never goes back, and what is over stays as it is.
     pub fn go_on(self, alloc: Global, map: &Map) -> HierarchyMaking
         requires on { IsHierarchyMaking (roads_of map.now) self }
         ensures on { IsHierarchyMaking (roads_of map.now) result }
+        ensures begun { 0 < stage_of result }
+        ensures onward { IsOnward self result }
         ensures over { is_over_of self ≡ true → result ≡ self }
     {
         match self {
@@ -96,6 +98,7 @@ impl HierarchyMaking {
 
 /// Begins to put the links in order.
 fn begun(alloc: Global, map: &Map) -> HierarchyMaking
+    ensures begun { 0 < stage_of result }
     ensures on { IsHierarchyMaking (roads_of map.now) result }
 {
     match Ordering::new(alloc, map) {
@@ -107,10 +110,13 @@ fn begun(alloc: Global, map: &Map) -> HierarchyMaking
 /// A spell of an ordering; at its end the elimination begins.
 fn ordered(it: Ordering, alloc: Global, map: &Map) -> HierarchyMaking
     requires links { links_of it ≡ length map.now.links }
+    ensures begun { 0 < stage_of result }
+    ensures fewer { OrdersFewer it result }
     ensures on { IsHierarchyMaking (roads_of map.now) result }
 {
     let mut ordering = it;
-    'steps: for _ in 0..ORDER_STEPS {
+    'steps: for step in 0..ORDER_STEPS {
+        let _ = step;
         match ordering.step(alloc, map) {
             Ok(Turn::More(next)) => ordering = next,
             Ok(Turn::Done(order)) => return eliminating(order, alloc, map),
@@ -123,6 +129,7 @@ fn ordered(it: Ordering, alloc: Global, map: &Map) -> HierarchyMaking
 /// The links are in order: their elimination begins.
 fn eliminating(order: LinkOrder, alloc: Global, map: &Map) -> HierarchyMaking
     requires counted { length order.links ≡ length map.now.links }
+    ensures stage { stage_of result ≡ 2 }
     ensures on { IsHierarchyMaking (roads_of map.now) result }
 {
     HierarchyMaking::Eliminating(MapElimination::new(alloc, map, order))
@@ -131,6 +138,7 @@ fn eliminating(order: LinkOrder, alloc: Global, map: &Map) -> HierarchyMaking
 /// A spell of an elimination; at its end the hierarchy is made, or given up.
 fn eliminated(it: MapElimination, alloc: Global, map: &Map) -> HierarchyMaking
     requires on { IsMapElimination (roads_of map.now) it }
+    ensures onward { 2 ≤ stage_of result }
     ensures on { IsHierarchyMaking (roads_of map.now) result }
 {
     let mut elimination = it;
@@ -147,6 +155,8 @@ fn eliminated(it: MapElimination, alloc: Global, map: &Map) -> HierarchyMaking
 /// What an elimination ended with, to be shared.
 fn ended(end: Option<MapHierarchy>, alloc: Global, _map: &Map) -> HierarchyMaking
     requires is { IfSome end (IsMapHierarchy (roads_of _map.now)) }
+    ensures over { is_over_of result ≡ true }
+    ensures onward { 2 ≤ stage_of result }
     ensures on { IsHierarchyMaking (roads_of _map.now) result }
 {
     match end {
