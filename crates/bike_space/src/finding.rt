@@ -38,16 +38,16 @@ pub trait LegSpace: Space<State = Carry> {
     /// The search on the leg.
     ghost task: { Self → Task };
 
-    /// It is lawful.
-    ghost lawful: { (space : Self) → IsTask (task space) };
-
-    /// What the space answers is what the search on the leg asks for.
-    ghost searches: { (space : Self) → Self.rules space ≡ rules_of (task space) };
-
     /// The links of the walk of these choices, which are a run of the space.
     fn walk_of(&self, alloc: Global, choices: &[u32]) -> Result<Items<u32>, AllocError>
         requires run { IsSomeRun (task self.now) choices.now }
         ensures walk { IfOk result (λ walk. walk ≡ walk_by (task self.now).leg choices.now) };
+
+    /// The search is lawful.
+    ghost lawful: { (space : Self) → IsTask (task space) };
+
+    /// What the space answers is what the search asks for.
+    ghost searches: { (space : Self) → Self.rules space ≡ rules_of (task space) };
 }
 
 impl<G: TerrainOf> LegSpace for BikeSpace<G> {

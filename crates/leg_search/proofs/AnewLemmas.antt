@@ -122,6 +122,16 @@ may-other terrain kept aim more may = record {
   within = may.within;
 }
 
+-- what begins with another guide, or known to be later, begins
+pub begins-other :
+    (terrain : Terrain) (kept : Rested) (aim : Aim) (most more : ℕ) (next : LegSearch) → most ≤ more →
+    BeginsAnew terrain kept (record aim { first = false; guide = None }) most next → BeginsAnew terrain kept aim more next
+begins-other terrain kept aim most more next few begins = record {
+  on = begins.on;
+  same = begins.same;
+  fewer = let fewer = begins.fewer in omega (arith, fewer, few);
+}
+
 -- what is counted behind a beginning anew, where it is still to come
 anew-first : (first : Bool) (links limit : ℕ) (kept : Rested) (search : Search Carry) → first ≡ true →
     counted_anew first links limit (Settling kept search) ≡ limit + (most_found links + limit)

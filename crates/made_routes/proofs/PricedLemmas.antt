@@ -71,7 +71,7 @@ pub links-there : (plan : Plan) (world : WorldValue) (sections : Sections) (over
     IsGridMap plan world.map →
     IsReadyBy (binding_in world sections overrides) (ready_of (binding_in world sections overrides)) ready →
     2 * length (segments_of plan) ≤ (links_of ready.bound.value).count
-links-there plan world sections overrides ready grid is = omega (arith, grid.count, is.count)
+links-there plan world sections overrides ready grid is = omega (arith, grid.count, is.fits.counted)
 
 module _ (plan : Plan) (from to : ℕ) (world : WorldValue) (sections : Sections) (overrides : List (List ℕ × ℤ)) (none : overrides ≡ [])
     (grid : IsGridMap plan world.map) where

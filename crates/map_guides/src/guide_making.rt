@@ -63,11 +63,7 @@ impl GuideMaking {
     }
 
     /// Goes on for a spell, or ends with the guide.
-    pub fn go_on(
-        self,
-        alloc: Global,
-        map: &Map,
-    ) -> Result<Turn<GuideMaking, Guide>, AllocError>
+    pub fn go_on(self, alloc: Global, map: &Map) -> Result<Turn<GuideMaking, Guide>, AllocError>
         requires on { (bound : TheBound) × IsGuideMaking map.now bound self }
         ensures steps { (bound : TheBound) → IsGuideMaking map.now bound self →
             IfOk result (Says (IsGuideMaking map.now bound) (IsGuideOf map.now bound)) }

@@ -1,5 +1,5 @@
 -- A hierarchy with the weights of a ride, as what bounds a search (this project's own rule).
-use Rattle.std.specs.Prelude.{ℕ, Unit, Option, Some, None}
+use Rattle.std.specs.Prelude.{ℕ, Option, Some, None}
 use Rattle.std.specs.declared.alloc.Global.{Global}
 use Rattle.std.specs.declared.rc.Rc.{Rc}
 use Rattle.overpass_graph.specs.Maps.{roads_of}

@@ -73,12 +73,7 @@ fn readied<N: Sink>(
 
 /// A hall over a world with profiles, whose searches settle so many labels at most, and of whose
 /// profiles so many have a guide.
-fn hall_over(
-    alloc: Global,
-    offered: Offered,
-    labels: u64,
-    guides: u64,
-) -> Result<Hall, Status>
+fn hall_over(alloc: Global, offered: Offered, labels: u64, guides: u64) -> Result<Hall, Status>
     requires given { AreGiven (names_of (offered_of offered).profiles) }
     ensures exact { Answers offer_of (Ok (offer_over labels (offered_of offered))) Status.NoMemory
         result }

@@ -3,6 +3,7 @@ use Rattle.std.proofs.Common.{◌≡◌, ◌∙◌, List, IfSome, Some, ap, sym,
 use Rattle.cost_model.specs.Rides.{Terrain}
 use Rattle.map_guides.specs.Guides.{IsGuideMaking, IsGuideOf}
 use Rattle.map_guides.specs.declared.guide_making.GuideMaking.{GuideMaking}
+use Rattle.overpass_graph.specs.Maps.{MapValue}
 use Rattle.profile_text.specs.Tree.{Sections}
 use Rattle.ride_bounds.specs.Guides.{IsGuide, IsGuided}
 use Rattle.ride_bounds.specs.declared.guide.Guide.{Guide}
@@ -45,3 +46,27 @@ target-begun world stored key ready target made is = record {
       (subst (IsMadeFrom world stored key) (sym is.ready_is) made);
   making = subst (λ (r : Ready). IsGuideMaking world.map r.bound.value target.making) (sym is.ready_is) is.making;
 }
+
+-- ---- A spell of a guide
+
+module _ (world : WorldValue) (stored : List Sections) (target : Target) (is : IsTarget world stored target) (map : MapValue)
+    (same : map ≡ world.map) where
+  -- its guide is that of the map by the facts of its profile
+  pub target-over : IsGuideMaking map target.ready.value.bound.value target.making
+  target-over =
+      subst (λ (m : MapValue). IsGuideMaking m target.ready.value.bound.value target.making) (sym same) is.making
+
+  -- and stays so where it goes on
+  pub target-on : (next : GuideMaking) → IsGuideMaking map target.ready.value.bound.value next →
+      IsTarget world stored (record { key = target.key; ready = target.ready; making = next })
+  target-on next on = record {
+    made = is.made;
+    making = subst (λ (m : MapValue). IsGuideMaking m target.ready.value.bound.value next) same on;
+  }
+
+  -- at its end the profile with it was made under the same key
+  pub target-end : (guide : Guide) (other : Ready) → IsGuideOf map target.ready.value.bound.value guide →
+      HasSameTerms target.ready.value other → IsGuidedBy guide other → IsMadeFrom world stored target.key other
+  target-end guide other end terms has =
+      guided-made world stored target.key target.ready.value other guide is.made terms has
+      (subst (λ (m : MapValue). IsGuideOf m target.ready.value.bound.value guide) same end)

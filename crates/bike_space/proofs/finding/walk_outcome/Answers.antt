@@ -11,7 +11,7 @@ pub walk_of-requires : goal.walk_of-requires
 walk_of-requires g c =
     let space = c.args.space.now in
     let task = g.S.LegSpace.task space in
-    let is = subst (λ r. Answers r c.requires.answers.0 c.args.outcome) (g.S.LegSpace.searches space) c.requires.answers.1 in
+    let is = subst (λ r. Answers r c.requires.answers.0 c.args.outcome) (g.met.S.LegSpace.searches space) c.requires.answers.1 in
     let found = subst (Answers (rules_of task) c.requires.answers.0) c.in-Found.is is in
     let reaches = found.0.reaches in
     record {
@@ -23,8 +23,8 @@ pub returns-in_ok-links-in-Found-clause-told : goal.returns-in_ok-links-in-Found
 returns-in_ok-links-in-Found-clause-told g c limit few is differ =
     let space = c.args.space.now in
     let task = g.S.LegSpace.task space in
-    let told = subst (λ r. Answers r limit c.args.outcome) (g.S.LegSpace.searches space) is in
-    run-found task (g.S.LegSpace.lawful space) differ limit few c.in-Found.run' c.in_ok-links-in-Found.links
+    let told = subst (λ r. Answers r limit c.args.outcome) (g.met.S.LegSpace.searches space) is in
+    run-found task (g.met.S.LegSpace.lawful space) differ limit few c.in-Found.run' c.in_ok-links-in-Found.links
     (subst (Answers (rules_of task) limit) c.in-Found.is told)
     (c.in_ok-links-in-Found.ensures.walk ∙ ap (walk_by task.leg) c.as_slice.ensures.value)
 
@@ -32,13 +32,13 @@ pub returns-in-NoWay-clause-told : goal.returns-in-NoWay-clause-told
 returns-in-NoWay-clause-told g c limit few is differ =
     let space = c.args.space.now in
     let task = g.S.LegSpace.task space in
-    let told = subst (λ r. Answers r limit c.args.outcome) (g.S.LegSpace.searches space) is in
+    let told = subst (λ r. Answers r limit c.args.outcome) (g.met.S.LegSpace.searches space) is in
     no-walk task differ (subst (Answers (rules_of task) limit) c.in-NoWay.is told)
 
 pub returns-in-Budget-clause-told : goal.returns-in-Budget-clause-told
 returns-in-Budget-clause-told g c limit few is differ =
     let space = c.args.space.now in
     let task = g.S.LegSpace.task space in
-    let told = subst (λ r. Answers r limit c.args.outcome) (g.S.LegSpace.searches space) is in
+    let told = subst (λ r. Answers r limit c.args.outcome) (g.met.S.LegSpace.searches space) is in
     let spent = subst (Answers (rules_of task) limit) c.in-Budget.is told in λ all.
-    (_, spent-bounded task (g.S.LegSpace.lawful space) limit spent.0 spent.1 differ all)
+    (_, spent-bounded task (g.met.S.LegSpace.lawful space) limit spent.0 spent.1 differ all)

@@ -24,7 +24,7 @@ returns-clause-turned g c =
     let worked = state_of c.work.new.self in
     subst
     (λ (left : State).
-        Turned (service_of c.args.hall.now) (state_of c.args.hall.now) (g.H.Hub.seen c.args.hub.now) c.args.event.now c.args.bytes.now left seen)
+    Turned (service_of c.args.hall.now) (state_of c.args.hall.now) (g.H.Hub.seen c.args.hub.now) c.args.event.now c.args.bytes.now left seen)
     (sym c.make_guides.ensures.state)
     (turned (service_of c.args.hall.now) (state_of c.args.hall.now) stepped worked (state_of c.serve_all.new.self)
     (g.H.Hub.seen c.args.hub.now)

@@ -10,13 +10,13 @@ pub step_by_runs-requires-clause-of : goal.step_by_runs-requires-clause-of
 step_by_runs-requires-clause-of g c =
     let space = c.args.space.now in
     subst (λ r. IsSearchOf r c.args.search.now)
-    (runs-is (g.S.Space.rules space) (g.S.LegSpace.task space) (g.S.LegSpace.searches space) c.args.runs c.if-runs.true) c.requires.of
+    (runs-is (g.S.Space.rules space) (g.S.LegSpace.task space) (g.met.S.LegSpace.searches space) c.args.runs c.if-runs.true) c.requires.of
 
 pub returns-then-runs-clause-of : goal.returns-then-runs-clause-of
 returns-then-runs-clause-of g c =
     let space = c.args.space.now in
     subst (λ r. IsSearchOf r c.step_by_runs.new.search)
-    (sym (runs-is (g.S.Space.rules space) (g.S.LegSpace.task space) (g.S.LegSpace.searches space) c.args.runs c.if-runs.true))
+    (sym (runs-is (g.S.Space.rules space) (g.S.LegSpace.task space) (g.met.S.LegSpace.searches space) c.args.runs c.if-runs.true))
     c.step_by_runs.ensures.of
 
 pub returns-then-runs-clause-answers : goal.returns-then-runs-clause-answers
@@ -29,13 +29,13 @@ pub step_by_links-requires-clause-of : goal.step_by_links-requires-clause-of
 step_by_links-requires-clause-of g c =
     let space = c.args.space.now in
     subst (λ r. IsSearchOf r c.args.search.now)
-    (links-is (g.S.Space.rules space) (g.S.LegSpace.task space) (g.S.LegSpace.searches space) c.args.runs c.if-runs.false) c.requires.of
+    (links-is (g.S.Space.rules space) (g.S.LegSpace.task space) (g.met.S.LegSpace.searches space) c.args.runs c.if-runs.false) c.requires.of
 
 pub returns-else-runs-clause-of : goal.returns-else-runs-clause-of
 returns-else-runs-clause-of g c =
     let space = c.args.space.now in
     subst (λ r. IsSearchOf r c.step_by_links.new.search)
-    (sym (links-is (g.S.Space.rules space) (g.S.LegSpace.task space) (g.S.LegSpace.searches space) c.args.runs c.if-runs.false))
+    (sym (links-is (g.S.Space.rules space) (g.S.LegSpace.task space) (g.met.S.LegSpace.searches space) c.args.runs c.if-runs.false))
     c.step_by_links.ensures.of
 
 pub returns-else-runs-clause-answers : goal.returns-else-runs-clause-answers

@@ -1,11 +1,12 @@
-use Rattle.std.proofs.Common.{◌∙◌, length, ap, arith, subst, sym}
+use Rattle.std.proofs.Common.{length, ap, subst, sym, ◌∙◌}
 use Rattle.bike_space.specs.Kept.{task_of}
 use Rattle.bike_space.specs.Openings.{IsOpened, OpensOn}
 use Rattle.item_list.specs.Turns.{Says}
 use Rattle.leg_search.specs.Quests.{GoesOnAs, quest_at, searched}
+use Rattle.leg_search.specs.Steps.{IsLimited}
 use Rattle.leg_search.specs.declared.search.Stage.TheVariants.{Opening, Settling}
-use Rattle.leg_search.proofs.TurnLemmas.{IsLimited, opens-as, settles-as}
-use Rattle.leg_search.proofs.step.open_on.Goals.{then-aim, else-aim, in-More, in-Done}
+use Rattle.leg_search.proofs.TurnLemmas.{opens-as, settles-as}
+use Rattle.leg_search.proofs.step.open_on.Goals.{in-More, in-Done}
 use Rattle.leg_search.proofs.step.open_on.Goals as goal
 
 pub returns-clause-answers : goal.returns-clause-answers
@@ -15,21 +16,6 @@ returns-clause-answers g c =
     let aim = c.args.aim in
     let quest = quest_at terrain aim (Opening opening) in
     let steps = c.in_ok-opening.ensures.steps in
-    let limited : IsLimited aim c.if-aim.limit = elim c.if-aim.branch [
-      | then-aim w ↦
-          let least = w.min-limit.ensures in
-          let at = w.limit-is in
-          let first = w.if-aim.true in
-          record {
-            few = λ is. omega (arith, at, least);
-            all = λ is. cc;
-            within = omega (arith, at, least);
-          }
-      | else-aim w ↦
-          let at = w.limit-is in
-          let later = w.if-aim.false in
-          record { few = λ is. cc; all = λ is. at; within = omega (arith, at) }
-    ] in
     elim c.match-branch-2.branch [
       | in-More w ↦
           let opens = subst (Says (OpensOn terrain opening) (IsOpened terrain opening)) w.in-More.is steps in
@@ -41,10 +27,8 @@ returns-clause-answers g c =
           let kept = w.in-Done.kept in
           let search = w.new.result in
           let made = w.new.ensures in
-          let limit = made.limit in
           subst (λ s. GoesOnAs terrain quest (record { stage = s; aim = c.counting-aim.result })) (sym w.stage-is)
           (subst (λ a. GoesOnAs terrain quest (record { stage = Settling kept search; aim = a })) (sym c.counting-aim.ensures.value)
           (settles-as terrain opening aim c.requires.on kept opened search (made.of (searched aim.runs (task_of terrain kept)))
-          (ap length made.none) (λ is. omega (arith, limit, limited.few is)) (λ is. limit ∙ limited.all is)
-          (omega (arith, limit, limited.within))))
+          (ap length made.none) (subst (IsLimited aim) (sym made.limit) c.limit_of-limit.ensures)))
     ]

@@ -24,9 +24,9 @@ pub returns-in_ok-links-in-Found-clause-told : goal.returns-in_ok-links-in-Found
 returns-in_ok-links-in-Found-clause-told g c limit few is differ =
     let space = c.args.self.now.space.now in
     let task = g.S.LegSpace.task space in
-    let searches = g.S.LegSpace.searches space in
+    let searches = g.met.S.LegSpace.searches space in
     let told = subst (λ r. Answers (run_rules r) limit c.args.outcome) searches is in (
-      runs-found task (g.S.LegSpace.lawful space) differ limit few c.in-Found.run' c.in_ok-links-in-Found.links
+      runs-found task (g.met.S.LegSpace.lawful space) differ limit few c.in-Found.run' c.in_ok-links-in-Found.links
           (subst (Answers (run_rules (rules_of task)) limit) c.in-Found.is told)
           (subst (λ r. c.in_ok-links-in-Found.links ≡ walk_by task.leg (written_of r c.in-Found.run'.choices.items)) searches
           (c.in_ok-links-in-Found.ensures.walk ∙ ap (λ w. walk_by task.leg (written_of (g.S.Space.rules space) w)) c.as_slice.ensures.value)),
@@ -37,15 +37,15 @@ pub returns-in-NoWay-clause-told : goal.returns-in-NoWay-clause-told
 returns-in-NoWay-clause-told g c limit few is differ =
     let space = c.args.self.now.space.now in
     let task = g.S.LegSpace.task space in
-    let told = subst (λ r. Answers (run_rules r) limit c.args.outcome) (g.S.LegSpace.searches space) is in
+    let told = subst (λ r. Answers (run_rules r) limit c.args.outcome) (g.met.S.LegSpace.searches space) is in
     no-runs task differ (subst (Answers (run_rules (rules_of task)) limit) c.in-NoWay.is told)
 
 pub returns-in-Budget-clause-told : goal.returns-in-Budget-clause-told
 returns-in-Budget-clause-told g c limit few is differ =
     let space = c.args.self.now.space.now in
     let task = g.S.LegSpace.task space in
-    let lawful = g.S.LegSpace.lawful space in
-    let told = subst (λ r. Answers (run_rules r) limit c.args.outcome) (g.S.LegSpace.searches space) is in
+    let lawful = g.met.S.LegSpace.lawful space in
+    let told = subst (λ r. Answers (run_rules r) limit c.args.outcome) (g.met.S.LegSpace.searches space) is in
     let spent = subst (Answers (run_rules (rules_of task)) limit) c.in-Budget.is told in
     λ all. (
       _,
