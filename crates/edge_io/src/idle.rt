@@ -36,6 +36,8 @@ where
     ensures idle { btree_map_len leaving.old.held ≡ 0 →
         LetsIdleGo peers.old.held waiting.now.items peers.new.held result }
     ensures last { peers.new.last ≡ peers.old.last }
+    ensures moved { peers.new.moved ≡ peers.old.moved }
+    ensures uses { peers.new.uses ≡ peers.old.uses }
 
     ensures stays { IsSome result → length peers.old.turns.waiting < peers.old.turns.room →
         door_in_line.new ≡ true }
@@ -57,6 +59,8 @@ impl<S> Peers<S> {
         S: Drop,
         ensures idle { LetsIdleGo self.old.held waiting.now.items self.new.held result }
         ensures last { self.new.last ≡ self.old.last }
+        ensures moved { self.new.moved ≡ self.old.moved }
+        ensures uses { self.new.uses ≡ self.old.uses }
         ensures line { length self.new.turns.waiting ≤ length self.old.turns.waiting }
         ensures room { self.new.turns.room ≡ self.old.turns.room }
     {

@@ -146,6 +146,8 @@ impl<S> Peers<S> {
         ensures others { (q : ℕ) → (q == id) ≡ false →
             get nat_cmp self.new.held q ≡ get nat_cmp self.old.held q }
         ensures last { self.new.last ≡ self.old.last }
+        ensures moved { self.new.moved ≡ self.old.moved }
+        ensures uses { self.new.uses ≡ self.old.uses }
     {
         if let Some(peer) = self.held.get_mut(&id) {
             if !peer.in_line && !peer.ended {
@@ -169,6 +171,7 @@ impl<S> Peers<S> {
         ensures others { (q : ℕ) → (q == id) ≡ false →
             get nat_cmp self.new.held q ≡ get nat_cmp self.old.held q }
         ensures last { self.new.last ≡ self.old.last }
+        ensures moved { self.new.moved ≡ self.old.moved }
     {
         self.uses = next_count(self.uses);
         let Some(peer) = self.held.get_mut(&id) else {

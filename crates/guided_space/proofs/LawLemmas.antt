@@ -45,10 +45,15 @@ both-first : (a b : Bool) → (a && b) ≡ true → a ≡ true
 both-first true b is = refl
 both-first false b is = is
 
+-- what a guide tells of a target is a lower bound on a terrain
+abbrev pub told-bound : Terrain → Guide → ℕ → Type 0
+told-bound terrain guide target =
+    IsLinkBound (roads_of terrain.map) terrain.links.facts target (low_by terrain guide target)
+
 -- the search on a leg by the bound of a guide is lawful
 pub guided-lawful :
     (terrain : Terrain) (kept : Rested) (guide : Guide) → IsTask (task_of terrain kept) →
-    IsLinkBound (roads_of terrain.map) terrain.links.facts kept.target (low_by terrain guide kept.target) →
+    told-bound terrain guide kept.target →
     IsTask (guided_task terrain kept guide)
 guided-lawful terrain kept guide lawful bound = record {
   roads = lawful.roads;

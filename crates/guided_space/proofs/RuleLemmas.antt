@@ -1,5 +1,5 @@
 -- What a space answers but its lower bound is the same whatever that is.
-use Rattle.std.proofs.Common.{◌≡◌, ℕ, ◌+◌, ◌≤◌, ◌<◌, IsTrue, List, Option, Some, refl, sym, ap, ◌∙◌, subst, arith}
+use Rattle.std.proofs.Common.{◌≡◌, ℕ, ◌+◌, ◌≤◌, ◌<◌, IsTrue, List, Option, Some, inl, inr, refl, sym, ap, ◌∙◌, subst, arith}
 use Rattle.cost_model.specs.declared.parts.Carry.{Carry}
 use Rattle.space_search.specs.Known.{AreKnown, IsKnown, LeavesKnown}
 use Rattle.space_search.specs.Laws.{HasRank, Supersedes, SupersedesByCost}

@@ -28,7 +28,7 @@ returns-in_ok-links-in-Found-clause-told g c limit few is differ =
     let told = subst (λ r. Answers (run_rules r) limit c.args.outcome) searches is in (
       runs-found task (g.met.S.LegSpace.lawful space) differ limit few c.in-Found.run' c.in_ok-links-in-Found.links
           (subst (Answers (run_rules (rules_of task)) limit) c.in-Found.is told)
-          (subst (λ r. c.in_ok-links-in-Found.links ≡ walk_by task.leg (written_of r c.in-Found.run'.choices.items)) searches
+          (subst (λ r. c.in_ok-links-in-Found.links ≡ walk_by task.leg (written_of r c.in-Found.run'.choices)) searches
           (c.in_ok-links-in-Found.ensures.walk ∙ ap (λ w. walk_by task.leg (written_of (g.S.Space.rules space) w)) c.as_slice.ensures.value)),
       c.in_ok-links-in-Found.ensures.runs,
     )
