@@ -19,8 +19,8 @@ returns-in-Some c =
           let made = made-seen world stored _ key-same c.peek.result c.in-Some.kept c.promote.new.self.entries c.in_ok-key.key
           c.in-Some.is c.peek.ensures all in (
             record { made = all; makings = kept.makings; once = kept.once; guides = kept.guides },
-            gives-ready (binding_in world sections c.args.overrides.now) c.in-Some.kept.now.value c.shared.result
-                (ready-under world stored c.in_ok-key.key c.args.place c.args.overrides.now sections c.in-Some.kept.now.value
+            gives-ready (binding_in world sections c.args.overrides.now) c.in-Some.kept.now.ready.value c.shared.result
+                (ready-under world stored c.in_ok-key.key c.args.place c.args.overrides.now sections c.in-Some.kept.now.ready.value
                 c.in_ok-key.ensures.exact there made) c.shared.ensures.same c.shared.ensures.cause,
           );
     }
