@@ -1,9 +1,11 @@
 -- Guides of profiles that are kept: what they are made for, and what is kept with them.
-use Rattle.std.proofs.Common.{◌≡◌, ◌∙◌, List, IfSome, Some, ap, sym, subst}
+use Rattle.std.proofs.Common.{◌≡◌, List, IfSome, None, sym, subst}
 use Rattle.cost_model.specs.Rides.{Terrain}
 use Rattle.map_guides.specs.Guides.{IsGuideMaking, IsGuideOf}
+use Rattle.map_guides.specs.Hierarchies.{IsHierarchyMaking}
 use Rattle.map_guides.specs.declared.guide_making.GuideMaking.{GuideMaking}
-use Rattle.overpass_graph.specs.Maps.{MapValue}
+use Rattle.overpass_graph.specs.Maps.{MapValue, roads_of}
+use Rattle.overpass_graph.specs.Roads.{Roads}
 use Rattle.profile_text.specs.Tree.{Sections}
 use Rattle.ride_bounds.specs.Guides.{IsGuide, IsGuided}
 use Rattle.ride_bounds.specs.declared.guide.Guide.{Guide}
@@ -13,11 +15,20 @@ use Rattle.route_ready.specs.Readiness.{ready_of}
 use Rattle.route_ready.specs.Worlds.{WorldValue, binding_in}
 use Rattle.route_ready.specs.declared.ready.Ready.{Ready}
 use Rattle.session_answers.specs.Guiding.{IsGuidedBy, IsTargetFor}
-use Rattle.session_answers.specs.Kept.{IsMadeFrom, IsTarget}
+use Rattle.session_answers.specs.Kept.{AreGuides, IsMadeFrom, IsTarget}
+use Rattle.session_answers.specs.declared.guides.Guides.{Guides}
 use Rattle.session_answers.specs.declared.guides.Target.{Target}
 use Rattle.session_answers.specs.declared.key.Key.{Key}
 use Rattle.way_class.specs.Links.{links_of}
 use Rattle.way_class.specs.declared.bound.Bound.{Bound}
+
+-- guides of which nothing is made are those of any world
+pub none-made : (world : WorldValue) (stored : List Sections) (guides : Guides) → guides.target ≡ None →
+    ((roads : Roads) → IsHierarchyMaking roads guides.hierarchy) → AreGuides world stored guides
+none-made world stored guides none hierarchy = record {
+  hierarchy = hierarchy (roads_of world.map);
+  target = subst (λ target. IfSome target (IsTarget world stored)) (sym none) tt;
+}
 
 -- a profile with a guide by its own facts was made from the same stored one
 pub guided-made : (world : WorldValue) (stored : List Sections) (key : Key) (ready other : Ready) (guide : Guide) →

@@ -1,7 +1,7 @@
-use Rattle.std.proofs.Common.{IfSome, subst, sym}
+use Rattle.std.proofs.Common.{subst}
 use Rattle.item_list.specs.Turns.{Says}
-use Rattle.overpass_graph.specs.Maps.{roads_of}
 use Rattle.route_ready.specs.World.{world_of}
+use Rattle.session_answers.proofs.GuideLemmas.{none-made}
 use Rattle.session_answers.specs.Kept.{IsMadeFrom, IsTarget}
 use Rattle.session_answers.proofs.kept.KeptProfiles.go_on_with.Goals as goal
 
@@ -34,8 +34,5 @@ returns-in-Err-clause-kept c = λ stored kept is.
       made = kept.made;
       makings = kept.makings;
       once = kept.once;
-      guides = record {
-        hierarchy = c.new.ensures.hierarchy (roads_of world.map);
-        target = subst (λ target. IfSome target (IsTarget world stored)) (sym c.new.ensures.none) tt;
-      };
+      guides = none-made world stored c.new.result c.new.ensures.none c.new.ensures.hierarchy;
     }
