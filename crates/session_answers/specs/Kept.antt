@@ -1,5 +1,5 @@
 -- What is kept of profiles that were made ready (this project's own rule).
-use Rattle.std.specs.Prelude.{◌≡◌, ℕ, ℤ, List, Contains, IfSome, None, Some, Result, Ok, Err, get_or, length, slice_get}
+use Rattle.std.specs.Prelude.{◌≡◌, ℕ, ℤ, List, Contains, IfSome, None, Some, Result, Ok, Err, get_or, slice_get}
 use Rattle.session_answers.specs.declared.kept.KeptProfiles.{KeptProfiles}
 use Rattle.session_answers.specs.declared.kept.Wanted.{Wanted}
 use Rattle.session_answers.specs.declared.kept.Wanted.TheVariants.{Ready, Making}
