@@ -12,6 +12,7 @@ use Rattle.item_list.specs.Turns.{Says, Settles}
 use Rattle.least_sums.specs.Findings.{most_found}
 use Rattle.item_list.specs.declared.turn.Turn.{Turn}
 use Rattle.item_list.specs.declared.turn.Turn.TheVariants.{More, Done}
+use Rattle.ride_bounds.specs.declared.guide.Guide.{Guide}
 use Rattle.space_search.proofs.CallerLemmas.{settled-within}
 use Rattle.space_search.specs.Searches.{IsSearchOf}
 use Rattle.space_search.specs.View.{view}
@@ -26,7 +27,7 @@ use Rattle.leg_search.specs.declared.search.Stage.TheVariants.{Opening, Settling
 use Rattle.leg_search.specs.declared.search.TheConstants.{FIRST_LABELS}
 
 -- a quest is that of the leg, the used segments, the limit and the way of going
-quest-same :
+pub quest-same :
     (leg other : Leg) (used also : ℕ → Bool) (limit : ℕ) (runs : Bool) → leg ≡ other → used ≡ also →
     let Q : Leg → (ℕ → Bool) → Quest = λ l u. record { leg = l; used = u; limit = limit; runs = runs } in Q leg used ≡ Q other also
 quest-same leg other used also limit runs legs useds =
@@ -52,7 +53,7 @@ end-answers task own limit runs Budget whole is =
     subst (λ n. (walks : List (List ℕ)) × IsSpentFor (quest_in task n runs) walks) all.0 (is all.1)
 
 -- what labels that were settled come to
-step-answers :
+pub step-answers :
     (terrain : Terrain) (next : LegSearch) → IsSearchOn terrain next → (task : Task) → quest_of terrain next
     ≡ quest_in task next.aim.limit next.aim.runs → (own : ℕ) (turn : Turn (Unit {0}) (Outcome Walk)) →
     (is_spent turn ≡ true → (own ≡ next.aim.limit) × (task.radius ≡ None)) →
@@ -72,7 +73,7 @@ labels-most true limit own few all = few refl
 labels-most false limit own few all = omega (arith, all refl)
 
 -- a step goes on within its quota, or ends below it
-step-goes :
+pub step-goes :
     (quota counted : ℕ) (before next : LegSearch) (turn : Turn (Unit {0}) (Outcome Walk)) → 1 ≤ quota →
     counted_of next ≡ counted_of before + counted →
     stages_left next.aim.first next.stage ≡ stages_left before.aim.first before.stage → Settles quota counted turn →
@@ -157,10 +158,17 @@ pub woken : (terrain seen : Terrain) (kept other : Rested) → seen ≡ terrain 
     P seen other → P terrain kept
 woken terrain seen kept other its same P p = subst (P terrain) same (subst (λ t. P t other) its p)
 
+-- and by a guide that was lent
+pub woken-by :
+    (terrain seen : Terrain) (kept other : Rested) (guide shown : Guide) → seen ≡ terrain → other ≡ kept → shown ≡ guide →
+    (P : Terrain → Rested → Guide → Type 0) → P seen other shown → P terrain kept guide
+woken-by terrain seen kept other guide shown its same lent P p =
+    subst (P terrain kept) lent (subst (λ k. P terrain k shown) same (subst (λ t. P t other shown) its p))
+
 -- ---- What still has to be paid is being found
 
 -- the nodes of a leg differ as those of the same leg
-legs-differ : (a b : Leg) → a ≡ b → b.start ≢ b.target → a.start ≢ a.target
+pub legs-differ : (a b : Leg) → a ≡ b → b.start ≢ b.target → a.start ≢ a.target
 legs-differ a b same differ e = differ (sym (ap (λ (l : Leg). l.start) same) ∙ e ∙ ap (λ (l : Leg). l.target) same)
 
 module _ (terrain : Terrain) (opening : Opened) (aim : Aim)

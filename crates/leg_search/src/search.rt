@@ -18,6 +18,7 @@ pub(crate) const NEAR_LABELS: u64 = 300;
 pub(crate) const NEAR_SUM: u128 = 1_000_000_000;
 
 /// What a search on a leg is for, and whether it has begun anew.
+#[derive(Drop)]
 pub(crate) struct Aim {
     /// The most labels that are settled, once it has begun anew.
     pub(crate) limit: u64,
@@ -33,19 +34,8 @@ pub(crate) struct Aim {
     pub(crate) guide: Option<Rc<Guide>>,
 }
 
-impl Drop for Aim {
-    fn drop(self) {
-        let Aim {
-            limit: _,
-            runs: _,
-            first: _,
-            counted: _,
-            guide: _,
-        } = self;
-    }
-}
-
 /// Labels are settled by the bound of a guide.
+#[derive(Drop)]
 pub(crate) struct Guiding {
     /// What the space keeps: its lists.
     pub(crate) kept: Rested,
@@ -53,17 +43,6 @@ pub(crate) struct Guiding {
     pub(crate) guide: Rc<Guide>,
     /// What is found of the bounds.
     pub(crate) bound: LegBound,
-}
-
-impl Drop for Guiding {
-    fn drop(self) {
-        let Guiding {
-            kept: _,
-            search: _,
-            guide: _,
-            bound: _,
-        } = self;
-    }
 }
 
 /// How far a search on a leg is.

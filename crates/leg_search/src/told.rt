@@ -3,7 +3,7 @@
 ghost use Rattle.std.specs.Prelude.{◌≡◌, ◌+◌, ◌<◌, ◌^◌};
 ghost use Rattle.leg_search.specs.Steps.{IsLimited, counting, is_spent, told_of};
 
-use crate::search::{Aim, FIRST_LABELS, LegSearch, NEAR_LABELS, Stage};
+use crate::search::{Aim, FIRST_LABELS, Guiding, LegSearch, NEAR_LABELS, Stage};
 use crate::turn::LegTurn;
 use bike_space::Walk;
 use item_list::Turn;
@@ -78,6 +78,12 @@ pub(crate) fn told(next: LegSearch, step: (u64, Turn<(), Outcome<Walk>>)) -> Leg
 fn ended(search: LegSearch) {
     let LegSearch { stage, aim: _ } = search;
     if let Stage::Guided(it) = stage {
-        it.guide.give_back(it.bound);
+        let Guiding {
+            kept: _,
+            search: _,
+            guide,
+            bound,
+        } = it;
+        guide.give_back(bound);
     }
 }

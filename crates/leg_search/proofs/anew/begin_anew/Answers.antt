@@ -24,7 +24,7 @@ returns-in-Some g c =
     let terrain = g.G.TerrainOf.terrain c.args.terrain in
     record {
       begins = IfOk-weaker c.begin_guided.result _ _ (λ next begins. begins-other terrain c.args.kept c.args.aim 3 3 next (omega arith) begins)
-          c.begin_guided.ensures;
+          c.begin_guided.ensures.begins;
     }
 
 pub returns-in-None : goal.returns-in-None
@@ -32,5 +32,5 @@ returns-in-None g c =
     let terrain = g.G.TerrainOf.terrain c.args.terrain in
     record {
       begins = IfOk-weaker c.begin_whole.result _ _ (λ next begins. begins-other terrain c.args.kept c.args.aim 2 3 next (omega arith) begins)
-          c.begin_whole.ensures;
+          c.begin_whole.ensures.begins;
     }

@@ -30,5 +30,5 @@ returns-clause-answers g c =
           subst (λ s. GoesOnAs terrain quest (record { stage = s; aim = c.counting-aim.result })) (sym w.stage-is)
           (subst (λ a. GoesOnAs terrain quest (record { stage = Settling kept search; aim = a })) (sym c.counting-aim.ensures.value)
           (settles-as terrain opening aim c.requires.on kept opened search (made.of (searched aim.runs (task_of terrain kept)))
-          (ap length made.none) (subst (IsLimited aim) (sym made.limit) c.limit_of-limit.ensures)))
+          (ap length made.none) (subst (IsLimited aim) (sym made.limit) c.limit_of-limit.ensures.limited)))
     ]
