@@ -4,7 +4,7 @@ use Rattle.std.proofs.Common.{◌≡◌, ◌==◌, ℕ, ◌<◌, ◌≤◌, ◌+
 use Rattle.std.proofs.lemmas.Bool.Decides.{nat_tests}
 use Rattle.command_words.specs.Addresses.{SpellsAddress, is_address}
 use Rattle.command_words.specs.Given.{Given, Named}
-use Rattle.command_words.specs.Rows.{keys_of, most_labels, most_turns}
+use Rattle.command_words.specs.Rows.{keys_of, most_hierarchies, most_labels, most_turns}
 use Rattle.command_words.specs.Value.{number_in, place_in, product_in}
 use Rattle.command_words.specs.Reader.{entry_with, entries_after, entries_of}
 use Rattle.command_words.specs.Command.{lies_in, files_with, sizes_with, sizes_in, grid_by, grid_over, grid_with, hills_with, complete, command_with, code_with, make_with, file_in, files_in, check_by, within_by, ride_in, ride_over, serve_with, number_or}
@@ -28,7 +28,7 @@ use Rattle.command_words.specs.declared.command.WithinCommand.{WithinCommand}
 use Rattle.command_words.specs.declared.completing.Sizes.{Sizes}
 use Rattle.command_words.specs.declared.rows.CommandName.{CommandName}
 use Rattle.command_words.specs.declared.rows.CommandName.TheVariants as Name
-use Rattle.command_words.specs.declared.rows.Key.TheVariants.{Seed, Width, Height, From, To, What, Lookups, Profile, Map, Tile, Listen, Turns, Hangup, Labels, Certificate, Cost, Bound, Notes}
+use Rattle.command_words.specs.declared.rows.Key.TheVariants.{Seed, Width, Height, From, To, What, Lookups, Profile, Map, Tile, Listen, Turns, Hangup, Labels, Hierarchies, Certificate, Cost, Bound, Notes}
 use Rattle.command_words.specs.declared.value.Place.{Place}
 
 in_grid : (w h : ℕ) (place : Place) → lies_in w h place ≡ true → (place.x < w) × (place.y < h)
@@ -168,6 +168,12 @@ unfolding number_or
 number_or-fit None most some fit = (some, omega arith)
 number_or-fit (Some entry) most some fit = fit entry refl
 
+number_or-most : (entry : Option Given) (most : ℕ) → ((e : Given) → entry ≡ Some e → number_in e.value ≤ most) →
+    number_or entry most ≤ most
+unfolding number_or
+number_or-most None most fit = omega arith
+number_or-most (Some entry) most fit = fit entry refl
+
 -- a hilly grid is within its limits
 hills_with-fit : (after : ℕ) (sizes : Option Sizes) (command : Command) → AreSized sizes →
     hills_with after sizes ≡ Ok command → IsFit command
@@ -187,14 +193,15 @@ listen-fit (Some entry) fit word is =
 
 -- a server takes as many events as may be, a search of it settles as many labels, its profiles have names of their own, and
 -- where it listens is an address
-serve_with-fit : (after : ℕ) (lookups roads : Option Given) (profiles tiles : List Named) (listen turns hangup labels notes : Option Given)
+serve_with-fit : (after : ℕ) (lookups roads : Option Given) (profiles tiles : List Named) (listen turns hangup labels hierarchies notes : Option Given)
     (command : Command) →
     AreProfileFiles profiles → AreOnceAfter [] profiles →
     ((e : Given) → listen ≡ Some e → is_address e.text ≡ true) →
     ((e : Given) → turns ≡ Some e → (1 ≤ number_in e.value) × (number_in e.value ≤ most_turns)) →
     ((e : Given) → labels ≡ Some e → (1 ≤ number_in e.value) × (number_in e.value ≤ most_labels)) →
-    serve_with after lookups roads profiles tiles listen turns hangup labels notes ≡ Ok command → IsFit command
-serve_with-fit after (Some lookups) (Some roads) profiles tiles listen turns hangup labels notes command named once where_to a b e =
+    ((e : Given) → hierarchies ≡ Some e → number_in e.value ≤ most_hierarchies) →
+    serve_with after lookups roads profiles tiles listen turns hangup labels hierarchies notes ≡ Ok command → IsFit command
+serve_with-fit after (Some lookups) (Some roads) profiles tiles listen turns hangup labels hierarchies notes command named once where_to a b c e =
     let made : ServeCommand = record {
       lookups = file_in lookups;
       map = file_in roads;
@@ -204,6 +211,7 @@ serve_with-fit after (Some lookups) (Some roads) profiles tiles listen turns han
       turns = number_or turns most_turns;
       hangup = number_or hangup 0 == 1;
       labels = number_or labels most_labels;
+      hierarchies = number_or hierarchies most_hierarchies;
       notes = number_or notes 1 == 1;
     } in
     let same : Form.TheVariants.Serve made ≡ command = cc in
@@ -214,13 +222,14 @@ serve_with-fit after (Some lookups) (Some roads) profiles tiles listen turns han
       turns = limits.1;
       some_labels = settled.0;
       labels = settled.1;
+      hierarchies = number_or-most hierarchies most_hierarchies c;
       named = named;
       once = once;
       listens = listen-fit listen where_to;
     })
-serve_with-fit after None roads profiles tiles listen turns hangup labels notes command named once where_to a b e =
+serve_with-fit after None roads profiles tiles listen turns hangup labels hierarchies notes command named once where_to a b c e =
     absurd (err-not_ok after command e)
-serve_with-fit after (Some lookups) None profiles tiles listen turns hangup labels notes command named once where_to a b e =
+serve_with-fit after (Some lookups) None profiles tiles listen turns hangup labels hierarchies notes command named once where_to a b c e =
     absurd (err-not_ok after command e)
 
 complete-fit : (name : CommandName) (entries : List Given) (after : ℕ) (command : Command) → AllFit (keys_of name) entries →
@@ -254,10 +263,11 @@ complete-fit Name.Within entries after command all once e =
 complete-fit Name.Serve entries after command all once e =
     serve_with-fit after (entry_with Lookups entries) (entry_with Map entries) (files_in Profile entries) (files_in Tile entries)
     (entry_with Listen entries) (entry_with Turns entries) (entry_with Hangup entries) (entry_with Labels entries)
-    (entry_with Notes entries) command
+    (entry_with Hierarchies entries) (entry_with Notes entries) command
     (profiles-fit (keys_of Name.Serve) entries (λ text x fit. fit) all) once
     (λ x is. with-fit (keys_of Name.Serve) Listen entries x all is) (λ x is. with-fit (keys_of Name.Serve) Turns entries x all is)
-    (λ x is. with-fit (keys_of Name.Serve) Labels entries x all is) e
+    (λ x is. with-fit (keys_of Name.Serve) Labels entries x all is)
+    (λ x is. (with-fit (keys_of Name.Serve) Hierarchies entries x all is).1) e
 
 with_words-fit : (name : CommandName) (texts : List (List ℕ)) (command : Command) → command_with name texts ≡ Ok command → IsFit command
 with_words-fit name texts command e =

@@ -9,7 +9,7 @@ use Rattle.command_words.specs.Value.{number_in, place_in, product_in}
 use Rattle.command_words.specs.declared.rows.CommandName.{CommandName}
 use Rattle.command_words.specs.declared.rows.CommandName.TheVariants.{Grid, Make, Code, Route, Certify, Check, Table, Within, Hills, Serve}
 use Rattle.command_words.specs.declared.rows.Key.{Key}
-use Rattle.command_words.specs.declared.rows.Key.TheVariants.{Seed, Width, Height, From, To, What, Lookups, Profile, Map, Query, Tile, Listen, Turns, Hangup, Labels, Certificate, Cost, Bound, Notes}
+use Rattle.command_words.specs.declared.rows.Key.TheVariants.{Seed, Width, Height, From, To, What, Lookups, Profile, Map, Query, Tile, Listen, Turns, Hangup, Labels, Hierarchies, Certificate, Cost, Bound, Notes}
 use Rattle.command_words.specs.declared.command.Command.{Command}
 use Rattle.command_words.specs.declared.command.Command as Form
 use Rattle.command_words.specs.declared.command.CodeCommand.{CodeCommand}
@@ -162,8 +162,8 @@ address_of (Some word) = word.name
 
 -- the command of a server, or the place after the last word where the tag table or the map is missing
 abbrev pub serve_with : (after : ℕ) (lookups roads : Option Given) (profiles tiles : List Named)
-    (listen turns hangup labels notes : Option Given) → Result Command ℕ
-serve_with after (Some lookups) (Some roads) profiles tiles listen turns hangup labels notes =
+    (listen turns hangup labels hierarchies notes : Option Given) → Result Command ℕ
+serve_with after (Some lookups) (Some roads) profiles tiles listen turns hangup labels hierarchies notes =
     Ok (Form.TheVariants.Serve (record {
       lookups = file_in lookups;
       map = file_in roads;
@@ -173,9 +173,10 @@ serve_with after (Some lookups) (Some roads) profiles tiles listen turns hangup 
       turns = number_or turns (default_number Turns);
       hangup = number_or hangup (default_number Hangup) == 1;
       labels = number_or labels (default_number Labels);
+      hierarchies = number_or hierarchies (default_number Hierarchies);
       notes = number_or notes server_notes == 1;
     }))
-serve_with after lookups roads profiles tiles listen turns hangup labels notes = Err after
+serve_with after lookups roads profiles tiles listen turns hangup labels hierarchies notes = Err after
 
 -- the command of this name and these entries, before the word at this place
 unfoldable pub complete : CommandName → List Given → ℕ → Result Command ℕ
@@ -193,7 +194,7 @@ complete Hills entries after = hills_with after (sizes_in entries)
 complete Serve entries after =
     serve_with after (entry_with Lookups entries) (entry_with Map entries) (files_in Profile entries)
     (files_in Tile entries) (entry_with Listen entries) (entry_with Turns entries) (entry_with Hangup entries)
-    (entry_with Labels entries) (entry_with Notes entries)
+    (entry_with Labels entries) (entry_with Hierarchies entries) (entry_with Notes entries)
 
 -- the command of this name and the words after it
 abbrev pub command_with : CommandName → List (List ℕ) → Result Command ℕ

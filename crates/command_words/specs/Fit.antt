@@ -6,7 +6,7 @@ use Rattle.std.specs.Str.{bytes_eq}
 use Rattle.command_words.specs.Addresses.{SpellsAddress}
 use Rattle.command_words.specs.FileNames.{is_profile_file, profile_name}
 use Rattle.command_words.specs.Given.{Named}
-use Rattle.command_words.specs.Rows.{most_labels, most_turns}
+use Rattle.command_words.specs.Rows.{most_hierarchies, most_labels, most_turns}
 use Rattle.command_words.specs.declared.command.Command.{Command}
 use Rattle.command_words.specs.declared.command.Command as Form
 use Rattle.command_words.specs.declared.command.GridCommand.{GridCommand}
@@ -48,13 +48,14 @@ AreOnceAfter before (file ∷ files) =
 abbrev pub most_cost : ℕ
 most_cost = 10 ^ 15
 
--- the events that a server takes and the labels that a search of it may settle are within their limits, its
--- profiles have names, each its own, and where it listens is an IP address with a port
+-- the events that a server takes, the labels that a search of it may settle and the profiles for which it keeps a
+-- hierarchy are within their limits, its profiles have names, each its own, and where it listens is an IP address with a port
 pub record IsServeFit (command : ServeCommand) : Type 0 where
   pub some_turns : 1 ≤ command.turns
   pub turns : command.turns ≤ most_turns
   pub some_labels : 1 ≤ command.labels
   pub labels : command.labels ≤ most_labels
+  pub hierarchies : command.hierarchies ≤ most_hierarchies
   pub named : AreProfileFiles command.profiles
   pub once : AreOnceAfter [] command.profiles
   pub listens : (word : Named) → command.listen ≡ Some word → SpellsAddress word.name

@@ -3,7 +3,7 @@ use Rattle.std.specs.Prelude.{ℕ, List, None, codes, decimal}
 use Rattle.command_words.specs.Command.{address_of}
 use Rattle.command_words.specs.Rows.{default_number}
 use Rattle.command_words.specs.declared.rows.Key.{Key}
-use Rattle.command_words.specs.declared.rows.Key.TheVariants.{Seed, Width, Height, From, To, What, Lookups, Profile, Map, Query, Tile, Listen, Turns, Hangup, Labels, Certificate, Cost, Bound, Notes}
+use Rattle.command_words.specs.declared.rows.Key.TheVariants.{Seed, Width, Height, From, To, What, Lookups, Profile, Map, Query, Tile, Listen, Turns, Hangup, Labels, Hierarchies, Certificate, Cost, Bound, Notes}
 
 -- what the value of a key is for
 unfoldable pub meaning_of : Key → List ℕ
@@ -22,6 +22,7 @@ meaning_of Listen = codes "the IP address and the port to listen at"
 meaning_of Turns = codes "the server ends after so many events"
 meaning_of Hangup = codes "1 where a peer that sends no more is gone, as behind a front"
 meaning_of Labels = codes "how many labels a search may settle at most"
+meaning_of Hierarchies = codes "for how many profiles a hierarchy is kept"
 meaning_of Certificate = codes "the file of the certificate"
 meaning_of Cost = codes "the most that the way to a node may cost"
 meaning_of Bound = codes "1 where labels rank with a lower bound of what is still to pay"
@@ -32,6 +33,7 @@ unfoldable pub default_text : Key → List ℕ
 default_text Listen = address_of None
 default_text Turns = decimal (default_number Turns)
 default_text Labels = decimal (default_number Labels)
+default_text Hierarchies = decimal (default_number Hierarchies)
 default_text Hangup = decimal (default_number Hangup)
 default_text Bound = decimal (default_number Bound)
 default_text Notes = codes "1 of serve, else 0"

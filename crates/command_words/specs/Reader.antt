@@ -9,7 +9,7 @@ use Rattle.command_words.specs.Rows.{key_name}
 use Rattle.command_words.specs.Value.{value_of, cut_word}
 use Rattle.command_words.specs.contracts.rows.Key.{the_type}
 use Rattle.command_words.specs.declared.rows.Key.{Key}
-use Rattle.command_words.specs.declared.rows.Key.TheVariants.{Seed, Width, Height, From, To, What, Lookups, Profile, Map, Query, Tile, Listen, Turns, Hangup, Labels, Certificate, Cost, Bound, Notes}
+use Rattle.command_words.specs.declared.rows.Key.TheVariants.{Seed, Width, Height, From, To, What, Lookups, Profile, Map, Query, Tile, Listen, Turns, Hangup, Labels, Hierarchies, Certificate, Cost, Bound, Notes}
 use Rattle.command_words.specs.declared.rows.KeyRow.{KeyRow}
 use Rattle.command_words.specs.declared.value.Value.{Value}
 
@@ -21,7 +21,7 @@ same_key a b = sameb the_type a b
 abbrev pub all_keys : List Key
 all_keys =
     Seed ∷ Width ∷ Height ∷ From ∷ To ∷ What ∷ Lookups ∷ Profile ∷ Map ∷ Query ∷ Tile ∷ Listen ∷ Turns ∷ Hangup ∷
-    Labels ∷ Certificate ∷ Cost ∷ Bound ∷ Notes ∷ []
+    Labels ∷ Hierarchies ∷ Certificate ∷ Cost ∷ Bound ∷ Notes ∷ []
 
 -- the key that a text names
 unfoldable pub key_of : List ℕ → Option Key

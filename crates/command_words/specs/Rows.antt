@@ -1,7 +1,7 @@
 -- The commands as rows. This project's own rule.
 use Rattle.std.specs.Prelude.{ℕ, ◌^◌, List, [], ◌∷◌, ◌++◌, codes}
 use Rattle.command_words.specs.declared.rows.Key.{Key}
-use Rattle.command_words.specs.declared.rows.Key.TheVariants.{Seed, Width, Height, From, To, What, Lookups, Profile, Map, Query, Tile, Listen, Turns, Hangup, Labels, Certificate, Cost, Bound, Notes}
+use Rattle.command_words.specs.declared.rows.Key.TheVariants.{Seed, Width, Height, From, To, What, Lookups, Profile, Map, Query, Tile, Listen, Turns, Hangup, Labels, Hierarchies, Certificate, Cost, Bound, Notes}
 use Rattle.command_words.specs.declared.rows.Form.{Form}
 use Rattle.command_words.specs.declared.rows.Form.TheVariants as form
 use Rattle.command_words.specs.declared.rows.KeyRow.{KeyRow}
@@ -25,6 +25,7 @@ key_name Listen = codes "listen"
 key_name Turns = codes "turns"
 key_name Hangup = codes "hangup"
 key_name Labels = codes "labels"
+key_name Hierarchies = codes "hierarchies"
 key_name Certificate = codes "certificate"
 key_name Cost = codes "cost"
 key_name Bound = codes "bound"
@@ -60,10 +61,16 @@ most_turns = 2 ^ 63
 abbrev pub most_labels : ℕ
 most_labels = 4000000000
 
+-- the most profiles for which a server may be told to keep a hierarchy, and for how many it keeps one where it
+-- isn't told
+abbrev pub most_hierarchies : ℕ
+most_hierarchies = 8
+
 -- the number that stands for a key that isn't given
 abbrev pub default_number : Key → ℕ
 default_number Turns = most_turns
 default_number Labels = most_labels
+default_number Hierarchies = most_hierarchies
 default_number key = 0
 
 -- whether a server notes what it does where it isn't told
@@ -97,7 +104,7 @@ keys_of Serve =
     once Lookups form.File ∷ once Map form.File ∷ up_to 64 Profile form.ProfileFile ∷ up_to 64 Tile form.File
     ∷ up_to 1 Listen form.Address ∷ up_to 1 Turns (form.Number 1 most_turns)
     ∷ up_to 1 Hangup (form.Number 0 1) ∷ up_to 1 Labels (form.Number 1 most_labels)
-    ∷ up_to 1 Notes (form.Number 0 1) ∷ []
+    ∷ up_to 1 Hierarchies (form.Number 0 most_hierarchies) ∷ up_to 1 Notes (form.Number 0 1) ∷ []
 
 -- what a command does
 unfoldable pub about_of : CommandName → List ℕ

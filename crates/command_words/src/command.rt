@@ -86,8 +86,8 @@ pub struct HillsCommand {
 
 /// The command `serve`: the files of the tag table, of the map, of the profiles and of the tiles,
 /// where to listen, if that is told, how many events are taken at most, whether an end of a peer is
-/// the loss of its connection, how many labels a search may settle for an alternative of a leg, and
-/// whether notes are written.
+/// the loss of its connection, how many labels a search may settle for an alternative of a leg, for
+/// how many profiles a hierarchy is kept, and whether notes are written.
 pub struct ServeCommand<'a> {
     pub lookups: FileWord<'a>,
     pub map: FileWord<'a>,
@@ -97,6 +97,7 @@ pub struct ServeCommand<'a> {
     pub turns: u64,
     pub hangup: bool,
     pub labels: u64,
+    pub hierarchies: u64,
     pub notes: bool,
 }
 
@@ -111,6 +112,7 @@ impl<'a> Drop for ServeCommand<'a> {
             turns: _,
             hangup: _,
             labels: _,
+            hierarchies: _,
             notes: _,
         } = self;
     }

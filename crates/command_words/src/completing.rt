@@ -290,6 +290,7 @@ fn complete_serve<'a>(
             turns: number_for(entries, Key::Turns),
             hangup: number_for(entries, Key::Hangup) == 1,
             labels: number_for(entries, Key::Labels),
+            hierarchies: number_for(entries, Key::Hierarchies),
             notes: number_or(entry_with(entries, Key::Notes), SERVER_NOTES) == 1,
         })),
         _ => Err(after),

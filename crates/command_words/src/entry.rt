@@ -131,7 +131,7 @@ impl<'a> Entry<'a> {
 }
 
 /// All keys.
-const ALL_KEYS: [Key; 19] = [
+const ALL_KEYS: [Key; 20] = [
     Key::Seed,
     Key::Width,
     Key::Height,
@@ -147,6 +147,7 @@ const ALL_KEYS: [Key; 19] = [
     Key::Turns,
     Key::Hangup,
     Key::Labels,
+    Key::Hierarchies,
     Key::Certificate,
     Key::Cost,
     Key::Bound,

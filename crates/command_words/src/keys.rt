@@ -1,6 +1,6 @@
 //! The keys of each command, as rows.
 
-use crate::rows::{Form, Key, KeyRow, LABELS, MOST_TURNS};
+use crate::rows::{Form, Key, KeyRow, LABELS, MOST_HIERARCHIES, MOST_TURNS};
 
 /// The most files of a kind of which there may be several.
 const MOST_FILES: usize = 64;
@@ -293,7 +293,7 @@ pub const HILLS_KEYS: [KeyRow; 3] = [
 ];
 
 /// The keys of the command `serve`.
-pub const SERVE_KEYS: [KeyRow; 9] = [
+pub const SERVE_KEYS: [KeyRow; 10] = [
     KeyRow {
         form: Form::File,
         least: 1,
@@ -344,6 +344,15 @@ pub const SERVE_KEYS: [KeyRow; 9] = [
         least: 0,
         most: 1,
         key: Key::Labels,
+    },
+    KeyRow {
+        form: Form::Number {
+            low: 0,
+            high: MOST_HIERARCHIES,
+        },
+        least: 0,
+        most: 1,
+        key: Key::Hierarchies,
     },
     NOTES,
 ];

@@ -30,6 +30,7 @@ impl Key {
             Key::Turns => "the server ends after so many events",
             Key::Hangup => "1 where a peer that sends no more is gone, as behind a front",
             Key::Labels => "how many labels a search may settle at most",
+            Key::Hierarchies => "for how many profiles a hierarchy is kept",
             Key::Certificate => "the file of the certificate",
             Key::Cost => "the most that the way to a node may cost",
             Key::Bound => "1 where labels rank with a lower bound of what is still to pay",
@@ -45,7 +46,7 @@ pub fn append_default(text: &mut Vec<u8>, key: Key) -> Result<(), AllocError>
 {
     match key {
         Key::Listen => append_bytes(text, ADDRESS.as_bytes()),
-        Key::Turns | Key::Labels | Key::Hangup | Key::Bound => {
+        Key::Turns | Key::Labels | Key::Hierarchies | Key::Hangup | Key::Bound => {
             append_number(text, key.default_number())
         }
         Key::Notes => append_bytes(text, b"1 of serve, else 0"),

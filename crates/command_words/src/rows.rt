@@ -26,6 +26,7 @@ pub enum Key {
     Turns,
     Hangup,
     Labels,
+    Hierarchies,
     Certificate,
     Cost,
     Bound,
@@ -91,6 +92,10 @@ pub const LABELS: Form = Form::Number {
     high: MOST_LABELS,
 };
 
+/// The most profiles for which a server may be told to keep a hierarchy, and for how many it keeps one
+/// where it isn't told.
+pub const MOST_HIERARCHIES: u64 = 8;
+
 /// Whether a server notes what it does where it isn't told.
 pub const SERVER_NOTES: u64 = 1;
 
@@ -130,6 +135,7 @@ impl Key {
             Key::Turns => "turns",
             Key::Hangup => "hangup",
             Key::Labels => "labels",
+            Key::Hierarchies => "hierarchies",
             Key::Certificate => "certificate",
             Key::Cost => "cost",
             Key::Bound => "bound",
@@ -144,6 +150,7 @@ impl Key {
         match self {
             Key::Turns => MOST_TURNS,
             Key::Labels => MOST_LABELS,
+            Key::Hierarchies => MOST_HIERARCHIES,
             _ => 0,
         }
     }

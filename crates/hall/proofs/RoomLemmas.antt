@@ -1,5 +1,5 @@
 -- A room stays as it has to be by what calls change of one connection.
-use Rattle.std.proofs.Common.{◌≡◌, ◌≤◌, ◌==◌, ◌+◌, ℕ, Bool, cond, List, ◌++◌, set, take, Option, Some, inl, inr, sym, ◌∙◌, ap, subst, arith, length-append}
+use Rattle.std.proofs.Common.{◌≡◌, ◌≤◌, ◌==◌, ◌+◌, ℕ, Bool, cond, List, [], ◌++◌, set, take, Option, Some, inl, inr, refl, sym, ◌∙◌, ap, subst, arith, append-nil, length-append}
 use Rattle.std.specs.Bool.{beq}
 use Rattle.std.specs.Prelude.{slice_get}
 use Rattle.std.specs.Vec.{vec_capacity}
@@ -60,6 +60,20 @@ search_at old new added peer site stored stay is =
 -- what is kept the same stays awaited
 pub stay-same : (world : WorldValue) (old new : KeptProfiles) → new ≡ old → StayAwaited world old new
 stay-same world old new same = subst (λ (k : KeptProfiles). StayAwaited world old k) (sym same) (λ place overrides left k is. is)
+
+-- a room stays as it has to be where other profiles are kept and all who waited may wait on
+pub held-again : (room : Room) (kept : KeptProfiles) → IsHeld room → AreReadied (record room.desk { kept = kept }) →
+    StayAwaited (world_of room.desk.world) room.desk.kept kept → IsHeld (record room { desk = record room.desk { kept = kept } })
+held-again room kept held are stay = record {
+  sound = held.sound;
+  ascending = held.ascending;
+  roomy = held.roomy;
+  few = held.few;
+  searching = λ peer one.
+      search_at room.desk (record room.desk { kept = kept }) [] peer refl (sym (append-nil (stored_of room.desk.profiles))) stay
+      (held.searching peer one);
+  kept = are;
+}
 
 -- ---- One connection changes
 

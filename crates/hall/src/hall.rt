@@ -1,6 +1,7 @@
 //! All connections of a server.
 
 use crate::desk::Desk;
+use crate::guiding::make_guides_in;
 use crate::opening::{MOST_PEERS, MOST_SESSIONS};
 use crate::ready_frames::ReadyFrames;
 use crate::readying::make_ready_in;
@@ -10,7 +11,7 @@ use crate::stepping::step;
 use crate::working::work;
 use edge_io::{Event, Hub};
 use route_ready::{RouteError, Shelf, World};
-use session_answers::{KeptProfiles, Profiles};
+use session_answers::{KeptProfiles, Profiles, has_guides_to_make};
 use std::alloc::{AllocError, Global};
 use std::collections::VecDeque;
 use std::marker::Model;
@@ -60,15 +61,22 @@ impl Hall {
     ghost use Rattle.session_answers.specs.Warming.{MakesReady};
 
     /// A hall without connections, in which no profile was made ready. No search settles more than
-    /// `labels` of them, whatever a request asks. No name in the shelf begins with `custom_`.
-    pub fn new(alloc: Global, world: World, shelf: Shelf, labels: u64) -> Result<Hall, AllocError>
+    /// `labels` of them, whatever a request asks, and no more than `guides` profiles have a guide at
+    /// once. No name in the shelf begins with `custom_`.
+    pub fn new(
+        alloc: Global,
+        world: World,
+        shelf: Shelf,
+        labels: u64,
+        guides: u64,
+    ) -> Result<Hall, AllocError>
         requires given { AreGiven (names_of (shelf_of shelf)) }
         ensures empty { IfOk result (λ hall. state_of hall ≡ empty_hall (shelf_of shelf)) }
         ensures service { let given = length (shelf_of shelf) in
             IfOk result (λ hall. service_of hall ≡
             record { world = world_of world; given = given; labels = labels }) }
     {
-        let kept = KeptProfiles::new(alloc)?;
+        let kept = KeptProfiles::new(alloc, guides)?;
         let peers = Vec::with_capacity(alloc, MOST_PEERS)?;
         let queue = VecDeque::with_capacity(alloc, MOST_SESSIONS)?;
         let ready = ReadyFrames::new(alloc)?;
@@ -125,6 +133,20 @@ impl Hall {
         ensures same { service_of self.new ≡ service_of self.old }
     {
         work(&mut self.room);
+    }
+
+    /// Whether there are guides to make for the profiles that are kept.
+    pub fn is_guiding(&self) -> bool {
+        has_guides_to_make(&self.room.desk.profiles, &self.room.desk.kept)
+    }
+
+    /// Goes on for a spell with the guides of the profiles that are kept, where no search waits. What
+    /// any connection is answered stays the same.
+    pub fn make_guides(&mut self)
+        ensures state { state_of self.new ≡ state_of self.old }
+        ensures same { service_of self.new ≡ service_of self.old }
+    {
+        make_guides_in(&mut self.room);
     }
 
     /// Sends and closes what each connection has to send and to close. So after each turn no more

@@ -4,6 +4,7 @@
 
 mod changes;
 mod desk;
+mod guiding;
 mod hall;
 mod law;
 mod opening;

@@ -15,7 +15,8 @@ use crate::serve_end::ServeEnd;
 use edge_io::{Event, Hub};
 
 /// Serves the connections of a hub for at most so many turns: each takes one event, gives a search
-/// one turn, and sends a piece of each connection once.
+/// one turn, sends a piece of each connection once, and goes on with the guides of profiles where no
+/// search waits.
 pub fn serve<H: Hub>(hall: &mut Hall, hub: &mut H, turns: u64) -> ServeEnd
     requires live { AreLive (state_of hall.old) (H.seen hub.old) }
     ensures run { Served (service_of hall.old) turns (state_of hall.old) (H.seen hub.old) result
@@ -58,7 +59,7 @@ fn take_turn<H: Hub>(hall: &mut Hall, hub: &mut H, buf: &mut [u8]) -> Option<Ser
     ensures live { AreLive (state_of hall.new) (H.seen hub.new) }
     ensures same { service_of hall.new ≡ service_of hall.old }
 {
-    match hub.next(buf, hall.waiting(), false) {
+    match hub.next(buf, hall.waiting(), hall.is_guiding()) {
         Ok(event) => match event {
             Event::Over => Some(ServeEnd::Over),
             _ => {
@@ -81,7 +82,8 @@ fn bytes_of<'b>(event: &Event, buf: &'b [u8]) -> &'b [u8]
     }
 }
 
-/// Does what follows from an event that isn't the last.
+/// Does what follows from an event that isn't the last; and goes on with the guides of profiles where
+/// no search waits.
 fn follow<H: Hub>(hall: &mut Hall, hub: &mut H, event: &Event, bytes: &[u8])
     requires goes_on { event.now ≢ Over }
     requires heard { Heard (state_of hall.old) (H.seen hub.old) event.now }
@@ -93,6 +95,7 @@ fn follow<H: Hub>(hall: &mut Hall, hub: &mut H, event: &Event, bytes: &[u8])
     step(hall, hub, event, bytes);
     hall.work();
     hall.serve_all(hub);
+    hall.make_guides();
 }
 
 /// Hands an event to the hall, and closes its connection where there is no room for it.

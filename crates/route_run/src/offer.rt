@@ -61,7 +61,7 @@ fn readied<N: Sink>(
         (inputs seen notes.old) (inputs seen notes.new) (seen_as offer_of result) }
     ensures new { IfOk result (λ hall. IsNew (offer_of hall)) }
 {
-    match hall_over(alloc, offered, command.labels) {
+    match hall_over(alloc, offered, command.labels, command.hierarchies) {
         Ok(hall) => {
             let mut hall = hall;
             make_ready(alloc, &mut hall, command.profiles.as_slice(), notes);
@@ -71,15 +71,16 @@ fn readied<N: Sink>(
     }
 }
 
-/// A hall over a world with profiles, whose searches settle so many labels at most.
-fn hall_over(alloc: Global, offered: Offered, labels: u64) -> Result<Hall, Status>
+/// A hall over a world with profiles, whose searches settle so many labels at most, and of whose
+/// profiles so many have a guide.
+fn hall_over(alloc: Global, offered: Offered, labels: u64, guides: u64) -> Result<Hall, Status>
     requires given { AreGiven (names_of (offered_of offered).profiles) }
     ensures exact { Answers offer_of (Ok (offer_over labels (offered_of offered))) Status.NoMemory
         result }
     ensures new { IfOk result (λ hall. IsNew (offer_of hall)) }
 {
     let Offered { world, shelf } = offered;
-    match Hall::new(alloc, world, shelf, labels) {
+    match Hall::new(alloc, world, shelf, labels, guides) {
         Ok(hall) => Ok(hall),
         Err(_) => Err(Status::NoMemory),
     }

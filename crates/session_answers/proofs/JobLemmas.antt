@@ -1,5 +1,5 @@
 -- The search for a query stays it while more profiles are stored.
-use Rattle.std.proofs.Common.{◌≡◌, ℕ, ◌≤◌, ◌<◌, List, [], ◌∷◌, ◌++◌, length, take, drop, false, refl, sym, ap, ◌∙◌, subst, arith, eq-eqb, None, Some}
+use Rattle.std.proofs.Common.{◌≡◌, ℕ, ◌≤◌, ◌<◌, List, [], ◌∷◌, ◌++◌, length, take, drop, false, refl, sym, ap, ◌∙◌, subst, arith, eq-eqb, IfSome, Option, None, Some}
 use Rattle.std.specs.Prelude.{slice_get}
 use Rattle.std.proofs.lemmas.List.{length-map, take-append-drop, take-append-le, take_all}
 use Rattle.std.proofs.lemmas.Option.{slice_get_within}
@@ -11,7 +11,11 @@ use Rattle.route_ready.specs.Worlds.{WorldValue}
 use Rattle.session_answers.specs.Jobs.{AreKept, IsBegun, IsJobOf}
 use Rattle.session_answers.specs.Rows.{Asks}
 use Rattle.session_answers.specs.Searches.{IsSearchFor, IsStageOver, stage_waits, turns_for, waits_for}
-use Rattle.session_answers.specs.Kept.{StayAwaited}
+use Rattle.session_answers.specs.Kept.{AreGuides, IsMadeFrom, IsTarget, StayAwaited}
+use Rattle.session_answers.specs.declared.guides.Guides.{Guides}
+use Rattle.session_answers.specs.declared.guides.Target.{Target}
+use Rattle.session_answers.specs.declared.key.Key.{Key}
+use Rattle.route_ready.specs.declared.ready.Ready.{Ready}
 use Rattle.session_answers.specs.Makings.{Puts}
 use Rattle.session_answers.specs.declared.search.Stage.{Stage}
 use Rattle.session_answers.specs.declared.search.Stage.TheVariants.{Making, Searching}
@@ -46,17 +50,36 @@ profile_front before stored place sections there =
 
 -- ---- What is kept
 
+-- what was made from a stored profile is so where more are stored
+made_more : (world : WorldValue) (stored more : List Stored) (key : Key) (ready : Ready) →
+    IsMadeFrom world (profiles_of stored) key ready → IsMadeFrom world (profiles_of (stored ++ more)) key ready
+made_more world stored more key ready made = record {
+  sections = made.sections;
+  there = profile_more stored more key.place made.sections made.there;
+  ready_is = made.ready_is;
+}
+
+-- and so is the profile whose guide is made
+target_more : (world : WorldValue) (stored more : List Stored) (target : Option Target) →
+    IfSome target (IsTarget world (profiles_of stored)) → IfSome target (IsTarget world (profiles_of (stored ++ more)))
+target_more world stored more None is = tt
+target_more world stored more (Some target) is = record {
+  made = made_more world stored more target.key target.ready.value is.made;
+  making = is.making;
+}
+
+guides_more : (world : WorldValue) (stored more : List Stored) (guides : Guides) → AreGuides world (profiles_of stored) guides →
+    AreGuides world (profiles_of (stored ++ more)) guides
+guides_more world stored more guides are = record {
+  hierarchy = are.hierarchy;
+  target = target_more world stored more guides.target are.target;
+}
+
 -- what is kept stays made from the stored profiles
 pub kept_more : (world : WorldValue) (stored more : List Stored) (kept : KeptProfiles) → AreKept world stored kept →
     AreKept world (stored ++ more) kept
 kept_more world stored more kept are = record {
-  made = λ entry within.
-      let made = are.made entry within in
-      record {
-        sections = made.sections;
-        there = profile_more stored more entry.0.place made.sections made.there;
-        ready_is = made.ready_is;
-      };
+  made = λ entry within. made_more world stored more entry.0 entry.1.ready.value (are.made entry within);
   makings = λ k making there.
       let from = are.makings k making there in
       record {
@@ -65,6 +88,7 @@ kept_more world stored more kept are = record {
         is = from.is;
       };
   once = are.once;
+  guides = guides_more world stored more kept.guides are.guides;
 }
 
 -- ---- How far a search is

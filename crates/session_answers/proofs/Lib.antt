@@ -1,3 +1,4 @@
+mod GuideLemmas
 mod KeptLemmas
 mod KeyLemmas
 mod MakingLemmas

@@ -13,7 +13,7 @@ use Rattle.route_ready.specs.declared.error.RouteError.{RouteError}
 use Rattle.route_ready.specs.declared.linking.KeptTerms.{KeptTerms}
 use Rattle.route_ready.specs.declared.linking.Linking.{Linking}
 use Rattle.route_ready.specs.declared.ready.Ready.{Ready}
-use Rattle.session_answers.specs.Kept.{IsFitting, IsKept, IsMadeFrom, IsWanted, StayAwaited}
+use Rattle.session_answers.specs.Kept.{AreGuides, IsFitting, IsKept, IsMadeFrom, IsWanted, StayAwaited}
 use Rattle.session_answers.proofs.OnceLemmas.{once-added, once-dropped, once-turned, one-there}
 use Rattle.session_answers.specs.declared.kept.Wanted.{Wanted}
 use Rattle.session_answers.specs.declared.kept.Wanted.TheVariants as wants
@@ -150,8 +150,9 @@ module _ (world : WorldValue) (old new : KeptProfiles) where
   -- ---- The makings stay
 
   pub same-kept : (stored : List Sections) → new.cache ≡ old.cache → new.makings.slots.items ≡ old.makings.slots.items →
-      IsKept world stored old → IsKept world stored new
-  same-kept stored cache same kept = record {
+      new.guides ≡ old.guides → IsKept world stored old → IsKept world stored new
+  same-kept stored cache same guides kept = record {
+    guides = subst (AreGuides world stored) (sym guides) kept.guides;
     made = λ entry within. kept.made entry (subst (λ c. Contains c.entries entry) cache within);
     makings = λ k making there. kept.makings k making (sym (ap (λ (l : List (Option Making)). get_or l k None) same) ∙ there);
     once = subst HaveOneMaking (sym same) kept.once;
@@ -186,9 +187,11 @@ module _ (world : WorldValue) (old new : KeptProfiles) where
     ]
 
     -- and all are those of stored profiles, where this one is, and none stood under its key
-    pub added-kept : (stored : List Sections) → new.cache ≡ old.cache → IsKept world stored old → IsMakingFrom world stored making →
+    pub added-kept : (stored : List Sections) → new.cache ≡ old.cache → new.guides ≡ old.guides → IsKept world stored old →
+        IsMakingFrom world stored making →
         ((j : ℕ) → StandsAt old.makings.slots.items making.key j → ⊥) → IsKept world stored new
-    added-kept stored cache kept from none = record {
+    added-kept stored cache guides kept from none = record {
+      guides = subst (AreGuides world stored) (sym guides) kept.guides;
       once = once-added old.makings.slots.items new.makings.slots.items k making added none kept.once;
       made = λ entry within. kept.made entry (subst (λ c. Contains c.entries entry) cache within);
       makings = λ j found there. elim (cases_eq j k) [
@@ -231,8 +234,8 @@ module _ (world : WorldValue) (old new : KeptProfiles) where
 
     -- and all are those of stored profiles
     pub turned-kept : (end : Option _) → HasTurn world old.makings.slots.items new.makings.slots.items k end →
-        (stored : List Sections) → new.cache ≡ old.cache → IsKept world stored old → IsKept world stored new
-    turned-kept end turned stored cache kept =
+        (stored : List Sections) → new.cache ≡ old.cache → new.guides ≡ old.guides → IsKept world stored old → IsKept world stored new
+    turned-kept end turned stored cache guides kept =
         let was = kept.makings k turned.before turned.there in
         let from : IsMakingFrom world stored turned.after =
         record {
@@ -243,6 +246,7 @@ module _ (world : WorldValue) (old new : KeptProfiles) where
               (sym turned.key_same) (turned.sound (binding_in world was.sections turned.before.key.overrides) was.is);
         } in
         record {
+          guides = subst (AreGuides world stored) (sym guides) kept.guides;
           once = once-turned old.makings.slots.items new.makings.slots.items k world end turned kept.once;
           made = λ entry within. kept.made entry (subst (λ c. Contains c.entries entry) cache within);
           makings = λ j found there. elim (cases_eq j k) [
@@ -277,8 +281,10 @@ wanted-fits world sections place overrides kept (wants.Making k) is = tt
 
 -- all others are those of stored profiles still
 pub dropped-kept : (world : WorldValue) (stored : List Sections) (old new : KeptProfiles) (k : ℕ) →
-    Puts old.makings.slots.items new.makings.slots.items k None → new.cache ≡ old.cache → IsKept world stored old → IsKept world stored new
-dropped-kept world stored old new k puts cache kept = record {
+    Puts old.makings.slots.items new.makings.slots.items k None → new.cache ≡ old.cache → new.guides ≡ old.guides →
+    IsKept world stored old → IsKept world stored new
+dropped-kept world stored old new k puts cache guides kept = record {
+  guides = subst (AreGuides world stored) (sym guides) kept.guides;
   once = once-dropped old.makings.slots.items new.makings.slots.items k puts kept.once;
   made = λ entry within. kept.made entry (subst (λ c. Contains c.entries entry) cache within);
   makings = λ j found there. elim (cases_eq j k) [

@@ -1,11 +1,17 @@
 -- What is kept of profiles that were made ready (this project's own rule).
-use Rattle.std.specs.Prelude.{◌≡◌, ℕ, ℤ, List, Contains, None, Some, Result, Ok, Err, get_or, length, slice_get}
+use Rattle.std.specs.Prelude.{◌≡◌, ℕ, ℤ, List, Contains, IfSome, None, Some, Result, Ok, Err, get_or, slice_get}
 use Rattle.session_answers.specs.declared.kept.KeptProfiles.{KeptProfiles}
 use Rattle.session_answers.specs.declared.kept.Wanted.{Wanted}
 use Rattle.session_answers.specs.declared.kept.Wanted.TheVariants.{Ready, Making}
 use Rattle.session_answers.specs.declared.key.Key.{Key}
 use Rattle.session_answers.specs.declared.makings.Making.{Making as TheMaking}
-use Rattle.session_answers.specs.Makings.{GivesReady, HaveOneMaking, IsAwaited, IsMakingFrom, Shared, making_turns}
+use Rattle.session_answers.specs.Makings.{GivesReady, HaveOneMaking, IsAwaited, IsMakingFrom, making_turns}
+use Rattle.session_answers.specs.declared.guides.Guides.{Guides}
+use Rattle.session_answers.specs.declared.guides.Target.{Target}
+use Rattle.session_answers.specs.declared.kept_profile.KeptProfile.{KeptProfile}
+use Rattle.map_guides.specs.Guides.{IsGuideMaking}
+use Rattle.map_guides.specs.Hierarchies.{IsHierarchyMaking}
+use Rattle.overpass_graph.specs.Maps.{roads_of}
 use Rattle.profile_text.specs.Tree.{Sections}
 use Rattle.route_ready.specs.Readiness.{IsReadyOf}
 use Rattle.route_ready.specs.Worlds.{WorldValue, binding_in}
@@ -23,16 +29,27 @@ pub record IsMadeFrom (world : WorldValue) (stored : List Sections) (key : Key)
   pub ready_is : IsReadyOf (binding_in world sections key.overrides) ready
 
 -- so was what is kept under its key
-abbrev pub IsMade : WorldValue → List Sections → Key × Shared → Type 0
-IsMade world stored entry = IsMadeFrom world stored entry.0 entry.1.value
+abbrev pub IsMade : WorldValue → List Sections → Key × KeptProfile → Type 0
+IsMade world stored entry = IsMadeFrom world stored entry.0 entry.1.ready.value
 
--- everything that is kept was made so, each making is that of a stored profile, and no profile has two makings
--- under the same overrides
+-- a guide is made for a profile that was made so under its key, by the facts of that profile
+pub record IsTarget (world : WorldValue) (stored : List Sections) (target : Target) : Type 0 where
+  pub made : IsMadeFrom world stored target.key target.ready.value
+  pub making : IsGuideMaking world.map target.ready.value.bound.value target.making
+
+-- the hierarchy is that of the world's map, as far as it is made, and so it is of the guide that is made now
+pub record AreGuides (world : WorldValue) (stored : List Sections) (guides : Guides) : Type 0 where
+  pub hierarchy : IsHierarchyMaking (roads_of world.map) guides.hierarchy
+  pub target : IfSome guides.target (IsTarget world stored)
+
+-- everything that is kept was made so, each making is that of a stored profile, no profile has two makings
+-- under the same overrides, and guides are made for this world
 pub record IsKept (world : WorldValue) (stored : List Sections) (kept : KeptProfiles) : Type 0 where
-  pub made : (entry : Key × Shared) → Contains kept.cache.entries entry → IsMade world stored entry
+  pub made : (entry : Key × KeptProfile) → Contains kept.cache.entries entry → IsMade world stored entry
   pub makings : (k : ℕ) (making : TheMaking) → get_or kept.makings.slots.items k None ≡ Some making →
       IsMakingFrom world stored making
   pub once : HaveOneMaking kept.makings.slots.items
+  pub guides : AreGuides world stored kept.guides
 
 -- whoever waited for a making may still wait for it
 abbrev pub StayAwaited : WorldValue → (old new : KeptProfiles) → Type 0

@@ -1,5 +1,6 @@
 pub mod Aims
 pub mod Frames
+pub mod Guiding
 pub mod HeadProps
 pub mod Jobs
 pub mod Kept

@@ -11,6 +11,8 @@ ghost use Rattle.session_answers.specs.Makings.{GivesEnd, GivesReady, HasTurn, I
 ghost use Rattle.session_answers.specs.declared.makings.Making.{Making as TheMaking};
 ghost use Rattle.way_class.specs.Facts.{Binding};
 
+use crate::guides::Guides;
+use crate::kept_profile::KeptProfile;
 use crate::key::{Key, key_of};
 use crate::makings::{Making, Makings, Progress, shared};
 use context_check::Overrides;
@@ -25,10 +27,11 @@ use std::rc::Rc;
 pub const MOST_KEPT: usize = 8;
 
 /// Profiles that were made ready for a world, the last eight that requests used; and those that are
-/// being made ready for the sessions that wait for them.
+/// being made ready for the sessions that wait for them; and guides for those that are kept.
 pub struct KeptProfiles {
-    pub(crate) cache: LruCache<Key, Rc<Ready>>,
+    pub(crate) cache: LruCache<Key, KeptProfile>,
     pub(crate) makings: Makings,
+    pub(crate) guides: Guides,
 }
 
 impl Drop for KeptProfiles {
@@ -36,6 +39,7 @@ impl Drop for KeptProfiles {
         let KeptProfiles {
             cache: _,
             makings: _,
+            guides: _,
         } = self;
     }
 }
@@ -50,8 +54,8 @@ pub(crate) enum Wanted {
 }
 
 impl KeptProfiles {
-    /// None yet.
-    pub fn new(alloc: Global) -> Result<KeptProfiles, AllocError>
+    /// None yet. Of those that are kept so many have a guide at most.
+    pub fn new(alloc: Global, guided: u64) -> Result<KeptProfiles, AllocError>
         ensures kept { (world : WorldValue) (stored : List Sections) →
             IfOk result (IsKept world stored) }
     {
@@ -60,6 +64,7 @@ impl KeptProfiles {
         Ok(KeptProfiles {
             cache,
             makings: Makings::new(alloc),
+            guides: Guides::new(guided),
         })
     }
 
@@ -83,7 +88,7 @@ impl KeptProfiles {
         let key = key_of(alloc, place, overrides)?;
         self.cache.promote(&key);
         match self.cache.peek(&key) {
-            Some(kept) => shared(kept),
+            Some(kept) => shared(&kept.ready),
             None => self.made(alloc, world, profile, overrides, key),
         }
     }
@@ -149,10 +154,13 @@ impl KeptProfiles {
         let key = key_of(alloc, place, overrides)?;
         self.cache.promote(&key);
         match self.cache.peek(&key) {
-            Some(kept) => match shared(kept) {
-                Ok(ready) => Ok(Wanted::Ready(ready)),
-                Err(error) => Err(error),
-            },
+            Some(kept) => {
+                kept.count_use();
+                match shared(&kept.ready) {
+                    Ok(ready) => Ok(Wanted::Ready(ready)),
+                    Err(error) => Err(error),
+                }
+            }
             None => self.making(alloc, world, profile, overrides, key),
         }
     }
@@ -248,14 +256,14 @@ impl KeptProfiles {
     }
 
     /// Keeps a profile under a key, where there is memory for it.
-    fn keep(&mut self, key: Key, ready: &Rc<Ready>)
+    pub(crate) fn keep(&mut self, key: Key, ready: &Rc<Ready>)
         ensures kept { (world : WorldValue) (stored : List Sections) →
             IsKept world stored self.old →
             IsMadeFrom world stored key ready.now.value → IsKept world stored self.new }
         ensures makings { self.new.makings ≡ self.old.makings }
     {
         if let Ok(twin) = ready.clone() {
-            let _ = self.cache.put(key, twin);
+            let _ = self.cache.put(key, KeptProfile::new(twin));
         }
     }
 }

@@ -4,7 +4,10 @@
 
 mod beginning;
 mod frames;
+mod guides;
+mod guiding;
 mod kept;
+mod kept_profile;
 mod key;
 mod makings;
 mod naming;
@@ -19,6 +22,7 @@ mod warming;
 
 pub use beginning::{Begun, begin};
 pub use frames::{line_frame, refusal_frame};
+pub use guiding::{has_guides_to_make, make_guides};
 pub use kept::{KeptProfiles, MOST_KEPT};
 pub use profiles::Profiles;
 pub use received::Received;

@@ -66,7 +66,7 @@ fn kept_told(
     profile: &Profile,
     overrides: &Overrides,
 ) -> Result<Vec<u8>, AllocError> {
-    let mut kept = KeptProfiles::new(alloc)?;
+    let mut kept = KeptProfiles::new(alloc, 0)?;
     let _ = kept.ready(alloc, world, profile, 0, &Overrides::new(alloc));
     let _ = kept.ready(alloc, world, profile, 0, overrides);
     match kept.ready(alloc, world, profile, 0, overrides) {

@@ -5,5 +5,5 @@ use Rattle.session_answers.proofs.kept.KeptProfiles.forget.Goals as goal
 
 pub returns-clause-kept : goal.returns-clause-kept
 returns-clause-kept c = λ world stored kept.
-    let new : KeptProfiles = record { cache = c.args.self.now.cache; makings = c.forget.new.self } in
-    dropped-kept world stored c.args.self.now new c.args.k c.forget.ensures.dropped refl kept
+    let new : KeptProfiles = record { cache = c.args.self.now.cache; makings = c.forget.new.self; guides = c.args.self.now.guides } in
+    dropped-kept world stored c.args.self.now new c.args.k c.forget.ensures.dropped refl refl kept

@@ -12,7 +12,7 @@ pub returns-in-Some-clause-exact : goal.returns-in-Some-clause-exact
 returns-in-Some-clause-exact c = λ stored kept there.
     let world = world_of c.args.world.now in
     let found = c.in-Some.ensures.found in (
-      record { made = kept.made; makings = kept.makings; once = kept.once },
+      record { made = kept.made; makings = kept.makings; once = kept.once; guides = kept.guides },
       record {
         making = found.making;
         there = found.there;
@@ -25,12 +25,12 @@ returns-in-Some-clause-exact c = λ stored kept there.
 pub returns-in-Ok-add-clause-exact : goal.returns-in-Ok-add-clause-exact
 returns-in-Ok-add-clause-exact c = λ stored kept there.
     let world = world_of c.args.world.now in
-    let new : KeptProfiles = record { cache = c.args.self.now.cache; makings = c.add.new.self } in
+    let new : KeptProfiles = record { cache = c.args.self.now.cache; makings = c.add.new.self; guides = c.args.self.now.guides } in
     let making : Making = record { key = c.args.key; progress = Going c.in-Ok.making } in
     let added = c.in-Ok-add.ensures.added in
     let from = begun-from world stored c.args.key c.args.overrides.now (sections_in c.args.profile.now) c.in-Ok.making c.requires.same
     there c.in-Ok.ensures.begins in (
-      added-kept world c.args.self.now new making c.in-Ok-add.k added stored refl kept from
+      added-kept world c.args.self.now new making c.in-Ok-add.k added stored refl refl kept from
           (c.in_default.ensures.none refl),
       record {
         making = making;

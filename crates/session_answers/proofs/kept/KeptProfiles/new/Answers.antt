@@ -1,4 +1,5 @@
 use Rattle.std.proofs.Common.{sym, ap, subst}
+use Rattle.session_answers.proofs.GuideLemmas.{none-made}
 use Rattle.session_answers.proofs.KeptLemmas.{AllMade, made-none}
 use Rattle.session_answers.proofs.MakingLemmas.{none-stands}
 use Rattle.session_answers.proofs.OnceLemmas.{once-none}
@@ -10,5 +11,6 @@ returns c = record {
     made = subst (AllMade world stored) (sym (ap (λ cache. cache.entries) c.in_ok-cache.ensures)) (made-none world stored);
     makings = λ k making there. none-stands _ k making c.new-3.ensures.none there;
     once = once-none _ c.new-3.ensures.none;
+    guides = none-made world stored _ c.new-4.ensures.none c.new-4.ensures.hierarchy;
   };
 }

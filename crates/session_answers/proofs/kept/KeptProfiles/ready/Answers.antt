@@ -18,9 +18,9 @@ returns-in-Some c =
           (made-promoted world stored _ c.args.self.now.cache.entries kept.made) in
           let made = made-seen world stored _ key-same c.peek.result c.in-Some.kept c.promote.new.self.entries c.in_ok-key.key
           c.in-Some.is c.peek.ensures all in (
-            record { made = all; makings = kept.makings; once = kept.once },
-            gives-ready (binding_in world sections c.args.overrides.now) c.in-Some.kept.now.value c.shared.result
-                (ready-under world stored c.in_ok-key.key c.args.place c.args.overrides.now sections c.in-Some.kept.now.value
+            record { made = all; makings = kept.makings; once = kept.once; guides = kept.guides },
+            gives-ready (binding_in world sections c.args.overrides.now) c.in-Some.kept.now.ready.value c.shared.result
+                (ready-under world stored c.in_ok-key.key c.args.place c.args.overrides.now sections c.in-Some.kept.now.ready.value
                 c.in_ok-key.ensures.exact there made) c.shared.ensures.same c.shared.ensures.cause,
           );
     }
@@ -36,6 +36,7 @@ returns-in-None c =
                 (made-promoted world stored _ c.args.self.now.cache.entries kept.made);
             makings = kept.makings;
             once = kept.once;
+            guides = kept.guides;
           })
           (subst (λ place. slice_get stored place ≡ Some (sections_in c.args.profile.now)) (sym c.in_ok-key.ensures.exact.0) there);
     }

@@ -18,9 +18,9 @@ returns-in-Ok-clause-exact c = λ stored kept there.
     (made-promoted world stored _ c.args.self.now.cache.entries kept.made) in
     let made = made-seen world stored _ key-same c.peek.result c.in-Some.kept c.promote.new.self.entries c.in_ok-key.key c.in-Some.is
     c.peek.ensures all in (
-      record { made = all; makings = kept.makings; once = kept.once },
-      gives-ready (binding_in world sections c.args.overrides.now) c.in-Some.kept.now.value (Ok c.in-Ok.ready)
-          (ready-under world stored c.in_ok-key.key c.args.place c.args.overrides.now sections c.in-Some.kept.now.value
+      record { made = all; makings = kept.makings; once = kept.once; guides = kept.guides },
+      gives-ready (binding_in world sections c.args.overrides.now) c.in-Some.kept.now.ready.value (Ok c.in-Ok.ready)
+          (ready-under world stored c.in_ok-key.key c.args.place c.args.overrides.now sections c.in-Some.kept.now.ready.value
           c.in_ok-key.ensures.exact there made) c.in-Ok.ensures.same c.in-Ok.ensures.cause,
     )
 
@@ -33,9 +33,9 @@ returns-in-Some-clause-exact c = λ stored kept there.
     (made-promoted world stored _ c.args.self.now.cache.entries kept.made) in
     let made = made-seen world stored _ key-same c.peek.result c.in-Some.kept c.promote.new.self.entries c.in_ok-key.key c.in-Some.is
     c.peek.ensures all in (
-      record { made = all; makings = kept.makings; once = kept.once },
-      gives-ready (binding_in world sections c.args.overrides.now) c.in-Some.kept.now.value (Err c.in-Err.error)
-          (ready-under world stored c.in_ok-key.key c.args.place c.args.overrides.now sections c.in-Some.kept.now.value
+      record { made = all; makings = kept.makings; once = kept.once; guides = kept.guides },
+      gives-ready (binding_in world sections c.args.overrides.now) c.in-Some.kept.now.ready.value (Err c.in-Err.error)
+          (ready-under world stored c.in_ok-key.key c.args.place c.args.overrides.now sections c.in-Some.kept.now.ready.value
           c.in_ok-key.ensures.exact there made) c.in-Err.ensures.same c.in-Err.ensures.cause,
     )
 
@@ -50,6 +50,7 @@ returns-clause-exact c = λ stored kept there.
           (made-promoted world stored _ c.args.self.now.cache.entries kept.made);
       makings = kept.makings;
       once = kept.once;
+      guides = kept.guides;
     })
     (subst (λ place. slice_get stored place ≡ Some sections) (sym c.in_ok-key.ensures.exact.0) there) in (
       made.0,

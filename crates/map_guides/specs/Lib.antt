@@ -1,0 +1,2 @@
+pub mod Hierarchies
+pub mod Guides
