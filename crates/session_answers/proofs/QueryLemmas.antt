@@ -1,5 +1,5 @@
 -- The frames that answer a query.
-use Rattle.std.proofs.Common.{◌≡◌, ◌≢◌, ◌⊎◌, inl, inr, ℕ, Bool, IfOk, List, None, Result, Ok, Err, refl, sym, ap, ◌∙◌, subst, arith, Vec}
+use Rattle.std.proofs.Common.{◌≡◌, ◌≢◌, ◌⊎◌, inl, inr, ℕ, Bool, IfOk, List, None, Result, Ok, Err, sym, ap, ◌∙◌, subst, arith, Vec}
 use Rattle.std.proofs.lemmas.Bool.Decides.{nat_tests}
 use Rattle.std.specs.declared.alloc.Global.{Global}
 use Rattle.item_list.specs.Answer.{Answers, and_then}

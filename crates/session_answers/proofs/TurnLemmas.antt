@@ -1,5 +1,5 @@
 -- What a search that waits for the making of its profile comes to by a turn of it.
-use Rattle.std.proofs.Common.{◌≡◌, ◌⊎◌, ◌<◌, ◌≤◌, ◌-◌, ◌/◌, ℕ, suc, List, Option, Some, None, Result, Ok, Err, get_or, inl, inr, refl, sym, ap, ◌∙◌, subst, arith}
+use Rattle.std.proofs.Common.{◌≡◌, ◌⊎◌, ◌<◌, ◌≤◌, ◌-◌, ℕ, suc, List, Option, Some, None, Result, Err, get_or, inl, inr, sym, ap, ◌∙◌, subst, arith}
 use Rattle.std.specs.Prelude.{slice_get}
 use Rattle.profile_text.specs.Tree.{Sections}
 use Rattle.route_engine.specs.Aims.{TellsTo}
@@ -14,7 +14,7 @@ use Rattle.route_ready.specs.Worlds.{WorldValue, binding_in}
 use Rattle.route_ready.specs.declared.error.RouteError.{RouteError}
 use Rattle.route_ready.specs.declared.error.RouteError.TheVariants.{NoMemory}
 use Rattle.session_answers.specs.Kept.{IsKept}
-use Rattle.session_answers.specs.Makings.{GivesReady, HasTurn, IsGoing, IsMakingAt, IsProgressOf, Nearer, Shared, left_of}
+use Rattle.session_answers.specs.Makings.{HasTurn, IsGoing, IsMakingAt, IsProgressOf, Nearer, Shared, left_of}
 use Rattle.session_answers.specs.Searches.{WaitsFor}
 use Rattle.session_answers.specs.declared.kept.KeptProfiles.{KeptProfiles}
 use Rattle.session_answers.specs.declared.key.Key.{Key}

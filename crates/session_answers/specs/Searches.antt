@@ -1,5 +1,5 @@
 -- What is searched for a query. This project's own rule.
-use Rattle.std.specs.Prelude.{◌≡◌, ◌≢◌, ℕ, suc, ◌+◌, ◌/◌, ◌==◌, ◌≤◌, Bool, false, List, length, Result, Ok, Err, Vec}
+use Rattle.std.specs.Prelude.{◌≡◌, ◌≢◌, ℕ, suc, ◌+◌, ◌/◌, ◌==◌, ◌≤◌, Bool, false, List, Result, Ok, Err, Vec}
 use Rattle.std.specs.declared.alloc.Global.{Global}
 use Rattle.profile_text.specs.Tree.{Sections}
 use Rattle.route_engine.specs.Aims.{TellsTo, most_for}

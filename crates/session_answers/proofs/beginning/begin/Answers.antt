@@ -1,4 +1,3 @@
-use Rattle.route_http.specs.Seen.{asked}
 use Rattle.route_ready.specs.World.{world_of}
 use Rattle.session_answers.proofs.QueryLemmas.{malformed-frame}
 use Rattle.session_answers.specs.Profiles.{stored_of}

@@ -1,5 +1,4 @@
 use Rattle.std.proofs.Common.{◌≡◌, ◌-◌, Err, Some, arith, inl, refl, subst}
-use Rattle.profile_text.specs.Tree.{Sections}
 use Rattle.route_engine.specs.Replies.{question_of}
 use Rattle.route_http.specs.Asked.{Asked}
 use Rattle.route_http.specs.Seen.{asked}
