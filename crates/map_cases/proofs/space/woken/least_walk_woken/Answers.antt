@@ -16,8 +16,8 @@ search-init g c =
       limit = c.new-search.ensures.limit;
     }
 
-pub told-requires : goal.told-requires
-told-requires g c =
+pub walk_outcome-requires : goal.walk_outcome-requires
+walk_outcome-requires g c =
     let space = c.search.space in
     let rules = rules_of (task_of (g.G.TerrainOf.terrain space.terrain) space.kept) in
     let after = view c.turn.new.self in
